@@ -1,0 +1,30 @@
+//! The fields of a certificate.
+
+use crate::options::Options;
+use profile::Kind;
+use text::{Text, Texts};
+
+/// The fields of a certificate that its body holds (PROTOCOL.certkeys, ssh-ed25519-cert-v01@openssh.com).
+#[derive(Debug, Drop)]
+pub struct CertFields {
+    /// Bytes that make two bodies differ.
+    pub nonce: [u8; 32],
+    /// The subject's Ed25519 public key.
+    pub key: [u8; 32],
+    /// 1 to 9223372036854775806.
+    pub serial: u64,
+    pub kind: Kind,
+    pub key_id: Text,
+    /// 1 to 16 distinct principals, in the order given.
+    pub principals: Texts,
+    /// The first second of the validity, since 1970-01-01 00:00:00 UTC.
+    pub after: u64,
+    /// The first second after the validity.
+    pub before: u64,
+    /// Critical options, ascending by name.
+    pub options: Options,
+    /// Extensions, ascending by name.
+    pub extensions: Options,
+    /// The Ed25519 public key of the CA that is to sign.
+    pub ca: [u8; 32],
+}

@@ -1,0 +1,2 @@
+//! The office: its plain machine, its histories and its decisions.
+#![tactic(auto)]

@@ -1,0 +1,2 @@
+//! The plain store: lists in memory.
+#![tactic(auto)]

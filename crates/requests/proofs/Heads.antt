@@ -1,0 +1,35 @@
+-- Heads in the bytes of a request and in their front.
+use Rattle.std.proofs.Common.{◌≡◌, ℕ, ◌+◌, ◌-◌, ◌≤◌, ◌<◌, List, [], ◌∷◌, ◌++◌, length, take, drop, min, refl, sym, ap, ◌∙◌, arith, length-append, subst}
+use Rattle.std.specs.Prelude.{map}
+use Rattle.std.proofs.Math.Seq.{take-append-add}
+use Rattle.std.proofs.lemmas.List.{take-append-drop, drop-append-le, length-map, length-take}
+use Rattle.httparse.specs.declared.spans.HeaderSpan.{HeaderSpan}
+use Rattle.httparse.specs.Grammar.{RequestHead, Field, ReadsRequest, print_request}
+use Rattle.httparse.specs.Spans.{AreFieldsAt, header_bytes, name_and_value}
+use Rattle.httparse.proofs.GrammarLemmas.{ReadsRequest-append}
+
+-- a head of the front is one of the bytes
+pub head_of_front : (bytes : List ℕ) (n k : ℕ) (h : RequestHead) → k ≤ length (take n bytes)
+    → ReadsRequest (take n bytes) h (drop k (take n bytes)) → ReadsRequest bytes h (drop k bytes)
+head_of_front bytes n k h fits reads =
+    let whole = take-append-drop n bytes in
+    let more = ReadsRequest-append (take n bytes) h (drop k (take n bytes)) (drop n bytes) reads in
+    let rest = sym (drop-append-le k (take n bytes) (drop n bytes) fits) ∙ ap (drop k) whole in
+    (more.0, sym whole ∙ more.1 ∙ ap (λ r. print_request h ++ r) rest)
+
+-- a head of the bytes that fits the front is one of the front
+pub head_in_front : (bytes : List ℕ) (n : ℕ) (h : RequestHead) (rest : List ℕ) → n ≡ min (length bytes) 8192
+    → length (print_request h) ≤ 8192
+    → ReadsRequest bytes h rest → ReadsRequest (take n bytes) h (take (n - length (print_request h)) rest)
+head_in_front bytes n h rest cut fits reads =
+    let p = print_request h in
+    let size = simp length-append at (ap length reads.1) in
+    let e : n ≡ length p + (n - length p) = omega arith in
+    (reads.0, ap (take n) reads.1 ∙ ap (λ m. take m (p ++ rest)) e ∙ take-append-add p rest (n - length p))
+
+-- there are no more fields than headers
+pub fields_fit : (bytes : List ℕ) (headers : List HeaderSpan) (count : ℕ) (fields : List Field)
+    → AreFieldsAt bytes headers count fields → length fields ≤ length headers
+fields_fit bytes headers count fields same =
+    let e = simp (length-map, length-take) at (ap length same) in
+    omega (arith, e)

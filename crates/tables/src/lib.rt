@@ -1,0 +1,2 @@
+//! One function for each SQL text, and what the rows are.
+#![tactic(auto)]

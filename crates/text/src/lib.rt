@@ -1,0 +1,20 @@
+//! Owned bytes, and lists of them, that contracts see as lists.
+//!
+//! A `Text` is seen as the list of its bytes, a `Texts` as the list of its texts in order, and a `Pairs` as the list of
+//! its pairs. So a plain struct of them is itself the mathematical record of which definitions speak.
+//! What takes memory answers `NoMemory` where a growth was refused.
+#![tactic(auto)]
+
+mod cutting;
+mod memory;
+mod pair;
+mod pairs;
+mod bytes;
+mod texts;
+
+pub use bytes::Text;
+pub use cutting::cut;
+pub use memory::NoMemory;
+pub use pair::Pair;
+pub use pairs::Pairs;
+pub use texts::Texts;

@@ -1,0 +1,19 @@
+//! Memory that was refused.
+
+use std::alloc::{AllocError, AllocFailed};
+
+/// A growth was refused. What was lent to the call is as its contract says.
+#[derive(Clone, Copy, Debug, PartialEq, Eq)]
+pub struct NoMemory;
+
+impl From<AllocError> for NoMemory {
+    fn from(_e: AllocError) -> NoMemory {
+        NoMemory
+    }
+}
+
+impl<T: Drop> From<AllocFailed<T>> for NoMemory {
+    fn from(_e: AllocFailed<T>) -> NoMemory {
+        NoMemory
+    }
+}

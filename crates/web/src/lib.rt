@@ -1,0 +1,2 @@
+//! From request bytes to response bytes.
+#![tactic(auto)]

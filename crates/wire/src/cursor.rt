@@ -1,0 +1,113 @@
+//! A place in the bytes that are read.
+
+ghost use Rattle.std.specs.Prelude.{◌≡◌, ◌<◌, ◌^◌, ◌++◌, ◌↔◌, [], ◌∷◌, List, ℕ, length, IsTrue, IfSome};
+ghost use Rattle.std.specs.Option.{option_copied, option_map};
+ghost use Rattle.wire.specs.Texts.{u32_text, u64_text, string_text};
+ghost use Rattle.wire.specs.Reading.{u8_at, u32_at, u64_at, string_at, Moves};
+
+use byteorder::{BigEndian, ByteOrder};
+use std::marker::Model;
+
+fn split_u32(bytes: &[u8]) -> Option<(u32, &[u8])>
+    ensures reads { option_map (λ x. (x.0, x.1.now)) result ≡ u32_at bytes.now }
+    ensures found { IfSome result (λ x. bytes.now ≡ u32_text x.0 ++ x.1.now) }
+{
+    if bytes.len() < 4 {
+        return None;
+    }
+    let (front, rest) = bytes.split_at(4);
+    Some((BigEndian::read_u32(front), rest))
+}
+
+fn split_u64(bytes: &[u8]) -> Option<(u64, &[u8])>
+    ensures reads { option_map (λ x. (x.0, x.1.now)) result ≡ u64_at bytes.now }
+    ensures found { IfSome result (λ x. bytes.now ≡ u64_text x.0 ++ x.1.now) }
+{
+    if bytes.len() < 8 {
+        return None;
+    }
+    let (front, rest) = bytes.split_at(8);
+    Some((BigEndian::read_u64(front), rest))
+}
+
+fn split_string(bytes: &[u8]) -> Option<(&[u8], &[u8])>
+    ensures reads { option_map (λ x. (x.0.now, x.1.now)) result ≡ string_at bytes.now }
+    ensures found { IfSome result (λ x. bytes.now ≡ string_text x.0.now ++ x.1.now) }
+{
+    let (len, rest) = split_u32(bytes)?;
+    let len = len as usize;
+    if rest.len() < len {
+        return None;
+    }
+    Some(rest.split_at(len))
+}
+
+/// The rest of the bytes.
+#[derive(Debug, Drop)]
+pub struct Cursor<'a> {
+    rest: &'a [u8],
+}
+
+impl<'a> Model for Cursor<'a> {
+    ghost Value = { List ℕ };
+
+    ghost view = { λ c. c.rest.now };
+}
+
+impl<'a> Cursor<'a> {
+    /// At the front of the bytes.
+    pub fn new(bytes: &'a [u8]) -> Cursor<'a>
+        ensures { result ≡ bytes.now }
+    {
+        Cursor { rest: bytes }
+    }
+
+    /// Whether nothing is left.
+    pub fn at_end(&self) -> bool
+        ensures { IsTrue result ↔ (self.now ≡ []) }
+    {
+        self.rest.is_empty()
+    }
+
+    /// The next byte.
+    pub fn u8(&mut self) -> Option<u8>
+        ensures { Moves (u8_at self.old) result self.old self.new }
+    {
+        let (first, rest) = self.rest.split_first()?;
+        self.rest = rest;
+        Some(*first)
+    }
+
+    /// The next number of 4 bytes.
+    pub fn u32(&mut self) -> Option<u32>
+        ensures moves { Moves (u32_at self.old) result self.old self.new }
+        ensures found { IfSome result (λ n. self.old ≡ u32_text n ++ self.new) }
+        ensures only { (n : ℕ) (rest : List ℕ) → n < 2 ^ 32 → self.old ≡ u32_text n ++ rest → (result ≡ Some n) × (self.new ≡ rest) }
+    {
+        let (value, rest) = split_u32(self.rest)?;
+        self.rest = rest;
+        Some(value)
+    }
+
+    /// The next number of 8 bytes.
+    pub fn u64(&mut self) -> Option<u64>
+        ensures moves { Moves (u64_at self.old) result self.old self.new }
+        ensures found { IfSome result (λ n. self.old ≡ u64_text n ++ self.new) }
+        ensures only { (n : ℕ) (rest : List ℕ) → n < 2 ^ 64 → self.old ≡ u64_text n ++ rest → (result ≡ Some n) × (self.new ≡ rest) }
+    {
+        let (value, rest) = split_u64(self.rest)?;
+        self.rest = rest;
+        Some(value)
+    }
+
+    /// The next string, a slice of the input.
+    pub fn string(&mut self) -> Option<&'a [u8]>
+        ensures moves { Moves (string_at self.old) (option_copied result) self.old self.new }
+        ensures found { IfSome result (λ b. self.old ≡ string_text b.now ++ self.new) }
+        ensures only { (b rest : List ℕ) → length b < 2 ^ 32 → self.old ≡ string_text b ++ rest → (option_copied result ≡ Some b) × (self.new ≡ rest) }
+    {
+        let (value, rest) = split_string(self.rest)?;
+        self.rest = rest;
+        Some(value)
+    }
+}
