@@ -1,8 +1,25 @@
 //! OpenSSH certificate bodies: options, fields, signatures joined.
+//!
+//! Options are kept strictly ascending by name, whatever the order in which they are given.
+//! A body that is written is the text of its fields, and is read to the same fields; no text is read as two values.
+//! Bytes that are no body of the profile are refused by the first field that fails.
 #![tactic(auto)]
 
+mod cert_fault;
 mod fields;
+mod nested;
+mod option_fault;
 mod options;
+mod reading;
+mod signature;
+#[cfg(test)]
+mod tests;
+mod writing;
 
+pub use cert_fault::CertFault;
 pub use fields::CertFields;
+pub use option_fault::OptionFault;
 pub use options::Options;
+pub use reading::read_body;
+pub use signature::{Signature, join_signature, read_signature};
+pub use writing::write_body;

@@ -1,2 +1,26 @@
-//! The key revocation list: runs of serials, its writer and its reader.
+//! The key revocation list of OpenSSH: sets of serials as runs, the list's writer and its reader.
 #![tactic(auto)]
+
+mod ca_part;
+mod fault;
+mod field;
+mod krl_head;
+mod laws;
+mod lengths;
+mod parts;
+mod reader;
+mod run;
+mod runs;
+#[cfg(test)]
+mod tests;
+mod writer;
+
+pub use ca_part::CaPart;
+pub use fault::KrlFault;
+pub use krl_head::KrlHead;
+pub use laws::{runs_are_maximal, runs_are_one};
+pub use lengths::krl_len;
+pub use reader::check;
+pub use run::Run;
+pub use runs::{Runs, runs_of};
+pub use writer::write_krl;

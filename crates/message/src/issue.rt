@@ -1,7 +1,17 @@
 //! What is asked for in an issue.
 
-use lines::KeyLine;
-use text::{Pairs, Text, Texts};
+ghost use Rattle.std.specs.Prelude.{◌≡◌, ◌≤◌, IfOk, codes, length, map, []};
+ghost use Rattle.message.specs.Reading.{Gives, issue_in, key_id_after, key_line_after, number_after, options_from};
+ghost use Rattle.message.specs.Values.{is_end};
+
+use crate::fault::MessageFault;
+use crate::line::{after, ends_after, line, name_after, number_after};
+use crate::lists::{extensions_in, principals_in};
+use crate::option::option_after;
+use lines::{KeyLine, LineFault, read_key_line};
+use profile::{LATEST_MOMENT, is_key_id};
+use std::alloc::Global;
+use text::{NoMemory, Pairs, Text, Texts};
 
 /// A certificate that is asked for.
 #[derive(Debug, Drop)]
@@ -21,4 +31,102 @@ pub struct Issue {
     pub options: Pairs,
     /// Distinct names of extensions, in the order given.
     pub extensions: Texts,
+}
+
+fn key_id_after(alloc: Global, line: &[u8]) -> Result<Option<Text>, NoMemory>
+    ensures { IfOk result (λ o. o ≡ key_id_after (codes "keyid ") line.now) }
+{
+    let Some(key_id) = after(line, b"keyid ") else {
+        return Ok(None);
+    };
+    if !is_key_id(key_id) {
+        return Ok(None);
+    }
+    Ok(Some(Text::from_slice(alloc, key_id)?))
+}
+
+fn key_line_after(alloc: Global, line: &[u8]) -> Result<Option<KeyLine>, NoMemory>
+    ensures { IfOk result (λ o. o ≡ key_line_after (codes "key ") line.now) }
+{
+    let Some(text) = after(line, b"key ") else {
+        return Ok(None);
+    };
+    match read_key_line(alloc, text) {
+        Ok(key) => Ok(Some(key)),
+        Err(LineFault::NoMemory) => Err(NoMemory),
+        Err(LineFault::WrongType) => Ok(None),
+        Err(LineFault::BadBase64) => Ok(None),
+        Err(LineFault::BadBlob) => Ok(None),
+        Err(LineFault::BadComment) => Ok(None),
+    }
+}
+
+pub(crate) fn end_after(line: &[u8], head: &[u8]) -> Option<u64>
+    ensures { result ≡ number_after is_end head.now line.now }
+{
+    let end = number_after(line, head)?;
+    if end <= LATEST_MOMENT {
+        Some(end)
+    } else {
+        None
+    }
+}
+
+/// The options of up to three lines from line 7 on.
+fn options_in(alloc: Global, pieces: &[&[u8]]) -> Result<Pairs, NoMemory>
+    ensures read { IfOk result (λ o. o ≡ options_from 3 7 [] (map (λ x. x.now) pieces.now)) }
+    ensures few { IfOk result (λ o. length o ≤ 3) }
+{
+    let mut options = Pairs::new(alloc);
+    for n in 7..10 {
+        let Some(option) = option_after(alloc, &options, line(pieces, n))? else {
+            return Ok(options);
+        };
+        options.push(option)?;
+    }
+    Ok(options)
+}
+
+impl Issue {
+    /// The issue whose lines these are.
+    pub(crate) fn read(alloc: Global, pieces: &[&[u8]]) -> Result<Issue, MessageFault>
+        ensures { Gives result (issue_in (map (λ x. x.now) pieces.now)) }
+    {
+        let Some(department) = name_after(alloc, line(pieces, 1), b"issue ")? else {
+            return Err(MessageFault::BadLine(1));
+        };
+        let Some(key_id) = key_id_after(alloc, line(pieces, 2))? else {
+            return Err(MessageFault::BadLine(2));
+        };
+        let Some(key) = key_line_after(alloc, line(pieces, 3))? else {
+            return Err(MessageFault::BadLine(3));
+        };
+        let Some(principals) = principals_in(alloc, line(pieces, 4))? else {
+            return Err(MessageFault::BadLine(4));
+        };
+        let Some(after) = end_after(line(pieces, 5), b"after ") else {
+            return Err(MessageFault::BadLine(5));
+        };
+        let Some(before) = end_after(line(pieces, 6), b"before ") else {
+            return Err(MessageFault::BadLine(6));
+        };
+        let options = options_in(alloc, pieces)?;
+        let last = 7 + options.as_slice().len();
+        let Some(extensions) = extensions_in(alloc, line(pieces, last))? else {
+            return Err(MessageFault::BadLine(last as u64));
+        };
+        if !ends_after(pieces, last) {
+            return Err(MessageFault::BadLine(last as u64 + 1));
+        }
+        Ok(Issue {
+            department,
+            key_id,
+            key,
+            principals,
+            after,
+            before,
+            options,
+            extensions,
+        })
+    }
 }

@@ -1,12 +1,34 @@
 //! What an administrator or the signing station sends, line by line.
+//!
+//! A message is read from its text alone, its text is read, and a text belongs to one message. A text that is none is
+//! answered with the number of the first line that no message has in that place after the lines before it.
 #![tactic(auto)]
 
 mod department;
 mod fault;
 mod issue;
 mod kinds;
+mod laws;
+mod line;
+mod lists;
+mod option;
+mod reading;
+mod renewal;
+mod writing;
 
 pub use department::Department;
 pub use fault::MessageFault;
 pub use issue::Issue;
 pub use kinds::Message;
+pub use laws::{a_text_belongs_to_one_message, the_first_bad_line_is_named};
+pub use lists::{
+    are_administrators, are_extension_names, are_namespaces, are_option_names, are_principals,
+    are_rules,
+};
+pub use option::is_option;
+pub use reading::read_message;
+pub use renewal::Renewal;
+pub use writing::write_message;
+
+#[cfg(test)]
+mod tests;

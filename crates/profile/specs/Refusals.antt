@@ -2,9 +2,31 @@
 use Rattle.std.specs.Prelude.{ℕ, List, codes}
 use Rattle.profile.specs.declared.refusal.Refusal.{Refusal}
 use Rattle.profile.specs.declared.refusal.Refusal.TheVariants.{
-    BadHead, NoRoute, WrongMethod, LengthRequired, TooLong, ShortBody, BadMessage, BadMoment,
-    KeyReused, NotAllowed, NoDepartment, KindFixed, BadKeyId, NotPermitted, AlreadyEnded, KeyIdRevoked,
-    UnknownSerial, WrongDigest, Revoked, AlreadySigned, NotSigned, SerialsExhausted, CaInUse, TooManyCas}
+  BadHead,
+  NoRoute,
+  WrongMethod,
+  LengthRequired,
+  TooLong,
+  ShortBody,
+  BadMessage,
+  BadMoment,
+  KeyReused,
+  NotAllowed,
+  NoDepartment,
+  KindFixed,
+  BadKeyId,
+  NotPermitted,
+  AlreadyEnded,
+  KeyIdRevoked,
+  UnknownSerial,
+  WrongDigest,
+  Revoked,
+  AlreadySigned,
+  NotSigned,
+  SerialsExhausted,
+  CaInUse,
+  TooManyCas,
+}
 
 -- number, name and status
 abbrev pub refusal_row : Refusal → ℕ × List ℕ × ℕ

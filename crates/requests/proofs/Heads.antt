@@ -1,11 +1,10 @@
 -- Heads in the bytes of a request and in their front.
-use Rattle.std.proofs.Common.{◌≡◌, ℕ, ◌+◌, ◌-◌, ◌≤◌, ◌<◌, List, [], ◌∷◌, ◌++◌, length, take, drop, min, refl, sym, ap, ◌∙◌, arith, length-append, subst}
-use Rattle.std.specs.Prelude.{map}
+use Rattle.std.proofs.Common.{◌≡◌, ℕ, ◌+◌, ◌-◌, ◌≤◌, List, ◌++◌, length, take, drop, min, sym, ap, ◌∙◌, arith, length-append}
 use Rattle.std.proofs.Math.Seq.{take-append-add}
 use Rattle.std.proofs.lemmas.List.{take-append-drop, drop-append-le, length-map, length-take}
 use Rattle.httparse.specs.declared.spans.HeaderSpan.{HeaderSpan}
 use Rattle.httparse.specs.Grammar.{RequestHead, Field, ReadsRequest, print_request}
-use Rattle.httparse.specs.Spans.{AreFieldsAt, header_bytes, name_and_value}
+use Rattle.httparse.specs.Spans.{AreFieldsAt}
 use Rattle.httparse.proofs.GrammarLemmas.{ReadsRequest-append}
 
 -- a head of the front is one of the bytes

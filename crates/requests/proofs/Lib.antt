@@ -1,1 +1,10 @@
 pub mod Heads
+pub mod Phrases
+pub mod Refusals
+pub mod Seeking
+pub mod Parts
+pub mod Finding
+pub mod OneAsk
+pub mod LawfulAsk
+pub mod Wanted
+pub mod Reading

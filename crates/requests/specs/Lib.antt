@@ -1,3 +1,11 @@
 pub mod Heads
 pub mod FieldValues
 pub mod Shows
+pub mod Paths
+pub mod RoutePath
+pub mod Routing
+pub mod Responses
+pub mod Asks
+pub mod Asked
+pub mod BodySizes
+pub mod Reading

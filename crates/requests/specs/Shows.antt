@@ -1,5 +1,5 @@
 -- What a read head says of the head in the bytes.
-use Rattle.std.specs.Prelude.{◌≡◌, ℕ, List}
+use Rattle.std.specs.Prelude.{◌≡◌}
 use Rattle.httparse.specs.Grammar.{RequestHead}
 use Rattle.requests.specs.declared.head.Head.{Head}
 use Rattle.requests.specs.Heads.{lengths, is_coded, States}

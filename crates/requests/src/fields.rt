@@ -1,11 +1,11 @@
 //! The values of header lines of one name.
 
-ghost use Rattle.std.specs.Prelude.{◌≡◌, ℕ, ◌+◌, ◌≤◌, ◌<◌, List, [], ◌∷◌, ◌++◌, length, map, min, All, IfSome, IfNone, codes, nat_lt};
+ghost use Rattle.std.specs.Prelude.{◌≡◌, ℕ, ◌+◌, ◌≤◌, ◌<◌, List, [], ◌∷◌, ◌++◌, length, min, All, IfSome, IfNone, OnSome, codes, nat_lt};
 ghost use Rattle.std.specs.Str.{str_eq_ignore_ascii_case};
 ghost use Rattle.std.specs.Str.Parse.{IsNumeral, digits_value};
-ghost use Rattle.httparse.specs.Spans.{IsHeaderWithin, header_bytes};
-ghost use Rattle.requests.specs.Heads.{values, AreLawful, States};
-ghost use Rattle.requests.specs.FieldValues.{AreFound};
+ghost use Rattle.httparse.specs.Spans.{IsHeaderWithin};
+ghost use Rattle.requests.specs.Heads.{AreLawful, States};
+ghost use Rattle.requests.specs.FieldValues.{AreFound, covered};
 
 use crate::limits::MAX_BODY;
 use httparse::spans::HeaderSpan;
@@ -40,7 +40,7 @@ fn is_same_name(name: &[u8], other: &[u8]) -> bool
 /// The values of the lines of this name.
 fn values_of<'a>(bytes: &'a [u8], headers: &[HeaderSpan], name: &[u8]) -> FieldValues<'a>
     requires { All (IsHeaderWithin (length bytes.now)) headers.now }
-    ensures { AreFound result (values name.now (map (header_bytes bytes.now) headers.now)) }
+    ensures { AreFound result (covered name.now bytes.now headers.now) }
 {
     let mut found = FieldValues::None;
     for header in headers {
@@ -53,7 +53,8 @@ fn values_of<'a>(bytes: &'a [u8], headers: &[HeaderSpan], name: &[u8]) -> FieldV
 
 /// The number that the digits write, or one over the limit of a body where it is larger.
 fn capped(digits: &[u8]) -> Option<usize>
-    ensures some { IfSome result (λ n. IsNumeral 10 digits.now × (n ≡ min (MAX_BODY + 1) (digits_value 10 digits.now))) }
+    ensures numeral { OnSome result (IsNumeral 10 digits.now) }
+    ensures some { IfSome result (λ n. n ≡ min (MAX_BODY + 1) (digits_value 10 digits.now)) }
     ensures none { IfNone result (¬ (IsNumeral 10 digits.now)) }
 {
     if digits.is_empty() {
@@ -72,9 +73,9 @@ fn capped(digits: &[u8]) -> Option<usize>
 /// The length that the lines state, if they may state it.
 pub fn stated_length(bytes: &[u8], headers: &[HeaderSpan]) -> Option<Option<usize>>
     requires { All (IsHeaderWithin (length bytes.now)) headers.now }
-    ensures lawful { IfSome result (λ _. AreLawful (values (codes "content-length") (map (header_bytes bytes.now) headers.now))) }
-    ensures some { IfSome result (λ n. States n (values (codes "content-length") (map (header_bytes bytes.now) headers.now))) }
-    ensures none { IfNone result (¬ (AreLawful (values (codes "content-length") (map (header_bytes bytes.now) headers.now)))) }
+    ensures lawful { OnSome result (AreLawful (covered (codes "content-length") bytes.now headers.now)) }
+    ensures some { IfSome result (λ n. States n (covered (codes "content-length") bytes.now headers.now)) }
+    ensures none { IfNone result (¬ (AreLawful (covered (codes "content-length") bytes.now headers.now))) }
 {
     match values_of(bytes, headers, b"content-length") {
         FieldValues::None => Some(None),
@@ -89,7 +90,7 @@ pub fn stated_length(bytes: &[u8], headers: &[HeaderSpan]) -> Option<Option<usiz
 /// Whether a line states a coding.
 pub fn states_coding(bytes: &[u8], headers: &[HeaderSpan]) -> bool
     requires { All (IsHeaderWithin (length bytes.now)) headers.now }
-    ensures { result ≡ nat_lt 0 (length (values (codes "transfer-encoding") (map (header_bytes bytes.now) headers.now))) }
+    ensures { result ≡ nat_lt 0 (length (covered (codes "transfer-encoding") bytes.now headers.now)) }
 {
     match values_of(bytes, headers, b"transfer-encoding") {
         FieldValues::None => false,

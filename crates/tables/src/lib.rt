@@ -1,2 +1,38 @@
-//! One function for each SQL text, and what the rows are.
+//! The tables of the office, and one function for each SQL text.
+//!
+//! Rows go in and come out as structs of their columns, and a contract says what each call makes of the structs that the
+//! tables hold: all of it, or nothing, outside and inside of a transaction. What is found is what the tables hold, and a
+//! fault has its cause. Only this crate names SQL, and the layers above see the structs alone.
 #![tactic(auto)]
+
+mod cas;
+mod certs;
+mod columns;
+mod creation;
+mod departments;
+mod fault;
+mod kind;
+mod look;
+mod number;
+mod offices;
+mod requests;
+mod revoked;
+mod runs;
+mod sql;
+mod transaction;
+
+pub use cas::{CaRow, every_ca, insert_ca};
+pub use certs::{CertRow, every_cert, find_cert, insert_cert, update_signature};
+pub use creation::{create_ca, create_tables};
+pub use departments::{DepartmentRow, every_department, find_department, put_department};
+pub use fault::Fault;
+pub use look::{has_any_table, has_office};
+pub use number::Number;
+pub use offices::{Counters, OfficeRow, every_office, insert_office, update_office, update_schema};
+pub use requests::{RequestRow, find_request, insert_request};
+pub use revoked::{every_revoked, find_revoked, insert_revoked};
+pub use runs::{RunRow, delete_runs, every_run, find_runs, insert_run};
+pub use transaction::{begin, commit, rollback};
+
+#[cfg(test)]
+mod tests;

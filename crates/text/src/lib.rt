@@ -5,11 +5,13 @@
 //! What takes memory answers `NoMemory` where a growth was refused.
 #![tactic(auto)]
 
+mod bytes;
 mod cutting;
 mod memory;
 mod pair;
 mod pairs;
-mod bytes;
+#[cfg(test)]
+mod tests;
 mod texts;
 
 pub use bytes::Text;

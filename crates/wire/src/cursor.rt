@@ -1,9 +1,9 @@
-//! A place in the bytes that are read.
+//! A place in bytes that are read.
 
-ghost use Rattle.std.specs.Prelude.{◌≡◌, ◌<◌, ◌^◌, ◌++◌, ◌↔◌, [], ◌∷◌, List, ℕ, length, IsTrue, IfSome};
+ghost use Rattle.std.specs.Prelude.{◌≡◌, ◌<◌, ◌^◌, ◌++◌, ◌↔◌, [], ◌∷◌, List, ℕ, length, IsTrue, IsNone, IfSome, IfNone};
 ghost use Rattle.std.specs.Option.{option_copied, option_map};
 ghost use Rattle.wire.specs.Texts.{u32_text, u64_text, string_text};
-ghost use Rattle.wire.specs.Reading.{u8_at, u32_at, u64_at, string_at, Moves};
+ghost use Rattle.wire.specs.Reading.{u8_at, u32_at, u64_at, string_at, string_extent, Moves};
 
 use byteorder::{BigEndian, ByteOrder};
 use std::marker::Model;
@@ -42,7 +42,11 @@ fn split_string(bytes: &[u8]) -> Option<(&[u8], &[u8])>
     Some(rest.split_at(len))
 }
 
-/// The rest of the bytes.
+/// A place in bytes that are read, at the front of those that are left.
+///
+/// Contracts see a cursor as the bytes that are left. Each call that reads answers the value whose text stands at their
+/// front and moves just past it. It answers `None` exactly where too few bytes are left, and then the cursor is as it
+/// was. Reading takes no memory.
 #[derive(Debug, Drop)]
 pub struct Cursor<'a> {
     rest: &'a [u8],
@@ -55,7 +59,7 @@ impl<'a> Model for Cursor<'a> {
 }
 
 impl<'a> Cursor<'a> {
-    /// At the front of the bytes.
+    /// A cursor at the front of the bytes.
     pub fn new(bytes: &'a [u8]) -> Cursor<'a>
         ensures { result ≡ bytes.now }
     {
@@ -69,42 +73,56 @@ impl<'a> Cursor<'a> {
         self.rest.is_empty()
     }
 
-    /// The next byte.
+    /// The next `byte` of RFC 4251, section 5.
     pub fn u8(&mut self) -> Option<u8>
-        ensures { Moves (u8_at self.old) result self.old self.new }
+        ensures moves { Moves (u8_at self.old) result self.old self.new }
+        ensures found { IfSome result (λ b. self.old ≡ b ∷ self.new) }
+        ensures only { (b : ℕ) (rest : List ℕ) → self.old ≡ b ∷ rest → (result ≡ Some b) × (self.new ≡ rest) }
+        ensures short { IsNone result ↔ (self.old ≡ []) }
+        ensures unchanged { IfNone result (self.new ≡ self.old) }
     {
         let (first, rest) = self.rest.split_first()?;
         self.rest = rest;
         Some(*first)
     }
 
-    /// The next number of 4 bytes.
+    /// The next `uint32` of RFC 4251, section 5: 4 bytes, the most significant first.
     pub fn u32(&mut self) -> Option<u32>
         ensures moves { Moves (u32_at self.old) result self.old self.new }
         ensures found { IfSome result (λ n. self.old ≡ u32_text n ++ self.new) }
-        ensures only { (n : ℕ) (rest : List ℕ) → n < 2 ^ 32 → self.old ≡ u32_text n ++ rest → (result ≡ Some n) × (self.new ≡ rest) }
+        ensures only { (n : ℕ) (rest : List ℕ) → n < 2 ^ 32 → self.old ≡ u32_text n ++ rest
+            → (result ≡ Some n) × (self.new ≡ rest) }
+        ensures short { IsNone result ↔ (length self.old < 4) }
+        ensures unchanged { IfNone result (self.new ≡ self.old) }
     {
         let (value, rest) = split_u32(self.rest)?;
         self.rest = rest;
         Some(value)
     }
 
-    /// The next number of 8 bytes.
+    /// The next `uint64` of RFC 4251, section 5: 8 bytes, the most significant first.
     pub fn u64(&mut self) -> Option<u64>
         ensures moves { Moves (u64_at self.old) result self.old self.new }
         ensures found { IfSome result (λ n. self.old ≡ u64_text n ++ self.new) }
-        ensures only { (n : ℕ) (rest : List ℕ) → n < 2 ^ 64 → self.old ≡ u64_text n ++ rest → (result ≡ Some n) × (self.new ≡ rest) }
+        ensures only { (n : ℕ) (rest : List ℕ) → n < 2 ^ 64 → self.old ≡ u64_text n ++ rest
+            → (result ≡ Some n) × (self.new ≡ rest) }
+        ensures short { IsNone result ↔ (length self.old < 8) }
+        ensures unchanged { IfNone result (self.new ≡ self.old) }
     {
         let (value, rest) = split_u64(self.rest)?;
         self.rest = rest;
         Some(value)
     }
 
-    /// The next string, a slice of the input.
+    /// The next `string` of RFC 4251, section 5: a `uint32` that says how many bytes follow, and these bytes.
+    /// They are a slice of the input.
     pub fn string(&mut self) -> Option<&'a [u8]>
         ensures moves { Moves (string_at self.old) (option_copied result) self.old self.new }
         ensures found { IfSome result (λ b. self.old ≡ string_text b.now ++ self.new) }
-        ensures only { (b rest : List ℕ) → length b < 2 ^ 32 → self.old ≡ string_text b ++ rest → (option_copied result ≡ Some b) × (self.new ≡ rest) }
+        ensures only { (b rest : List ℕ) → length b < 2 ^ 32 → self.old ≡ string_text b ++ rest
+            → (option_copied result ≡ Some b) × (self.new ≡ rest) }
+        ensures short { IsNone result ↔ (length self.old < string_extent self.old) }
+        ensures unchanged { IfNone result (self.new ≡ self.old) }
     {
         let (value, rest) = split_string(self.rest)?;
         self.rest = rest;

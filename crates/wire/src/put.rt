@@ -1,15 +1,20 @@
-//! Texts put at the end of a vector.
+//! Integers and strings put at the end of a vector.
 
-ghost use Rattle.std.specs.Prelude.{◌≡◌, ◌<◌, ◌^◌, ◌++◌, length, OnOk, OnErr};
+ghost use Rattle.std.specs.Prelude.{◌≡◌, ◌+◌, ◌<◌, ◌≤◌, ◌^◌, ◌++◌, length, OnOk, OnErr, vec_len};
+ghost use Rattle.std.specs.Vec.{vec_capacity};
 ghost use Rattle.wire.specs.Texts.{u32_text, u64_text, string_text};
 
 use byteorder::{BigEndian, ByteOrder};
 use text::NoMemory;
 
-/// Puts a number of 4 bytes at the end.
+/// Puts a `uint32` of RFC 4251, section 5, at the end: 4 bytes, the most significant first.
+///
+/// The one error is a growth that was refused, and then the vector is as it was.
 pub fn put_u32(out: &mut Vec<u8>, n: u32) -> Result<(), NoMemory>
     ensures ok { OnOk result (out.new.items ≡ out.old.items ++ u32_text n) }
     ensures err { OnErr result (out.new.items ≡ out.old.items) }
+    ensures full { OnErr result (vec_capacity out.old < vec_len out.old + 4) }
+    ensures capacity { vec_capacity out.old ≤ vec_capacity out.new }
 {
     let mut bytes = [0; 4];
     BigEndian::write_u32(&mut bytes, n);
@@ -17,10 +22,14 @@ pub fn put_u32(out: &mut Vec<u8>, n: u32) -> Result<(), NoMemory>
     Ok(())
 }
 
-/// Puts a number of 8 bytes at the end.
+/// Puts a `uint64` of RFC 4251, section 5, at the end: 8 bytes, the most significant first.
+///
+/// The one error is a growth that was refused, and then the vector is as it was.
 pub fn put_u64(out: &mut Vec<u8>, n: u64) -> Result<(), NoMemory>
     ensures ok { OnOk result (out.new.items ≡ out.old.items ++ u64_text n) }
     ensures err { OnErr result (out.new.items ≡ out.old.items) }
+    ensures full { OnErr result (vec_capacity out.old < vec_len out.old + 8) }
+    ensures capacity { vec_capacity out.old ≤ vec_capacity out.new }
 {
     let mut bytes = [0; 8];
     BigEndian::write_u64(&mut bytes, n);
@@ -28,11 +37,16 @@ pub fn put_u64(out: &mut Vec<u8>, n: u64) -> Result<(), NoMemory>
     Ok(())
 }
 
-/// Puts a string at the end: its length, and its bytes.
+/// Puts a `string` of RFC 4251, section 5, at the end: a `uint32` that says how many bytes it has, and its bytes,
+/// of which there are at most 4294967295.
+///
+/// The one error is a growth that was refused, and then the vector is as it was.
 pub fn put_string(out: &mut Vec<u8>, b: &[u8]) -> Result<(), NoMemory>
     requires { length b.now < 2 ^ 32 }
     ensures ok { OnOk result (out.new.items ≡ out.old.items ++ string_text b.now) }
     ensures err { OnErr result (out.new.items ≡ out.old.items) }
+    ensures full { OnErr result (vec_capacity out.old < vec_len out.old + 4 + length b.now) }
+    ensures capacity { vec_capacity out.old ≤ vec_capacity out.new }
 {
     // Room for both parts first, so that a refusal leaves the vector as it was.
     let mut head = [0; 4];

@@ -1,15 +1,15 @@
-use Rattle.std.proofs.Common.{◌≡◌, ℕ, ◌≤◌, ◌<◌, ◌-◌, List, length, take, drop, min, sym, ap, ◌∙◌, subst, arith, codes}
-use Rattle.std.specs.Prelude.{nat_lt, Option}
+use Rattle.std.proofs.Common.{ℕ, List, length, sym, ap, ◌∙◌, subst, arith, codes}
+use Rattle.std.specs.Prelude.{nat_lt}
 use Rattle.std.proofs.lemmas.List.{length-take}
-use Rattle.httparse.specs.Grammar.{RequestHead, ReadsRequest}
 use Rattle.httparse.proofs.GrammarLemmas.{request_unique}
-use Rattle.requests.specs.Heads.{AreLawful, values, lengths, IsGood, States}
+use Rattle.requests.specs.Heads.{AreLawful, values, lengths, States}
 use Rattle.requests.proofs.Heads.{head_of_front, head_in_front, fields_fit}
 use Rattle.requests.proofs.head.read_head.Goals as goal
 
 pub returns-in_default-clause-none : goal.returns-in_default-clause-none
 returns-in_default-clause-none c = λ h rest good.
-    c.in_default.ensures.none h _ (head_in_front c.args.bytes.now _ h rest c.min.ensures good.0.size good.0.reads) good.0.lines
+    let reads = head_in_front c.args.bytes.now _ h rest c.min.ensures good.0.size good.0.reads in
+    c.in_default.ensures.none h _ reads good.0.lines
 
 pub returns-in_default-stated_length-clause-none :
     goal.returns-in_default-stated_length-clause-none
@@ -42,6 +42,7 @@ returns-clause-found c =
         method = c.of.ensures ∙ found.1.method;
         target = c.of-2.ensures ∙ found.1.path;
         stated = subst Q e c.in-Some-stated_length.ensures.some;
-        coding = c.states_coding.ensures ∙ ap (λ known. nat_lt 0 (length (values (codes "transfer-encoding") known))) found.1.fields;
+        coding = c.states_coding.ensures
+            ∙ ap (λ known. nat_lt 0 (length (values (codes "transfer-encoding") known))) found.1.fields;
       },
     )

@@ -1,0 +1,293 @@
+-- A fault that is there is found; what reading gives is what was answered.
+use Rattle.std.proofs.Common.{◌≡◌, ◌≢◌, ℕ, zero, suc, ◌<◌, Bool, true, false, eqb, List, [], ◌++◌, length, Some, None, is_some, Result, Ok, Err, IfOk, IfErr, refl, sym, ap, ◌∙◌, subst, arith}
+use Rattle.std.proofs.lemmas.Bool.{both_ways, false_from_ne_true, eqb-true}
+use Rattle.std.proofs.lemmas.Option.{same_Some}
+use Rattle.std.proofs.lemmas.Slice.Eq.{bytes_eq-Decides}
+use Rattle.wire.specs.Reading.{u32_at, u64_at, string_at}
+use Rattle.wire.proofs.Laws.{IsBytes, string_takes}
+use Rattle.lines.specs.Keys.{key_of}
+use Rattle.lines.proofs.Blobs.{key_of_found}
+use Rattle.profile.specs.declared.option_field.OptionField.TheVariants.{CriticalOptions, Extensions}
+use Rattle.cert.specs.Bodies.{IsCertFields, cert_type, front, body_text, is_validity}
+use Rattle.cert.specs.Reading.{
+  ◌>>=◌,
+  check,
+  Gives,
+  kind_of,
+  principals_of,
+  options_of,
+  type_at,
+  bytes_32_at,
+  serial_at,
+  kind_at,
+  key_id_at,
+  principals_at,
+  validity_at,
+  options_at,
+  reserved_at,
+  ca_at,
+  body_at,
+}
+use Rattle.cert.specs.Faults.{IsFault, ends_at, is_whole}
+use Rattle.cert.specs.declared.fields.CertFields.{CertFields}
+use Rattle.cert.specs.declared.cert_fault.CertFault.{CertFault}
+use Rattle.cert.specs.declared.cert_fault.CertFault.TheVariants.{
+  Truncated,
+  WrongType,
+  BadNonce,
+  BadKey,
+  BadSerial,
+  BadKind,
+  BadKeyId,
+  BadPrincipals,
+  BadValidity,
+  BadOptions,
+  BadExtensions,
+  BadReserved,
+  BadCa,
+  TrailingBytes,
+  NoMemory,
+}
+use Rattle.cert.proofs.NestedLaws.{IsBytes_left, IsBytes_string, principals_found, options_of_found}
+use Rattle.cert.proofs.Tails
+use Rattle.cert.proofs.BodyParts.{bind_Err, option_cases, none_of, empty, kind_found, sample}
+use Rattle.cert.proofs.BodySays.{Says, body_at-says}
+use Rattle.cert.proofs.BodyAgain.{
+  upto_nonce,
+  upto_key,
+  upto_serial,
+  upto_kind,
+  upto_key_id,
+  upto_principals,
+  upto_validity,
+  upto_options,
+  upto_extensions,
+  reads_type,
+  reads_nonce,
+  reads_key,
+  reads_serial,
+  reads_kind,
+  reads_key_id,
+  reads_principals,
+  reads_validity,
+  reads_options,
+  reads_extensions,
+  reads_reserved,
+  reads_ca,
+  body_at-again,
+}
+
+-- what a string of the rest holds is bytes
+inside : (bytes before rest : List ℕ) (s : List ℕ × List ℕ) → bytes ≡ before ++ rest → string_at rest ≡ Some s
+    → IsBytes bytes → IsBytes s.0
+inside bytes before rest s text is fits =
+    let left = IsBytes_left bytes before rest text fits in
+    IsBytes_string rest s.0 s.1 (string_takes rest s.0 s.1 left is) left
+
+ends_are_bad : (rest : List ℕ) (ends : ℕ × ℕ × List ℕ) → ends_at rest ≡ Some ends
+    → is_validity ends.0 ends.1 ≡ false → validity_at rest ≡ Err BadValidity
+ends_are_bad rest ends e fails =
+    option_cases (u64_at rest) (validity_at rest ≡ Err BadValidity)
+    (λ none. absurd (let nothing : None ≡ Some ends = sym (no_first none) ∙ e in cc))
+    (λ a is. option_cases (u64_at a.1) (validity_at rest ≡ Err BadValidity)
+    (λ none. absurd (let nothing : None ≡ Some ends = sym (no_second a is none) ∙ e in cc))
+    (λ b also.
+    let same : (a.0, b.0, b.1) ≡ ends = same_Some _ _ (sym (both a b is also) ∙ e) in
+    Tails.validity_is_bad rest a b is also (subst (λ (x : ℕ × ℕ × List ℕ). is_validity x.0 x.1 ≡ false)
+    (sym same) fails)))
+  where
+    no_first : u64_at rest ≡ None → ends_at rest ≡ None
+    no_first e = rw e refl
+
+    no_second : (a : ℕ × List ℕ) → u64_at rest ≡ Some a → u64_at a.1 ≡ None → ends_at rest ≡ None
+    no_second a e f = rw (e, f) refl
+
+    both : (a b : ℕ × List ℕ) → u64_at rest ≡ Some a → u64_at a.1 ≡ Some b → ends_at rest ≡ Some (a.0, b.0, b.1)
+    both a b e f = rw (e, f) refl
+
+ends_are_cut : (rest : List ℕ) → is_some (ends_at rest) ≡ false → validity_at rest ≡ Err Truncated
+ends_are_cut rest e =
+    option_cases (u64_at rest) (validity_at rest ≡ Err Truncated) (λ none. Tails.after_is_cut rest none)
+    (λ a is. option_cases (u64_at a.1) (validity_at rest ≡ Err Truncated) (λ none. Tails.before_is_cut rest a is none)
+    (λ b also. absurd (both_ways _ e (there a b is also))))
+  where
+    there : (a b : ℕ × List ℕ) → u64_at rest ≡ Some a → u64_at a.1 ≡ Some b → is_some (ends_at rest) ≡ true
+    there a b e f = rw (e, f) refl
+
+more : (c : CertFields) (rest : List ℕ) → rest ≢ [] → Tails.from_end c rest ≡ Err TrailingBytes
+more c rest some = by (eqb (length rest) 0) refl
+  where
+    by : (b : Bool) → eqb (length rest) 0 ≡ b → (check TrailingBytes b >>= λ _. Ok c) ≡ Err TrailingBytes
+    by true e = absurd (some (empty rest e))
+    by false e = refl
+
+cut : (n : ℕ) → n < 12 → (c : CertFields) (rest : List ℕ) → IsCertFields c → is_whole n rest ≡ false
+    → body_at (front n c ++ rest) ≡ Err Truncated
+cut zero lt c rest l e = Tails.body_at-from_type sample rest ∙ bind_Err (type_at rest)
+    (Tails.then_type sample) Truncated (Tails.type_is_cut rest (none_of (string_at rest) e))
+cut (suc zero) lt c rest l e = reads_type c l rest ∙ bind_Err (bytes_32_at BadNonce rest)
+    (Tails.then_nonce sample) Truncated (Tails.bytes_32_is_cut BadNonce rest (none_of (string_at rest) e))
+cut (suc (suc zero)) lt c rest l e = reads_nonce c l rest ∙ bind_Err (bytes_32_at BadKey rest) (Tails.then_key
+    (upto_nonce c)) Truncated (Tails.bytes_32_is_cut BadKey rest (none_of (string_at rest) e))
+cut (suc (suc (suc zero))) lt c rest l e = reads_key c l rest
+    ∙ bind_Err (serial_at rest) (Tails.then_serial (upto_key c)) Truncated (Tails.serial_is_cut rest (none_of
+    (u64_at rest) e))
+cut (suc (suc (suc (suc zero)))) lt c rest l e = reads_serial c l rest
+    ∙ bind_Err (kind_at rest) (Tails.then_kind (upto_serial c)) Truncated (Tails.kind_is_cut rest (none_of
+    (u32_at rest) e))
+cut (suc (suc (suc (suc (suc zero))))) lt c rest l e = reads_kind c l rest
+    ∙ bind_Err (key_id_at rest) (Tails.then_key_id (upto_kind c)) Truncated (Tails.key_id_is_cut rest (none_of
+    (string_at rest) e))
+cut (suc (suc (suc (suc (suc (suc zero)))))) lt c rest l e = reads_key_id c l rest
+    ∙ bind_Err (principals_at rest) (Tails.then_principals (upto_key_id c)) Truncated
+    (Tails.principals_is_cut rest (none_of (string_at rest) e))
+cut (suc (suc (suc (suc (suc (suc (suc zero))))))) lt c rest l e = reads_principals c l rest
+    ∙ bind_Err (validity_at rest) (Tails.then_validity (upto_principals c)) Truncated (ends_are_cut rest e)
+cut (suc (suc (suc (suc (suc (suc (suc (suc zero)))))))) lt c rest l e = reads_validity c l rest
+    ∙ bind_Err (options_at CriticalOptions c.kind rest) (Tails.then_options (upto_validity c)) Truncated
+    (Tails.options_is_cut CriticalOptions c.kind rest (none_of (string_at rest) e))
+cut (suc (suc (suc (suc (suc (suc (suc (suc (suc zero))))))))) lt c rest l e = reads_options c l rest
+    ∙ bind_Err (options_at Extensions c.kind rest) (Tails.then_extensions (upto_options c)) Truncated
+    (Tails.options_is_cut Extensions c.kind rest (none_of (string_at rest) e))
+cut (suc (suc (suc (suc (suc (suc (suc (suc (suc (suc zero)))))))))) lt c rest l e = reads_extensions c l rest
+    ∙ bind_Err (reserved_at rest) (Tails.then_reserved (upto_extensions c)) Truncated (Tails.reserved_is_cut rest
+    (none_of (string_at rest) e))
+cut (suc (suc (suc (suc (suc (suc (suc (suc (suc (suc (suc zero))))))))))) lt c rest l e = reads_reserved c l rest
+    ∙ bind_Err (ca_at rest) (Tails.then_ca (upto_extensions c)) Truncated (Tails.ca_is_cut rest (none_of
+    (string_at rest) e))
+cut (suc (suc (suc (suc (suc (suc (suc (suc (suc (suc (suc (suc n)))))))))))) lt c rest l e = absurd (omega arith)
+
+-- a fault that is there is found
+pub body_at-fault : (bytes : List ℕ) (e : CertFault) → IsBytes bytes → e ≢ NoMemory → IsFault bytes e
+    → body_at bytes ≡ Err e
+body_at-fault bytes WrongType fits other f =
+    let c = f.0 in let rest = f.1 in let h = f.2 in let w = f.3 in
+    ap body_at h.text ∙ Tails.body_at-from_type sample rest ∙ bind_Err (type_at rest) (Tails.then_type sample) WrongType
+    (Tails.type_is_bad rest w.0 w.1 (false_from_ne_true _ (λ t. w.2 ((bytes_eq-Decides w.0.0 cert_type).0 t))))
+body_at-fault bytes BadNonce fits other f =
+    let c = f.0 in let rest = f.1 in let h = f.2 in let w = f.3 in
+    ap body_at h.text ∙ reads_type c h.lawful rest ∙ bind_Err (bytes_32_at BadNonce rest)
+    (Tails.then_nonce sample) BadNonce
+    (Tails.bytes_32_is_bad BadNonce rest w.0 w.1 (false_from_ne_true _ (λ t. w.2 (eqb-true _ _ t))))
+body_at-fault bytes BadKey fits other f =
+    let c = f.0 in let rest = f.1 in let h = f.2 in let w = f.3 in
+    ap body_at h.text ∙ reads_nonce c h.lawful rest ∙ bind_Err (bytes_32_at BadKey rest) (Tails.then_key
+    (upto_nonce c)) BadKey
+    (Tails.bytes_32_is_bad BadKey rest w.0 w.1 (false_from_ne_true _ (λ t. w.2 (eqb-true _ _ t))))
+body_at-fault bytes BadSerial fits other f =
+    let c = f.0 in let rest = f.1 in let h = f.2 in let w = f.3 in
+    ap body_at h.text ∙ reads_key c h.lawful rest ∙ bind_Err (serial_at rest) (Tails.then_serial (upto_key c)) BadSerial
+    (Tails.serial_is_bad rest w.0 w.1 (false_from_ne_true _ w.2))
+body_at-fault bytes BadKind fits other f =
+    let c = f.0 in let rest = f.1 in let h = f.2 in let w = f.3 in
+    ap body_at h.text ∙ reads_serial c h.lawful rest ∙ bind_Err (kind_at rest) (Tails.then_kind (upto_serial c)) BadKind
+    (Tails.kind_is_bad rest w.0 w.1 (option_cases (kind_of w.0.0) (kind_of w.0.0 ≡ None) (λ none. none)
+    (λ kind e. absurd (w.2 kind (kind_found w.0.0 kind e)))))
+body_at-fault bytes BadKeyId fits other f =
+    let c = f.0 in let rest = f.1 in let h = f.2 in let w = f.3 in
+    ap body_at h.text ∙ reads_kind c h.lawful rest ∙ bind_Err (key_id_at rest) (Tails.then_key_id
+    (upto_kind c)) BadKeyId
+    (Tails.key_id_is_bad rest w.0 w.1 (false_from_ne_true _ w.2))
+body_at-fault bytes BadPrincipals fits other f =
+    let c = f.0 in let rest = f.1 in let h = f.2 in let w = f.3 in
+    ap body_at h.text ∙ reads_key_id c h.lawful rest ∙ bind_Err (principals_at rest) (Tails.then_principals
+    (upto_key_id c)) BadPrincipals
+    (Tails.principals_is_bad rest w.0 w.1 (option_cases (principals_of w.0.0) (principals_of w.0.0 ≡ None)
+    (λ none. none) (λ x e. let is = principals_found w.0.0 x (inside bytes
+    (front 6 c) rest w.0 h.text w.1 fits) e in absurd (w.2 (x, is.1, is.0)))))
+body_at-fault bytes BadValidity fits other f =
+    let c = f.0 in let rest = f.1 in let h = f.2 in let w = f.3 in
+    ap body_at h.text ∙ reads_principals c h.lawful rest ∙ bind_Err (validity_at rest) (Tails.then_validity
+    (upto_principals c)) BadValidity
+    (ends_are_bad rest w.0 w.1 (false_from_ne_true _ w.2))
+body_at-fault bytes BadOptions fits other f =
+    let c = f.0 in let rest = f.1 in let h = f.2 in let w = f.3 in
+    ap body_at h.text ∙ reads_validity c h.lawful rest ∙ bind_Err (options_at CriticalOptions c.kind rest)
+    (Tails.then_options (upto_validity c)) BadOptions
+    (Tails.options_is_bad CriticalOptions c.kind rest w.0 w.1 (option_cases
+    (options_of CriticalOptions c.kind w.0.0) (options_of CriticalOptions c.kind w.0.0 ≡ None)
+    (λ none. none) (λ x e. let is = options_of_found CriticalOptions c.kind w.0.0 x (inside bytes
+    (front 8 c) rest w.0 h.text w.1 fits) e in absurd (w.2 (x, is.1, is.0)))))
+body_at-fault bytes BadExtensions fits other f =
+    let c = f.0 in let rest = f.1 in let h = f.2 in let w = f.3 in
+    ap body_at h.text ∙ reads_options c h.lawful rest ∙ bind_Err (options_at Extensions c.kind rest)
+    (Tails.then_extensions (upto_options c)) BadExtensions
+    (Tails.options_is_bad Extensions c.kind rest w.0 w.1 (option_cases (options_of Extensions c.kind w.0.0)
+    (options_of Extensions c.kind w.0.0 ≡ None) (λ none. none)
+    (λ x e. let is = options_of_found Extensions c.kind w.0.0 x (inside bytes
+    (front 9 c) rest w.0 h.text w.1 fits) e in absurd (w.2 (x, is.1, is.0)))))
+body_at-fault bytes BadReserved fits other f =
+    let c = f.0 in let rest = f.1 in let h = f.2 in let w = f.3 in
+    ap body_at h.text ∙ reads_extensions c h.lawful rest ∙ bind_Err (reserved_at rest) (Tails.then_reserved
+    (upto_extensions c)) BadReserved
+    (Tails.reserved_is_bad rest w.0 w.1 (false_from_ne_true _ (λ t. w.2 (empty w.0.0 t))))
+body_at-fault bytes BadCa fits other f =
+    let c = f.0 in let rest = f.1 in let h = f.2 in let w = f.3 in
+    ap body_at h.text ∙ reads_reserved c h.lawful rest ∙ bind_Err (ca_at rest) (Tails.then_ca (upto_extensions c)) BadCa
+    (Tails.ca_is_bad rest w.0 w.1 (option_cases (key_of w.0.0) (key_of w.0.0 ≡ None) (λ none. none)
+    (λ x e. let is = key_of_found w.0.0 x e in absurd (w.2 (x, is.1, is.0)))))
+body_at-fault bytes TrailingBytes fits other f =
+    ap body_at f.2.text ∙ reads_ca f.0 f.2.lawful f.1 ∙ more f.0 f.1 f.3
+body_at-fault bytes Truncated fits other f =
+    ap body_at f.4.text ∙ cut f.0 f.1 f.2 f.3 f.4.lawful f.5
+body_at-fault bytes NoMemory fits other f = absurd (other refl)
+
+-- ---- from what reading gives to what was answered
+
+-- What was read is lawful, and the bytes are its text.
+pub found_from : (bytes : List ℕ) (r : Result CertFields CertFault) → IsBytes bytes → Gives r (body_at bytes)
+    → IfOk r (λ c. IsCertFields c × (bytes ≡ body_text c))
+found_from bytes (Ok c) fits gives = subst (λ (q : Result CertFields CertFault). Says bytes q) gives
+    (body_at-says bytes fits)
+found_from bytes (Err e) fits gives = tt
+
+-- The text of lawful fields was read, unless memory was refused.
+pub only_from : (bytes : List ℕ) (r : Result CertFields CertFault) (c : CertFields) → IsCertFields c
+    → bytes ≡ body_text c → Gives r (body_at bytes) → Gives r (Ok c)
+only_from bytes r c l text gives = subst (λ (read : Result CertFields CertFault). Gives r read) (ap body_at text
+    ∙ body_at-again c l) gives
+
+-- The fault that was answered is there.
+pub fault_from : (bytes : List ℕ) (r : Result CertFields CertFault) → IsBytes bytes → Gives r (body_at bytes)
+    → IfErr r (IsFault bytes)
+fault_from bytes (Ok c) fits gives = tt
+fault_from bytes (Err e) fits gives = at e gives
+  where
+    there : (e : CertFault) → body_at bytes ≡ Err e → IsFault bytes e
+    there e is = subst (λ (q : Result CertFields CertFault). Says bytes q) is (body_at-says bytes fits)
+
+    at : (e : CertFault) → Gives {X = CertFields} (Err e) (body_at bytes) → IsFault bytes e
+    at Truncated gives = there Truncated gives
+    at WrongType gives = there WrongType gives
+    at BadNonce gives = there BadNonce gives
+    at BadKey gives = there BadKey gives
+    at BadSerial gives = there BadSerial gives
+    at BadKind gives = there BadKind gives
+    at BadKeyId gives = there BadKeyId gives
+    at BadPrincipals gives = there BadPrincipals gives
+    at BadValidity gives = there BadValidity gives
+    at BadOptions gives = there BadOptions gives
+    at BadExtensions gives = there BadExtensions gives
+    at BadReserved gives = there BadReserved gives
+    at BadCa gives = there BadCa gives
+    at TrailingBytes gives = there TrailingBytes gives
+    at NoMemory gives = tt
+
+-- The fault that is there was answered, unless memory was refused.
+pub answered_from : (bytes : List ℕ) (r : Result CertFields CertFault) (e : CertFault) → IsBytes bytes
+    → e ≢ NoMemory → IsFault bytes e → Gives r (body_at bytes) → Gives r (Err e)
+answered_from bytes r e fits other fault gives = subst (λ (read : Result CertFields CertFault). Gives r read)
+    (body_at-fault bytes e fits other fault) gives
+
+-- No text is that of two values.
+pub body_text-unique : (c d : CertFields) → IsCertFields c → IsCertFields d → body_text c ≡ body_text d → c ≡ d
+body_text-unique c d lc ld e =
+    let same : Ok c ≡ Ok d = sym (body_at-again c lc) ∙ ap body_at e ∙ body_at-again d ld in
+    same_Ok c d same
+  where
+    same_Ok : (c d : CertFields) → ◌≡◌ {A = Result CertFields CertFault} (Ok c) (Ok d) → c ≡ d
+    same_Ok c d e = ap (λ (r : Result CertFields CertFault). of r c) e
+      where
+        of : Result CertFields CertFault → CertFields → CertFields
+        of (Ok x) other = x
+        of (Err e) other = other

@@ -1,0 +1,269 @@
+-- Lawful fields, and the steps of reading them.
+use Rattle.std.proofs.Common.{◌≡◌, ◌≢◌, ℕ, ◌^◌, ◌<◌, Bool, true, false, cond, eqb, List, [], ◌∷◌, ◌++◌, length, replicate, codes, Option, Some, None, is_some, Result, Ok, Err, refl, sym, ap, ◌∙◌, append_assoc, arith}
+use Rattle.std.proofs.lemmas.Bool.{both_ways, eqb-true, eq-eqb}
+use Rattle.std.proofs.lemmas.Option.{same_Some}
+use Rattle.text.specs.declared.pair.Pair.{Pair}
+use Rattle.profile.specs.Names.{is_key_id}
+use Rattle.profile.specs.declared.kind.Kind.{Kind}
+use Rattle.profile.specs.declared.kind.Kind.TheVariants.{User, Host}
+use Rattle.profile.specs.declared.option_field.OptionField.TheVariants.{CriticalOptions, Extensions}
+use Rattle.cert.specs.Options.{is_options}
+use Rattle.cert.specs.Bodies.{IsCertFields, kind_number, is_serial, are_principals, is_validity}
+use Rattle.cert.specs.Reading.{◌>>=◌, kind_of}
+use Rattle.cert.specs.declared.fields.CertFields.{CertFields}
+use Rattle.cert.specs.declared.cert_fault.CertFault.{CertFault}
+
+pub bind_Ok : {A B : Type 0} (r : Result A CertFault) (f : A → Result B CertFault) (x : A) → r ≡ Ok x → (r >>= f) ≡ f x
+bind_Ok r f x e = ap (λ s. s >>= f) e
+
+pub bind_Err : {A B : Type 0} (r : Result A CertFault) (f : A → Result B CertFault) (e : CertFault) → r ≡ Err e
+    → (r >>= f) ≡ Err e
+bind_Err r f e is = ap (λ s. s >>= f) is
+
+pub option_cases : {A : Type 0} (o : Option A) (P : Type 0) → (o ≡ None → P) → ((x : A) → o ≡ Some x → P) → P
+option_cases None P none some = none refl
+option_cases (Some x) P none some = some x refl
+
+pub none_of : {A : Type 0} (o : Option A) → is_some o ≡ false → o ≡ None
+none_of None e = refl
+none_of (Some x) e = absurd cc
+
+pub empty : (t : List ℕ) → eqb (length t) 0 ≡ true → t ≡ []
+empty [] e = refl
+empty (b ∷ t) e = absurd (omega (arith, eqb-true _ _ e))
+
+pub not_empty : (t : List ℕ) → eqb (length t) 0 ≡ false → t ≢ []
+not_empty t e none = both_ways _ e (eq-eqb _ _ (ap length none))
+
+-- the bytes, with one more field in front of the rest
+pub advance : (bytes before rest text after : List ℕ) → bytes ≡ before ++ rest → rest ≡ text ++ after
+    → bytes ≡ before ++ text ++ after
+advance bytes before rest text after e f = e ∙ ap (λ r. before ++ r) f ∙ sym (append_assoc before text after)
+
+-- the kind of a number is the one that it writes
+pub kind_found : (n : ℕ) (kind : Kind) → kind_of n ≡ Some kind → n ≡ kind_number kind
+kind_found n kind e = by (eqb n 1) (eqb n 2) refl refl e
+  where
+    by : (one two : Bool) → eqb n 1 ≡ one → eqb n 2 ≡ two → cond one (Some User) (cond two
+        (Some Host) None) ≡ Some kind → n ≡ kind_number kind
+    by true two e f h = eqb-true n 1 e ∙ ap kind_number (same_Some _ _ h)
+    by false true e f h = eqb-true n 2 f ∙ ap kind_number (same_Some _ _ h)
+    by false false e f h = absurd cc
+
+pub kind_again : (kind : Kind) → kind_of (kind_number kind) ≡ Some kind
+kind_again User = refl
+kind_again Host = refl
+
+pub kind_small : (kind : Kind) → kind_number kind < 2 ^ 32
+kind_small User = omega arith
+kind_small Host = omega arith
+
+pub no_kind : (n : ℕ) → kind_of n ≡ None → (kind : Kind) → n ≢ kind_number kind
+no_kind n none kind e = let there : None ≡ Some kind = sym none ∙ ap kind_of e ∙ kind_again kind in cc
+
+-- ---- lawful fields
+
+-- a certificate without options
+pub sample : CertFields
+sample = record {
+  nonce = replicate 32 0;
+  key = replicate 32 0;
+  serial = 1;
+  kind = User;
+  key_id = codes "a/a";
+  principals = codes
+      "a" ∷ [];
+  after = 0;
+  before = 1;
+  options = [];
+  extensions = [];
+  ca = replicate 32 0;
+}
+
+pub sample_is_lawful : IsCertFields sample
+unfolding sample
+sample_is_lawful = record {
+  nonce = refl;
+  key = refl;
+  serial = refl;
+  key_id = refl;
+  principals = refl;
+  validity = refl;
+  options = refl;
+  extensions = refl;
+  ca = refl;
+}
+
+-- no options of either field
+abbrev pub IsBare : CertFields → Type 0
+IsBare c = (c.options ≡ []) × (c.extensions ≡ [])
+
+pub sample_is_bare : IsBare sample
+unfolding sample
+sample_is_bare = (refl, refl)
+
+-- lawful fields with another nonce
+pub with_nonce : (c : CertFields) → IsCertFields c → (x : List ℕ) → length x ≡ 32
+    → IsCertFields (record c { nonce = x })
+with_nonce c l x h = record {
+  nonce = h;
+  key = l.key;
+  serial = l.serial;
+  key_id = l.key_id;
+  principals =
+      l.principals;
+  validity = l.validity;
+  options = l.options;
+  extensions = l.extensions;
+  ca = l.ca;
+}
+
+-- lawful fields with another key
+pub with_key : (c : CertFields) → IsCertFields c → (x : List ℕ) → length x ≡ 32 → IsCertFields (record c { key = x })
+with_key c l x h = record {
+  nonce = l.nonce;
+  key = h;
+  serial = l.serial;
+  key_id = l.key_id;
+  principals =
+      l.principals;
+  validity = l.validity;
+  options = l.options;
+  extensions = l.extensions;
+  ca = l.ca;
+}
+
+-- lawful fields with another serial
+pub with_serial : (c : CertFields) → IsCertFields c → (x : ℕ) → is_serial x ≡ true
+    → IsCertFields (record c { serial = x })
+with_serial c l x h = record {
+  nonce = l.nonce;
+  key = l.key;
+  serial = h;
+  key_id = l.key_id;
+  principals =
+      l.principals;
+  validity = l.validity;
+  options = l.options;
+  extensions = l.extensions;
+  ca = l.ca;
+}
+
+-- lawful fields with another key id
+pub with_key_id : (c : CertFields) → IsCertFields c → (x : List ℕ) → is_key_id x ≡ true
+    → IsCertFields (record c { key_id = x })
+with_key_id c l x h = record {
+  nonce = l.nonce;
+  key = l.key;
+  serial = l.serial;
+  key_id = h;
+  principals =
+      l.principals;
+  validity = l.validity;
+  options = l.options;
+  extensions = l.extensions;
+  ca = l.ca;
+}
+
+-- lawful fields with another principals
+pub with_principals : (c : CertFields) → IsCertFields c → (x : List (List ℕ)) → are_principals x ≡ true
+    → IsCertFields (record c { principals = x })
+with_principals c l x h = record {
+  nonce = l.nonce;
+  key = l.key;
+  serial = l.serial;
+  key_id = l.key_id;
+  principals =
+      h;
+  validity = l.validity;
+  options = l.options;
+  extensions = l.extensions;
+  ca = l.ca;
+}
+
+-- lawful fields with another options
+pub with_options : (c : CertFields) → IsCertFields c → (x : List Pair)
+    → is_options CriticalOptions c.kind x ≡ true → IsCertFields (record c { options = x })
+with_options c l x h = record {
+  nonce = l.nonce;
+  key = l.key;
+  serial = l.serial;
+  key_id = l.key_id;
+  principals =
+      l.principals;
+  validity = l.validity;
+  options = h;
+  extensions = l.extensions;
+  ca = l.ca;
+}
+
+-- lawful fields with another extensions
+pub with_extensions : (c : CertFields) → IsCertFields c → (x : List Pair) → is_options Extensions c.kind x ≡ true
+    → IsCertFields (record c { extensions = x })
+with_extensions c l x h = record {
+  nonce = l.nonce;
+  key = l.key;
+  serial = l.serial;
+  key_id = l.key_id;
+  principals =
+      l.principals;
+  validity = l.validity;
+  options = l.options;
+  extensions = h;
+  ca = l.ca;
+}
+
+-- lawful fields with another ca
+pub with_ca : (c : CertFields) → IsCertFields c → (x : List ℕ) → length x ≡ 32 → IsCertFields (record c { ca = x })
+with_ca c l x h = record {
+  nonce = l.nonce;
+  key = l.key;
+  serial = l.serial;
+  key_id = l.key_id;
+  principals =
+      l.principals;
+  validity = l.validity;
+  options = l.options;
+  extensions = l.extensions;
+  ca = h;
+}
+
+-- lawful fields with other ends
+pub with_ends : (c : CertFields) → IsCertFields c → (a b : ℕ) → is_validity a b ≡ true
+    → IsCertFields (record c { after = a; before = b })
+with_ends c l a b h = record {
+  nonce = l.nonce;
+  key = l.key;
+  serial = l.serial;
+  key_id = l.key_id;
+  principals =
+      l.principals;
+  validity = h;
+  options = l.options;
+  extensions = l.extensions;
+  ca = l.ca;
+}
+
+pub no_options : (kind : Kind) (ps : List Pair) → ps ≡ [] → is_options CriticalOptions kind ps ≡ true
+no_options User ps e = ap (is_options CriticalOptions User) e
+no_options Host ps e = ap (is_options CriticalOptions Host) e
+
+pub no_extensions : (kind : Kind) (ps : List Pair) → ps ≡ [] → is_options Extensions kind ps ≡ true
+no_extensions User ps e = ap (is_options Extensions User) e
+no_extensions Host ps e = ap (is_options Extensions Host) e
+
+-- lawful fields without options, with another kind
+pub with_kind : (c : CertFields) → IsCertFields c → IsBare c → (kind : Kind) → IsCertFields (record c { kind = kind })
+with_kind c l bare kind = record {
+  nonce = l.nonce;
+  key = l.key;
+  serial = l.serial;
+  key_id = l.key_id;
+  principals =
+      l.principals;
+  validity = l.validity;
+  options = no_options kind c.options bare.0;
+  extensions = no_extensions
+      kind c.extensions bare.1;
+  ca = l.ca;
+}

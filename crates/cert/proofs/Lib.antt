@@ -1,0 +1,11 @@
+pub mod Appends
+pub mod Ascending
+pub mod Elements
+pub mod Listing
+pub mod NestedLaws
+pub mod Sizes
+pub mod Tails
+pub mod BodyParts
+pub mod BodySays
+pub mod BodyAgain
+pub mod BodyLaws

@@ -1,0 +1,402 @@
+-- Pairs listed one after another.
+use Rattle.std.proofs.Common.{◌≡◌, ◌⊎◌, ℕ, suc, ◌+◌, ◌<◌, Bool, true, false, not, cond, ◌&&◌, ◌||◌, List, [], ◌∷◌, ◌++◌, length, take, drop, get_or, insert, fold, Option, Some, None, Err, IfSome, subst, add-one, drop-cons, sym, ap, ◌∙◌, refl, arith, inl, inr}
+use Rattle.std.specs.List.{list_all, list_any, position_or_len}
+use Rattle.std.specs.Option.{option_or}
+use Rattle.std.specs.Ordering.{nat_cmp, is_lt, is_eq, match_ordering, ordering_reverse}
+use Rattle.std.specs.declared.cmp.Ordering.{Ordering}
+use Rattle.std.specs.declared.cmp.Ordering.TheVariants.{Less, Equal, Greater}
+use Rattle.std.specs.Cmp.Lexicographic.{slice_cmp}
+use Rattle.std.specs.Str.{bytes_eq}
+use Rattle.std.proofs.lemmas.Slice.Eq.{bytes_eq-Decides}
+use Rattle.cert.proofs.Ascending.{apart}
+use Rattle.std.proofs.lemmas.Bool.{and_parts, and_from, and_left, or_parts, or_from, or_left, or_cases, both_ways}
+use Rattle.std.proofs.lemmas.Cmp.{nat_list_eq_equiv, nat_list_cmp_total}
+use Rattle.std.proofs.lemmas.List.Folds.{list_any-append}
+use Rattle.std.proofs.lemmas.List.Sums.{fold_push}
+use Rattle.std.proofs.lemmas.Map.Text.{is_eq-slice_cmp}
+use Rattle.text.specs.declared.pair.Pair.{Pair}
+use Rattle.profile.specs.Options.{is_known, is_option_value}
+use Rattle.profile.specs.declared.option_field.OptionField.{OptionField}
+use Rattle.cert.specs.declared.option_fault.OptionFault.{OptionFault}
+use Rattle.cert.specs.declared.option_fault.OptionFault.TheVariants.{NotForHosts, Unknown, Twice, BadValue, NoMemory}
+use Rattle.profile.specs.declared.kind.Kind.{Kind}
+use Rattle.profile.specs.declared.kind.Kind.TheVariants.{User, Host}
+use Rattle.std.proofs.lemmas.List.{take_more}
+use Rattle.cert.specs.Options.{comes_before, is_ascending, with_pair, listing, is_option, is_options, are_for_kind}
+use Rattle.cert.specs.OptionFaults.{pair_fault, first_fault, options_fault, fault_answered}
+
+-- none of the pairs has the name
+abbrev pub Lacks : List Pair → List ℕ → Type 0
+Lacks ps name = list_any (λ q. bytes_eq q.name name) ps ≡ false
+
+-- the first of the pairs has another name
+differs : (p q : Pair) (qs : List Pair) → Lacks (q ∷ qs) p.name → is_eq (slice_cmp nat_cmp p.name q.name) ≡ false
+differs p q qs h =
+    is_eq-slice_cmp p.name q.name ∙ nat_list_eq_equiv.symm p.name q.name ∙ (or_parts (bytes_eq q.name p.name) _ h).0
+
+others : (p q : Pair) (qs : List Pair) → Lacks (q ∷ qs) p.name → Lacks qs p.name
+others p q qs h = (or_parts (bytes_eq q.name p.name) _ h).1
+
+-- where a pair comes among others that lack its name
+pub place : Pair → List Pair → ℕ
+place p qs = position_or_len (λ q. comes_before p.name q.name) qs
+
+insert_by : (o : Ordering) (p q : Pair) (qs : List Pair) (k : ℕ) → is_eq o ≡ false → with_pair qs p ≡ insert qs k p
+    → match_ordering o (p ∷ q ∷ qs) (p ∷ qs) (q ∷ with_pair qs p) ≡ insert (q ∷ qs) (cond (not (is_lt o)) (1 + k) 0) p
+insert_by Less p q qs k h e = refl
+insert_by Equal p q qs k h e = absurd cc
+insert_by Greater p q qs k h e = let one : 1 + k ≡ suc k = omega arith in rw one (ap (λ ps. q ∷ ps) e)
+
+-- a pair of a new name is inserted before the first that comes after it
+pub with_pair-insert : (p : Pair) (qs : List Pair) → Lacks qs p.name
+    → with_pair qs p ≡ insert qs (position_or_len (λ q. comes_before p.name q.name) qs) p
+with_pair-insert p [] h = refl
+with_pair-insert p (q ∷ qs) h =
+    insert_by (slice_cmp nat_cmp p.name q.name) p q qs (position_or_len (λ q. comes_before p.name q.name) qs)
+    (differs p q qs h) (with_pair-insert p qs (others p q qs h))
+
+any_by : (o : Ordering) (t : Pair → Bool) (p q : Pair) (qs : List Pair) → is_eq o ≡ false
+    → list_any t (with_pair qs p) ≡ (t p || list_any t qs)
+    → list_any t (match_ordering o (p ∷ q ∷ qs) (p ∷ qs) (q ∷ with_pair qs p)) ≡ (t p || (t q || list_any t qs))
+any_by Less t p q qs h e = refl
+any_by Equal t p q qs h e = absurd cc
+any_by Greater t p q qs h e = ap (λ b. t q || b) e ∙ around (t q) (t p) (list_any t qs)
+  where
+    around : (a b c : Bool) → (a || (b || c)) ≡ (b || (a || c))
+    around true true c = refl
+    around true false c = refl
+    around false b c = refl
+
+-- the pairs are the new one and those that were there
+pub list_any-with_pair : (t : Pair → Bool) (p : Pair) (qs : List Pair) → Lacks qs p.name
+    → list_any t (with_pair qs p) ≡ (t p || list_any t qs)
+list_any-with_pair t p [] h = refl
+list_any-with_pair t p (q ∷ qs) h =
+    any_by (slice_cmp nat_cmp p.name q.name) t p q qs (differs p q qs h) (list_any-with_pair t p qs (others p q qs h))
+
+none_both : (a b : Option OptionFault) → option_or a b ≡ None → (a ≡ None) × (b ≡ None)
+none_both None b e = (refl, e)
+none_both (Some x) b e = absurd cc
+
+no_fault : (known twice lawful : Bool) → cond (not known) (Some Unknown) (cond twice (Some Twice) (cond
+    (not lawful) (Some BadValue) None)) ≡ None
+    → (known ≡ true) × (twice ≡ false) × (lawful ≡ true)
+no_fault false twice lawful e = absurd cc
+no_fault true true lawful e = absurd cc
+no_fault true false false e = absurd cc
+no_fault true false true e = (refl, refl, refl)
+
+-- a pair without fault, after these
+pub record IsSound (field : OptionField) (earlier : List Pair) (p : Pair) : Type 0 where
+  pub option : is_option field p ≡ true
+  pub new : Lacks earlier p.name
+
+sound : (field : OptionField) (earlier : List Pair) (p : Pair) → pair_fault field earlier p ≡ None
+    → IsSound field earlier p
+sound field earlier p e =
+    let tests = no_fault (is_known field p.name) (list_any (λ q. bytes_eq q.name p.name) earlier)
+    (is_option_value p.name p.value) e in
+    record { option = and_from (is_known field p.name) _ tests.0 tests.2; new = tests.1 }
+
+-- what is listed of the pairs so far, and those that are left
+pub record IsListedSoFar (field : OptionField) (listed earlier rest : List Pair) : Type 0 where
+  pub is_listing : listed ≡ listing earlier
+  pub alike : (t : Pair → Bool) → list_any t listed ≡ list_any t earlier
+  pub left : first_fault field earlier rest ≡ None
+
+-- nothing is listed
+pub starts : (field : OptionField) (ps : List Pair) → first_fault field [] ps ≡ None → IsListedSoFar field [] [] ps
+starts field ps e = record { is_listing = refl; alike = λ t. refl; left = e }
+
+turned : (a b : Bool) → (a || b) ≡ (b || (a || false))
+turned true true = refl
+turned true false = refl
+turned false true = refl
+turned false false = refl
+
+-- one more pair is listed
+pub goes_on : (field : OptionField) (listed earlier : List Pair) (p : Pair) (rest : List Pair)
+    → IsListedSoFar field listed earlier (p ∷ rest)
+    → IsListedSoFar field (insert listed (position_or_len (λ q. comes_before p.name q.name) listed) p)
+    (earlier ++ p ∷ []) rest
+goes_on field listed earlier p rest so_far =
+    let faults = none_both (pair_fault field earlier p) (first_fault field (earlier ++ p ∷ []) rest) so_far.left in
+    let here = sound field earlier p faults.0 in
+    let lacks : Lacks listed p.name = so_far.alike (λ q. bytes_eq q.name p.name) ∙ here.new in
+    let inserted = with_pair-insert p listed lacks in
+    record {
+      is_listing = sym inserted ∙ ap (λ ps. with_pair ps p) so_far.is_listing ∙ sym (fold_push with_pair [] earlier p);
+      alike = λ t. ap (list_any t) (sym inserted) ∙ list_any-with_pair t p listed lacks
+          ∙ ap (λ b. t p || b) (so_far.alike t)
+          ∙ turned (t p) (list_any t earlier) ∙ sym (list_any-append t earlier (p ∷ []));
+      left = faults.1;
+    }
+
+-- ---- the listing is strictly ascending, and its pairs are lawful
+
+later : (a b c : List ℕ) → comes_before a b ≡ true → comes_before b c ≡ true → comes_before a c ≡ true
+later a b c p q = ap is_lt (nat_list_cmp_total.trans a b c (is_less _ p) (is_less _ q))
+  where
+    is_less : (o : Ordering) → is_lt o ≡ true → o ≡ Less
+    is_less Less h = refl
+    is_less Equal h = absurd cc
+    is_less Greater h = absurd cc
+
+-- what comes after a name comes after those before it
+pub all_later : (a b : List ℕ) (ps : List Pair) → comes_before a b ≡ true
+    → list_all (λ q. comes_before b q.name) ps ≡ true → list_all (λ q. comes_before a q.name) ps ≡ true
+all_later a b [] p h = refl
+all_later a b (q ∷ qs) p h =
+    let parts = and_parts (comes_before b q.name) _ h in
+    and_from (comes_before a q.name) _ (later a b q.name p parts.0) (all_later a b qs p parts.1)
+
+all_alike : (a b : List ℕ) (ps : List Pair) → slice_cmp nat_cmp a b ≡ Equal
+    → list_all (λ q. comes_before b q.name) ps ≡ true → list_all (λ q. comes_before a q.name) ps ≡ true
+all_alike a b [] p h = refl
+all_alike a b (q ∷ qs) p h =
+    let parts = and_parts (comes_before b q.name) _ h in
+    and_from (comes_before a q.name) _ (ap is_lt (nat_list_cmp_total.congr a b q.name p)
+    ∙ parts.0) (all_alike a b qs p parts.1)
+
+-- what each pair passes, each passes with one more
+pub list_all-with_pair : (t : Pair → Bool) (p : Pair) (qs : List Pair) → t p ≡ true → list_all t qs ≡ true
+    → list_all t (with_pair qs p) ≡ true
+list_all-with_pair t p [] h all = and_from (t p) true h refl
+list_all-with_pair t p (q ∷ qs) h all =
+    let parts = and_parts (t q) _ all in
+    by (slice_cmp nat_cmp p.name q.name) parts.0 parts.1 (list_all-with_pair t p qs h parts.1)
+  where
+    by : (o : Ordering) → t q ≡ true → list_all t qs ≡ true → list_all t (with_pair qs p) ≡ true
+        → list_all t (match_ordering o (p ∷ q ∷ qs) (p ∷ qs) (q ∷ with_pair qs p)) ≡ true
+    by Less at_q rest more = and_from (t p) _ h (and_from (t q) _ at_q rest)
+    by Equal at_q rest more = and_from (t p) _ h rest
+    by Greater at_q rest more = and_from (t q) _ at_q more
+
+-- one more pair at its place leaves the names ascending
+pub is_ascending-with_pair : (p : Pair) (qs : List Pair) → is_ascending qs ≡ true → is_ascending (with_pair qs p) ≡ true
+is_ascending-with_pair p [] h = refl
+is_ascending-with_pair p (q ∷ qs) h =
+    let parts = and_parts (list_all (λ r. comes_before q.name r.name) qs) _ h in
+    by (slice_cmp nat_cmp p.name q.name) refl parts.0 parts.1 (is_ascending-with_pair p qs parts.1)
+  where
+    by : (o : Ordering) → slice_cmp nat_cmp p.name q.name ≡ o
+        → list_all (λ r. comes_before q.name r.name) qs ≡ true → is_ascending qs ≡ true
+        → is_ascending (with_pair qs p) ≡ true → is_ascending (match_ordering o (p ∷ q ∷ qs) (p ∷ qs)
+        (q ∷ with_pair qs p)) ≡ true
+    by Less e after rising more =
+        let first : comes_before p.name q.name ≡ true = ap is_lt e in
+        and_from (list_all (λ r. comes_before p.name r.name) (q ∷ qs)) _ (and_from
+        (comes_before p.name q.name) _ first (all_later p.name q.name qs first after)) h
+    by Equal e after rising more = and_from (list_all (λ r. comes_before p.name r.name) qs) _
+        (all_alike p.name q.name qs e after) rising
+    by Greater e after rising more =
+        let before : comes_before q.name p.name ≡ true = ap is_lt (nat_list_cmp_total.antisymm q.name p.name
+        ∙ ap ordering_reverse e) in
+        and_from (list_all (λ r. comes_before q.name r.name) (with_pair qs p)) _
+        (list_all-with_pair (λ r. comes_before q.name r.name) p qs before after) more
+
+-- what stands of a listing stays ascending as pairs are put in
+fold_ascending : (ps qs : List Pair) → is_ascending qs ≡ true → is_ascending (fold with_pair qs ps) ≡ true
+fold_ascending [] qs h = h
+fold_ascending (p ∷ ps) qs h = fold_ascending ps (with_pair qs p) (is_ascending-with_pair p qs h)
+
+-- a listing is strictly ascending
+pub is_ascending-listing : (ps : List Pair) → is_ascending (listing ps) ≡ true
+is_ascending-listing ps = fold_ascending ps [] refl
+
+fold_all : (t : Pair → Bool) (ps qs : List Pair) → list_all t ps ≡ true → list_all t qs ≡ true
+    → list_all t (fold with_pair qs ps) ≡ true
+fold_all t [] qs h g = g
+fold_all t (p ∷ ps) qs h g = let parts = and_parts (t p) _ h in fold_all t ps (with_pair qs p) parts.1
+    (list_all-with_pair t p qs parts.0 g)
+
+-- what each pair passes, each pair of the listing passes
+pub list_all-listing : (t : Pair → Bool) (ps : List Pair) → list_all t ps ≡ true → list_all t (listing ps) ≡ true
+list_all-listing t ps h = fold_all t ps [] h refl
+
+-- pairs without a fault are options
+pub all_options : (field : OptionField) (earlier ps : List Pair) → first_fault field earlier ps ≡ None
+    → list_all (is_option field) ps ≡ true
+all_options field earlier [] e = refl
+all_options field earlier (p ∷ ps) e =
+    let faults = none_both (pair_fault field earlier p) (first_fault field (earlier ++ p ∷ []) ps) e in
+    and_from (is_option field p) _ (sound field earlier p faults.0).option (all_options field
+    (earlier ++ p ∷ []) ps faults.1)
+
+-- ---- steps of building
+
+-- a step of the loop over the pairs
+pub lists_one_more : (field : OptionField) (listed ps : List Pair) (i : ℕ) (p : Pair) → i < length ps
+    → p ≡ get_or ps i p → IsListedSoFar field listed (take i ps) (drop i ps)
+    → IsListedSoFar field (insert listed (position_or_len (λ q. comes_before p.name q.name) listed) p) (take
+    (i + 1) ps) (drop (i + 1) ps)
+lists_one_more field listed ps i p lt is so_far =
+    let left : drop i ps ≡ p ∷ drop (i + 1) ps = rw (add-one, drop-cons ps i p lt) (ap (λ q. q ∷ drop (suc i) ps)
+    (sym is)) in
+    let more : take (i + 1) ps ≡ take i ps ++ p ∷ [] = take_more ps i p lt ∙ ap (λ q. take i ps ++ q ∷ []) (sym is) in
+    subst (λ (earlier : List Pair). IsListedSoFar field (insert listed (position_or_len
+    (λ q. comes_before p.name q.name) listed) p) earlier (drop (i + 1) ps)) (sym more)
+    (goes_on field listed (take i ps) p (drop (i + 1) ps) (subst (λ (rest : List Pair). IsListedSoFar field listed
+    (take i ps) rest) left so_far))
+
+for_kind : (kind : Kind) (ps : List Pair) → are_for_kind kind ps ≡ true → are_for_kind kind (listing ps) ≡ true
+for_kind User ps h = refl
+for_kind Host [] h = refl
+for_kind Host (p ∷ ps) h = absurd cc
+
+-- where there is no fault, there is none of the kind and none of a pair
+pub no_faults : (field : OptionField) (kind : Kind) (ps : List Pair) → options_fault field kind ps ≡ None
+    → (are_for_kind kind ps ≡ true) × (first_fault field [] ps ≡ None)
+no_faults field kind ps e = by (are_for_kind kind ps) e
+  where
+    by : (b : Bool) → cond b (first_fault field [] ps) (Some NotForHosts) ≡ None
+        → (b ≡ true) × (first_fault field [] ps ≡ None)
+    by true e = (refl, e)
+    by false e = absurd cc
+
+-- the listing of pairs without a fault is what a field of a certificate holds
+pub is_options-listing : (field : OptionField) (kind : Kind) (ps : List Pair)
+    → options_fault field kind ps ≡ None → is_options field kind (listing ps) ≡ true
+is_options-listing field kind ps e =
+    let none = no_faults field kind ps e in
+    and_from (are_for_kind kind (listing ps)) _ (for_kind kind ps none.0)
+    (and_from (is_ascending (listing ps)) _ (is_ascending-listing ps) (list_all-listing (is_option field) ps
+    (all_options field [] ps none.1)))
+
+-- a fault of pairs, which no want of memory is
+abbrev IsOfPairs : Option OptionFault → Type 0
+IsOfPairs o = IfSome o (λ e. ¬ (e ≡ NoMemory))
+
+first_of_two : (a b : Option OptionFault) → IsOfPairs a → IsOfPairs b → IsOfPairs (option_or a b)
+first_of_two None b p q = q
+first_of_two (Some e) b p q = p
+
+pair_fault_is : (known twice lawful : Bool) → IsOfPairs (cond (not known) (Some Unknown) (cond twice (Some Twice)
+    (cond (not lawful) (Some BadValue) None)))
+pair_fault_is false twice lawful = λ e. cc
+pair_fault_is true true lawful = λ e. cc
+pair_fault_is true false false = λ e. cc
+pair_fault_is true false true = tt
+
+first_fault_is : (field : OptionField) (earlier ps : List Pair) → IsOfPairs (first_fault field earlier ps)
+first_fault_is field earlier [] = tt
+first_fault_is field earlier (p ∷ ps) =
+    first_of_two (pair_fault field earlier p) _ (pair_fault_is (is_known field p.name) (list_any
+    (λ q. bytes_eq q.name p.name) earlier) (is_option_value p.name p.value))
+    (first_fault_is field (earlier ++ p ∷ []) ps)
+
+options_fault_is : (field : OptionField) (kind : Kind) (ps : List Pair) → IsOfPairs (options_fault field kind ps)
+options_fault_is field kind ps = by (are_for_kind kind ps)
+  where
+    by : (b : Bool) → IsOfPairs (cond b (first_fault field [] ps) (Some NotForHosts))
+    by true = first_fault_is field [] ps
+    by false = λ e. cc
+
+answered : (X : Type 0) (e : OptionFault) → ¬ (e ≡ NoMemory) → fault_answered {X = X} (Err e) ≡ Some e
+answered X NotForHosts h = refl
+answered X Unknown h = refl
+answered X Twice h = refl
+answered X BadValue h = refl
+answered X NoMemory h = absurd (h refl)
+
+-- a fault of the pairs, answered
+pub fault_answered-Err : (X : Type 0) (field : OptionField) (kind : Kind) (ps : List Pair) (e : OptionFault)
+    → options_fault field kind ps ≡ Some e
+    → fault_answered {X = X} (Err e) ≡ options_fault field kind ps
+fault_answered-Err X field kind ps e is =
+    let of_pairs : IsOfPairs (Some e) = subst (λ (o : Option OptionFault). IsOfPairs o) is
+    (options_fault_is field kind ps) in
+    answered X e of_pairs ∙ sym is
+
+-- ---- two ascending lists of the same pairs are equal
+
+abbrev is_pair : Pair → Pair → Bool
+is_pair p q = bytes_eq q.name p.name && bytes_eq q.value p.value
+
+pair_is : (p q : Pair) → is_pair p q ≡ true → q ≡ p
+pair_is p q h =
+    let parts = and_parts (bytes_eq q.name p.name) _ h in
+    let name = (bytes_eq-Decides q.name p.name).0 parts.0 in
+    let value = (bytes_eq-Decides q.value p.value).0 parts.1 in
+    ap (λ (n : List ℕ). record q { name = n }) name ∙ ap (λ (v : List ℕ). record p { value = v }) value
+
+is_itself : (p : Pair) → is_pair p p ≡ true
+is_itself p = and_from (bytes_eq p.name p.name) _ ((bytes_eq-Decides p.name p.name).1 refl)
+    ((bytes_eq-Decides p.value p.value).1 refl)
+
+not_itself : (name : List ℕ) → comes_before name name ≡ false
+not_itself name = by (slice_cmp nat_cmp name name) (is_eq-slice_cmp name name ∙ (bytes_eq-Decides name name).1 refl)
+  where
+    by : (o : Ordering) → is_eq o ≡ true → is_lt o ≡ false
+    by Less h = absurd cc
+    by Equal h = refl
+    by Greater h = absurd cc
+
+-- what comes after all of the names is none of them
+none_there : (p : Pair) (qs : List Pair) → list_all (λ q. comes_before p.name q.name) qs ≡ true
+    → list_any (is_pair p) qs ≡ false
+none_there p [] h = refl
+none_there p (q ∷ qs) h =
+    let parts = and_parts (comes_before p.name q.name) _ h in
+    let other : bytes_eq q.name p.name ≡ false = nat_list_eq_equiv.symm q.name p.name ∙ apart p.name q.name parts.0 in
+    or_from (is_pair p q) _ (and_left (bytes_eq q.name p.name) _ other) (none_there p qs parts.1)
+
+-- the first of two ascending lists of the same pairs doesn't begin later
+not_earlier : (p q : Pair) (ps qs : List Pair) → is_ascending (q ∷ qs) ≡ true → ((t : Pair → Bool)
+    → list_any t (p ∷ ps) ≡ list_any t (q ∷ qs))
+    → slice_cmp nat_cmp p.name q.name ≡ Less → ⊥
+not_earlier p q ps qs h same e =
+    let first : comes_before p.name q.name ≡ true = ap is_lt e in
+    let parts = and_parts (list_all (λ r. comes_before q.name r.name) qs) _ h in
+    let absent = none_there p (q ∷ qs) (and_from (comes_before p.name q.name) _ first
+    (all_later p.name q.name qs first parts.0)) in
+    both_ways _ absent (sym (same (is_pair p)) ∙ or_left (is_pair p p) _ (is_itself p))
+
+same_first : (p q : Pair) (ps qs : List Pair) → is_ascending (p ∷ ps) ≡ true → is_ascending (q ∷ qs) ≡ true
+    → ((t : Pair → Bool) → list_any t (p ∷ ps) ≡ list_any t (q ∷ qs)) → p ≡ q
+same_first p q ps qs h g same = by (slice_cmp nat_cmp p.name q.name) refl
+  where
+    here : slice_cmp nat_cmp p.name q.name ≡ Equal → (is_pair p q ≡ true) ⊎ (list_any (is_pair p) qs ≡ true) → p ≡ q
+    here e (inl there) = sym (pair_is p q there)
+    here e (inr later) =
+        let parts = and_parts (list_all (λ r. comes_before q.name r.name) qs) _ g in
+        absurd (both_ways _ (none_there p qs (all_alike p.name q.name qs e parts.0)) later)
+
+    by : (o : Ordering) → slice_cmp nat_cmp p.name q.name ≡ o → p ≡ q
+    by Less e = absurd (not_earlier p q ps qs g same e)
+    by Equal e = here e (or_cases (is_pair p q) _ (sym (same (is_pair p)) ∙ or_left (is_pair p p) _ (is_itself p)))
+    by Greater e = absurd (not_earlier q p qs ps h (λ t. sym (same t)) (nat_list_cmp_total.antisymm q.name p.name
+        ∙ ap ordering_reverse e))
+
+after_first_alike : (name : List ℕ) (t : Pair → Bool) (ps : List Pair)
+    → list_all (λ q. comes_before name q.name) ps ≡ true
+    → list_any (λ q. comes_before name q.name && t q) ps ≡ list_any t ps
+after_first_alike name t [] h = refl
+after_first_alike name t (p ∷ ps) h =
+    let parts = and_parts (comes_before name p.name) _ h in
+    ap (λ b. (b && t p) || list_any (λ q. comes_before name q.name && t q) ps) parts.0
+    ∙ ap (λ b. t p || b) (after_first_alike name t ps parts.1)
+
+-- two ascending lists of the same pairs are equal
+pub same_pairs : (ps qs : List Pair) → is_ascending ps ≡ true → is_ascending qs ≡ true → ((t : Pair → Bool)
+    → list_any t ps ≡ list_any t qs) → ps ≡ qs
+same_pairs [] [] h g same = refl
+same_pairs [] (q ∷ qs) h g same = absurd (let e : false ≡ true = same (λ p. true) in cc)
+same_pairs (p ∷ ps) [] h g same = absurd (let e : true ≡ false = same (λ p. true) in cc)
+same_pairs (p ∷ ps) (q ∷ qs) h g same =
+    let first = same_first p q ps qs h g same in
+    let mine = and_parts (list_all (λ r. comes_before p.name r.name) ps) _ h in
+    let others = and_parts (list_all (λ r. comes_before q.name r.name) qs) _ g in
+    let theirs : list_all (λ r. comes_before p.name r.name) qs ≡ true = subst (λ (x : Pair). list_all
+    (λ r. comes_before x.name r.name) qs ≡ true) (sym first) others.0 in
+    let passed : (t : Pair → Bool) (x : Pair) → comes_before p.name x.name ≡ false
+    → (comes_before p.name x.name && t x) ≡ false = λ t x e. and_left (comes_before p.name x.name) _ e in
+    let rest : (t : Pair → Bool) → list_any t ps ≡ list_any t qs = λ t.
+    let u : Pair → Bool = λ x. comes_before p.name x.name && t x in
+    let at_p : u p ≡ false = passed t p (not_itself p.name) in
+    let at_q : u q ≡ false = passed t q (subst (λ (x : Pair). comes_before p.name x.name ≡ false) first
+    (not_itself p.name)) in
+    sym (after_first_alike p.name t ps mine.0) ∙ ap (λ b. b || list_any u ps) (sym at_p) ∙ same u
+    ∙ ap (λ b. b || list_any u qs) at_q ∙ after_first_alike p.name t qs theirs
+    in
+    ap (λ (x : Pair). x ∷ ps) first ∙ ap (λ (l : List Pair). q ∷ l) (same_pairs ps qs mine.1 others.1 rest)

@@ -1,0 +1,387 @@
+-- What the lists inside a field say is their text, and their text is read.
+use Rattle.std.proofs.Common.{◌≡◌, ℕ, zero, suc, ◌+◌, ◌^◌, ◌<◌, ◌≤◌, Bool, true, false, cond, eqb, leb, ◌&&◌, List, [], ◌∷◌, ◌++◌, length, codes, Option, Some, None, refl, sym, ap, ◌∙◌, subst, append_assoc, arith, inl, inr}
+use Rattle.std.specs.Option.{option_map, option_and_then}
+use Rattle.std.specs.List.{list_all, flat_map}
+use Rattle.std.specs.Str.{bytes_eq}
+use Rattle.std.proofs.lemmas.Bool.{and_parts, and_from, cases_lt, cond-true, leb-true, le-leb, eqb-true}
+use Rattle.std.proofs.lemmas.List.{append-nil, get_or-append-add, get_or_past}
+use Rattle.std.proofs.Math.ListN.{get_or-append}
+use Rattle.std.proofs.lemmas.Option.{option_and_then_some, same_Some}
+use Rattle.std.proofs.lemmas.Slice.Eq.{bytes_eq-Decides}
+use Rattle.text.specs.declared.pair.Pair.{Pair}
+use Rattle.wire.specs.Texts.{u32_text, string_text}
+use Rattle.wire.specs.Reading.{string_at}
+use Rattle.wire.proofs.Laws.{IsBytes, string_takes, string_again}
+use Rattle.profile.specs.Lists.{are_distinct}
+use Rattle.profile.specs.Names.{is_principal}
+use Rattle.profile.specs.Options.{is_known, is_flag, is_command, is_option_value}
+use Rattle.profile.specs.Networks.{are_networks}
+use Rattle.profile.specs.declared.kind.Kind.{Kind}
+use Rattle.profile.specs.declared.kind.Kind.TheVariants.{User, Host}
+use Rattle.profile.specs.declared.option_field.OptionField.{OptionField}
+use Rattle.profile.specs.declared.option_field.OptionField.TheVariants.{CriticalOptions, Extensions}
+use Rattle.cert.specs.Options.{comes_before, is_ascending, is_option, is_options, option_data, option_text, options_text}
+use Rattle.cert.specs.Bodies.{are_principals, principals_text}
+use Rattle.cert.specs.Reading.{
+  strings_within,
+  principals_of,
+  value_of,
+  pair_of,
+  pair_at,
+  comes_next,
+  options_within,
+  options_of,
+}
+use Rattle.cert.proofs.Listing.{all_later}
+use Rattle.cert.proofs.Sizes.{principal-le, name-le, value-le, options-few}
+
+-- ---- steps
+
+-- what follows bytes is bytes
+pub IsBytes_after : (front rest : List ℕ) → IsBytes (front ++ rest) → IsBytes rest
+IsBytes_after front rest h i = subst (λ (n : ℕ). n < 256) (get_or-append-add front rest i 0) (h (length front + i))
+
+-- what is left behind a string is bytes
+pub IsBytes_left : (bytes front rest : List ℕ) → bytes ≡ front ++ rest → IsBytes bytes → IsBytes rest
+IsBytes_left bytes front rest e h = IsBytes_after front rest (subst (λ (b : List ℕ). IsBytes b) e h)
+
+IsBytes_front : (front rest : List ℕ) → IsBytes (front ++ rest) → IsBytes front
+IsBytes_front front rest h i = elim (cases_lt i (length front)) [
+  | inl lt ↦ subst (λ (n : ℕ). n < 256) (get_or-append front rest 0 i lt) (h i)
+  | inr ge ↦ rw (get_or_past front i 0 ge) (omega arith)
+]
+
+-- a string at the front of bytes is bytes
+pub IsBytes_string : (bytes s rest : List ℕ) → bytes ≡ string_text s ++ rest → IsBytes bytes → IsBytes s
+IsBytes_string bytes s rest e h =
+    IsBytes_front s rest (IsBytes_left bytes (u32_text (length s)) (s ++ rest) (e
+    ∙ append_assoc (u32_text (length s)) s rest) h)
+
+-- a test that let a result through
+pub cond_is : {A : Type 0} (b : Bool) (o : Option A) (y : A) → cond b o None ≡ Some y → (b ≡ true) × (o ≡ Some y)
+cond_is true o y e = (refl, e)
+cond_is false o y e = absurd cc
+
+-- what was put in front
+map_is : {X : Type 0} (x : X) (o : Option (List X)) (ys : List X) → option_map (λ xs. x ∷ xs) o ≡ Some ys
+    → (xs : List X) × (o ≡ Some xs) × (ys ≡ x ∷ xs)
+map_is x (Some xs) ys e = (xs, refl, sym (same_Some _ _ e))
+map_is x None ys e = absurd cc
+
+-- ---- strings
+
+strings_step : (k : ℕ) (test : List ℕ → Bool) (bytes s rest : List ℕ) → string_at bytes ≡ Some (s, rest) → test s ≡ true
+    → strings_within (suc k) test bytes ≡ option_map (λ others. s ∷ others) (strings_within k test rest)
+strings_step k test [] s rest h t = absurd cc
+strings_step k test (b ∷ bytes) s rest h t = rw (h, t) refl
+
+-- what the strings that were read are
+pub record AreStrings (k : ℕ) (test : List ℕ → Bool) (bytes : List ℕ) (ss : List (List ℕ)) : Type 0 where
+  pub text : bytes ≡ flat_map string_text ss
+  pub pass : list_all test ss ≡ true
+  pub few : length ss ≤ k
+
+no_strings : (k : ℕ) (test : List ℕ → Bool) (ss : List (List ℕ)) → Some [] ≡ Some ss → AreStrings k test [] ss
+no_strings k test ss e = subst (λ (l : List (List ℕ)). AreStrings k test [] l) (same_Some _ _ e)
+    (record { text = refl; pass = refl; few = omega arith })
+
+pub strings_found : (k : ℕ) (test : List ℕ → Bool) (bytes : List ℕ) (ss : List (List ℕ)) → IsBytes bytes
+    → strings_within k test bytes ≡ Some ss → AreStrings k test bytes ss
+strings_found zero test [] ss h e = no_strings zero test ss e
+strings_found (suc k) test [] ss h e = no_strings (suc k) test ss e
+strings_found zero test (b ∷ bytes) ss h e = absurd cc
+strings_found (suc k) test (b ∷ bytes) ss h e =
+    option_and_then_some (λ s. cond (test s.0) (option_map (λ others. s.0 ∷ others)
+    (strings_within k test s.1)) None) (string_at (b ∷ bytes)) ss e (λ s is gives.
+    let passed = cond_is (test s.0) (option_map (λ others. s.0 ∷ others) (strings_within k test s.1)) ss gives in
+    let rest = map_is s.0 (strings_within k test s.1) ss passed.1 in
+    let here = string_takes (b ∷ bytes) s.0 s.1 h is in
+    let there = strings_found k test s.1 rest.0 (IsBytes_left (b ∷ bytes) (string_text s.0) s.1 here h) rest.1 in
+    subst (λ (l : List (List ℕ)). AreStrings (suc k) test (b ∷ bytes) l) (sym rest.2) (record {
+      text = here ∙ ap (λ (t : List ℕ). string_text s.0 ++ t) there.text;
+      pass = and_from (test s.0) _ passed.0 there.pass;
+      few = omega (arith, there.few);
+    }))
+
+pub strings_again : (k : ℕ) (test : List ℕ → Bool) → ((s : List ℕ) → test s ≡ true → length s < 2 ^ 32)
+    → (ss : List (List ℕ)) → list_all test ss ≡ true → length ss ≤ k
+    → strings_within k test (flat_map string_text ss) ≡ Some ss
+strings_again zero test short [] pass few = refl
+strings_again (suc k) test short [] pass few = refl
+strings_again zero test short (s ∷ ss) pass few = absurd (omega arith)
+strings_again (suc k) test short (s ∷ ss) pass few =
+    let parts = and_parts (test s) _ pass in
+    strings_step k test (string_text s ++ flat_map string_text ss) s (flat_map string_text ss) (string_again s
+    (flat_map string_text ss) (short s parts.0)) parts.0
+    ∙ ap (option_map (λ others. s ∷ others)) (strings_again k test short ss parts.1 (omega arith))
+
+-- ---- principals
+
+-- the principals that were read are lawful, and the text is theirs
+pub principals_found : (text : List ℕ) (ps : List (List ℕ)) → IsBytes text → principals_of text ≡ Some ps
+    → (text ≡ principals_text ps) × (are_principals ps ≡ true)
+principals_found text ps h e =
+    option_and_then_some (λ qs. cond (leb 1 (length qs) && are_distinct qs) (Some qs) None)
+    (strings_within 16 is_principal text) ps e (λ qs is gives.
+    let passed = cond_is (leb 1 (length qs) && are_distinct qs) (Some qs) ps gives in
+    let parts = and_parts (leb 1 (length qs)) _ passed.0 in
+    let strings = strings_found 16 is_principal text qs h is in
+    subst (λ (l : List (List ℕ)). (text ≡ principals_text l) × (are_principals l ≡ true)) (same_Some _ _ passed.1) (
+      strings.text,
+      and_from (leb 1 (length qs) && leb (length qs) 16 && list_all is_principal qs) _
+          (and_from (leb 1 (length qs) && leb (length qs) 16) _ (and_from (leb 1 (length qs)) _ parts.0
+          (le-leb _ _ strings.few)) strings.pass) parts.1,
+    ))
+
+-- lawful principals are read from their text
+pub principals_again : (ps : List (List ℕ)) → are_principals ps ≡ true → principals_of (principals_text ps) ≡ Some ps
+principals_again ps h =
+    let parts = and_parts (leb 1 (length ps) && leb (length ps) 16 && list_all is_principal ps) _ h in
+    let sized = and_parts (leb 1 (length ps) && leb (length ps) 16) _ parts.0 in
+    let ends = and_parts (leb 1 (length ps)) _ sized.0 in
+    let read = strings_again 16 is_principal (λ s e. omega (
+      arith,
+      principal-le s e,
+    )) ps sized.1 (leb-true _ _ ends.1) in
+    ap (option_and_then (λ qs. cond (leb 1 (length qs) && are_distinct qs) (Some qs) None)) read
+    ∙ cond-true (leb 1 (length ps) && are_distinct ps) (Some ps) None (and_from (leb 1 (length ps)) _ ends.0 parts.1)
+
+-- ---- pairs
+
+-- a flag has no value
+flag_value : (name value : List ℕ) → is_flag name ≡ true → is_option_value name value ≡ true → value ≡ []
+flag_value name value flag h =
+    nothing value (by (bytes_eq name (codes "force-command")) (bytes_eq name (codes "source-address"))
+    (is_flag name && eqb (length value) 0) refl refl h (λ e. eqb-true _ _ (and_parts (is_flag name) _ e).1))
+  where
+    nothing : (t : List ℕ) → length t ≡ 0 → t ≡ []
+    nothing [] e = refl
+    nothing (b ∷ t) e = absurd (omega arith)
+
+    no_flag : (other : List ℕ) → is_flag other ≡ false → name ≡ other → ⊥
+    no_flag other none e = absurd (cc (sym flag ∙ ap is_flag e ∙ none))
+
+    by : (forced sourced : Bool) (last : Bool) → bytes_eq name (codes "force-command") ≡ forced
+        → bytes_eq name (codes "source-address") ≡ sourced
+        → cond forced (is_command value) (cond sourced (are_networks value) last) ≡ true → (last ≡ true
+        → length value ≡ 0) → length value ≡ 0
+    by true sourced last e f h g = absurd (no_flag (codes "force-command") refl ((bytes_eq-Decides name
+        (codes "force-command")).0 e))
+    by false true last e f h g = absurd (no_flag (codes "source-address") refl ((bytes_eq-Decides name
+        (codes "source-address")).0 f))
+    by false false last e f h g = g h
+
+-- the data of an option, from which its value was read
+value_found : (name inner value : List ℕ) → IsBytes inner → value_of name inner ≡ Some value
+    → inner ≡ option_data (pair_of name value)
+value_found name inner value h e = by (is_flag name) e
+  where
+    empty : (t : List ℕ) → eqb (length t) 0 ≡ true → t ≡ []
+    empty [] e = refl
+    empty (b ∷ t) e = absurd (omega (arith, eqb-true _ _ e))
+
+    by : (flag : Bool) → cond flag (cond (eqb (length inner) 0) (Some []) None) (option_and_then (λ s. cond (eqb
+        (length s.1) 0) (Some s.0) None) (string_at inner)) ≡ Some value
+        → inner ≡ cond flag [] (string_text value)
+    by true e = empty inner (cond_is (eqb (length inner) 0) (Some []) value e).0
+    by false e =
+        option_and_then_some (λ s. cond (eqb (length s.1) 0) (Some s.0) None) (string_at inner) value e (λ s is gives.
+        let whole = cond_is (eqb (length s.1) 0) (Some s.0) value gives in
+        string_takes inner s.0 s.1 h is ∙ ap (λ (t : List ℕ). string_text s.0 ++ t) (empty s.1 whole.0)
+        ∙ append-nil (string_text s.0) ∙ ap string_text (same_Some _ _ whole.1))
+
+-- the value is read from the data of an option
+value_again : (name value : List ℕ) → (is_flag name ≡ true → value ≡ []) → length value < 2 ^ 32
+    → value_of name (option_data (pair_of name value)) ≡ Some value
+value_again name value flagged short = by (is_flag name) refl
+  where
+    read : option_and_then (λ s. cond (eqb (length s.1) 0) (Some s.0) None) (string_at (string_text value)) ≡ Some value
+    read = ap (λ (t : List ℕ). option_and_then (λ s. cond (eqb (length s.1) 0) (Some s.0) None) (string_at t))
+        (sym (append-nil (string_text value)))
+        ∙ ap (option_and_then (λ s. cond (eqb (length s.1) 0) (Some s.0) None)) (string_again value [] short)
+
+    by : (flag : Bool) → is_flag name ≡ flag → (let inner = cond flag [] (string_text value) in
+        cond flag (cond (eqb (length inner) 0) (Some []) None) (option_and_then (λ s. cond (eqb (length s.1) 0)
+        (Some s.0) None) (string_at inner))) ≡ Some value
+    by true e = ap (λ v. Some v) (sym (flagged e))
+    by false e = read
+
+pair_step : (bytes name left inner rest value : List ℕ) → string_at bytes ≡ Some (name, left)
+    → string_at left ≡ Some (inner, rest) → value_of name inner ≡ Some value
+    → pair_at bytes ≡ Some (pair_of name value, rest)
+pair_step bytes name left inner rest value e f g = rw (e, f, g) refl
+
+-- the bytes begin with the text of the option that was read
+pub pair_found : (bytes : List ℕ) (p : Pair) (rest : List ℕ) → IsBytes bytes → pair_at bytes ≡ Some (p, rest)
+    → bytes ≡ option_text p ++ rest
+pair_found bytes p rest h e =
+    option_and_then_some (λ name. option_and_then (λ inner. option_map {U = Pair × List ℕ} (λ value.
+    (pair_of name.0 value, inner.1)) (value_of name.0 inner.0)) (string_at name.1)) (string_at bytes) (
+      p,
+      rest,
+    ) e (λ name named e2.
+    option_and_then_some (λ inner. option_map {U = Pair × List ℕ} (λ value. (
+      pair_of name.0 value,
+      inner.1,
+    )) (value_of name.0 inner.0)) (string_at name.1) (p, rest) e2 (λ inner held e3.
+    let front = string_takes bytes name.0 name.1 h named in
+    let fits = IsBytes_left bytes (string_text name.0) name.1 front h in
+    let back = string_takes name.1 inner.0 inner.1 fits held in
+    let within = IsBytes_string name.1 inner.0 inner.1 back fits in
+    with_value name.0 name.1 inner.0 inner.1 (value_of name.0 inner.0) front back
+    (λ value v. value_found name.0 inner.0 value within v) refl e3))
+  where
+    with_value : (name left inner after : List ℕ) (o : Option (List ℕ)) → bytes ≡ string_text name ++ left
+        → left ≡ string_text inner ++ after
+        → ((value : List ℕ) → value_of name inner ≡ Some value → inner ≡ option_data (pair_of name value))
+        → value_of name inner ≡ o → option_map {U = Pair × List ℕ} (λ value. (
+          pair_of name value,
+          after,
+        )) o ≡ Some (p, rest) → bytes ≡ option_text p ++ rest
+    with_value name left inner after None front back law v e = absurd cc
+    with_value name left inner after (Some value) front back law v e =
+        let same = same_Some _ _ e in
+        let is : pair_of name value ≡ p = ap (λ q. q.0) same in
+        let ends : after ≡ rest = ap (λ q. q.1) same in
+        front ∙ ap (λ (t : List ℕ). string_text name ++ t) (back
+        ∙ ap (λ (t : List ℕ). string_text t ++ after) (law value v))
+        ∙ sym (append_assoc (string_text name) (string_text (option_data (pair_of name value))) after)
+        ∙ ap (λ (q : Pair). option_text q ++ after) is ∙ ap (λ (t : List ℕ). option_text p ++ t) ends
+
+-- an option is read from its text
+pair_again : (p : Pair) (rest : List ℕ) → (is_flag p.name ≡ true → p.value ≡ []) → length p.name < 2 ^ 32
+    → length p.value + 4 < 2 ^ 32
+    → pair_at (option_text p ++ rest) ≡ Some (p, rest)
+pair_again p rest flagged name value =
+    ap pair_at (append_assoc (string_text p.name) (string_text (option_data p)) rest)
+    ∙ pair_step (string_text p.name ++ (string_text (option_data p) ++ rest)) p.name (string_text
+    (option_data p) ++ rest) (option_data p) rest p.value
+    (string_again p.name (string_text (option_data p) ++ rest) name) (string_again (option_data p) rest (held
+    (is_flag p.name)))
+    (value_again p.name p.value flagged (omega arith))
+  where
+    held : (flag : Bool) → length (cond flag [] (string_text p.value)) < 2 ^ 32
+    held true = omega arith
+    held false = omega arith
+
+-- ---- options
+
+-- the names ascend from the previous one on
+abbrev pub ascends : List ℕ → List Pair → Bool
+ascends previous [] = true
+ascends previous (p ∷ ps) = comes_before previous p.name && ascends p.name ps
+
+-- what the options that were read are
+pub record AreOptions (k : ℕ) (field : OptionField) (previous bytes : List ℕ) (ps : List Pair) : Type 0 where
+  pub text : bytes ≡ options_text ps
+  pub lawful : list_all (is_option field) ps ≡ true
+  pub rising : ascends previous ps ≡ true
+
+no_options : (k : ℕ) (field : OptionField) (previous : List ℕ) (ps : List Pair) → Some [] ≡ Some ps
+    → AreOptions k field previous [] ps
+no_options k field previous ps e = subst (λ (l : List Pair). AreOptions k field previous [] l) (same_Some _ _ e)
+    (record { text = refl; lawful = refl; rising = refl })
+
+options_step : (k : ℕ) (field : OptionField) (previous bytes : List ℕ) (p : Pair) (rest : List ℕ)
+    → pair_at bytes ≡ Some (p, rest) → comes_next field previous p ≡ true
+    → options_within (suc k) field previous bytes ≡ option_map (λ others. p ∷ others)
+    (options_within k field p.name rest)
+options_step k field previous [] p rest h t = absurd cc
+options_step k field previous (b ∷ bytes) p rest h t = rw (h, t) refl
+
+options_found : (k : ℕ) (field : OptionField) (previous bytes : List ℕ) (ps : List Pair) → IsBytes bytes
+    → options_within k field previous bytes ≡ Some ps → AreOptions k field previous bytes ps
+options_found zero field previous [] ps h e = no_options zero field previous ps e
+options_found (suc k) field previous [] ps h e = no_options (suc k) field previous ps e
+options_found zero field previous (b ∷ bytes) ps h e = absurd cc
+options_found (suc k) field previous (b ∷ bytes) ps h e =
+    option_and_then_some (λ o. cond (comes_next field previous o.0) (option_map (λ others. o.0 ∷ others)
+    (options_within k field o.0.name o.1)) None) (pair_at (b ∷ bytes)) ps e (λ o is gives.
+    let passed = cond_is (comes_next field previous o.0) (option_map (λ others. o.0 ∷ others)
+    (options_within k field o.0.name o.1)) ps gives in
+    let parts = and_parts (is_option field o.0) _ passed.0 in
+    let rest = map_is o.0 (options_within k field o.0.name o.1) ps passed.1 in
+    let here = pair_found (b ∷ bytes) o.0 o.1 h is in
+    let there = options_found k field o.0.name o.1 rest.0 (IsBytes_left (b ∷ bytes)
+    (option_text o.0) o.1 here h) rest.1 in
+    subst (λ (l : List Pair). AreOptions (suc k) field previous (b ∷ bytes) l) (sym rest.2) (record {
+      text = here ∙ ap (λ (t : List ℕ). option_text o.0 ++ t) there.text;
+      lawful = and_from (is_option field o.0) _ parts.0 there.lawful;
+      rising = and_from (comes_before previous o.0.name) _ parts.1 there.rising;
+    }))
+
+options_again : (k : ℕ) (field : OptionField) (previous : List ℕ) (ps : List Pair)
+    → list_all (is_option field) ps ≡ true → ascends previous ps ≡ true → length ps ≤ k
+    → options_within k field previous (options_text ps) ≡ Some ps
+options_again zero field previous [] lawful rising few = refl
+options_again (suc k) field previous [] lawful rising few = refl
+options_again zero field previous (p ∷ ps) lawful rising few = absurd (omega arith)
+options_again (suc k) field previous (p ∷ ps) lawful rising few =
+    let parts = and_parts (is_option field p) _ lawful in
+    let option = and_parts (is_known field p.name) _ parts.0 in
+    let order = and_parts (comes_before previous p.name) _ rising in
+    let name = name-le field p.name option.0 in
+    let value = value-le p.name p.value option.1 in
+    options_step k field previous (option_text p ++ options_text ps) p (options_text ps)
+    (pair_again p (options_text ps) (λ flag. flag_value p.name p.value flag option.1) (omega arith) (omega arith))
+    (and_from (is_option field p) _ parts.0 order.0)
+    ∙ ap (option_map (λ others. p ∷ others)) (options_again k field p.name ps parts.1 order.1 (omega arith))
+
+-- names that ascend, one from the other, ascend
+pub is_ascending-ascends : (previous : List ℕ) (ps : List Pair) → ascends previous ps ≡ true
+    → (list_all (λ q. comes_before previous q.name) ps ≡ true) × (is_ascending ps ≡ true)
+is_ascending-ascends previous [] h = (refl, refl)
+is_ascending-ascends previous (p ∷ ps) h =
+    let parts = and_parts (comes_before previous p.name) _ h in
+    let others = is_ascending-ascends p.name ps parts.1 in (
+      and_from (comes_before previous p.name) _ parts.0 (all_later previous p.name ps parts.0 others.0),
+      and_from (list_all (λ q. comes_before p.name q.name) ps) _ others.0 others.1,
+    )
+
+ascends_from : (previous : List ℕ) (ps : List Pair) → list_all (λ q. comes_before previous q.name) ps ≡ true
+    → is_ascending ps ≡ true → ascends previous ps ≡ true
+ascends_from previous [] all h = refl
+ascends_from previous (p ∷ ps) all h =
+    let first = and_parts (comes_before previous p.name) _ all in
+    let parts = and_parts (list_all (λ q. comes_before p.name q.name) ps) _ h in
+    and_from (comes_before previous p.name) _ first.0 (ascends_from p.name ps parts.0 parts.1)
+
+-- each name that is known comes after no byte
+named : (field : OptionField) (ps : List Pair) → list_all (is_option field) ps ≡ true
+    → list_all (λ q. comes_before [] q.name) ps ≡ true
+named field [] h = refl
+named field (p ∷ ps) h =
+    let parts = and_parts (is_option field p) _ h in
+    let option = and_parts (is_known field p.name) _ parts.0 in
+    and_from (comes_before [] p.name) _ (some field p.name option.0) (named field ps parts.1)
+  where
+    some : (field : OptionField) (name : List ℕ) → is_known field name ≡ true → comes_before [] name ≡ true
+    some CriticalOptions [] e = absurd cc
+    some Extensions [] e = absurd cc
+    some field (b ∷ name) e = refl
+
+-- the options that were read are lawful, and the text is theirs
+pub options_of_found : (field : OptionField) (kind : Kind) (text : List ℕ) (ps : List Pair) → IsBytes text
+    → options_of field kind text ≡ Some ps → (text ≡ options_text ps) × (is_options field kind ps ≡ true)
+options_of_found field User text ps h e =
+    let read = options_found 6 field [] text ps h e in
+    let order = is_ascending-ascends [] ps read.rising in
+    (read.text, and_from (is_ascending ps) _ order.1 read.lawful)
+options_of_found field Host text ps h e =
+    let none = cond_is (eqb (length text) 0) (Some []) ps e in
+    let is = same_Some _ _ none.1 in
+    (empty text none.0 ∙ ap options_text is, subst (λ (l : List Pair). is_options field Host l ≡ true) is refl)
+  where
+    empty : (t : List ℕ) → eqb (length t) 0 ≡ true → t ≡ []
+    empty [] e = refl
+    empty (b ∷ t) e = absurd (omega (arith, eqb-true _ _ e))
+
+-- lawful options are read from their text
+pub options_of_again : (field : OptionField) (kind : Kind) (ps : List Pair) → is_options field kind ps ≡ true
+    → options_of field kind (options_text ps) ≡ Some ps
+options_of_again field User ps h =
+    let parts = and_parts (is_ascending ps) _ h in
+    options_again 6 field [] ps parts.1 (ascends_from [] ps (named field ps parts.1) parts.0)
+    (options-few field ps parts.0 parts.1)
+options_of_again field Host [] h = refl
+options_of_again field Host (p ∷ ps) h = absurd cc

@@ -1,0 +1,58 @@
+use Rattle.std.proofs.Common.{◌≡◌, ℕ, List, [], ◌∷◌, ◌++◌, Option, None, Err, sym, ap, ◌∙◌, subst, refl, arith}
+use Rattle.text.specs.declared.pair.Pair.{Pair}
+use Rattle.profile.specs.declared.option_field.OptionField.{OptionField}
+use Rattle.profile.specs.declared.option_field.OptionField.TheVariants.{CriticalOptions, Extensions}
+use Rattle.cert.specs.declared.cert_fault.CertFault.{CertFault}
+use Rattle.cert.specs.Reading.{Gives, or_fault, field_fault, pair_of}
+use Rattle.cert.proofs.Elements.{option_goes_on, option_cut, option_fails, options_left}
+use Rattle.cert.proofs.nested.listed_options.Goals as goal
+
+-- the fault of the field, where nothing was read
+gives_fault : (field : OptionField) (e : CertFault) (total : Option (List Pair)) → e ≡ field_fault field
+    → total ≡ None → Gives {X = List Pair} (Err e) (or_fault (field_fault field) total)
+gives_fault field e total is none =
+    subst (λ (f : CertFault). Gives {X = List Pair} (Err f) (or_fault (field_fault field) total)) (sym is)
+    (at field (ap (or_fault (field_fault field)) none))
+  where
+    at : (field : OptionField) → or_fault (field_fault field) total ≡ Err (field_fault field)
+        → Gives {X = List Pair} (Err (field_fault field)) (or_fault (field_fault field) total)
+    at CriticalOptions e = e
+    at Extensions e = e
+
+-- a pair of copies
+pushed_as : (front : List Pair) (m n v w : List ℕ) → m ≡ n → v ≡ w
+    → front ++ pair_of m v ∷ [] ≡ front ++ pair_of n w ∷ []
+pushed_as front m n v w e f = rw (e, f) refl
+
+pub returns-in_default : goal.returns-in_default
+returns-in_default c =
+    let some : ¬ (c.loop.inner ≡ []) = λ e. absurd (let t = c.at_end.ensures.1 e in let f = c.if-at_end.false in cc) in
+    gives_fault c.args.field _ _ c.fault_of.ensures
+    (option_cut c.args.field c.loop.previous.now c.loop.options c.loop.counter c.loop.inner _
+    (omega arith) some c.in_default.ensures c.loop.invariant)
+
+pub returns-then-not-comes_next : goal.returns-then-not-comes_next
+returns-then-not-comes_next c =
+    gives_fault c.args.field _ _ c.fault_of-then-not-comes_next.ensures
+    (option_fails c.args.field c.loop.previous.now c.loop.options c.loop.counter c.loop.inner _
+    c.pair_in.new.cursor _ (omega arith) c.in-Some.ensures
+    (sym c.comes_next.ensures ∙ c.if-not-comes_next.true) c.loop.invariant)
+
+pub loop-preserved : goal.loop-preserved
+loop-preserved c =
+    let front = c.loop.options in
+    let name = c.in-Some.found.0.now in
+    let value = c.in-Some.found.1.now in
+    let pushed : c.push.new.self ≡ front ++ pair_of name value ∷ [] = c.in_ok-push.ensures.ok
+    ∙ pushed_as front _ name _ value c.in_ok-from_slice.ensures c.in_ok-from_slice-2.ensures in
+    rw pushed (option_goes_on c.args.field c.loop.previous.now front c.loop.counter c.loop.inner
+    (pair_of name value) c.pair_in.new.cursor _ (omega arith) c.in-Some.ensures
+    (sym c.comes_next.ensures ∙ c.if-not-comes_next.false) c.loop.invariant)
+
+pub returns-then-not-at_end : goal.returns-then-not-at_end
+returns-then-not-at_end c =
+    let some : ¬ (c.loop.inner ≡ []) = λ e. absurd (let t = c.at_end-2.ensures.1 e in let f = c.if-not-at_end.true
+    in cc) in
+    gives_fault c.args.field _ _ c.fault_of-then-not-at_end.ensures
+    (options_left c.args.field c.loop.previous.now c.loop.options c.loop.counter c.loop.inner _
+    (omega arith) some c.loop.invariant)

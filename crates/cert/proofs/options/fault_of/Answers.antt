@@ -1,0 +1,62 @@
+use Rattle.std.proofs.Common.{◌≡◌, ℕ, Bool, true, false, not, cond, List, Option, Some, None, ap, sym, ◌∙◌, refl}
+use Rattle.std.specs.List.{list_any}
+use Rattle.std.specs.Str.{bytes_eq}
+use Rattle.profile.specs.Options.{is_known, is_option_value}
+use Rattle.text.specs.declared.pair.Pair.{Pair}
+use Rattle.cert.specs.declared.option_fault.OptionFault.{OptionFault}
+use Rattle.cert.specs.declared.option_fault.OptionFault.TheVariants.{Unknown, Twice, BadValue}
+use Rattle.cert.proofs.options.fault_of.Goals as goal
+
+-- the fault that three tests name
+abbrev by_tests : Bool → Bool → Bool → Option OptionFault
+by_tests known twice lawful = cond (not known) (Some Unknown) (cond twice (Some Twice) (cond (not lawful)
+    (Some BadValue) None))
+
+is_twice : (known twice lawful : Bool) → known ≡ true → twice ≡ true → Some Twice ≡ by_tests known twice lawful
+is_twice known twice lawful p q = rw (p, q) refl
+
+is_bad : (known twice lawful : Bool) → known ≡ true → twice ≡ false → lawful ≡ false
+    → Some BadValue ≡ by_tests known twice lawful
+is_bad known twice lawful p q r = rw (p, q, r) refl
+
+is_lawful : (known twice lawful : Bool) → known ≡ true → twice ≡ false → lawful ≡ true
+    → None ≡ by_tests known twice lawful
+is_lawful known twice lawful p q r = rw (p, q, r) refl
+
+-- what a test answered at a copy of the name
+at_name : (test : List ℕ → Bool) (name copy : List ℕ) (r b : Bool) → copy ≡ name → r ≡ test copy → r ≡ b → test name ≡ b
+at_name test name copy r b same e f = ap test (sym same) ∙ sym e ∙ f
+
+pub returns-then-has_name : goal.returns-then-has_name
+returns-then-has_name c =
+    let p = c.args.pair.now in
+    let earlier = c.args.earlier.now in
+    is_twice (is_known c.args.field p.name) (list_any (λ (q : Pair). bytes_eq q.name p.name) earlier)
+    (is_option_value p.name p.value)
+    (at_name (is_known c.args.field) _ _ _ true c.as_slice-name.ensures c.is_known.ensures c.if-not-is_known.false)
+    (at_name (λ n. list_any (λ (q : Pair). bytes_eq q.name n) earlier) _ _ _ true c.as_slice-name.ensures
+    c.has_name.ensures c.if-has_name.true)
+
+pub returns-then-not-is_option_value : goal.returns-then-not-is_option_value
+returns-then-not-is_option_value c =
+    let p = c.args.pair.now in
+    let earlier = c.args.earlier.now in
+    is_bad (is_known c.args.field p.name) (list_any (λ (q : Pair). bytes_eq q.name p.name) earlier)
+    (is_option_value p.name p.value)
+    (at_name (is_known c.args.field) _ _ _ true c.as_slice-name.ensures c.is_known.ensures c.if-not-is_known.false)
+    (at_name (λ n. list_any (λ (q : Pair). bytes_eq q.name n) earlier) _ _ _ false c.as_slice-name.ensures
+    c.has_name.ensures c.if-has_name.false)
+    (at_name (is_option_value p.name) _ _ _ false c.as_slice.ensures (c.is_option_value.ensures
+    ∙ ap (λ n. is_option_value n c.as_slice.result.now) c.as_slice-name.ensures) c.if-not-is_option_value.true)
+
+pub returns-else-not-is_option_value : goal.returns-else-not-is_option_value
+returns-else-not-is_option_value c =
+    let p = c.args.pair.now in
+    let earlier = c.args.earlier.now in
+    is_lawful (is_known c.args.field p.name) (list_any (λ (q : Pair). bytes_eq q.name p.name) earlier)
+    (is_option_value p.name p.value)
+    (at_name (is_known c.args.field) _ _ _ true c.as_slice-name.ensures c.is_known.ensures c.if-not-is_known.false)
+    (at_name (λ n. list_any (λ (q : Pair). bytes_eq q.name n) earlier) _ _ _ false c.as_slice-name.ensures
+    c.has_name.ensures c.if-has_name.false)
+    (at_name (is_option_value p.name) _ _ _ true c.as_slice.ensures (c.is_option_value.ensures
+    ∙ ap (λ n. is_option_value n c.as_slice.result.now) c.as_slice-name.ensures) c.if-not-is_option_value.false)

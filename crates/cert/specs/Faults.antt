@@ -1,0 +1,112 @@
+-- What each fault says of the bytes: the fields before it are those of a lawful body, and the next one is cut or bad.
+use Rattle.std.specs.Prelude.{
+  ◌≡◌,
+  ◌≢◌,
+  ℕ,
+  ◌<◌,
+  List,
+  [],
+  ◌++◌,
+  length,
+  Bool,
+  false,
+  ◌==◌,
+  if◌then◌else◌,
+  Option,
+  Some,
+  is_some,
+  option_and_then,
+  IsTrue,
+}
+use Rattle.wire.specs.Reading.{u32_at, u64_at, string_at}
+use Rattle.lines.specs.Keys.{key_blob}
+use Rattle.profile.specs.Names.{is_key_id}
+use Rattle.profile.specs.declared.kind.Kind.{Kind}
+use Rattle.profile.specs.declared.option_field.OptionField.TheVariants.{CriticalOptions, Extensions}
+use Rattle.text.specs.declared.pair.Pair.{Pair}
+use Rattle.cert.specs.Options.{is_options, options_text}
+use Rattle.cert.specs.Bodies.{
+  IsCertFields,
+  cert_type,
+  kind_number,
+  principals_text,
+  front,
+  is_serial,
+  are_principals,
+  is_validity,
+}
+use Rattle.cert.specs.declared.fields.CertFields.{CertFields}
+use Rattle.cert.specs.declared.cert_fault.CertFault.{CertFault}
+use Rattle.cert.specs.declared.cert_fault.CertFault.TheVariants.{
+  Truncated,
+  WrongType,
+  BadNonce,
+  BadKey,
+  BadSerial,
+  BadKind,
+  BadKeyId,
+  BadPrincipals,
+  BadValidity,
+  BadOptions,
+  BadExtensions,
+  BadReserved,
+  BadCa,
+  TrailingBytes,
+  NoMemory,
+}
+
+-- The bytes begin with the first n fields of a lawful body, and this is the rest.
+pub record Leaves (bytes : List ℕ) (n : ℕ) (c : CertFields) (rest : List ℕ) : Type 0 where
+  pub lawful : IsCertFields c
+  pub text : bytes ≡ front n c ++ rest
+
+-- Behind the first n fields stands a string that is no lawful one.
+abbrev pub HasBadString : List ℕ → ℕ → (CertFields → List ℕ → Type 0) → Type 0
+HasBadString bytes n Lawful =
+    (c : CertFields) × (rest : List ℕ) × Leaves bytes n c rest
+    × ((s : List ℕ × List ℕ) × (string_at rest ≡ Some s) × ¬ (Lawful c s.0))
+
+-- two numbers of 8 bytes, and what follows them
+abbrev pub ends_at : List ℕ → Option (ℕ × ℕ × List ℕ)
+ends_at bytes =
+    option_and_then (λ after. option_and_then (λ before. Some (
+      after.0,
+      before.0,
+      before.1,
+    )) (u64_at after.1)) (u64_at bytes)
+
+-- whether the nth field is whole at the front of bytes: a serial, a kind, two ends, else a string
+abbrev pub is_whole : ℕ → List ℕ → Bool
+is_whole n bytes =
+    if n == 3 then is_some (u64_at bytes)
+    else (if n == 4 then is_some (u32_at bytes)
+    else (if n == 7 then is_some (ends_at bytes) else is_some (string_at bytes)))
+
+-- what each fault says of the bytes; a refused growth says nothing of them
+abbrev pub IsFault : List ℕ → CertFault → Type 0
+IsFault bytes Truncated =
+    (n : ℕ) × (n < 12) × (c : CertFields) × (rest : List ℕ) × Leaves bytes n c rest × (is_whole n rest ≡ false)
+IsFault bytes WrongType = HasBadString bytes 0 (λ c s. s ≡ cert_type)
+IsFault bytes BadNonce = HasBadString bytes 1 (λ c s. length s ≡ 32)
+IsFault bytes BadKey = HasBadString bytes 2 (λ c s. length s ≡ 32)
+IsFault bytes BadSerial =
+    (c : CertFields) × (rest : List ℕ) × Leaves bytes 3 c rest
+    × ((n : ℕ × List ℕ) × (u64_at rest ≡ Some n) × ¬ (IsTrue (is_serial n.0)))
+IsFault bytes BadKind =
+    (c : CertFields) × (rest : List ℕ) × Leaves bytes 4 c rest
+    × ((n : ℕ × List ℕ) × (u32_at rest ≡ Some n) × ((kind : Kind) → n.0 ≢ kind_number kind))
+IsFault bytes BadKeyId = HasBadString bytes 5 (λ c s. IsTrue (is_key_id s))
+IsFault bytes BadPrincipals =
+    HasBadString bytes 6 (λ c s. (ps : List (List ℕ)) × IsTrue (are_principals ps) × (s ≡ principals_text ps))
+IsFault bytes BadValidity =
+    (c : CertFields) × (rest : List ℕ) × Leaves bytes 7 c rest
+    × ((ends : ℕ × ℕ × List ℕ) × (ends_at rest ≡ Some ends) × ¬ (IsTrue (is_validity ends.0 ends.1)))
+IsFault bytes BadOptions =
+    HasBadString bytes 8 (λ c s. (ps : List Pair) × IsTrue (is_options CriticalOptions c.kind ps) ×
+    (s ≡ options_text ps))
+IsFault bytes BadExtensions =
+    HasBadString bytes 9 (λ c s. (ps : List Pair) × IsTrue (is_options Extensions c.kind ps) × (s ≡ options_text ps))
+IsFault bytes BadReserved = HasBadString bytes 10 (λ c s. s ≡ [])
+IsFault bytes BadCa = HasBadString bytes 11 (λ c s. (key : List ℕ) × (length key ≡ 32) × (s ≡ key_blob key))
+IsFault bytes TrailingBytes = (c : CertFields) × (rest : List ℕ) × Leaves bytes 12 c rest × (rest ≢ [])
+IsFault bytes NoMemory = Unit {0}

@@ -1,0 +1,224 @@
+//! Bodies read.
+
+ghost use Rattle.std.specs.Prelude.{◌≡◌, ◌≢◌, IfOk, IfErr};
+ghost use Rattle.cert.specs.declared.cert_fault.CertFault.{CertFault};
+ghost use Rattle.cert.specs.declared.fields.CertFields.{CertFields};
+ghost use Rattle.cert.specs.Bodies.{IsCertFields, body_text};
+ghost use Rattle.cert.specs.Faults.{IsFault};
+ghost use Rattle.cert.specs.Reading.{
+  Gives,
+  GivesRest,
+  type_at,
+  bytes_32_at,
+  serial_at,
+  kind_at,
+  key_id_at,
+  principals_at,
+  validity_at,
+  options_at,
+  reserved_at,
+  ca_at,
+  body_at,
+};
+
+use crate::cert_fault::CertFault;
+use crate::fields::CertFields;
+use crate::nested::{options_in, principals_in};
+use crate::options::Options;
+use lines::read_key_blob;
+use profile::{Kind, LAST_SERIAL, LATEST_MOMENT, OptionField, is_key_id};
+use std::alloc::Global;
+use text::{Text, Texts};
+use wire::Cursor;
+
+#[tactic(auto, unfolding(crate::specs::Reading::type_at))]
+fn read_type(cursor: &mut Cursor) -> Result<(), CertFault>
+    ensures { GivesRest result cursor.new (type_at cursor.old) }
+{
+    let Some(name) = cursor.string() else {
+        return Err(CertFault::Truncated);
+    };
+    if name != b"ssh-ed25519-cert-v01@openssh.com".as_slice() {
+        return Err(CertFault::WrongType);
+    }
+    Ok(())
+}
+
+#[tactic(auto, unfolding(crate::specs::Reading::bytes_32_at))]
+fn read_bytes_32(cursor: &mut Cursor, fault: CertFault) -> Result<[u8; 32], CertFault>
+    ensures { GivesRest result cursor.new (bytes_32_at fault cursor.old) }
+{
+    let Some(text) = cursor.string() else {
+        return Err(CertFault::Truncated);
+    };
+    if text.len() != 32 {
+        return Err(fault);
+    }
+    let mut bytes = [0; 32];
+    bytes.copy_from_slice(text);
+    Ok(bytes)
+}
+
+#[tactic(auto, unfolding(crate::specs::Reading::serial_at))]
+fn read_serial(cursor: &mut Cursor) -> Result<u64, CertFault>
+    ensures { GivesRest result cursor.new (serial_at cursor.old) }
+{
+    let Some(serial) = cursor.u64() else {
+        return Err(CertFault::Truncated);
+    };
+    if serial < 1 || serial > LAST_SERIAL {
+        return Err(CertFault::BadSerial);
+    }
+    Ok(serial)
+}
+
+#[tactic(auto, unfolding(crate::specs::Reading::kind_at))]
+fn read_kind(cursor: &mut Cursor) -> Result<Kind, CertFault>
+    ensures { GivesRest result cursor.new (kind_at cursor.old) }
+{
+    match cursor.u32() {
+        None => Err(CertFault::Truncated),
+        Some(1) => Ok(Kind::User),
+        Some(2) => Ok(Kind::Host),
+        Some(_) => Err(CertFault::BadKind),
+    }
+}
+
+#[tactic(auto, unfolding(crate::specs::Reading::key_id_at))]
+fn read_key_id(alloc: Global, cursor: &mut Cursor) -> Result<Text, CertFault>
+    ensures { GivesRest result cursor.new (key_id_at cursor.old) }
+{
+    let Some(text) = cursor.string() else {
+        return Err(CertFault::Truncated);
+    };
+    if !is_key_id(text) {
+        return Err(CertFault::BadKeyId);
+    }
+    Ok(Text::from_slice(alloc, text)?)
+}
+
+#[tactic(auto, unfolding(crate::specs::Reading::principals_at))]
+fn read_principals(alloc: Global, cursor: &mut Cursor) -> Result<Texts, CertFault>
+    ensures { GivesRest result cursor.new (principals_at cursor.old) }
+{
+    let Some(text) = cursor.string() else {
+        return Err(CertFault::Truncated);
+    };
+    let principals = principals_in(alloc, text)?;
+    Ok(principals)
+}
+
+#[tactic(auto, unfolding(crate::specs::Reading::validity_at))]
+fn read_validity(cursor: &mut Cursor) -> Result<(u64, u64), CertFault>
+    ensures { GivesRest result cursor.new (validity_at cursor.old) }
+{
+    let Some(after) = cursor.u64() else {
+        return Err(CertFault::Truncated);
+    };
+    let Some(before) = cursor.u64() else {
+        return Err(CertFault::Truncated);
+    };
+    if after >= before || before > LATEST_MOMENT {
+        return Err(CertFault::BadValidity);
+    }
+    Ok((after, before))
+}
+
+#[tactic(auto, unfolding(crate::specs::Reading::options_at))]
+fn read_options(
+    alloc: Global,
+    cursor: &mut Cursor,
+    field: OptionField,
+    kind: Kind,
+) -> Result<Options, CertFault>
+    ensures { GivesRest result cursor.new (options_at field kind cursor.old) }
+{
+    let Some(text) = cursor.string() else {
+        return Err(CertFault::Truncated);
+    };
+    let pairs = options_in(alloc, kind, field, text)?;
+    Ok(Options::from_pairs(pairs))
+}
+
+#[tactic(auto, unfolding(crate::specs::Reading::reserved_at))]
+fn read_reserved(cursor: &mut Cursor) -> Result<(), CertFault>
+    ensures { GivesRest result cursor.new (reserved_at cursor.old) }
+{
+    let Some(text) = cursor.string() else {
+        return Err(CertFault::Truncated);
+    };
+    if !text.is_empty() {
+        return Err(CertFault::BadReserved);
+    }
+    Ok(())
+}
+
+#[tactic(auto, unfolding(crate::specs::Reading::ca_at))]
+fn read_ca(cursor: &mut Cursor) -> Result<[u8; 32], CertFault>
+    ensures { GivesRest result cursor.new (ca_at cursor.old) }
+{
+    let Some(text) = cursor.string() else {
+        return Err(CertFault::Truncated);
+    };
+    let Some(key) = read_key_blob(text) else {
+        return Err(CertFault::BadCa);
+    };
+    Ok(key)
+}
+
+#[tactic(auto, unfolding(crate::specs::Reading::body_at))]
+fn fields_in(alloc: Global, bytes: &[u8]) -> Result<CertFields, CertFault>
+    ensures { Gives result (body_at bytes.now) }
+{
+    let mut cursor = Cursor::new(bytes);
+    read_type(&mut cursor)?;
+    let nonce = read_bytes_32(&mut cursor, CertFault::BadNonce)?;
+    let key = read_bytes_32(&mut cursor, CertFault::BadKey)?;
+    let serial = read_serial(&mut cursor)?;
+    let kind = read_kind(&mut cursor)?;
+    let key_id = read_key_id(alloc, &mut cursor)?;
+    let principals = read_principals(alloc, &mut cursor)?;
+    let (after, before) = read_validity(&mut cursor)?;
+    let options = read_options(alloc, &mut cursor, OptionField::CriticalOptions, kind)?;
+    let extensions = read_options(alloc, &mut cursor, OptionField::Extensions, kind)?;
+    read_reserved(&mut cursor)?;
+    let ca = read_ca(&mut cursor)?;
+    if !cursor.at_end() {
+        return Err(CertFault::TrailingBytes);
+    }
+    Ok(CertFields {
+        nonce,
+        key,
+        serial,
+        kind,
+        key_id,
+        principals,
+        after,
+        before,
+        options,
+        extensions,
+        ca,
+    })
+}
+
+/// Reads a body (PROTOCOL.certkeys) of the profile: a text that `write_body` may write, and no other.
+///
+/// # Errors
+///
+/// The first fault from the left, in the order of `CertFault`. Both ends of the validity are judged once both were
+/// read.
+pub fn read_body(alloc: Global, bytes: &[u8]) -> Result<CertFields, CertFault>
+    ensures exact { Gives result (body_at bytes.now) }
+
+    // What is read is lawful, and the bytes are its text.
+    ensures found { IfOk result (λ c. IsCertFields c × (bytes.now ≡ body_text c)) }
+
+    // The text of lawful fields is read, or memory is refused. So no text belongs to two values.
+    ensures only { (c : CertFields) → IsCertFields c → bytes.now ≡ body_text c → Gives result (Ok c) }
+
+    // The fault that is answered is there, and the fault that is there is answered, or memory is refused.
+    ensures fault { IfErr result (λ e. IsFault bytes.now e) }
+    ensures answered { (e : CertFault) → e ≢ CertFault.NoMemory → IsFault bytes.now e → Gives result (Err e) }
+{
+    fields_in(alloc, bytes)
+}

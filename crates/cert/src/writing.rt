@@ -1,0 +1,91 @@
+//! Bodies written.
+
+ghost use Rattle.std.specs.Prelude.{◌≡◌, ◌<◌, ◌+◌, ◌^◌, ◌++◌, length, All, IfOk, OnOk};
+ghost use Rattle.cert.specs.Options.{option_text, options_text};
+ghost use Rattle.cert.specs.declared.fields.CertFields.{CertFields};
+ghost use Rattle.cert.specs.Reading.{body_at};
+ghost use Rattle.cert.specs.Bodies.{IsCertFields, body_text, kind_number, principals_text};
+
+use crate::fields::CertFields;
+use lines::key_blob_of;
+use profile::{Kind, is_flag};
+use std::alloc::Global;
+use text::{NoMemory, Pair, Text};
+use wire::{put_string, put_u32, put_u64};
+
+/// SSH_CERT_TYPE_USER and SSH_CERT_TYPE_HOST.
+fn number_of(kind: Kind) -> u32
+    ensures { result ≡ kind_number kind }
+{
+    match kind {
+        Kind::User => 1,
+        Kind::Host => 2,
+    }
+}
+
+fn principals_bytes(alloc: Global, principals: &[Text]) -> Result<Vec<u8>, NoMemory>
+    requires { All (λ p. length p < 2 ^ 32) principals.now }
+    ensures { IfOk result (λ v. v.items ≡ principals_text principals.now) }
+{
+    let mut out = Vec::new(alloc);
+    for principal in principals {
+        put_string(&mut out, principal.as_slice())?;
+    }
+    Ok(out)
+}
+
+fn put_option(out: &mut Vec<u8>, option: &Pair) -> Result<(), NoMemory>
+    requires name { length option.now.name < 2 ^ 32 }
+    requires value { length option.now.value + 4 < 2 ^ 32 }
+    ensures { OnOk result (out.new.items ≡ out.old.items ++ option_text option.now) }
+{
+    put_string(out, option.name.as_slice())?;
+    if is_flag(option.name.as_slice()) {
+        put_u32(out, 0)?;
+    } else {
+        let value = option.value.as_slice();
+        put_u32(out, 4 + value.len() as u32)?;
+        put_string(out, value)?;
+    }
+    Ok(())
+}
+
+fn options_bytes(alloc: Global, options: &[Pair]) -> Result<Vec<u8>, NoMemory>
+    requires { All (λ p. (length p.name < 2 ^ 32) × (length p.value + 4 < 2 ^ 32)) options.now }
+    ensures { IfOk result (λ v. v.items ≡ options_text options.now) }
+{
+    let mut out = Vec::new(alloc);
+    for option in options {
+        put_option(&mut out, option)?;
+    }
+    Ok(out)
+}
+
+/// The body of a certificate with these fields, which is what its CA signs (PROTOCOL.certkeys).
+pub fn write_body(alloc: Global, fields: &CertFields) -> Result<Vec<u8>, NoMemory>
+    requires { IsCertFields fields.now }
+    ensures text { IfOk result (λ v. v.items ≡ body_text fields.now) }
+
+    // What is written is read again, and it is the text of no other fields.
+    ensures again { IfOk result (λ v. body_at v.items ≡ Ok fields.now) }
+    ensures only { (c : CertFields) → IsCertFields c → IfOk result (λ v. v.items ≡ body_text c → c ≡ fields.now) }
+{
+    let principals = principals_bytes(alloc, fields.principals.as_slice())?;
+    let options = options_bytes(alloc, fields.options.pairs())?;
+    let extensions = options_bytes(alloc, fields.extensions.pairs())?;
+    let mut out = Vec::new(alloc);
+    put_string(&mut out, b"ssh-ed25519-cert-v01@openssh.com")?;
+    put_string(&mut out, &fields.nonce)?;
+    put_string(&mut out, &fields.key)?;
+    put_u64(&mut out, fields.serial)?;
+    put_u32(&mut out, number_of(fields.kind))?;
+    put_string(&mut out, fields.key_id.as_slice())?;
+    put_string(&mut out, principals.as_slice())?;
+    put_u64(&mut out, fields.after)?;
+    put_u64(&mut out, fields.before)?;
+    put_string(&mut out, options.as_slice())?;
+    put_string(&mut out, extensions.as_slice())?;
+    put_string(&mut out, b"")?;
+    put_string(&mut out, &key_blob_of(&fields.ca))?;
+    Ok(out)
+}

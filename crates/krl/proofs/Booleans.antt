@@ -1,0 +1,57 @@
+-- Tests of numbers and of Bools.
+use Rattle.std.proofs.Common.{◌≡◌, ℕ, ◌+◌, ◌<◌, ◌≤◌, Bool, true, false, ◌&&◌, ◌||◌, ◌⊎◌, leb, ltb, refl, arith, inl, inr}
+use Rattle.std.proofs.lemmas.Bool.Decides.{nat_tests}
+
+-- a smaller number is below
+pub ltb-yes : {a b : ℕ} → a < b → ltb a b ≡ true
+ltb-yes {a} {b} lt = grind (arith, nat_tests)
+
+-- between two ends
+pub is_in : (n a b : ℕ) → a ≤ n → n ≤ b → (leb a n && leb n b) ≡ true
+is_in n a b p q = grind (arith, nat_tests)
+
+-- below the lower end
+pub is_under : (n a b : ℕ) → n < a → (leb a n && leb n b) ≡ false
+is_under n a b p = grind (arith, nat_tests)
+
+-- above the upper end
+pub is_over : (n a b : ℕ) → b < n → (leb a n && leb n b) ≡ false
+is_over n a b p = grind (arith, nat_tests)
+
+-- what is between two ends is not below the one nor above the other
+pub ends : (n a b : ℕ) → (leb a n && leb n b) ≡ true → (a ≤ n) × (n ≤ b)
+ends n a b e = (grind (arith, nat_tests), grind (arith, nat_tests))
+
+pub or_true : (b : Bool) → (b || true) ≡ true
+or_true true = refl
+or_true false = refl
+
+pub or_left : (a b : Bool) → a ≡ true → (a || b) ≡ true
+or_left true b e = refl
+or_left false b e = absurd cc
+
+-- one of two holds, the first where both do
+pub or_cases : (a b : Bool) → (a || b) ≡ true → (a ≡ true) ⊎ ((a ≡ false) × (b ≡ true))
+or_cases true b e = inl refl
+or_cases false b e = inr (refl, e)
+
+pub or_order : (a b c : Bool) → (a || (b || c)) ≡ (b || (a || c))
+or_order true true c = refl
+or_order true false c = refl
+or_order false b c = refl
+
+pub or_group : (a b c : Bool) → ((a || b) || c) ≡ (a || (b || c))
+or_group true b c = refl
+or_group false b c = refl
+
+-- a test is not both true and false
+pub clash : {P : Type 0} (b : Bool) → b ≡ true → b ≡ false → P
+clash true p q = absurd cc
+clash false p q = absurd cc
+
+-- two tests that are true together are one
+pub same_tests : (a b : Bool) → (a ≡ true → b ≡ true) → (b ≡ true → a ≡ true) → a ≡ b
+same_tests true true p q = refl
+same_tests true false p q = absurd (clash false (p refl) refl)
+same_tests false true p q = absurd (clash false (q refl) refl)
+same_tests false false p q = refl

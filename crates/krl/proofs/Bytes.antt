@@ -1,0 +1,64 @@
+-- Bytes and strings at their front.
+use Rattle.std.proofs.Common.{◌≡◌, ◌≢◌, ℕ, zero, suc, ◌+◌, ◌*◌, ◌<◌, ◌≤◌, ◌^◌, List, [], ◌∷◌, ◌++◌, length, get_or, take, drop, cond, ltb, Bool, true, false, Option, Some, None, Bor, refl, sym, ap, subst, ◌∙◌, arith, inl, inr}
+use Rattle.std.specs.Option.{option_and_then, option_copied, IfSome, IfNone}
+use Rattle.std.specs.Int.{w32, from_be_bytes}
+use Rattle.std.proofs.lemmas.Bool.{cases_lt, ltb-false, le-ltb}
+use Rattle.std.proofs.lemmas.List.{length-take, get_or-take, get_or_past}
+use Rattle.std.proofs.lemmas.Option.{option_and_then_some, same_Some}
+use Rattle.wire.specs.Reading.{Moves, front_of, number_at, string_at}
+use Rattle.wire.specs.Texts.{string_text}
+use Rattle.krl.specs.Format.{IsString}
+use Rattle.krl.specs.Reading.{IsBytes}
+
+-- what follows bytes in bytes is bytes
+pub suffix_bytes : (xs front rest : List ℕ) → IsBytes xs → xs ≡ front ++ rest → IsBytes rest
+suffix_bytes xs front rest h e = behind front (subst IsBytes e h)
+  where
+    behind : (front : List ℕ) → IsBytes (front ++ rest) → IsBytes rest
+    behind [] h = h
+    behind (x ∷ front) h = behind front (λ i. h (suc i))
+
+u32_fits : (bytes : List ℕ) → IsBytes bytes → from_be_bytes w32 bytes < 2 ^ 32
+u32_fits bytes h =
+    let a = h 0 in
+    let b = h 1 in
+    let c = h 2 in
+    let d = h 3 in
+    omega arith
+
+take_bytes : (n : ℕ) (bytes : List ℕ) → IsBytes bytes → IsBytes (take n bytes)
+take_bytes n bytes h i =
+    elim (cases_lt i n) [
+      | inl lt ↦ rw (get_or-take n bytes i 0 lt) (h i)
+      | inr le ↦ rw (get_or_past (take n bytes) i 0 (omega (arith, length-take n bytes))) (omega arith)
+    ]
+
+-- a string that is read from bytes has a length of 32 bits
+pub string_fits : (bytes text rest : List ℕ) → IsBytes bytes → string_at bytes ≡ Some (text, rest) → IsString text
+string_fits bytes text rest h e =
+    option_and_then_some (λ n. front_of n.0 n.1) (number_at w32 bytes) (text, rest) e (λ n is gives.
+    let small : n.0 < 2 ^ 32 = number_small n.0 n.1 is in
+    front_small n.0 n.1 small gives)
+  where
+    number_small : (n : ℕ) (after : List ℕ) → number_at w32 bytes ≡ Some (n, after) → n < 2 ^ 32
+    number_small n after is = by_test (ltb (length bytes) 4) is
+      where
+        by_test : (b : Bool) → cond {A = Option (ℕ × List ℕ)} b None (Some (from_be_bytes w32 (take 4 bytes), drop 4 bytes)) ≡ Some (n, after) → n < 2 ^ 32
+        by_test true is = absurd cc
+        by_test false is = let same = ap (λ (p : ℕ × List ℕ). p.0) (same_Some _ _ is) in subst (λ (k : ℕ). k < 2 ^ 32) same (u32_fits (take 4 bytes) (take_bytes 4 bytes h))
+
+    front_small : (n : ℕ) (after : List ℕ) → n < 2 ^ 32 → front_of n after ≡ Some (text, rest) → IsString text
+    front_small n after small gives = by_test (ltb (length after) n) gives
+      where
+        by_test : (b : Bool) → cond {A = Option (List ℕ × List ℕ)} b None (Some (take n after, drop n after)) ≡ Some (text, rest) → IsString text
+        by_test true gives = absurd cc
+        by_test false gives = let same = ap (λ (p : List ℕ × List ℕ). p.0) (same_Some _ _ gives) in subst IsString same (omega (arith, length-take n after))
+
+-- what a cursor's string call says, with its length
+pub found_string : (o : Option (Bor (List ℕ))) (old new : List ℕ) → IsBytes old → Moves (string_at old) (option_copied o) old new → IfSome o (λ b. old ≡ string_text b.now ++ new) → IfSome o (λ b. IsString b.now × (old ≡ string_text b.now ++ new))
+found_string (Some b) old new h moved found = (string_fits old b.now new h moved, found)
+found_string None old new h moved found = tt
+
+pub cut_string : (o : Option (Bor (List ℕ))) (old new : List ℕ) → ((b rest : List ℕ) → length b < 2 ^ 32 → old ≡ string_text b ++ rest → (option_copied o ≡ Some b) × (new ≡ rest)) → IfNone o ((b rest : List ℕ) → IsString b → old ≢ string_text b ++ rest)
+cut_string (Some b) old new only = tt
+cut_string None old new only = λ b rest is e. let some = (only b rest is e).0 in absurd (cc some)

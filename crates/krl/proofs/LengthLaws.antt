@@ -1,0 +1,120 @@
+-- Lengths of parts and of lists, as sums.
+use Rattle.std.proofs.Common.{◌≡◌, ◌≢◌, ℕ, zero, suc, ◌+◌, ◌*◌, ◌<◌, ◌≤◌, List, [], ◌∷◌, ◌++◌, length, Bool, true, false, ◌&&◌, ◌||◌, cond, eqb, refl, sym, ap, subst, ◌∙◌, arith, length-append}
+use Rattle.std.specs.List.{sum_by, flat_map}
+use Rattle.std.proofs.lemmas.Bool.Decides.{nat_tests}
+use Rattle.std.proofs.lemmas.Grind.{flat_map-append}
+use Rattle.std.proofs.lemmas.List.Sums.{sum_by-cons}
+use Rattle.wire.specs.Texts.{u64_text, string_text}
+use Rattle.lines.specs.Keys.{key_blob}
+use Rattle.krl.specs.declared.run.Run.{Run}
+use Rattle.krl.specs.declared.ca_part.CaPart.{CaPart}
+use Rattle.krl.specs.Format.{Part, Serials, Range, KeyIds, part_text, section_data, section_text}
+use Rattle.krl.specs.Published.{parts_length, is_short, serials_of, listed, ranges, serial_list, serial_parts, serial_length, key_id_parts, is_idle, ca_section, sections_of, published_sections, published_length}
+use Rattle.krl.specs.Lengths.{listed_text, listed_length, range_text, range_length, key_id_length, tagged_length, section_length}
+
+u64s_length : (ns : List ℕ) → length (flat_map u64_text ns) ≡ 8 * length ns
+u64s_length [] = refl
+u64s_length (n ∷ ns) = let more = u64s_length ns in omega (arith, length-append (u64_text n) (flat_map u64_text ns))
+
+-- the serials of the short runs, a run at a time
+pub listed_texts : (rs : List Run) → flat_map u64_text (listed rs) ≡ flat_map listed_text rs
+listed_texts [] = refl
+listed_texts (r ∷ rs) = by_short (is_short r) (listed_texts rs)
+  where
+    by_short : (b : Bool) → flat_map u64_text (listed rs) ≡ flat_map listed_text rs → flat_map u64_text (cond b (serials_of r ++ listed rs) (listed rs)) ≡ cond b (flat_map u64_text (serials_of r)) [] ++ flat_map listed_text rs
+    by_short true more = flat_map-append u64_text (serials_of r) (listed rs) ∙ ap (λ t. flat_map u64_text (serials_of r) ++ t) more
+    by_short false more = more
+
+pub listed_lengths : (rs : List Run) → length (flat_map u64_text (listed rs)) ≡ sum_by listed_length rs
+listed_lengths [] = refl
+listed_lengths (r ∷ rs) = by_short (is_short r) (listed_lengths rs) ∙ sym (sum_by-cons listed_length r rs)
+  where
+    by_short : (b : Bool) → length (flat_map u64_text (listed rs)) ≡ sum_by listed_length rs → length (flat_map u64_text (cond b (serials_of r ++ listed rs) (listed rs))) ≡ cond b (8 * length (serials_of r)) 0 + sum_by listed_length rs
+    by_short true more =
+        let both = ap length (flat_map-append u64_text (serials_of r) (listed rs)) in
+        let sum = length-append (flat_map u64_text (serials_of r)) (flat_map u64_text (listed rs)) in
+        let here = u64s_length (serials_of r) in
+        omega arith
+    by_short false more = omega arith
+
+-- the ranges of the long runs, a run at a time
+pub range_texts : (rs : List Run) → flat_map part_text (ranges rs) ≡ flat_map range_text rs
+range_texts [] = refl
+range_texts (r ∷ rs) = by_short (is_short r) (range_texts rs)
+  where
+    by_short : (b : Bool) → flat_map part_text (ranges rs) ≡ flat_map range_text rs → flat_map part_text (cond b (ranges rs) (Range r ∷ ranges rs)) ≡ cond b [] (part_text (Range r)) ++ flat_map range_text rs
+    by_short true more = more
+    by_short false more = ap (λ t. part_text (Range r) ++ t) more
+
+pub range_lengths : (rs : List Run) → length (flat_map part_text (ranges rs)) ≡ sum_by range_length rs
+range_lengths [] = refl
+range_lengths (r ∷ rs) = by_short (is_short r) (range_lengths rs) ∙ sym (sum_by-cons range_length r rs)
+  where
+    by_short : (b : Bool) → length (flat_map part_text (ranges rs)) ≡ sum_by range_length rs → length (flat_map part_text (cond b (ranges rs) (Range r ∷ ranges rs))) ≡ cond b 0 21 + sum_by range_length rs
+    by_short true more = omega arith
+    by_short false more = let sum = length-append (part_text (Range r)) (flat_map part_text (ranges rs)) in omega arith
+
+pub key_ids_lengths : (ids : List (List ℕ)) → length (flat_map string_text ids) ≡ sum_by key_id_length ids
+key_ids_lengths [] = refl
+key_ids_lengths (i ∷ ids) = let more = key_ids_lengths ids in let sum = length-append (string_text i) (flat_map string_text ids) in let inner = length-append (string_text []) i in let total = sum_by-cons key_id_length i ids in omega (arith, length-append i (flat_map string_text ids))
+
+tagged_some : (n : ℕ) → 0 < n → tagged_length n ≡ 5 + n
+tagged_some n lt = grind (arith, nat_tests)
+
+-- a list of serials with its type and length
+list_length : (ns : List ℕ) → length (flat_map part_text (serial_list ns)) ≡ tagged_length (length (flat_map u64_text ns))
+list_length [] = refl
+list_length (n ∷ ns) =
+    let some = tagged_some (length (flat_map u64_text (n ∷ ns))) (omega (arith, u64s_length (n ∷ ns))) in
+    let sum = length-append (part_text (Serials (n ∷ ns))) [] in
+    omega arith
+
+-- the key ids with their type and length
+pub ids_length : (ids : List (List ℕ)) → length (flat_map part_text (key_id_parts ids)) ≡ tagged_length (sum_by key_id_length ids)
+ids_length [] = refl
+ids_length (i ∷ ids) =
+    let same = key_ids_lengths (i ∷ ids) in
+    let some = tagged_some (sum_by key_id_length (i ∷ ids)) (omega arith) in
+    let sum = length-append (part_text (KeyIds (i ∷ ids))) [] in
+    omega arith
+
+pub serial_lengths : (rs : List Run) → serial_length rs ≡ tagged_length (sum_by listed_length rs) + sum_by range_length rs
+serial_lengths rs =
+    ap length (flat_map-append part_text (serial_list (listed rs)) (ranges rs))
+    ∙ length-append (flat_map part_text (serial_list (listed rs))) (flat_map part_text (ranges rs))
+    ∙ (λ i. (list_length (listed rs) ∙ ap tagged_length (listed_lengths rs)) i + range_lengths rs i)
+
+tagged_more : (n : ℕ) → n ≤ tagged_length n
+tagged_more n = grind (arith, nat_tests)
+
+-- each is within the whole
+pub listed_within : (rs : List Run) → sum_by listed_length rs ≤ serial_length rs
+listed_within rs = let all = serial_lengths rs in let more = tagged_more (sum_by listed_length rs) in omega arith
+
+pub ranges_within : (rs : List Run) → sum_by range_length rs ≤ serial_length rs
+ranges_within rs = let all = serial_lengths rs in omega arith
+
+pub data_lengths : (ids : List (List ℕ)) (p : CaPart) → length (section_data (ca_section ids p)) ≡ 8 + length (key_blob p.ca) + serial_length p.runs + tagged_length (sum_by key_id_length ids)
+data_lengths ids p =
+    let split = ap length (flat_map-append part_text (serial_parts p.runs) (key_id_parts ids)) in
+    let parts = length-append (flat_map part_text (serial_parts p.runs)) (flat_map part_text (key_id_parts ids)) in
+    let outer = length-append (string_text (key_blob p.ca)) (string_text [] ++ flat_map part_text (serial_parts p.runs ++ key_id_parts ids)) in
+    let inner = length-append (string_text []) (flat_map part_text (serial_parts p.runs ++ key_id_parts ids)) in
+    let blob = length-append (string_text []) (key_blob p.ca) in
+    let last = ids_length ids in
+    omega arith
+
+pub ids_within : (ids : List (List ℕ)) (p : CaPart) → sum_by key_id_length ids ≤ length (section_data (ca_section ids p))
+ids_within ids p = let all = data_lengths ids p in let more = tagged_more (sum_by key_id_length ids) in omega arith
+
+pub serials_within : (ids : List (List ℕ)) (p : CaPart) → serial_length p.runs ≤ length (section_data (ca_section ids p))
+serials_within ids p = let all = data_lengths ids p in omega arith
+
+pub sections_length : (cas : List CaPart) (ids : List (List ℕ)) → length (flat_map section_text (published_sections cas ids)) ≡ sum_by (section_length ids) cas
+sections_length [] ids = refl
+sections_length (p ∷ cas) ids = by_idle (is_idle ids p) (sections_length cas ids) ∙ sym (sum_by-cons (section_length ids) p cas)
+  where
+    by_idle : (b : Bool) → length (flat_map section_text (published_sections cas ids)) ≡ sum_by (section_length ids) cas
+        → length (flat_map section_text (cond b [] (ca_section ids p ∷ []) ++ published_sections cas ids)) ≡ cond b 0 (5 + length (section_data (ca_section ids p))) + sum_by (section_length ids) cas
+    by_idle true more = omega arith
+    by_idle false more = let sum = length-append (section_text (ca_section ids p)) (flat_map section_text (published_sections cas ids)) in omega arith

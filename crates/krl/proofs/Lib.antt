@@ -1,0 +1,16 @@
+pub mod Booleans
+pub mod Maximal
+pub mod Joining
+pub mod Gathering
+pub mod Splitting
+pub mod Texts
+pub mod FaultLaws
+pub mod Bytes
+pub mod Items
+pub mod PartReading
+pub mod SectionReading
+pub mod Shortest
+pub mod Publishing
+pub mod LengthLaws
+pub mod WritingLaws
+pub mod PublishedLaws

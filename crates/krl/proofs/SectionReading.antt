@@ -1,0 +1,96 @@
+-- Sections and lists that are read.
+use Rattle.std.proofs.Common.{◌≡◌, ◌≢◌, ℕ, ◌+◌, ◌<◌, ◌≤◌, ◌^◌, List, [], ◌∷◌, ◌++◌, length, Bool, true, false, ◌&&◌, ◌||◌, eqb, Option, Some, None, Result, Ok, Err, inl, inr, refl, sym, ap, subst, ◌∙◌, arith, length-append}
+use Rattle.std.specs.Prelude.{IfOk, IfErr, MatchOption}
+use Rattle.std.specs.List.{list_any, list_all, flat_map, AllByRecursion}
+use Rattle.std.proofs.lemmas.Bool.Decides.{nat_tests}
+use Rattle.wire.specs.Texts.{u32_text, u64_text, string_text}
+use Rattle.krl.specs.declared.fault.KrlFault.{KrlFault}
+use Rattle.krl.specs.declared.fault.KrlFault.TheVariants.{Truncated, BadMagic, BadVersion, BadFlags, Unsupported, BadSection}
+use Rattle.krl.specs.Format.{Part, part_text, tagged_text, names, Section, Certificates, section_text, section_revokes, is_for, Header, header_text, RevocationList, list_text, is_supported, is_supported_part, is_supported_section, revokes, IsString, IsPart, IsSection, IsHeader, IsCut}
+use Rattle.krl.specs.Faults.{FieldFault, ItemFault, NothingAfter, accepted, refused_unless, is_one, Tagged, text_of, HasString, IsReadPart, CertificatesFault, SectionFault, IsReadSection, HeaderFault, FirstFault}
+use Rattle.krl.specs.Reading.{AreItems, ReadsCertificates, ReadsList}
+use Rattle.krl.proofs.Texts.{cut_unique}
+use Rattle.krl.proofs.FaultLaws.{no_first_fault, one_first_fault}
+
+lawful_parts : (ps : List Part) → AllByRecursion IsReadPart ps → AllByRecursion IsPart ps × (list_all is_supported_part ps ≡ true)
+lawful_parts [] h = (tt, refl)
+lawful_parts (p ∷ ps) h = let more = lawful_parts ps h.1 in ((h.0.lawful, more.0), rw (h.0.supported) (more.1))
+
+lawful_sections : (ss : List Section) → AllByRecursion IsReadSection ss → AllByRecursion IsSection ss × (list_all is_supported_section ss ≡ true)
+lawful_sections [] h = (tt, refl)
+lawful_sections (s ∷ ss) h = let more = lawful_sections ss h.1 in ((h.0.lawful, more.0), rw (h.0.supported) (more.1))
+
+-- what the reader of a certificates section's data answers
+pub certificates_read : (bytes ca reserved mid rest blob : List ℕ) (serial : ℕ) (key_id : List ℕ) (mine named : Bool) → IsString ca → IsString reserved → bytes ≡ string_text ca ++ mid → mid ≡ string_text reserved ++ rest → rest ≢ []
+    → AreItems part_text IsReadPart (names serial key_id) rest named → mine ≡ is_for blob ca → ReadsCertificates bytes blob serial key_id (mine && named)
+certificates_read bytes ca reserved mid rest blob serial key_id mine named p q e g some items is =
+    let both = lawful_parts items.0 items.1 in (
+      Certificates ca reserved items.0,
+      (p, q, (λ none. some (items.2 ∙ ap (flat_map part_text) none)), both.0),
+      both.1,
+      refl,
+      sym (e ∙ ap (λ (m : List ℕ). string_text ca ++ m) (g ∙ ap (λ (r : List ℕ). string_text reserved ++ r) items.2)),
+      (λ i. is i && items.3 i),
+    )
+
+eqb-apart : (a b : ℕ) → a ≢ b → eqb a b ≡ false
+eqb-apart a b apart = grind (arith, nat_tests)
+
+-- a section of another type
+pub other_section : (old new : List ℕ) (kind : ℕ) (bytes : List ℕ) → IsString bytes → old ≡ tagged_text kind bytes ++ new → kind ≢ 1 → SectionFault old (Unsupported kind)
+other_section old new kind bytes fits e apart = inr ((kind, bytes), new, fits, e, rw (eqb-apart kind 1 apart) refl)
+
+-- a certificates section whose data is refused
+pub section_refused : (old new : List ℕ) (kind : ℕ) (bytes : List ℕ) (r : Result Bool KrlFault) → IsString bytes → old ≡ tagged_text kind bytes ++ new → kind ≡ 1 → IfErr r (CertificatesFault bytes) → IfErr r (SectionFault old)
+section_refused old new kind bytes (Ok b) fits e one bad = tt
+section_refused old new kind bytes (Err f) fits e one bad = inr ((1, bytes), new, fits, e ∙ ap (λ (t : ℕ). tagged_text t bytes ++ new) one, bad)
+
+-- what is behind a section is shorter
+pub section_shorter : (s : Section) (new old : List ℕ) → old ≡ section_text s ++ new → length new < length old
+section_shorter s new old e = let same = ap length e in omega (arith, same, length-append (section_text s) new)
+
+-- ---- fields of the header
+
+-- a fault of a field is one where more comes after it
+pub more_after : {X : Type 0} (text : X → List ℕ) (Is : X → Type 0) (cut : KrlFault) (refusal : X → Option KrlFault) (After : X → List ℕ → KrlFault → Type 0) (bytes : List ℕ) (f : KrlFault) → FieldFault text Is cut refusal NothingAfter bytes f → FieldFault text Is cut refusal After bytes f
+more_after text Is cut refusal After bytes f (inl short) = inl short
+more_after text Is cut refusal After bytes f (inr whole) = inr (whole.0, whole.1, whole.2, whole.3, none (refusal whole.0) whole.4)
+  where
+    none : (o : Option KrlFault) → MatchOption o ⊥ (λ g. f ≡ g) → MatchOption o (After whole.0 whole.1 f) (λ g. f ≡ g)
+    none None h = absurd h
+    none (Some g) h = h
+
+-- a lawful field, and a fault after it
+pub later : {X : Type 0} (text : X → List ℕ) (Is : X → Type 0) (cut : KrlFault) (refusal : X → Option KrlFault) (After : X → List ℕ → KrlFault → Type 0) (x : X) (bytes rest : List ℕ) (f : KrlFault) → Is x → bytes ≡ text x ++ rest → refusal x ≡ None → After x rest f → FieldFault text Is cut refusal After bytes f
+later text Is cut refusal After x bytes rest f is e fine bad = inr (x, rest, is, e, rw fine bad)
+
+-- ---- lists
+
+pub list_read : (bytes rest blob : List ℕ) (serial : ℕ) (key_id : List ℕ) (h : Header) (r : Result Bool KrlFault) → IsHeader h → bytes ≡ header_text h ++ rest
+    → IfOk r (AreItems section_text IsReadSection (section_revokes blob serial key_id) rest) → IfOk r (ReadsList bytes blob serial key_id)
+list_read bytes rest blob serial key_id h (Ok b) is e items =
+    let both = lawful_sections items.0 items.1 in
+    record {
+      list = record { header = h; sections = items.0 };
+      cut = record { header = is; sections = both.0; text = e ∙ ap (λ (t : List ℕ). header_text h ++ t) items.2 };
+      supported = both.1;
+      revoked = items.3;
+    }
+list_read bytes rest blob serial key_id h (Err f) is e items = tt
+
+pub list_refused : (bytes rest : List ℕ) (h : Header) (r : Result Bool KrlFault) → IsHeader h → bytes ≡ header_text h ++ rest
+    → IfErr r (ItemFault section_text IsReadSection SectionFault rest) → IfErr r (FirstFault bytes)
+list_refused bytes rest h (Ok b) is e bad = tt
+list_refused bytes rest h (Err f) is e bad = inr (h, rest, is, e, bad)
+
+pub only_answer : (bytes blob : List ℕ) (serial : ℕ) (key_id : List ℕ) (r : Result Bool KrlFault) → IfOk r (ReadsList bytes blob serial key_id) → IfErr r (FirstFault bytes)
+    → (l : RevocationList) → IsCut bytes l → is_supported l ≡ true → r ≡ Ok (revokes blob serial key_id l)
+only_answer bytes blob serial key_id (Ok b) found fault l cut fine =
+    let same = cut_unique bytes found.list l found.cut cut in
+    ap Ok (found.revoked ∙ ap (revokes blob serial key_id) same)
+only_answer bytes blob serial key_id (Err f) found fault l cut fine = absurd (no_first_fault bytes l f cut fine fault)
+
+pub only_fault : (bytes blob : List ℕ) (serial : ℕ) (key_id : List ℕ) (r : Result Bool KrlFault) → IfOk r (ReadsList bytes blob serial key_id) → IfErr r (FirstFault bytes)
+    → (f : KrlFault) → FirstFault bytes f → r ≡ Err f
+only_fault bytes blob serial key_id (Ok b) found fault f bad = absurd (no_first_fault bytes found.list f found.cut found.supported bad)
+only_fault bytes blob serial key_id (Err g) found fault f bad = ap Err (one_first_fault bytes g f fault bad)

@@ -1,0 +1,426 @@
+-- No parts that name the set of the runs are shorter than those that are written.
+use Rattle.std.proofs.Common.{◌≡◌, ℕ, ◌+◌, ◌-◌, ◌*◌, ◌<◌, ◌≤◌, ◌^◌, List, [], ◌∷◌, ◌++◌, length, Bool, true, false, ◌&&◌, ◌||◌, ◌⊎◌, cond, leb, ltb, eqb, refl, sym, ap, subst, ◌∙◌, arith, inl, inr, length-append}
+use Rattle.std.specs.Prelude.{nat_lt, nat_le, if◌then◌else◌}
+use Rattle.std.specs.List.{list_any, flat_map}
+use Rattle.std.proofs.lemmas.Bool.{cases_lt, le-ltb, eqb-true}
+use Rattle.std.proofs.lemmas.Bool.Decides.{nat_tests}
+use Rattle.std.proofs.lemmas.List.{nil_from_length}
+use Rattle.wire.specs.Texts.{u64_text}
+use Rattle.krl.specs.declared.run.Run.{Run}
+use Rattle.krl.specs.Sets.{is_within, contains, is_among, AreRunsFrom, AreRuns, IsRunOf, IsOneOf}
+use Rattle.krl.specs.Format.{Part, Serials, Range, KeyIds, OtherPart, part_text}
+use Rattle.krl.specs.Published.{names_serial, named_set, parts_length, is_short, serials_of, listed, ranges, serial_list, serial_parts, AreShortest}
+use Rattle.krl.proofs.Booleans.{ltb-yes, is_in, or_true, or_left, or_cases, or_order, or_group, clash}
+use Rattle.krl.proofs.Maximal.{run_of, each_is_run, none_below, member_contains}
+
+-- what parts cost at least; parts of key ids and others name no serial
+abbrev pub part_len : Part → ℕ
+part_len (Serials ns) = 5 + 8 * length ns
+part_len (Range r) = 5 + 16
+part_len (KeyIds ids) = 0
+part_len (OtherPart t bytes) = 0
+
+abbrev pub parts_len : List Part → ℕ
+parts_len [] = 0
+parts_len (p ∷ ps) = part_len p + parts_len ps
+
+-- whether a list has the serial
+abbrev pub has : List ℕ → ℕ → Bool
+has es n = is_among es n
+
+abbrev pub how_many : {X : Type 0} → (X → Bool) → List X → ℕ
+how_many p [] = 0
+how_many p (x ∷ xs) = cond (p x) 1 0 + how_many p xs
+
+-- the least that a run costs
+abbrev pub least_of : Run → ℕ
+least_of r = if nat_lt r.hi (r.lo + 2) then 8 * ((r.hi - r.lo) + 1) else 21
+
+abbrev pub least_of_all : List Run → ℕ
+least_of_all [] = 0
+least_of_all (r ∷ rs) = least_of r + least_of_all rs
+
+-- ---- different members count
+
+one_counts : (p : ℕ → Bool) (es : List ℕ) (a : ℕ) → has es a ≡ true → p a ≡ true → 1 ≤ how_many p es
+one_counts p [] a h pa = absurd cc
+one_counts p (e ∷ es) a h pa =
+    elim (or_cases (eqb a e) (has es a) h) [
+      | inl same ↦ let is : a ≡ e = eqb-true _ _ same in let pe : p e ≡ true = subst (λ (x : ℕ). p x ≡ true) is pa in rw pe (omega arith)
+      | inr other ↦ let more = one_counts p es a other.1 pa in omega arith
+    ]
+
+two_count : (p : ℕ → Bool) (es : List ℕ) (a b : ℕ) → a < b → has es a ≡ true → has es b ≡ true → p a ≡ true → p b ≡ true → 2 ≤ how_many p es
+two_count p [] a b lt ha hb pa pb = absurd cc
+two_count p (e ∷ es) a b lt ha hb pa pb =
+    elim (or_cases (eqb a e) (has es a) ha) [
+      | inl same ↦
+          let is : a ≡ e = eqb-true _ _ same in
+          let pe : p e ≡ true = subst (λ (x : ℕ). p x ≡ true) is pa in
+          elim (or_cases (eqb b e) (has es b) hb) [
+            | inl also ↦ let is-b : b ≡ e = eqb-true _ _ also in absurd (omega arith)
+            | inr other ↦ let more = one_counts p es b other.1 pb in rw pe (omega arith)
+          ]
+      | inr a-later ↦ elim (or_cases (eqb b e) (has es b) hb) [
+        | inl same ↦
+            let is : b ≡ e = eqb-true _ _ same in
+            let pe : p e ≡ true = subst (λ (x : ℕ). p x ≡ true) is pb in
+            let more = one_counts p es a a-later.1 pa in rw pe (omega arith)
+        | inr b-later ↦ let more = two_count p es a b lt a-later.1 b-later.1 pa pb in omega arith
+      ]
+    ]
+
+three_count : (p : ℕ → Bool) (es : List ℕ) (a b c : ℕ) → a < b → b < c → has es a ≡ true → has es b ≡ true → has es c ≡ true → p a ≡ true → p b ≡ true → p c ≡ true → 3 ≤ how_many p es
+three_count p [] a b c lt lu ha hb hc pa pb pc = absurd cc
+three_count p (e ∷ es) a b c lt lu ha hb hc pa pb pc =
+    elim (or_cases (eqb a e) (has es a) ha) [
+      | inl same ↦
+          let is : a ≡ e = eqb-true _ _ same in
+          let pe : p e ≡ true = subst (λ (x : ℕ). p x ≡ true) is pa in
+          let more = two_count p es b c lu (later b hb (omega arith)) (later c hc (omega arith)) pb pc in rw pe (omega arith)
+      | inr a-later ↦ elim (or_cases (eqb b e) (has es b) hb) [
+        | inl same ↦
+            let is : b ≡ e = eqb-true _ _ same in
+            let pe : p e ≡ true = subst (λ (x : ℕ). p x ≡ true) is pb in
+            let more = two_count p es a c (omega arith) a-later.1 (later c hc (omega arith)) pa pc in rw pe (omega arith)
+        | inr b-later ↦ elim (or_cases (eqb c e) (has es c) hc) [
+          | inl same ↦
+              let is : c ≡ e = eqb-true _ _ same in
+              let pe : p e ≡ true = subst (λ (x : ℕ). p x ≡ true) is pc in
+              let more = two_count p es a b lt a-later.1 b-later.1 pa pb in rw pe (omega arith)
+          | inr c-later ↦ let more = three_count p es a b c lt lu a-later.1 b-later.1 c-later.1 pa pb pc in omega arith
+        ]
+      ]
+    ]
+  where
+    later : (x : ℕ) → (eqb x e || has es x) ≡ true → ¬ (x ≡ e) → has es x ≡ true
+    later x h apart = elim (or_cases (eqb x e) (has es x) h) [ inl same ↦ absurd (apart (eqb-true _ _ same)) | inr other ↦ other.1 ]
+
+-- ---- what one run costs
+
+member_counts : (p : Run → Bool) (rs : List Run) (s : Run) → IsOneOf s rs → p s ≡ true → 1 ≤ how_many p rs
+member_counts p [] s c e = absurd c
+member_counts p (t ∷ rs) s (inl same) e = let pt : p t ≡ true = subst (λ (x : Run). p x ≡ true) (sym same) e in rw pt (omega arith)
+member_counts p (t ∷ rs) s (inr c) e = let more = member_counts p rs s c e in omega arith
+
+-- a range that has a serial of the run begins in the run
+begins_in : (set : ℕ → Bool) (r : Run) (rs : List Run) (n : ℕ) → IsRunOf set r → ((m : ℕ) → contains rs m ≡ true → set m ≡ true) → r.lo ≤ n → n ≤ r.hi → contains rs n ≡ true
+    → 1 ≤ how_many (λ (q : Run). is_within q.lo r) rs
+begins_in set r rs n is inside p q e =
+    let s = run_of rs n e in
+    let from : r.lo ≤ s.0.lo = elim (cases_lt s.0.lo r.lo) [
+      | inl lt ↦ clash (set (r.lo - 1)) (inside (r.lo - 1) (member_contains rs s.0 (r.lo - 1) s.1 (omega arith) (omega (arith, s.3)))) (is.below (r.lo - 1) (omega arith))
+      | inr le ↦ le
+    ] in
+    member_counts (λ (t : Run). is_within t.lo r) rs s.0 s.1 (is_in s.0.lo r.lo r.hi from (omega (arith, s.2)))
+
+-- where no range begins there, each serial of the run is listed
+each_listed : (r : Run) (es : List ℕ) (rs : List Run) (n : ℕ) → IsRunOf (λ n. has es n || contains rs n) r
+    → how_many (λ (q : Run). is_within q.lo r) rs < 1 → r.lo ≤ n → n ≤ r.hi → has es n ≡ true
+each_listed r es rs n is none p q =
+    elim (or_cases (has es n) (contains rs n) (is.inside n p q)) [
+      | inl here ↦ here
+      | inr there ↦
+          let some = begins_in (λ n. has es n || contains rs n) r rs n is (λ m e. rw e (or_true (has es m))) p q there.1 in
+          absurd (omega arith)
+    ]
+
+least_small : (r : Run) → r.lo ≤ r.hi → least_of r ≤ 21
+least_small r le = elim (cases_lt r.hi (r.lo + 2)) [
+  | inl lt ↦ rw (ltb-yes lt) (omega arith)
+  | inr ge ↦ rw (le-ltb _ _ ge) (omega arith)
+]
+
+listed_costs : (r : Run) (es : List ℕ) → r.lo ≤ r.hi → ((n : ℕ) → r.lo ≤ n → n ≤ r.hi → has es n ≡ true) → least_of r ≤ 8 * how_many (λ e. is_within e r) es
+listed_costs r es le each = elim (cases_lt r.hi (r.lo + 2)) [
+  | inl lt ↦ rw (ltb-yes lt) (elim (cases_lt r.lo r.hi) [
+    | inl two ↦
+        let more = two_count (λ e. is_within e r) es r.lo r.hi two (each r.lo (omega arith) le) (each r.hi le (omega arith)) (is_in r.lo r.lo r.hi (omega arith) le) (is_in r.hi r.lo r.hi le (omega arith)) in
+        omega arith
+    | inr one ↦
+        let more = one_counts (λ e. is_within e r) es r.lo (each r.lo (omega arith) le) (is_in r.lo r.lo r.hi (omega arith) le) in
+        omega arith
+  ])
+  | inr ge ↦ rw (le-ltb _ _ ge) (
+      let more = three_count (λ e. is_within e r) es r.lo (r.lo + 1) (r.lo + 2) (omega arith) (omega arith)
+      (each r.lo (omega arith) (omega arith)) (each (r.lo + 1) (omega arith) (omega arith)) (each (r.lo + 2) (omega arith) (omega arith))
+      (is_in r.lo r.lo r.hi (omega arith) (omega arith)) (is_in (r.lo + 1) r.lo r.hi (omega arith) (omega arith)) (is_in (r.lo + 2) r.lo r.hi (omega arith) (omega arith)) in
+      omega arith)
+]
+
+pub run_costs : (r : Run) (es : List ℕ) (rs : List Run) → IsRunOf (λ n. has es n || contains rs n) r
+    → least_of r ≤ 8 * how_many (λ e. is_within e r) es + 21 * how_many (λ (q : Run). is_within q.lo r) rs
+run_costs r es rs is =
+    let some : r.lo ≤ r.hi = is.some in
+    elim (cases_lt (how_many (λ (q : Run). is_within q.lo r) rs) 1) [
+      | inl none ↦ let cost = listed_costs r es some (λ n p q. each_listed r es rs n is none p q) in omega arith
+      | inr one ↦ let cost = least_small r some in omega arith
+    ]
+
+-- ---- what all runs cost
+
+pub pairwise : {X : Type 0} (p q o : X → Bool) (xs : List X) → ((x : X) → cond (p x) 1 0 + cond (q x) 1 0 ≤ cond (o x) 1 0) → how_many p xs + how_many q xs ≤ how_many o xs
+pairwise p q o [] h = omega arith
+pairwise p q o (x ∷ xs) h = let one = h x in let more = pairwise p q o xs h in omega arith
+
+pub at_most_all : {X : Type 0} (p : X → Bool) (xs : List X) → how_many p xs ≤ length xs
+at_most_all p [] = omega arith
+at_most_all p (x ∷ xs) = let more = at_most_all p xs in let one : cond (p x) 1 0 ≤ 1 = elim (p x) as (λ b. cond b 1 0 ≤ 1) [ true ↦ omega arith | false ↦ omega arith ] in omega arith
+
+-- how many begin in each of the runs, together
+abbrev pub in_runs : {X : Type 0} → (X → ℕ) → List Run → List X → ℕ
+in_runs key [] xs = 0
+in_runs key (r ∷ rs) xs = how_many (λ x. is_within (key x) r) xs + in_runs key rs xs
+
+pub in_runs_bound : {X : Type 0} (key : X → ℕ) (from : ℕ) (rs : List Run) (xs : List X) → AreRunsFrom from rs → in_runs key rs xs ≤ how_many (λ x. contains rs (key x)) xs
+in_runs_bound key from [] xs h = omega arith
+in_runs_bound key from (r ∷ rs) xs h =
+    let rest = in_runs_bound key (r.hi + 2) rs xs h.3 in
+    let apart = pairwise (λ x. is_within (key x) r) (λ x. contains rs (key x)) (λ x. contains (r ∷ rs) (key x)) xs (λ x. once (key x)) in
+    omega arith
+  where
+    below : (n a b : ℕ) → (leb a n && leb n b) ≡ true → n ≤ b
+    below n a b e = grind (arith, nat_tests)
+
+    once_by : (n : ℕ) (b : Bool) → is_within n r ≡ b → cond b 1 0 + cond (contains rs n) 1 0 ≤ cond (b || contains rs n) 1 0
+    once_by n true e = let le = below n r.lo r.hi e in rw (none_below (r.hi + 2) n rs h.3 (omega arith)) (omega arith)
+    once_by n false e = omega arith
+
+    once : (n : ℕ) → cond (is_within n r) 1 0 + cond (contains rs n) 1 0 ≤ cond (is_within n r || contains rs n) 1 0
+    once n = once_by n (is_within n r) refl
+
+pub sum_costs : (all rs : List Run) (es : List ℕ) (qs : List Run) → ((r : Run) → IsOneOf r rs → IsRunOf (λ n. has es n || contains qs n) r)
+    → least_of_all rs ≤ 8 * in_runs (λ e. e) rs es + 21 * in_runs (λ (q : Run). q.lo) rs qs
+sum_costs all [] es qs h = omega arith
+sum_costs all (r ∷ rs) es qs h =
+    let one = run_costs r es qs (h r (inl refl)) in
+    let more = sum_costs all rs es qs (λ s c. h s (inr c)) in
+    omega arith
+
+-- the serials listed and the ranges that name the set of the runs cost at least this
+pub least : (rs : List Run) (es : List ℕ) (qs : List Run) → AreRuns rs → ((n : ℕ) → contains rs n ≡ (has es n || contains qs n))
+    → least_of_all rs ≤ 8 * length es + 21 * length qs
+least rs es qs h same =
+    let set : contains rs ≡ (λ n. has es n || contains qs n) = λ i n. same n i in
+    let cost = sum_costs rs rs es qs (λ r c. subst (λ (s : ℕ → Bool). IsRunOf s r) set (each_is_run 0 rs r h c)) in
+    let a = in_runs_bound (λ e. e) 0 rs es h in
+    let b = in_runs_bound (λ (q : Run). q.lo) 0 rs qs h in
+    let c = at_most_all (λ e. contains rs e) es in
+    let d = at_most_all (λ (q : Run). contains rs q.lo) qs in
+    omega arith
+
+-- ---- ranges alone
+
+runs_begin : (rs qs : List Run) → ((r : Run) → IsOneOf r rs → 1 ≤ how_many (λ (q : Run). is_within q.lo r) qs) → length rs ≤ in_runs (λ (q : Run). q.lo) rs qs
+runs_begin [] qs h = omega arith
+runs_begin (r ∷ rs) qs h = let one = h r (inl refl) in let more = runs_begin rs qs (λ s c. h s (inr c)) in omega arith
+
+pub ranges_alone : (rs qs : List Run) → AreRuns rs → ((n : ℕ) → contains rs n ≡ contains qs n) → length rs ≤ length qs
+ranges_alone rs qs h same =
+    let all = runs_begin rs qs (λ r c.
+    let is = each_is_run 0 rs r h c in
+    let some : r.lo ≤ r.hi = is.some in
+    begins_in (contains rs) r qs r.lo is (λ m e. same m ∙ e) (omega arith) some (sym (same r.lo) ∙ is.inside r.lo (omega arith) some)) in
+    let b = in_runs_bound (λ (q : Run). q.lo) 0 rs qs h in
+    let d = at_most_all (λ (q : Run). contains rs q.lo) qs in
+    omega arith
+
+-- ---- what is written
+
+abbrev how_short : List Run → ℕ
+how_short rs = how_many is_short rs
+
+short_saves : (from : ℕ) (rs : List Run) → AreRunsFrom from rs → least_of_all rs + 5 * how_short rs ≤ 21 * length rs
+short_saves from [] h = omega arith
+short_saves from (r ∷ rs) h =
+    let more = short_saves (r.hi + 2) rs h.3 in
+    let one : least_of r + 5 * cond (is_short r) 1 0 ≤ 21 = one_saves r h.1 in
+    omega arith
+  where
+    one_saves : (r : Run) → r.lo ≤ r.hi → least_of r + 5 * cond (is_short r) 1 0 ≤ 21
+    one_saves r le = elim (cases_lt r.hi (r.lo + 2)) [
+      | inl lt ↦ rw (ltb-yes lt) (omega arith)
+      | inr ge ↦ rw (le-ltb _ _ ge) (omega arith)
+    ]
+
+lists_len : (ns : List ℕ) → parts_len (serial_list ns) ≤ 5 + 8 * length ns
+lists_len [] = omega arith
+lists_len (n ∷ ns) = omega arith
+
+parts_len-append : (ps qs : List Part) → parts_len (ps ++ qs) ≡ parts_len ps + parts_len qs
+parts_len-append [] qs = omega arith
+parts_len-append (p ∷ ps) qs = let more = parts_len-append ps qs in omega arith
+
+written_cost : (from : ℕ) (rs : List Run) → AreRunsFrom from rs → 8 * length (listed rs) + parts_len (ranges rs) ≡ least_of_all rs
+written_cost from [] h = omega arith
+written_cost from (r ∷ rs) h =
+    let more = written_cost (r.hi + 2) rs h.3 in
+    elim (cases_lt r.hi (r.lo + 2)) [
+      | inl lt ↦ rw (ltb-yes lt) (let one = serials_len r h.1 lt in let both = length-append (serials_of r) (listed rs) in omega arith)
+      | inr ge ↦ rw (le-ltb _ _ ge) (omega arith)
+    ]
+  where
+    serials_len : (r : Run) → r.lo ≤ r.hi → r.hi < r.lo + 2 → length (serials_of r) ≡ (r.hi - r.lo) + 1
+    serials_len r le lt = grind (arith, nat_tests)
+
+no_listed : (rs : List Run) → how_short rs ≡ 0 → listed rs ≡ []
+no_listed [] e = refl
+no_listed (r ∷ rs) e = by_test (is_short r) (no_listed rs) refl e
+  where
+    by_test : (b : Bool) → (how_short rs ≡ 0 → listed rs ≡ []) → is_short r ≡ b → cond b 1 0 + how_short rs ≡ 0 → listed (r ∷ rs) ≡ []
+    by_test true rest is e = absurd (omega arith)
+    by_test false rest is e = rw is (rest (omega arith))
+
+-- ---- any parts
+
+-- the serials that are listed, the ranges, and the lists
+abbrev pub serials_in : List Part → List ℕ
+serials_in [] = []
+serials_in (Serials ns ∷ ps) = ns ++ serials_in ps
+serials_in (Range r ∷ ps) = serials_in ps
+serials_in (KeyIds ids ∷ ps) = serials_in ps
+serials_in (OtherPart t bytes ∷ ps) = serials_in ps
+
+abbrev pub ranges_in : List Part → List Run
+ranges_in [] = []
+ranges_in (Serials ns ∷ ps) = ranges_in ps
+ranges_in (Range r ∷ ps) = r ∷ ranges_in ps
+ranges_in (KeyIds ids ∷ ps) = ranges_in ps
+ranges_in (OtherPart t bytes ∷ ps) = ranges_in ps
+
+has_append : (xs ys : List ℕ) (n : ℕ) → has (xs ++ ys) n ≡ (has xs n || has ys n)
+has_append [] ys n = refl
+has_append (x ∷ xs) ys n = ap (λ b. eqb n x || b) (has_append xs ys n) ∙ sym (or_group (eqb n x) (has xs n) (has ys n))
+
+named_parts : (ps : List Part) (n : ℕ) → named_set ps n ≡ (has (serials_in ps) n || contains (ranges_in ps) n)
+named_parts [] n = refl
+named_parts (Serials ns ∷ ps) n = ap (λ b. has ns n || b) (named_parts ps n) ∙ sym (or_group (has ns n) (has (serials_in ps) n) (contains (ranges_in ps) n)) ∙ ap (λ b. b || contains (ranges_in ps) n) (sym (has_append ns (serials_in ps) n))
+named_parts (Range r ∷ ps) n = ap (λ b. is_within n r || b) (named_parts ps n) ∙ or_order (is_within n r) (has (serials_in ps) n) (contains (ranges_in ps) n)
+named_parts (KeyIds ids ∷ ps) n = named_parts ps n
+named_parts (OtherPart t bytes ∷ ps) n = named_parts ps n
+
+parts_cost : (ps : List Part) → 8 * length (serials_in ps) + 21 * length (ranges_in ps) ≤ parts_len ps
+parts_cost [] = omega arith
+parts_cost (Serials ns ∷ ps) = let more = parts_cost ps in let both = length-append ns (serials_in ps) in omega arith
+parts_cost (Range r ∷ ps) = let more = parts_cost ps in omega arith
+parts_cost (KeyIds ids ∷ ps) = let more = parts_cost ps in omega arith
+parts_cost (OtherPart t bytes ∷ ps) = let more = parts_cost ps in omega arith
+
+-- one listed serial wants a list
+list_cost : (ps : List Part) → 0 < length (serials_in ps) → 5 + 8 * length (serials_in ps) + 21 * length (ranges_in ps) ≤ parts_len ps
+list_cost [] lt = absurd (omega arith)
+list_cost (Serials ns ∷ ps) lt = let more = parts_cost ps in let both = length-append ns (serials_in ps) in omega arith
+list_cost (Range r ∷ ps) lt = let more = list_cost ps lt in omega arith
+list_cost (KeyIds ids ∷ ps) lt = let more = list_cost ps lt in omega arith
+list_cost (OtherPart t bytes ∷ ps) lt = let more = list_cost ps lt in omega arith
+
+-- ---- no parts that name the same set are shorter than what is written
+
+written_len : (rs : List Run) → AreRuns rs → parts_len (serial_parts rs) ≤ least_of_all rs + 5
+written_len rs h =
+    let a = parts_len-append (serial_list (listed rs)) (ranges rs) in
+    let b = lists_len (listed rs) in
+    let c = written_cost 0 rs h in
+    omega arith
+
+written_ranges : (rs : List Run) → AreRuns rs → how_short rs ≡ 0 → parts_len (serial_parts rs) ≡ least_of_all rs
+written_ranges rs h none =
+    let e = no_listed rs none in
+    let c = written_cost 0 rs h in
+    let empty : length (listed rs) ≡ 0 = ap length e in
+    let rest : parts_len (ranges rs) ≡ least_of_all rs = omega arith in
+    ap (λ (ns : List ℕ). parts_len (serial_list ns ++ ranges rs)) e ∙ rest
+
+pub shortest_cost : (rs : List Run) (ps : List Part) → AreRuns rs → ((n : ℕ) → named_set ps n ≡ contains rs n) → parts_len (serial_parts rs) ≤ parts_len ps
+shortest_cost rs ps h same =
+    let both : (n : ℕ) → contains rs n ≡ (has (serials_in ps) n || contains (ranges_in ps) n) = λ n. sym (same n) ∙ named_parts ps n in
+    let bound = least rs (serials_in ps) (ranges_in ps) h both in
+    let len = written_len rs h in
+    let cost = parts_cost ps in
+    elim (cases_lt 0 (length (serials_in ps))) [
+      | inl some ↦ let more = list_cost ps some in omega arith
+      | inr none ↦
+          let e : serials_in ps ≡ [] = nil_from_length _ (omega arith) in
+          let alone = ranges_alone rs (ranges_in ps) h (λ n. both n ∙ ap (λ (ns : List ℕ). has ns n || contains (ranges_in ps) n) e) in
+          elim (cases_lt 0 (how_short rs)) [
+            | inl short ↦ let save = short_saves 0 rs h in omega arith
+            | inr long ↦ let exact = written_ranges rs h (omega arith) in omega arith
+          ]
+    ]
+
+-- ---- in bytes
+
+u64s_length : (ns : List ℕ) → length (flat_map u64_text ns) ≡ 8 * length ns
+u64s_length [] = refl
+u64s_length (n ∷ ns) = let more = u64s_length ns in omega (arith, length-append (u64_text n) (flat_map u64_text ns))
+
+part_bytes : (p : Part) → part_len p ≤ length (part_text p)
+part_bytes (Serials ns) = let same = u64s_length ns in omega arith
+part_bytes (Range r) = omega arith
+part_bytes (KeyIds ids) = omega arith
+part_bytes (OtherPart t bytes) = omega arith
+
+parts_bytes : (ps : List Part) → parts_len ps ≤ parts_length ps
+parts_bytes [] = omega arith
+parts_bytes (p ∷ ps) = let one = part_bytes p in let more = parts_bytes ps in let both = length-append (part_text p) (flat_map part_text ps) in omega arith
+
+ranges_bytes : (rs : List Run) → parts_length (ranges rs) ≡ parts_len (ranges rs)
+ranges_bytes [] = refl
+ranges_bytes (r ∷ rs) = by_test (is_short r) (ranges_bytes rs)
+  where
+    by_test : (b : Bool) → parts_length (ranges rs) ≡ parts_len (ranges rs) → parts_length (cond b (ranges rs) (Range r ∷ ranges rs)) ≡ parts_len (cond b (ranges rs) (Range r ∷ ranges rs))
+    by_test true more = more
+    by_test false more = let both = length-append (part_text (Range r)) (flat_map part_text (ranges rs)) in omega arith
+
+-- the parts that are written cost just their length
+pub serial_bytes : (rs : List Run) → parts_length (serial_parts rs) ≡ parts_len (serial_parts rs)
+serial_bytes rs = by_list (listed rs)
+  where
+    by_list : (ns : List ℕ) → parts_length (serial_list ns ++ ranges rs) ≡ parts_len (serial_list ns ++ ranges rs)
+    by_list [] = ranges_bytes rs
+    by_list (n ∷ ns) =
+        let more = ranges_bytes rs in
+        let same = u64s_length (n ∷ ns) in
+        let both = length-append (part_text (Serials (n ∷ ns))) (flat_map part_text (ranges rs)) in
+        omega arith
+
+pub shortest_bytes : (rs : List Run) (others : List Part) → AreRuns rs → ((n : ℕ) → named_set others n ≡ contains rs n) → parts_length (serial_parts rs) ≤ parts_length others
+shortest_bytes rs others h same = let cost = shortest_cost rs others h same in let here = serial_bytes rs in let there = parts_bytes others in omega arith
+
+-- ---- they name the set
+
+run_named : (r : Run) (n : ℕ) → r.lo ≤ r.hi → r.hi < r.lo + 2 → is_among (serials_of r) n ≡ is_within n r
+run_named r n le lt = grind (arith, nat_tests)
+
+named_append : (ps qs : List Part) (n : ℕ) → named_set (ps ++ qs) n ≡ (named_set ps n || named_set qs n)
+named_append [] qs n = refl
+named_append (p ∷ ps) qs n = ap (λ b. names_serial n p || b) (named_append ps qs n) ∙ sym (or_group (names_serial n p) (named_set ps n) (named_set qs n))
+
+list_named : (ns : List ℕ) (n : ℕ) → named_set (serial_list ns) n ≡ is_among ns n
+list_named [] n = refl
+list_named (m ∷ ns) n = or_false (is_among (m ∷ ns) n)
+  where
+    or_false : (b : Bool) → (b || false) ≡ b
+    or_false true = refl
+    or_false false = refl
+
+runs_named : (from : ℕ) (rs : List Run) (n : ℕ) → AreRunsFrom from rs → (is_among (listed rs) n || named_set (ranges rs) n) ≡ contains rs n
+runs_named from [] n h = refl
+runs_named from (r ∷ rs) n h = elim (cases_lt r.hi (r.lo + 2)) [
+  | inl lt ↦ rw (ltb-yes lt) (
+      ap (λ b. b || named_set (ranges rs) n) (has_append (serials_of r) (listed rs) n)
+      ∙ or_group (is_among (serials_of r) n) (is_among (listed rs) n) (named_set (ranges rs) n)
+      ∙ ap (λ b. b || (is_among (listed rs) n || named_set (ranges rs) n)) (run_named r n h.1 lt)
+      ∙ ap (λ b. is_within n r || b) (runs_named (r.hi + 2) rs n h.3))
+  | inr ge ↦ rw (le-ltb _ _ ge) (or_order (is_among (listed rs) n) (is_within n r) (named_set (ranges rs) n) ∙ ap (λ b. is_within n r || b) (runs_named (r.hi + 2) rs n h.3))
+]
+
+pub serials_named : (rs : List Run) (n : ℕ) → AreRuns rs → named_set (serial_parts rs) n ≡ contains rs n
+serials_named rs n h = named_append (serial_list (listed rs)) (ranges rs) n ∙ ap (λ b. b || named_set (ranges rs) n) (list_named (listed rs) n) ∙ runs_named 0 rs n h
+
+-- the parts that are written are shortest
+pub are_shortest : (rs : List Run) → AreRuns rs → AreShortest (serial_parts rs) rs
+are_shortest rs h = record {
+  names = λ n. serials_named rs n h;
+  shortest = λ others same. shortest_bytes rs others h same;
+}

@@ -1,0 +1,10 @@
+use Rattle.std.proofs.Common.{◌≡◌, ◌≤◌, take}
+use Rattle.std.specs.List.{sum_by}
+use Rattle.krl.specs.Lengths.{listed_length}
+use Rattle.krl.proofs.lengths.listed_len.Given as goal
+
+abbrev pub invariant-loop-run : goal.invariant-loop-run
+invariant-loop-run l = record {
+  so_far : l.len ≡ sum_by listed_length (take l.run-index l.runs);
+  small : l.len ≤ 4294967295;
+}

@@ -1,0 +1,10 @@
+use Rattle.std.proofs.Common.{◌≡◌, ◌≤◌, take}
+use Rattle.std.specs.List.{sum_by}
+use Rattle.krl.specs.Lengths.{range_length}
+use Rattle.krl.proofs.lengths.ranges_len.Given as goal
+
+abbrev pub invariant-loop-run : goal.invariant-loop-run
+invariant-loop-run l = record {
+  so_far : l.len ≡ sum_by range_length (take l.run-index l.runs);
+  small : l.len ≤ 4294967295;
+}

@@ -1,0 +1,16 @@
+use Rattle.std.proofs.Common.{length}
+use Rattle.std.specs.Str.{bytes_eq}
+use Rattle.wire.specs.Texts.{string_text}
+use Rattle.krl.specs.Format.{IsString}
+use Rattle.krl.specs.Reading.{IsBytes}
+use Rattle.krl.proofs.Items.{SoFar}
+use Rattle.krl.proofs.parts.key_ids_name.Given as goal
+
+abbrev pub invariant-loop-cursor : goal.invariant-loop-cursor
+invariant-loop-cursor l = record {
+  bytes_left : IsBytes l.cursor;
+  so_far : SoFar string_text IsString (λ i. bytes_eq i l.key_id) l.data l.cursor l.named;
+}
+
+abbrev pub decreases-loop-cursor : goal.decreases-loop-cursor
+decreases-loop-cursor l = length l.cursor

@@ -1,0 +1,17 @@
+use Rattle.std.proofs.Common.{◌||◌, Bool, subst, sym}
+use Rattle.krl.specs.Format.{names, part_text}
+use Rattle.krl.specs.Faults.{IsReadPart}
+use Rattle.krl.proofs.Bytes.{suffix_bytes}
+use Rattle.krl.proofs.Items.{SoFar, so_far_more}
+use Rattle.krl.proofs.parts.read_parts.Goals as goal
+
+pub loop-cursor-preserved : goal.loop-cursor-preserved
+loop-cursor-preserved c =
+    let part = c.in_ok-named.ensures.found in
+    let test = names c.args.serial c.args.key_id.now in
+    record {
+      bytes_left = suffix_bytes c.loop-cursor.cursor (part_text part.0) c.read_part.new.cursor c.loop-cursor.invariant.bytes_left part.2;
+      so_far =
+          subst (λ (b : Bool). SoFar part_text IsReadPart test c.args.cursor.now c.read_part.new.cursor (c.loop-cursor.named || b)) (sym part.3)
+          (so_far_more part_text IsReadPart test c.args.cursor.now c.loop-cursor.cursor c.read_part.new.cursor c.loop-cursor.named part.0 c.loop-cursor.invariant.so_far part.1 part.2);
+    }

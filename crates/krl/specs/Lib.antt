@@ -1,0 +1,6 @@
+pub mod Sets
+pub mod Format
+pub mod Faults
+pub mod Reading
+pub mod Published
+pub mod Lengths

@@ -1,0 +1,58 @@
+-- Sets of serials, and their runs.
+use Rattle.std.specs.Prelude.{◌≡◌, ◌==◌, ℕ, ◌+◌, ◌<◌, ◌≤◌, ◌^◌, List, [], ◌∷◌, Bool, true, false, ◌&&◌, ◌⊎◌, nat_lt, nat_le, Option, Some, None, drop, slice_index, min, max, ◌-◌, if◌then◌else◌}
+use Rattle.std.specs.List.{list_any, list_all}
+use Rattle.krl.specs.declared.run.Run.{Run}
+
+-- whether the serial is in the run
+abbrev pub is_within : ℕ → Run → Bool
+is_within n r = nat_le r.lo n && nat_le n r.hi
+
+-- the set that runs make: whether the serial is in one of them
+abbrev pub contains : List Run → ℕ → Bool
+contains rs n = list_any (is_within n) rs
+
+-- the set that a list of serials makes
+abbrev pub is_among : List ℕ → ℕ → Bool
+is_among ns n = list_any (λ s. n == s) ns
+
+-- each serial from lo to hi is in the set
+abbrev pub HasAll : (ℕ → Bool) → ℕ → ℕ → Type 0
+HasAll set lo hi = (n : ℕ) → lo ≤ n → n ≤ hi → set n ≡ true
+
+-- runs of 64 bit serials that ascend from a serial on, of which no two overlap or touch
+abbrev pub AreRunsFrom : ℕ → List Run → Type 0
+AreRunsFrom from [] = Unit {0}
+AreRunsFrom from (r ∷ rs) = (from ≤ r.lo) × (r.lo ≤ r.hi) × (r.hi < 2 ^ 64) × AreRunsFrom (r.hi + 2) rs
+
+-- runs of 64 bit serials that ascend, of which no two overlap or touch
+abbrev pub AreRuns : List Run → Type 0
+AreRuns rs = AreRunsFrom 0 rs
+
+-- an interval inside the set that can't be made longer
+pub record IsRunOf (set : ℕ → Bool) (r : Run) : Type 0 where
+  pub some : r.lo ≤ r.hi
+  pub inside : HasAll set r.lo r.hi
+  pub below : (n : ℕ) → n + 1 ≡ r.lo → set n ≡ false
+  pub above : set (r.hi + 1) ≡ false
+
+-- the run is one of the list's
+abbrev pub IsOneOf : Run → List Run → Type 0
+IsOneOf r [] = ⊥
+IsOneOf r (s ∷ rs) = (s ≡ r) ⊎ IsOneOf r rs
+
+-- whether the serial is below the bound, if there is one
+abbrev pub is_before : ℕ → Option ℕ → Bool
+is_before n None = true
+is_before n (Some bound) = nat_lt n bound
+
+-- whether a serial reaches the number at the place k, and none at a later place
+abbrev pub is_last_reached : List ℕ → ℕ → ℕ → Bool
+is_last_reached since k n = nat_le (slice_index since k) n && list_all (λ later. nat_lt n later) (drop (k + 1) since)
+
+-- what a run has from one serial on and below the bound
+abbrev pub cut_run : ℕ → Option ℕ → Run → Option Run
+cut_run from None r = if nat_le (max r.lo from) r.hi then Some (record { lo = max r.lo from; hi = r.hi }) else None
+cut_run from (Some bound) r =
+    if nat_le bound (max r.lo from) then None
+    else if nat_le (max r.lo from) (min r.hi (bound - 1)) then Some (record { lo = max r.lo from; hi = min r.hi (bound - 1) })
+    else None

@@ -1,0 +1,10 @@
+//! What a list's header says.
+
+/// The version and the date of a list.
+#[derive(Clone, Copy, Debug, PartialEq, Eq)]
+pub struct KrlHead {
+    /// The number of the list, higher in each later one (`krl_version`).
+    pub version: u64,
+    /// When the list was made, in seconds since 1970 (`generated_date`).
+    pub date: u64,
+}

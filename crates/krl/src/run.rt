@@ -1,0 +1,72 @@
+//! A run of serials.
+
+ghost use Rattle.std.specs.Prelude.{◌≡◌, IsTrue, ◌↔◌, ◌+◌, ◌<◌, ◌≤◌};
+
+/// The serials from `lo` to `hi`, both included.
+#[derive(Clone, Copy, Debug, PartialEq, Eq)]
+pub struct Run {
+    pub lo: u64,
+    pub hi: u64,
+}
+
+impl Run {
+    ghost use Rattle.krl.specs.Sets.{cut_run, is_within};
+    ghost use Rattle.krl.specs.Published.{is_short};
+    ghost use Rattle.krl.specs.Lengths.{listed_length, range_length};
+
+    /// Whether the serial is in the run.
+    pub(crate) fn has(self, serial: u64) -> bool
+        ensures { result ≡ is_within serial self }
+    {
+        self.lo <= serial && serial <= self.hi
+    }
+
+    /// Whether the run has one or two serials.
+    pub(crate) fn is_short(self) -> bool
+        ensures { result ≡ is_short self }
+    {
+        self.hi < self.lo || self.hi - self.lo < 2
+    }
+
+    /// The length of the run's serials, if it is short.
+    pub(crate) fn listed_len(self) -> u64
+        ensures value { result ≡ listed_length self }
+        ensures bound { result ≤ 16 }
+    {
+        if !self.is_short() {
+            0
+        } else if self.lo == self.hi {
+            8
+        } else {
+            16
+        }
+    }
+
+    /// The length of the run's range, if it is long.
+    pub(crate) fn range_len(self) -> u64
+        ensures value { result ≡ range_length self }
+        ensures bound { result ≤ 21 }
+    {
+        if self.is_short() { 0 } else { 21 }
+    }
+
+    /// Whether the run ends before the other begins, with a serial between them.
+    pub(crate) fn is_clear_below(self, other: Run) -> bool
+        ensures { IsTrue result ↔ (self.hi + 1 < other.lo) }
+    {
+        self.hi < other.lo && other.lo - self.hi > 1
+    }
+
+    /// What the run has from one serial on and below the bound.
+    pub(crate) fn cut_to(self, from: u64, before: Option<u64>) -> Option<Run>
+        ensures { result ≡ cut_run from before self }
+    {
+        let lo = self.lo.max(from);
+        let hi = match before {
+            Some(bound) if bound <= lo => return None,
+            Some(bound) => self.hi.min(bound - 1),
+            None => self.hi,
+        };
+        if lo <= hi { Some(Run { lo, hi }) } else { None }
+    }
+}

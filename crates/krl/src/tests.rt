@@ -1,0 +1,6 @@
+//! Worked examples.
+
+mod reading;
+mod runs;
+mod ssh_keygen;
+mod writing;

@@ -1,0 +1,71 @@
+-- What a blob is made of.
+use Rattle.std.proofs.Common.{◌≡◌, ℕ, zero, suc, ◌+◌, ◌<◌, true, eqb, nat_lt, ◌&&◌, List, [], ◌∷◌, ◌++◌, length, drop, get_or, Some, None, refl, sym, ap, subst, ◌∙◌, arith, inl, inr}
+use Rattle.std.specs.Prelude.{IsTrue}
+use Rattle.std.specs.List.{list_all}
+use Rattle.std.specs.Str.{bytes_eq}
+use Rattle.std.proofs.lemmas.Bool.{and_parts, and_from, eqb-true, eq-eqb, lt-ltb, ltb-true, cases_Bool, cond-true, cond-false}
+use Rattle.std.proofs.lemmas.List.{length-drop}
+use Rattle.std.proofs.lemmas.Option.{same_Some}
+use Rattle.std.proofs.lemmas.Slice.Eq.{bytes_eq-Decides}
+use Rattle.base64.specs.GeneralPurpose.{IsBytes}
+use Rattle.wire.specs.Texts.{string_text, u32_text}
+use Rattle.lines.specs.Keys.{ed25519, key_blob, key_of}
+use Rattle.lines.specs.KeyLines.{is_key}
+use Rattle.lines.proofs.Base64.{IsBytes-append}
+
+-- 19 bytes stand before the key.
+pub length-key_blob : (key : List ℕ) → length (key_blob key) ≡ 19 + length key
+length-key_blob key = omega arith
+
+-- The key that is found in a blob is its key.
+pub key_of_found : (blob key : List ℕ) → key_of blob ≡ Some key → (blob ≡ key_blob key) × (length key ≡ 32)
+key_of_found blob key e = elim (cases_Bool (bytes_eq blob (key_blob (drop 19 blob)) && eqb (length blob) 51)) [
+  | inl passed ↦
+      let parts = and_parts _ _ passed in
+      let same : blob ≡ key_blob (drop 19 blob) = (bytes_eq-Decides _ _).0 parts.0 in
+      let is : drop 19 blob ≡ key = same_Some _ _ (sym (cond-true _ (Some (drop 19 blob)) None passed) ∙ e) in
+      (same ∙ ap key_blob is, omega (arith, ap length is, length-drop 19 blob, eqb-true _ _ parts.1))
+  | inr failed ↦ absurd (cc (sym (cond-false _ (Some (drop 19 blob)) None failed) ∙ e))
+]
+
+-- The key of a blob is found.
+pub key_of_again : (key : List ℕ) → length key ≡ 32 → key_of (key_blob key) ≡ Some key
+key_of_again key len =
+    let same = (bytes_eq-Decides (key_blob key) (key_blob key)).1 refl in
+    let size : length (key_blob key) ≡ 51 = omega (arith, length-key_blob key) in
+    cond-true _ (Some key) None (and_from _ _ same (eq-eqb _ _ size))
+
+-- ---- bytes as a test
+
+-- bytes pass the test
+all_bytes : (xs : List ℕ) → IsBytes xs → list_all (λ b. nat_lt b 256) xs ≡ true
+all_bytes [] fits = refl
+all_bytes (x ∷ xs) fits = and_from _ _ (lt-ltb x 256 (fits 0)) (all_bytes xs (λ i. fits (suc i)))
+
+-- What passes the test is bytes.
+pub IsBytes_from : (xs : List ℕ) → list_all (λ b. nat_lt b 256) xs ≡ true → IsBytes xs
+IsBytes_from [] e = λ i. omega arith
+IsBytes_from (x ∷ xs) e =
+    let parts = and_parts (nat_lt x 256) (list_all (λ b. nat_lt b 256) xs) e in
+    λ i. at x xs (ltb-true x 256 parts.0) (IsBytes_from xs parts.1) i
+  where
+    at : (x : ℕ) (xs : List ℕ) → x < 256 → IsBytes xs → (i : ℕ) → get_or (x ∷ xs) i 0 < 256
+    at x xs first others zero = first
+    at x xs first others (suc i) = others i
+
+-- 32 bytes are a key.
+pub is_key_from : (key : List ℕ) → length key ≡ 32 → IsBytes key → IsTrue (is_key key)
+is_key_from key len fits = and_from _ _ (eq-eqb _ _ len) (all_bytes key fits)
+
+-- A key is 32 bytes.
+pub is_key_parts : (key : List ℕ) → IsTrue (is_key key) → (length key ≡ 32) × IsBytes key
+is_key_parts key e =
+    let parts = and_parts (eqb (length key) 32) (list_all (λ b. nat_lt b 256) key) e in
+    (eqb-true _ _ parts.0, IsBytes_from key parts.1)
+
+-- The blob of a key is bytes.
+pub IsBytes-key_blob : (key : List ℕ) → length key ≡ 32 → IsBytes key → IsBytes (key_blob key)
+IsBytes-key_blob key len fits =
+    let head : List ℕ = string_text ed25519 ++ u32_text 32 in
+    let is : key_blob key ≡ head ++ key = ap (λ (n : ℕ). string_text ed25519 ++ (u32_text n ++ key)) len in
+    subst IsBytes (sym is) (IsBytes-append head key (IsBytes_from head refl) fits)

@@ -1,0 +1,44 @@
+-- From what reading gives to what was answered.
+use Rattle.std.proofs.Common.{◌≡◌, ◌≢◌, ℕ, List, Result, Ok, Err, sym, ap, subst, ◌∙◌}
+use Rattle.std.specs.Prelude.{IsTrue, IsOk, IfErr}
+use Rattle.base64.specs.GeneralPurpose.{IsBytes}
+use Rattle.lines.specs.KeyLines.{is_key_line, key_line_text}
+use Rattle.lines.specs.Reading.{key_line_at, Gives, IsFault, IsLawful}
+use Rattle.lines.specs.declared.key_line.KeyLine.{KeyLine}
+use Rattle.lines.specs.declared.key_line.LineFault.{LineFault}
+use Rattle.lines.specs.declared.key_line.LineFault.TheVariants.{WrongType, BadBase64, BadBlob, BadComment, NoMemory}
+use Rattle.lines.proofs.KeyLineLaws.{Says, fault_again, key_line_again, key_line_says}
+
+-- The text of a lawful line was read, unless memory was refused.
+pub only_from : (line : List ℕ) (r : Result KeyLine LineFault) (k : KeyLine) → IsTrue (is_key_line k)
+    → line ≡ key_line_text k → Gives r (key_line_at line) → Gives r (Ok k)
+only_from line r k lawful text given = subst (Gives r) (ap key_line_at text ∙ key_line_again k lawful) given
+
+-- The fault that was answered is there.
+pub fault_from : (line : List ℕ) (r : Result KeyLine LineFault) → IsBytes line → Gives r (key_line_at line)
+    → IfErr r (IsFault line)
+fault_from line (Ok k) fits given = tt
+fault_from line (Err WrongType) fits given = subst (Says line) given (key_line_says line fits)
+fault_from line (Err BadBase64) fits given = subst (Says line) given (key_line_says line fits)
+fault_from line (Err BadBlob) fits given = subst (Says line) given (key_line_says line fits)
+fault_from line (Err BadComment) fits given = subst (Says line) given (key_line_says line fits)
+fault_from line (Err NoMemory) fits given = lawful (key_line_at line) given (key_line_says line fits)
+  where
+    lawful : (read : Result KeyLine LineFault) → IsOk read → Says line read → IsLawful line
+    lawful (Ok k) ok says = (k, says.0, says.1)
+    lawful (Err e) ok says = absurd cc
+
+-- an answer that gives a fault is that fault
+given_fault : (r : Result KeyLine LineFault) (e : LineFault) → Gives r (Err e) → r ≡ Err e
+given_fault (Ok k) e given = absurd cc
+given_fault (Err WrongType) e given = sym given
+given_fault (Err BadBase64) e given = sym given
+given_fault (Err BadBlob) e given = sym given
+given_fault (Err BadComment) e given = sym given
+given_fault (Err NoMemory) e given = absurd cc
+
+-- The fault that is there was answered.
+pub answered_from : (line : List ℕ) (r : Result KeyLine LineFault) (e : LineFault) → IsBytes line → e ≢ NoMemory
+    → IsFault line e → Gives r (key_line_at line) → r ≡ Err e
+answered_from line r e fits other fault given =
+    given_fault r e (subst (Gives r) (fault_again line e fits other fault) given)

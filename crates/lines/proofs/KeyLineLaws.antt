@@ -1,0 +1,296 @@
+-- What is read as a key line is its text, its text is read, and each fault says what is wrong with the whole text.
+use Rattle.std.proofs.Common.{◌≡◌, ◌≢◌, ℕ, true, false, cond, eqb, ◌⊎◌, ◌↔◌, List, ◌++◌, length, take, drop, Option, Some, None, Result, Ok, Err, refl, sym, ap, subst, ◌∙◌, arith, inl, inr}
+use Rattle.std.specs.Prelude.{IfOk, IsTrue}
+use Rattle.std.specs.List.{list_all}
+use Rattle.std.specs.Result.{MatchResult, result_ok}
+use Rattle.std.specs.Str.{bytes_eq}
+use Rattle.std.proofs.lemmas.Bool.{and_parts, and_from, eqb-true, eq-eqb, both_ways, cases_Bool, cond-true, cond-false}
+use Rattle.std.proofs.lemmas.List.{take-append-drop}
+use Rattle.std.proofs.lemmas.Option.{option_and_then_some, same_Some}
+use Rattle.std.proofs.lemmas.Slice.Eq.{bytes_eq-Decides}
+use Rattle.base64.specs.Engines.{standard}
+use Rattle.base64.specs.GeneralPurpose.{IsBytes, decode_of, encode_of}
+use Rattle.base64.specs.declared.decode.DecodeError.{DecodeError}
+use Rattle.lines.specs.Keys.{key_blob, key_of}
+use Rattle.lines.specs.KeyLines.{is_base64_letter, is_base64_word, is_key, is_comment, is_comment_or_none, is_key_line, comment_text, key_line_head, key_line_text}
+use Rattle.lines.specs.Reading.{◌>>=◌, or_fault, after_type, word_of, comment_of, blob_of, checked_line, key_line_at, Gives, IsFault, HasWrongType, HasBadBase64, HasBadBlob, HasBadComment}
+use Rattle.lines.specs.declared.key_line.KeyLine.{KeyLine}
+use Rattle.lines.specs.declared.key_line.LineFault.{LineFault}
+use Rattle.lines.specs.declared.key_line.LineFault.TheVariants.{WrongType, BadBase64, BadBlob, BadComment, NoMemory}
+use Rattle.lines.proofs.Alphabet.{word_again, word_found}
+use Rattle.lines.proofs.Base64.{IsBytes-decode_of, IsBytes-drop, IsBytes-take, IsFreeOfSpace-encode_of, base64_again, base64_found, length-encode_of}
+use Rattle.lines.proofs.Blobs.{IsBytes-key_blob, is_key_from, is_key_parts, key_of_again, key_of_found, length-key_blob}
+use Rattle.lines.proofs.Words.{comment_of-text, text_is, word_of-text}
+
+-- nothing, or something
+option_cases : {A : Type 0} (o : Option A) → (o ≡ None) ⊎ ((x : A) × (o ≡ Some x))
+option_cases None = inl refl
+option_cases (Some x) = inr (x, refl)
+
+-- ---- the type
+
+-- what stands behind the type
+after_type_found : (line rest : List ℕ) → after_type line ≡ Some rest → line ≡ key_line_head ++ rest
+after_type_found line rest e = elim (cases_Bool (bytes_eq (take 12 line) key_line_head)) [
+  | inl passed ↦
+      let head : take 12 line ≡ key_line_head = (bytes_eq-Decides _ _).0 passed in
+      let is : drop 12 line ≡ rest = same_Some _ _ (sym (cond-true _ (Some (drop 12 line)) None passed) ∙ e) in
+      sym (take-append-drop 12 line) ∙ ap (λ (h : List ℕ). h ++ drop 12 line) head
+      ∙ ap (λ (r : List ℕ). key_line_head ++ r) is
+  | inr failed ↦ absurd (cc (sym (cond-false _ (Some (drop 12 line)) None failed) ∙ e))
+]
+
+-- what is put behind the type is found there
+after_type_again : (rest : List ℕ) → after_type (key_line_head ++ rest) ≡ Some rest
+after_type_again rest = refl
+
+-- ---- the blob
+
+-- the blob that a word stands for
+blob_of_found : (word blob : List ℕ) → IsBytes word → blob_of word ≡ Some blob → (word ≡ encode_of standard blob)
+    × (length blob ≡ 51) × IsBytes blob
+blob_of_found word blob fits e = elim (cases_Bool (eqb (length word) 68)) [
+  | inl long ↦
+      let read = sym (cond-true _ _ None long) ∙ e in
+      let kept = λ (b : List ℕ). cond (eqb (length b) 51) (Some b) None in
+      option_and_then_some kept (result_ok (decode_of standard word)) blob read (λ b decoded is. whole b decoded is)
+  | inr other ↦ absurd (cc (sym (cond-false _ _ None other) ∙ e))
+]
+  where
+    ok_is : (r : Result (List ℕ) DecodeError) (b : List ℕ) → result_ok r ≡ Some b → r ≡ Ok b
+    ok_is (Ok x) b e = cc
+    ok_is (Err x) b e = absurd cc
+
+    whole : (b : List ℕ) → result_ok (decode_of standard word) ≡ Some b
+        → cond (eqb (length b) 51) (Some b) None ≡ Some blob → (word ≡ encode_of standard blob) × (length blob ≡ 51)
+        × IsBytes blob
+    whole b decoded kept = elim (cases_Bool (eqb (length b) 51)) [
+      | inl passed ↦
+          let same : b ≡ blob = same_Some _ _ (sym (cond-true _ (Some b) None passed) ∙ kept) in
+          let read : decode_of standard word ≡ Ok b = ok_is _ b decoded in
+          subst (λ (x : List ℕ). (word ≡ encode_of standard x) × (length x ≡ 51) × IsBytes x) same
+          (base64_found word b fits read, eqb-true _ _ passed, IsBytes-decode_of standard word b fits read)
+      | inr failed ↦ absurd (cc (sym (cond-false _ (Some b) None failed) ∙ kept))
+    ]
+
+-- the base64 of a blob stands for it
+blob_of_again : (blob : List ℕ) → length blob ≡ 51 → IsBytes blob → blob_of (encode_of standard blob) ≡ Some blob
+blob_of_again blob len fits =
+    let long : length (encode_of standard blob) ≡ 68 = length-encode_of blob ∙ rw len refl in
+    cond-true _ _ None (eq-eqb _ _ long) ∙ rw (base64_again blob fits) (cond-true _ (Some blob) None (eq-eqb _ _ len))
+
+-- a word that stands for no blob is not 68 letters
+blob_of_none : (word : List ℕ) → IsBytes word → blob_of word ≡ None → is_base64_word word ≡ false
+blob_of_none word fits none = elim (cases_Bool (is_base64_word word)) [
+  | inl is_word ↦
+      let blob = word_found word fits is_word in
+      let long = (and_parts (eqb (length word) 68) (list_all is_base64_letter word) is_word).0 in
+      let some : blob_of word ≡ Some blob.0 = cond-true _ _ None long
+      ∙ rw (blob.1) (cond-true _ (Some blob.0) None (eq-eqb _ _ blob.2)) in
+      absurd (cc (sym none ∙ some))
+  | inr no_word ↦ no_word
+]
+
+-- ---- the steps of reading
+
+-- a step that finds nothing answers its fault
+step_none : {A B : Type 0} (e : LineFault) (o : Option A) (f : A → Result B LineFault) → o ≡ None
+    → (or_fault e o >>= f) ≡ Err e
+step_none e o f none = rw none refl
+
+-- a step that finds something goes on with it
+step_some : {A B : Type 0} (e : LineFault) (o : Option A) (x : A) (f : A → Result B LineFault) → o ≡ Some x
+    → (or_fault e o >>= f) ≡ f x
+step_some e o x f some = rw some refl
+
+-- what is left of reading after each step
+abbrev read_key : List ℕ → List ℕ → Result KeyLine LineFault
+read_key rest key = checked_line key (comment_of rest)
+
+abbrev read_blob : List ℕ → List ℕ → Result KeyLine LineFault
+read_blob rest blob = or_fault BadBlob (key_of blob) >>= read_key rest
+
+abbrev read_rest : List ℕ → Result KeyLine LineFault
+read_rest rest = or_fault BadBase64 (blob_of (word_of rest)) >>= read_blob rest
+
+-- reading, where there is no such type
+at_type : (line : List ℕ) → after_type line ≡ None → key_line_at line ≡ Err WrongType
+unfolding key_line_at
+at_type line none = step_none WrongType (after_type line) read_rest none
+
+-- reading, behind the type
+at_rest : (line rest : List ℕ) → after_type line ≡ Some rest → key_line_at line ≡ read_rest rest
+unfolding key_line_at
+at_rest line rest some = step_some WrongType (after_type line) rest read_rest some
+
+-- reading, once the blob and its key are known
+at_key : (line rest blob key : List ℕ) → after_type line ≡ Some rest → blob_of (word_of rest) ≡ Some blob
+    → key_of blob ≡ Some key → key_line_at line ≡ read_key rest key
+at_key line rest blob key is_rest is_blob is_key =
+    at_rest line rest is_rest ∙ step_some BadBase64 (blob_of (word_of rest)) blob (read_blob rest) is_blob
+    ∙ step_some BadBlob (key_of blob) key (read_key rest) is_key
+
+-- ---- a line with any comment
+
+-- the text of a line is read as its key, and then as its comment
+at_line : (key : List ℕ) (comment : Option (List ℕ)) → IsTrue (is_key key)
+    → key_line_at (key_line_text (record { key = key; comment = comment })) ≡ checked_line key comment
+at_line key comment lawful =
+    let parts = is_key_parts key lawful in
+    let blob : List ℕ = key_blob key in
+    let len : length blob ≡ 51 = omega (arith, length-key_blob key) in
+    let word : List ℕ = encode_of standard blob in
+    let rest : List ℕ = word ++ comment_text comment in
+    let is_word : word_of rest ≡ word = word_of-text word comment (IsFreeOfSpace-encode_of blob) in
+    let is_blob : blob_of (word_of rest) ≡ Some blob = ap blob_of is_word
+    ∙ blob_of_again blob len (IsBytes-key_blob key parts.0 parts.1) in
+    at_key (key_line_head ++ rest) rest blob key (after_type_again rest) is_blob (key_of_again key parts.0)
+    ∙ ap (checked_line key) (comment_of-text word comment (IsFreeOfSpace-encode_of blob))
+
+-- The text of a lawful line is read.
+pub key_line_again : (k : KeyLine) → IsTrue (is_key_line k) → key_line_at (key_line_text k) ≡ Ok k
+key_line_again k lawful =
+    let parts = and_parts (is_key k.key) (is_comment_or_none k.comment) lawful in
+    at_line k.key k.comment parts.0 ∙ cond-true _ (Ok k) (Err BadComment) parts.1
+
+-- ---- each fault, from what it says of the text
+
+-- Another type is found.
+wrong_type_again : (line : List ℕ) → HasWrongType line → key_line_at line ≡ Err WrongType
+wrong_type_again line wrong = elim (option_cases (after_type line)) [
+  | inl none ↦ at_type line none
+  | inr some ↦ absurd (wrong some.0 (after_type_found line some.0 some.1))
+]
+
+-- A word that is not 68 letters is found.
+bad_base64_again : (line : List ℕ) → IsBytes line → HasBadBase64 line → key_line_at line ≡ Err BadBase64
+bad_base64_again line fits bad =
+    let rest : List ℕ = bad.0 in
+    let is_rest : after_type line ≡ Some rest = ap after_type bad.1 in
+    let rest_fits : IsBytes rest = IsBytes-drop 12 (key_line_head ++ rest) (subst IsBytes bad.1 fits) in
+    elim (option_cases (blob_of (word_of rest))) [
+      | inl none ↦ at_rest line rest is_rest ∙ step_none BadBase64 (blob_of (word_of rest)) (read_blob rest) none
+      | inr some ↦
+          let found = blob_of_found (word_of rest) some.0 (IsBytes-take _ rest rest_fits) some.1 in
+          let is_word : is_base64_word (word_of rest) ≡ true = ap is_base64_word found.0
+          ∙ word_again some.0 found.1 found.2 in
+          absurd (both_ways (is_base64_word (word_of rest)) bad.2 is_word)
+    ]
+
+-- The blob of no key is found.
+bad_blob_again : (line : List ℕ) → HasBadBlob line → key_line_at line ≡ Err BadBlob
+bad_blob_again line bad =
+    let rest : List ℕ = bad.0 in
+    let blob : List ℕ = bad.1 in
+    let is_rest : after_type line ≡ Some rest = ap after_type bad.2 in
+    let is_blob : blob_of (word_of rest) ≡ Some blob = ap blob_of bad.5 ∙ blob_of_again blob bad.4 bad.3 in
+    elim (option_cases (key_of blob)) [
+      | inl none ↦
+          at_rest line rest is_rest ∙ step_some BadBase64 (blob_of (word_of rest)) blob (read_blob rest) is_blob
+          ∙ step_none BadBlob (key_of blob) (read_key rest) none
+      | inr some ↦ absurd (bad.6 some.0 (key_of_found blob some.0 some.1).0)
+    ]
+
+-- A comment that is not lawful is found.
+bad_comment_again : (line : List ℕ) → HasBadComment line → key_line_at line ≡ Err BadComment
+bad_comment_again line bad =
+    ap key_line_at bad.4 ∙ at_line bad.0 (Some bad.1) bad.3 ∙ cond-false _ _ (Err BadComment) bad.2
+
+-- Where a fault is, reading gives it.
+pub fault_again : (line : List ℕ) (e : LineFault) → IsBytes line → e ≢ NoMemory → IsFault line e
+    → key_line_at line ≡ Err e
+fault_again line WrongType fits other fault = wrong_type_again line fault
+fault_again line BadBase64 fits other fault = bad_base64_again line fits fault
+fault_again line BadBlob fits other fault = bad_blob_again line fault
+fault_again line BadComment fits other fault = bad_comment_again line fault
+fault_again line NoMemory fits other fault = absurd (other refl)
+
+-- ---- what is read
+
+-- What is read is lawful and has that text, and a fault that is answered is there.
+abbrev pub Says : List ℕ → Result KeyLine LineFault → Type 0
+Says line read = MatchResult read (λ k. IsTrue (is_key_line k) × (line ≡ key_line_text k)) (IsFault line)
+
+-- a line whose key is known
+says_key : (line rest blob key : List ℕ) → IsBytes line → line ≡ key_line_head ++ rest
+    → word_of rest ≡ encode_of standard blob → IsBytes blob → blob ≡ key_blob key → length key ≡ 32
+    → Says line (checked_line key (comment_of rest))
+says_key line rest blob key fits is_line is_word blob_fits is_blob len =
+    let key_fits : IsBytes key = IsBytes-drop 19 (key_blob key) (subst IsBytes is_blob blob_fits) in
+    let lawful : IsTrue (is_key key) = is_key_from key len key_fits in
+    let is_base64 : word_of rest ≡ encode_of standard (key_blob key) = is_word ∙ ap (encode_of standard) is_blob in
+    let is_rest : rest ≡ encode_of standard (key_blob key) ++ comment_text (comment_of rest) =
+    text_is rest ∙ ap (λ (w : List ℕ). w ++ comment_text (comment_of rest)) is_base64 in
+    checked (comment_of rest) lawful (is_line ∙ ap (λ (r : List ℕ). key_line_head ++ r) is_rest)
+  where
+    checked : (comment : Option (List ℕ)) → IsTrue (is_key key)
+        → line ≡ key_line_text (record { key = key; comment = comment }) → Says line (checked_line key comment)
+    checked None lawful text = (and_from _ _ lawful refl, text)
+    checked (Some c) lawful text = elim (cases_Bool (is_comment c)) [
+      | inl good ↦ rw good (and_from _ _ lawful good, text)
+      | inr bad ↦ rw bad (key, c, bad, lawful, text)
+    ]
+
+-- What reading gives says what the text is.
+pub key_line_says : (line : List ℕ) → IsBytes line → Says line (key_line_at line)
+key_line_says line fits = elim (option_cases (after_type line)) [
+  | inl none ↦ subst (Says line) (sym (at_type line none)) (λ rest is. absurd (cc (sym none ∙ ap after_type is)))
+  | inr some ↦
+      let rest : List ℕ = some.0 in
+      let is_line = after_type_found line rest some.1 in
+      let rest_fits : IsBytes rest = IsBytes-drop 12 (key_line_head ++ rest) (subst IsBytes is_line fits) in
+      let word_fits : IsBytes (word_of rest) = IsBytes-take _ rest rest_fits in
+      elim (option_cases (blob_of (word_of rest))) [
+        | inl none ↦
+            let read = at_rest line rest some.1 ∙ step_none BadBase64 (blob_of (word_of rest)) (read_blob rest) none in
+            subst (Says line) (sym read) (rest, is_line, blob_of_none (word_of rest) word_fits none)
+        | inr has ↦
+            let blob : List ℕ = has.0 in
+            let found = blob_of_found (word_of rest) blob word_fits has.1 in
+            elim (option_cases (key_of blob)) [
+              | inl none ↦
+                  let read =
+                  at_rest line rest some.1 ∙ step_some BadBase64 (blob_of (word_of rest)) blob (read_blob rest) has.1
+                  ∙ step_none BadBlob (key_of blob) (read_key rest) none in
+                  let no_key : (key : List ℕ) → blob ≢ key_blob key = λ key is.
+                  let len : length key ≡ 32 = omega (arith, found.1, ap length is, length-key_blob key) in
+                  absurd (cc (sym none ∙ ap key_of is ∙ key_of_again key len)) in
+                  subst (Says line) (sym read) (rest, blob, is_line, found.2, found.1, found.0, no_key)
+              | inr key ↦
+                  let is_key = key_of_found blob key.0 key.1 in
+                  subst (Says line) (sym (at_key line rest blob key.0 some.1 has.1 key.1))
+                  (says_key line rest blob key.0 fits is_line found.0 found.2 is_key.0 is_key.1)
+            ]
+      ]
+]
+
+-- What was read is lawful and has that text.
+pub found_from : (line : List ℕ) (r : Result KeyLine LineFault) → IsBytes line → Gives r (key_line_at line)
+    → IfOk r (λ k. IsTrue (is_key_line k) × (line ≡ key_line_text k))
+found_from line (Ok k) fits given = subst (Says line) given (key_line_says line fits)
+found_from line (Err e) fits given = tt
+
+-- ---- laws of all lines
+
+-- No text belongs to two lines.
+pub key_line_unique : (a b : KeyLine) → IsTrue (is_key_line a) → IsTrue (is_key_line b)
+    → key_line_text a ≡ key_line_text b → a ≡ b
+key_line_unique a b lawful_a lawful_b same =
+    ok_is a b (sym (key_line_again a lawful_a) ∙ ap key_line_at same ∙ key_line_again b lawful_b)
+  where
+    read : KeyLine → Result KeyLine LineFault
+    read k = Ok k
+
+    ok_is : (x y : KeyLine) → read x ≡ read y → x ≡ y
+    ok_is x y e = cc
+
+-- 68 characters of the alphabet, as the base64 of 51 bytes.
+pub word_is_blob : (word : List ℕ) → IsBytes word → IsTrue (is_base64_word word)
+    ↔ ((blob : List ℕ) × IsBytes blob × (length blob ≡ 51) × (word ≡ encode_of standard blob))
+word_is_blob word fits = (
+  λ is_word.
+      let found = word_found word fits is_word in
+      let blob_fits = IsBytes-decode_of standard word found.0 fits found.1 in
+      (found.0, blob_fits, found.2, base64_found word found.0 fits found.1),
+  λ is_blob. ap is_base64_word is_blob.3 ∙ word_again is_blob.0 is_blob.2 is_blob.1,
+)

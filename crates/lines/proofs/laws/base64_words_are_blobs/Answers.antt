@@ -1,0 +1,5 @@
+use Rattle.lines.proofs.KeyLineLaws.{word_is_blob}
+use Rattle.lines.proofs.laws.base64_words_are_blobs.Goals as goal
+
+pub returns : goal.returns
+returns c = word_is_blob

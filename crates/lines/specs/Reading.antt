@@ -1,0 +1,94 @@
+-- What a text says as a key line, and the first thing that is wrong with it.
+use Rattle.std.specs.Prelude.{◌≡◌, ◌≢◌, ℕ, List, ◌++◌, length, take, drop, Bool, false, ◌==◌, nat_lt, if◌then◌else◌, Option, Some, None, option_and_then, Result, Ok, Err, IsOk, IsTrue}
+use Rattle.std.specs.List.{before_first, after_first}
+use Rattle.std.specs.Result.{result_ok}
+use Rattle.std.specs.Str.{bytes_eq}
+use Rattle.base64.specs.Engines.{standard}
+use Rattle.base64.specs.GeneralPurpose.{IsBytes, encode_of, decode_of}
+use Rattle.lines.specs.Keys.{key_blob, key_of}
+use Rattle.lines.specs.KeyLines.{is_base64_word, is_key, is_comment, is_comment_or_none, is_key_line, key_line_head, key_line_text}
+use Rattle.lines.specs.declared.key_line.KeyLine.{KeyLine}
+use Rattle.lines.specs.declared.key_line.LineFault.{LineFault}
+use Rattle.lines.specs.declared.key_line.LineFault.TheVariants.{WrongType, BadBase64, BadBlob, BadComment, NoMemory}
+
+-- what follows the type and its space
+abbrev pub after_type : List ℕ → Option (List ℕ)
+after_type line = if bytes_eq (take 12 line) key_line_head then Some (drop 12 line) else None
+
+abbrev pub is_space : ℕ → Bool
+is_space b = b == 32
+
+-- what stands before the first space, or all
+abbrev pub word_of : List ℕ → List ℕ
+word_of text = before_first is_space text
+
+-- what stands behind the first space, if there is one
+abbrev pub comment_of : List ℕ → Option (List ℕ)
+comment_of text = if nat_lt (length (word_of text)) (length text) then Some (after_first is_space text) else None
+
+-- the 51 bytes that 68 characters of base64 stand for
+abbrev pub blob_of : List ℕ → Option (List ℕ)
+blob_of word =
+    if length word == 68
+    then option_and_then (λ blob. if length blob == 51 then Some blob else None) (result_ok (decode_of standard word))
+    else None
+
+infixl 10 ◌>>=◌
+abbrev pub ◌>>=◌ : {A B : Type 0} → Result A LineFault → (A → Result B LineFault) → Result B LineFault
+(Ok x) >>= f = f x
+(Err e) >>= f = Err e
+
+abbrev pub or_fault : {A : Type 0} → LineFault → Option A → Result A LineFault
+or_fault e (Some x) = Ok x
+or_fault e None = Err e
+
+-- the line of a key and a comment, if the comment is lawful
+abbrev pub checked_line : List ℕ → Option (List ℕ) → Result KeyLine LineFault
+checked_line key comment =
+    if is_comment_or_none comment then Ok (record { key = key; comment = comment }) else Err BadComment
+
+-- the key line that a text is, or the first fault
+unfoldable pub key_line_at : List ℕ → Result KeyLine LineFault
+key_line_at line = do
+  rest ← or_fault WrongType (after_type line)
+  blob ← or_fault BadBase64 (blob_of (word_of rest))
+  key ← or_fault BadBlob (key_of blob)
+  checked_line key (comment_of rest)
+
+-- What was answered is what reading gives, and memory is refused only to a lawful line.
+abbrev pub Gives : Result KeyLine LineFault → Result KeyLine LineFault → Type 0
+Gives (Ok k) read = read ≡ Ok k
+Gives (Err NoMemory) read = IsOk read
+Gives (Err e) read = read ≡ Err e
+
+-- ---- the faults, each said of the whole text
+
+-- The text does not begin with the type and a space.
+abbrev pub HasWrongType : List ℕ → Type 0
+HasWrongType line = (rest : List ℕ) → line ≢ key_line_head ++ rest
+
+-- The text begins so, and the word behind it is not 68 characters of the standard alphabet.
+abbrev pub HasBadBase64 : List ℕ → Type 0
+HasBadBase64 line = (rest : List ℕ) × (line ≡ key_line_head ++ rest) × (is_base64_word (word_of rest) ≡ false)
+
+-- That word is 68 such characters, and the 51 bytes that they stand for are the blob of no key.
+abbrev pub HasBadBlob : List ℕ → Type 0
+HasBadBlob line = (rest : List ℕ) × (blob : List ℕ) × (line ≡ key_line_head ++ rest) × IsBytes blob × (length blob ≡ 51)
+    × (word_of rest ≡ encode_of standard blob) × ((key : List ℕ) → blob ≢ key_blob key)
+
+-- The text is that of a key and a comment, and the comment is not lawful.
+abbrev pub HasBadComment : List ℕ → Type 0
+HasBadComment line = (key : List ℕ) × (comment : List ℕ) × (is_comment comment ≡ false) × IsTrue (is_key key)
+    × (line ≡ key_line_text (record { key = key; comment = Some comment }))
+
+-- The text is that of a lawful line.
+abbrev pub IsLawful : List ℕ → Type 0
+IsLawful line = (k : KeyLine) × IsTrue (is_key_line k) × (line ≡ key_line_text k)
+
+-- what each fault says of the text
+abbrev pub IsFault : List ℕ → LineFault → Type 0
+IsFault line WrongType = HasWrongType line
+IsFault line BadBase64 = HasBadBase64 line
+IsFault line BadBlob = HasBadBlob line
+IsFault line BadComment = HasBadComment line
+IsFault line NoMemory = IsLawful line

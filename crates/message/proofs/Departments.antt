@@ -1,0 +1,185 @@
+-- Departments: what is read is a department's text, its text is read, and the first fault.
+use Rattle.std.proofs.Common.{
+  ◌≡◌,
+  ℕ,
+  suc,
+  List,
+  [],
+  ◌∷◌,
+  ◌++◌,
+  Bool,
+  true,
+  false,
+  ◌&&◌,
+  Option,
+  Some,
+  None,
+  Result,
+  Ok,
+  Err,
+  refl,
+  sym,
+  ap,
+  subst,
+  ◌∙◌,
+  inl,
+  inr,
+}
+use Rattle.std.specs.Prelude.{codes}
+use Rattle.std.specs.Option.{option_and_then}
+use Rattle.std.specs.Str.{bytes_eq}
+use Rattle.std.specs.Fmt.{decimal}
+use Rattle.std.proofs.lemmas.Bool.{and_parts, and_from, cases_Bool, cond-true, cond-false}
+use Rattle.std.proofs.lemmas.Option.{same_Some}
+use Rattle.std.proofs.lemmas.Slice.Eq.{bytes_eq-Decides}
+use Rattle.profile.specs.Names.{is_name}
+use Rattle.profile.specs.declared.kind.Kind.{Kind}
+use Rattle.profile.specs.declared.kind.Kind.TheVariants.{User, Host}
+use Rattle.message.specs.declared.department.Department.{Department}
+use Rattle.message.specs.Values.{
+  are_administrators,
+  are_rules,
+  are_option_names,
+  are_extension_names,
+  are_namespaces,
+  fits_kind,
+  is_longest_life,
+  is_department,
+}
+use Rattle.message.specs.Texts.{kind_text, list_line, department_lines}
+use Rattle.message.specs.Reading.{
+  ◌>>=◌,
+  or_bad,
+  line_of,
+  ends_after,
+  name_after,
+  kind_of,
+  list_after,
+  number_after,
+  department_in,
+}
+use Rattle.message.proofs.Lines.{chosen}
+use Rattle.message.proofs.Readings.{IsField, IsLine, IsReading, line_then, then_end, same_messages}
+use Rattle.message.proofs.Fields.{lacks_by, text_field, list_field}
+use Rattle.message.proofs.Elements.{
+  name_lacks,
+  administrators_lack,
+  rules_lack,
+  option_names_lack,
+  extension_names_lack,
+  namespaces_lack,
+}
+use Rattle.message.proofs.Numbers.{number_field, longest_life_small}
+
+-- the line of a kind
+kind_field : IsField kind_of (λ k. codes "kind " ++ kind_text k) (λ _. Unit {0})
+kind_field = record {
+  found = λ l k fits e. (tt, kind_found l k e);
+  again = λ k _. again k;
+  empty = refl;
+  is_line = λ k _. line k;
+}
+  where
+    kind_found : (l : List ℕ) (k : Kind) → kind_of l ≡ Some k → l ≡ codes "kind " ++ kind_text k
+    kind_found l k e = elim (cases_Bool (bytes_eq l (codes "kind user"))) [
+      | inl user ↦ (bytes_eq-Decides l (codes "kind user")).0 user
+          ∙ ap (λ (k : Kind). codes "kind " ++ kind_text k)
+          (same_Some User k (sym (cond-true _ (Some User) _ user) ∙ e))
+      | inr other ↦ elim (cases_Bool (bytes_eq l (codes "kind host"))) [
+        | inl host ↦ (bytes_eq-Decides l (codes "kind host")).0 host
+            ∙ ap (λ (k : Kind). codes "kind " ++ kind_text k)
+            (same_Some Host k (sym (cond-true _ (Some Host) None host)
+            ∙ (sym (cond-false _ (Some User) _ other) ∙ e)))
+        | inr none ↦ absurd (cc
+            (sym (cond-false _ (Some Host) None none) ∙ (sym (cond-false _ (Some User) _ other) ∙ e)))
+      ]
+    ]
+
+    again : (k : Kind) → kind_of (codes "kind " ++ kind_text k) ≡ Some k
+    again User = refl
+    again Host = refl
+
+    line : (k : Kind) → IsLine (codes "kind " ++ kind_text k)
+    line User = lacks_by 10 (codes "kind user") refl
+    line Host = lacks_by 10 (codes "kind host") refl
+
+-- The values of a department's lines in turn are lawful, and they are all.
+abbrev IsWhole : Department → Type 0
+IsWhole d = (is_name d.name ≡ true)
+    × (Unit {0} × ((are_administrators d.administrators ≡ true) × ((are_rules d.rules ≡ true)
+    × (((are_option_names d.options && fits_kind d.kind d.options) ≡ true)
+    × (((are_extension_names d.extensions && fits_kind d.kind d.extensions) ≡ true)
+    × ((is_longest_life d.longest_life ≡ true)
+    × (((are_namespaces d.namespaces && fits_kind d.kind d.namespaces) ≡ true) × (d ≡ d))))))))
+
+whole_lines : IsReading 0 department_in IsWhole department_lines
+unfolding department_in
+whole_lines =
+    line_then 0 _ _ _ (λ d. d.name) _ _ _
+    (text_field (codes "department ") is_name (lacks_by 10 (codes "department ") refl) refl (name_lacks 10 refl))
+    (codes "a") refl
+    (λ name _. line_then 1 _ _ _ (λ d. d.kind) _ _ _ kind_field User tt
+    (λ kind _. line_then 2 _ _ _ (λ d. d.administrators) _ _ _
+    (list_field (codes "admins") are_administrators (lacks_by 10 (codes "admins") refl) refl
+    administrators_lack) [] refl
+    (λ administrators _. line_then 3 _ _ _ (λ d. d.rules) _ _ _
+    (list_field (codes "principals") are_rules (lacks_by 10 (codes "principals") refl) refl rules_lack)
+    (codes "a" ∷ []) refl
+    (λ rules _. line_then 4 _ _ _ (λ d. d.options) _ _ _
+    (list_field (codes "options") (λ ts. are_option_names ts && fits_kind kind ts)
+    (lacks_by 10 (codes "options") refl) refl (λ ts is. option_names_lack ts (and_parts _ _ is).0)) []
+    (none_fits kind)
+    (λ options _. line_then 5 _ _ _ (λ d. d.extensions) _ _ _
+    (list_field (codes "extensions") (λ ts. are_extension_names ts && fits_kind kind ts)
+    (lacks_by 10 (codes "extensions") refl) refl (λ ts is. extension_names_lack ts (and_parts _ _ is).0)) []
+    (none_fits kind)
+    (λ extensions _. line_then 6 _ _ _ (λ d. d.longest_life) _ _ _
+    (number_field is_longest_life (codes "maxlife ") (lacks_by 10 (codes "maxlife ") refl) refl
+    longest_life_small) 1 refl
+    (λ longest_life _. line_then 7 _ _ _ (λ d. d.namespaces) _ _ _
+    (list_field (codes "namespaces") (λ ts. are_namespaces ts && fits_kind kind ts)
+    (lacks_by 10 (codes "namespaces") refl) refl (λ ts is. namespaces_lack ts (and_parts _ _ is).0)) []
+    (none_fits kind)
+    (λ namespaces _. then_end 8
+    (record {
+      name = name;
+      kind = kind;
+      administrators = administrators;
+      rules = rules;
+      options =
+          options;
+      extensions = extensions;
+      longest_life = longest_life;
+      namespaces = namespaces;
+    }))
+    (λ x d e. ap (λ (d : Department). d.namespaces) e))
+    (λ x d p. ap (λ (d : Department). d.longest_life) p.1))
+    (λ x d p. ap (λ (d : Department). d.extensions) p.1.1))
+    (λ x d p. ap (λ (d : Department). d.options) p.1.1.1))
+    (λ x d p. ap (λ (d : Department). d.rules) p.1.1.1.1))
+    (λ x d p. ap (λ (d : Department). d.administrators) p.1.1.1.1.1))
+    (λ x d p. ap (λ (d : Department). d.kind) p.1.1.1.1.1.1))
+    (λ x d p. ap (λ (d : Department). d.name) p.1.1.1.1.1.1.1)
+  where
+    none_fits : (kind : Kind) → fits_kind kind [] ≡ true
+    none_fits User = refl
+    none_fits Host = refl
+
+-- a department is read from its text alone, its text is read, and the fault is at the first line of no department
+pub department_reads : IsReading 0 department_in (λ d. is_department d ≡ true) department_lines
+department_reads = same_messages 0 department_in
+    IsWhole (λ d. is_department d ≡ true) department_lines department_lines (λ d is. (to d is, refl)) from whole_lines
+  where
+    to : (d : Department) → IsWhole d → is_department d ≡ true
+    to d is = and_from _ _ is.0 (and_from _ _ is.1.1.0 (and_from _ _ is.1.1.1.0 (and_from _ _ is.1.1.1.1.0
+        (and_from _ _ is.1.1.1.1.1.0 (and_from _ _ is.1.1.1.1.1.1.0 is.1.1.1.1.1.1.1.0)))))
+
+    from : (d : Department) → is_department d ≡ true → IsWhole d
+    from d is =
+        let p1 = and_parts _ _ is in
+        let p2 = and_parts _ _ p1.1 in
+        let p3 = and_parts _ _ p2.1 in
+        let p4 = and_parts _ _ p3.1 in
+        let p5 = and_parts _ _ p4.1 in
+        let p6 = and_parts _ _ p5.1 in
+        (p1.0, (tt, (p2.0, (p3.0, (p4.0, (p5.0, (p6.0, (p6.1, refl))))))))

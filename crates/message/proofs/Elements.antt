@@ -1,0 +1,185 @@
+-- What may stand in a line: no name, rule, principal, key id, namespace, option or number has a line feed or, in
+-- lists, a comma.
+use Rattle.std.proofs.Common.{
+  ◌≡◌,
+  ℕ,
+  zero,
+  suc,
+  ◌+◌,
+  ◌<◌,
+  ◌≤◌,
+  ◌^◌,
+  List,
+  [],
+  ◌∷◌,
+  ◌++◌,
+  length,
+  take,
+  drop,
+  Bool,
+  true,
+  false,
+  cond,
+  not,
+  ◌&&◌,
+  ◌||◌,
+  ◌⊎◌,
+  eqb,
+  Option,
+  Some,
+  None,
+  All,
+  refl,
+  sym,
+  ap,
+  subst,
+  ◌∙◌,
+  arith,
+  inl,
+  inr,
+}
+use Rattle.std.specs.List.{list_all, list_any, take_while, prefix_len}
+use Rattle.std.specs.Str.{bytes_eq}
+use Rattle.std.specs.Fmt.{decimal}
+use Rattle.std.proofs.lemmas.Bool.{and_parts, or_cases, eqb-true, leb-true}
+use Rattle.std.proofs.lemmas.List.{take-append-drop}
+use Rattle.std.proofs.lemmas.List.Folds.{length-prefix_len}
+use Rattle.std.proofs.lemmas.List.Elements.{All-append, All-cons, All-nil}
+use Rattle.std.proofs.lemmas.Slice.Eq.{bytes_eq-Decides}
+use Rattle.profile.specs.Names.{
+  is_name,
+  is_name_byte,
+  is_principal,
+  is_principal_byte,
+  is_rule,
+  is_suffix_rule,
+  is_key_id,
+  is_key_id_byte,
+  is_key_id_end,
+  is_namespace,
+  department_of,
+  has_size,
+}
+use Rattle.profile.specs.Options.{is_known, known_names}
+use Rattle.profile.specs.declared.option_field.OptionField.{OptionField}
+use Rattle.profile.specs.declared.option_field.OptionField.TheVariants.{CriticalOptions, Extensions}
+use Rattle.profile.specs.declared.kind.Kind.{Kind}
+use Rattle.message.specs.Values.{
+  are_administrators,
+  are_rules,
+  are_principals,
+  are_option_names,
+  are_extension_names,
+  are_namespaces,
+  fits_kind,
+}
+use Rattle.profile.proofs.Lacking.{Lacks, lacks_from}
+use Rattle.message.proofs.Fields.{lacks_by, AllLack, all_lack}
+
+pub name_lacks : (byte : ℕ) → is_name_byte byte ≡ false → (t : List ℕ) → is_name t ≡ true → Lacks byte t
+name_lacks byte off t is = lacks_from is_name_byte byte t off (and_parts _ _ is).1
+
+pub principal_lacks : (byte : ℕ) → is_principal_byte byte ≡ false → (t : List ℕ) → is_principal t ≡ true → Lacks byte t
+principal_lacks byte off t is = lacks_from is_principal_byte byte t off (and_parts _ _ is).1
+
+pub namespace_lacks : (byte : ℕ) → is_principal_byte byte ≡ false → (t : List ℕ) → is_namespace t ≡ true → Lacks byte t
+namespace_lacks byte off t is = lacks_from is_principal_byte byte t off (and_parts _ _ is).1
+
+suffix_lacks : (byte : ℕ) → is_principal_byte byte ≡ false → eqb 42 byte ≡ false → (t : List ℕ) → is_suffix_rule t
+    ≡ true → Lacks byte t
+suffix_lacks byte off other [] is = absurd cc
+suffix_lacks byte off other (b ∷ suffix) is =
+    let both = and_parts _ _ is in
+    let star : b ≡ 42 = eqb-true _ _ both.0 in
+    All-cons (λ x. eqb x byte ≡ false) b suffix (ap (λ (x : ℕ). eqb x byte) star ∙ other)
+    (lacks_from is_principal_byte byte suffix off (and_parts _ _ both.1).1)
+
+pub rule_lacks : (byte : ℕ) → is_principal_byte byte ≡ false → eqb 42 byte ≡ false → (t : List ℕ) → is_rule t ≡ true
+    → Lacks byte t
+rule_lacks byte off other t is = elim (or_cases _ _ is) [
+  | inl principal ↦ principal_lacks byte off t principal
+  | inr suffix ↦ suffix_lacks byte off other t suffix
+]
+
+key_id_end_lacks : (byte : ℕ) → is_key_id_byte byte ≡ false → eqb 47 byte ≡ false → (t : List ℕ) → is_key_id_end t
+    ≡ true → Lacks byte t
+key_id_end_lacks byte off other [] is = absurd cc
+key_id_end_lacks byte off other (b ∷ rest) is =
+    let both = and_parts _ _ is in
+    let slash : b ≡ 47 = eqb-true _ _ both.0 in
+    All-cons (λ x. eqb x byte ≡ false) b rest (ap (λ (x : ℕ). eqb x byte) slash ∙ other)
+    (lacks_from is_key_id_byte byte rest off (and_parts _ _ both.1).1)
+
+-- a key id is its department and what follows it
+key_id_parts : (t : List ℕ) → t ≡ department_of t ++ drop (length (department_of t)) t
+key_id_parts t =
+    let n = prefix_len (λ b. not (eqb b 47)) t in
+    let size : length (take n t) ≡ n = length-prefix_len (λ b. not (eqb b 47)) t in
+    sym (take-append-drop n t) ∙ ap (λ (k : ℕ). take n t ++ drop k t) (sym size)
+
+pub key_id_line : (t : List ℕ) → is_key_id t ≡ true → Lacks 10 t
+key_id_line t is =
+    let both = and_parts _ _ is in
+    let department = department_of t in
+    subst (Lacks 10) (sym (key_id_parts t))
+    (All-append (λ b. eqb b 10 ≡ false) department (drop (length department) t)
+    (name_lacks 10 refl department both.0) (key_id_end_lacks 10 refl refl (drop (length department) t) both.1))
+
+-- one of these texts, where none has the byte
+among_lacks : (byte : ℕ) (names : List (List ℕ)) → list_all (λ n. list_all (λ b. not (eqb b byte)) n) names ≡ true
+    → (t : List ℕ) → list_any (λ n. bytes_eq n t) names ≡ true → Lacks byte t
+among_lacks byte [] all t is = absurd cc
+among_lacks byte (n ∷ names) all t is =
+    let both = and_parts _ _ all in
+    elim (or_cases _ _ is) [
+      | inl this ↦ subst (Lacks byte) ((bytes_eq-Decides n t).0 this) (lacks_by byte n both.0)
+      | inr later ↦ among_lacks byte names both.1 t later
+    ]
+
+pub known_lacks_comma : (field : OptionField) (t : List ℕ) → is_known field t ≡ true → Lacks 44 t
+known_lacks_comma CriticalOptions t is = among_lacks 44 (known_names CriticalOptions) refl t is
+known_lacks_comma Extensions t is = among_lacks 44 (known_names Extensions) refl t is
+
+pub known_line : (field : OptionField) (t : List ℕ) → is_known field t ≡ true → Lacks 10 t
+known_line CriticalOptions t is = among_lacks 10 (known_names CriticalOptions) refl t is
+known_line Extensions t is = among_lacks 10 (known_names Extensions) refl t is
+
+pub known_lacks_space : (field : OptionField) (t : List ℕ) → is_known field t ≡ true → Lacks 32 t
+known_lacks_space CriticalOptions t is = among_lacks 32 (known_names CriticalOptions) refl t is
+known_lacks_space Extensions t is = among_lacks 32 (known_names Extensions) refl t is
+
+-- ---- lists
+
+-- elements that have neither commas nor line feeds
+abbrev LackBoth : List (List ℕ) → Type 0
+LackBoth ts = AllLack 44 ts × AllLack 10 ts
+
+both_lack : (test : List ℕ → Bool) → ((t : List ℕ) → test t ≡ true → Lacks 44 t)
+    → ((t : List ℕ) → test t ≡ true → Lacks 10 t)
+    → (ts : List (List ℕ)) → list_all test ts ≡ true → LackBoth ts
+both_lack test comma line ts all = (all_lack test 44 comma ts all, all_lack test 10 line ts all)
+
+pub administrators_lack : (ts : List (List ℕ)) → are_administrators ts ≡ true → LackBoth ts
+administrators_lack ts is =
+    both_lack is_name (name_lacks 44 refl) (name_lacks 10 refl) ts (and_parts _ _ (and_parts _ _ is).1).0
+
+pub rules_lack : (ts : List (List ℕ)) → are_rules ts ≡ true → LackBoth ts
+rules_lack ts is = both_lack is_rule (rule_lacks 44 refl refl) (rule_lacks 10 refl refl) ts
+    (and_parts _ _ (and_parts _ _ is).1).0
+
+pub principals_lack : (ts : List (List ℕ)) → are_principals ts ≡ true → LackBoth ts
+principals_lack ts is =
+    both_lack is_principal (principal_lacks 44 refl) (principal_lacks 10 refl) ts (and_parts _ _ (and_parts _ _ is).1).0
+
+pub option_names_lack : (ts : List (List ℕ)) → are_option_names ts ≡ true → LackBoth ts
+option_names_lack ts is =
+    both_lack (is_known CriticalOptions) (known_lacks_comma CriticalOptions) (known_line CriticalOptions) ts
+    (and_parts _ _ is).0
+
+pub extension_names_lack : (ts : List (List ℕ)) → are_extension_names ts ≡ true → LackBoth ts
+extension_names_lack ts is =
+    both_lack (is_known Extensions) (known_lacks_comma Extensions) (known_line Extensions) ts (and_parts _ _ is).0
+
+pub namespaces_lack : (ts : List (List ℕ)) → are_namespaces ts ≡ true → LackBoth ts
+namespaces_lack ts is =
+    both_lack is_namespace (namespace_lacks 44 refl) (namespace_lacks 10 refl) ts (and_parts _ _ (and_parts _ _ is).1).0

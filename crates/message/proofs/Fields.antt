@@ -1,0 +1,269 @@
+-- Values behind a word: what is read is the value's text, and the text is read.
+use Rattle.std.proofs.Common.{
+  ◌≡◌,
+  ℕ,
+  zero,
+  suc,
+  ◌+◌,
+  ◌<◌,
+  List,
+  [],
+  ◌∷◌,
+  ◌++◌,
+  length,
+  take,
+  drop,
+  Bool,
+  true,
+  false,
+  cond,
+  not,
+  ◌&&◌,
+  ◌||◌,
+  ◌⊎◌,
+  eqb,
+  Option,
+  Some,
+  None,
+  All,
+  refl,
+  sym,
+  ap,
+  subst,
+  ◌∙◌,
+  arith,
+  inl,
+  inr,
+  append-nil,
+}
+use Rattle.std.specs.List.{list_all, list_any, slice_split, join_with_byte, AllByRecursion}
+use Rattle.std.specs.Option.{option_and_then}
+use Rattle.std.specs.Str.{bytes_eq}
+use Rattle.std.proofs.Math.Seq.{take-append_seam, drop-append_seam}
+use Rattle.std.proofs.lemmas.Bool.{
+  cases_Bool,
+  cond-true,
+  cond-false,
+  and_parts,
+  or_cases,
+  eqb-true,
+  eq-eqb,
+  ne_eqb,
+  both_ways,
+}
+use Rattle.std.proofs.lemmas.List.{take-append-drop}
+use Rattle.std.proofs.lemmas.List.Elements.{All-append, All-cons, All-nil}
+use Rattle.std.proofs.lemmas.List.Splits.{
+  slice_split_at,
+  slice_split_none,
+  join_with_byte-slice_split,
+  length-slice_split,
+}
+use Rattle.std.proofs.lemmas.List.Sums.{AllPass-from_list_all}
+use Rattle.std.proofs.lemmas.Option.{option_and_then_some, same_Some}
+use Rattle.std.proofs.lemmas.Slice.Eq.{bytes_eq-Decides}
+use Rattle.base64.specs.GeneralPurpose.{IsBytes}
+use Rattle.profile.proofs.Lacking.{Lacks}
+use Rattle.lines.proofs.Base64.{IsBytes-drop}
+use Rattle.message.specs.Texts.{list_line}
+use Rattle.message.specs.Reading.{after, passing, listed}
+use Rattle.message.proofs.Readings.{IsField, IsLine}
+
+-- ---- texts that lack a byte
+
+-- a text of which this can be computed
+pub lacks_by : (byte : ℕ) (t : List ℕ) → list_all (λ b. not (eqb b byte)) t ≡ true → Lacks byte t
+lacks_by byte t all = λ k d inside. turned _ (AllPass-from_list_all (λ b. not (eqb b byte)) t all k d inside)
+  where
+    turned : (b : Bool) → not b ≡ true → b ≡ false
+    turned true e = absurd cc
+    turned false e = refl
+
+-- texts, none of which has the byte
+abbrev pub AllLack : ℕ → List (List ℕ) → Type 0
+AllLack byte ts = AllByRecursion (Lacks byte) ts
+
+-- texts that all pass a test
+pub all_lack : (test : List ℕ → Bool) (byte : ℕ) → ((t : List ℕ) → test t ≡ true → Lacks byte t)
+    → (ts : List (List ℕ)) → list_all test ts ≡ true → AllLack byte ts
+all_lack test byte lacks [] e = tt
+all_lack test byte lacks (t ∷ ts) e = let both = and_parts _ _ e in (lacks t both.0, all_lack test byte lacks ts both.1)
+
+-- texts joined by another byte
+pub lacks_joined : (byte by : ℕ) (ts : List (List ℕ)) → eqb by byte ≡ false → AllLack byte ts
+    → Lacks byte (join_with_byte by ts)
+lacks_joined byte by [] other h = All-nil (λ b. eqb b byte ≡ false)
+lacks_joined byte by (t ∷ []) other h = h.0
+lacks_joined byte by (t ∷ u ∷ ts) other h =
+    All-append (λ b. eqb b byte ≡ false) t (by ∷ join_with_byte by (u ∷ ts)) h.0
+    (All-cons (λ b. eqb b byte ≡ false) by (join_with_byte by (u ∷ ts)) other
+    (lacks_joined byte by (u ∷ ts) other h.1))
+
+-- ---- what follows a word
+
+pub after_found : (head l t : List ℕ) → after head l ≡ Some t → (l ≡ head ++ t) × (t ≡ drop (length head) l)
+after_found head l t e = elim (cases_Bool (bytes_eq (take (length head) l) head)) [
+  | inl passed ↦
+      let same : drop (length head) l ≡ t =
+      same_Some _ _ (sym (cond-true _ (Some (drop (length head) l)) None passed) ∙ e) in
+      let front : take (length head) l ≡ head = (bytes_eq-Decides _ _).0 passed in (
+        sym (take-append-drop (length head) l) ∙ ap (λ (x : List ℕ). x ++ drop (length head) l) front
+            ∙ ap (λ (x : List ℕ). head ++ x) same,
+        sym same,
+      )
+  | inr failed ↦ absurd (cc (sym (cond-false _ (Some (drop (length head) l)) None failed) ∙ e))
+]
+
+pub after_again : (head t : List ℕ) → after head (head ++ t) ≡ Some t
+after_again head t =
+    cond-true _ (Some (drop (length head) (head ++ t))) None ((bytes_eq-Decides _ _).1 (take-append_seam head t))
+    ∙ ap (λ (x : List ℕ). Some x) (drop-append_seam head t)
+
+-- A text read as a value.
+pub record IsValue {X : Type 0} (read : List ℕ → Option X) (text : X → List ℕ) (IsLawful : X → Type 0) : Type 0 where
+  pub found : (t : List ℕ) (x : X) → IsBytes t → read t ≡ Some x → IsLawful x × (t ≡ text x)
+  pub again : (x : X) → IsLawful x → read (text x) ≡ Some x
+  pub is_line : (x : X) → IsLawful x → IsLine (text x)
+
+pub passing_some : {X : Type 0} (test : X → Bool) (x y : X) → passing test x ≡ Some y → (test y ≡ true) × (x ≡ y)
+passing_some test x y e = elim (cases_Bool (test x)) [
+  | inl passed ↦ let same : x ≡ y = same_Some _ _ (sym (cond-true _ (Some x) None passed) ∙ e) in
+      (sym (ap test same) ∙ passed, same)
+  | inr failed ↦ absurd (cc (sym (cond-false _ (Some x) None failed) ∙ e))
+]
+
+-- a value that is read and passes a test
+pub value_passing : {X : Type 0} (read : List ℕ → Option X) (text : X → List ℕ) (test : X → Bool)
+    → ((t : List ℕ) (x : X) → IsBytes t → read t ≡ Some x → t ≡ text x)
+    → ((x : X) → test x ≡ true → read (text x) ≡ Some x)
+    → ((x : X) → test x ≡ true → IsLine (text x))
+    → IsValue (λ t. option_and_then (passing test) (read t)) text (λ x. test x ≡ true)
+value_passing read text test found again is_line = record {
+  found = λ t x fits e. option_and_then_some (passing test) (read t) x e
+      (λ y read_so passed. let both = passing_some test y x passed in
+      (both.0, found t y fits read_so ∙ ap text both.1));
+  again = λ x passes. ap (option_and_then (passing test)) (again x passes) ∙ cond-true _ (Some x) None passes;
+  is_line = is_line;
+}
+
+-- a value behind a word that can be computed with
+pub value_after : {X : Type 0} (head : List ℕ) (read : List ℕ → Option X) (text : X → List ℕ) (IsLawful : X → Type 0)
+    → IsLine head → after head [] ≡ None → IsValue read text IsLawful
+    → IsField (λ l. option_and_then read (after head l)) (λ x. head ++ text x) IsLawful
+value_after head read text IsLawful line empty value = record {
+  found = λ l x fits e. option_and_then_some read (after head l) x e
+      (λ t behind read_so.
+      let at = after_found head l t behind in
+      let fits_behind : IsBytes t = subst IsBytes (sym at.1) (IsBytes-drop (length head) l fits) in
+      let is = value.found t x fits_behind read_so in
+      (is.0, at.0 ∙ ap (λ (y : List ℕ). head ++ y) is.1));
+  again = λ x lawful. ap (option_and_then read) (after_again head (text x)) ∙ value.again x lawful;
+  empty = ap (option_and_then read) empty;
+  is_line = λ x lawful. All-append (λ b. eqb b 10 ≡ false) head (text x) line (value.is_line x lawful);
+}
+
+-- a field by another way of reading
+pub same_field : {X : Type 0} (read again : List ℕ → Option X) (text : X → List ℕ) (IsLawful : X → Type 0)
+    → ((l : List ℕ) → again l ≡ read l) → IsField read text IsLawful → IsField again text IsLawful
+same_field read again text IsLawful same field = record {
+  found = λ l x fits e. field.found l x fits (sym (same l) ∙ e);
+  again = λ x lawful. same (text x) ∙ field.again x lawful;
+  empty = same [] ∙ field.empty;
+  is_line = field.is_line;
+}
+
+and_then_assoc : {A B C : Type 0} (f : A → Option B) (g : B → Option C) (o : Option A)
+    → option_and_then g (option_and_then f o) ≡ option_and_then (λ x. option_and_then g (f x)) o
+and_then_assoc f g None = refl
+and_then_assoc f g (Some x) = refl
+
+-- a value behind a word that passes a test
+pub field_passing : {X : Type 0} (head : List ℕ) (read : List ℕ → Option X) (text : X → List ℕ) (test : X → Bool)
+    → IsLine head → after head [] ≡ None
+    → ((t : List ℕ) (x : X) → IsBytes t → read t ≡ Some x → t ≡ text x)
+    → ((x : X) → test x ≡ true → read (text x) ≡ Some x)
+    → ((x : X) → test x ≡ true → IsLine (text x))
+    → IsField (λ l. option_and_then (passing test) (option_and_then read (after head l))) (λ x. head ++ text x)
+    (λ x. test x ≡ true)
+field_passing head read text test line empty found again is_line =
+    same_field (λ l. option_and_then (λ t. option_and_then (passing test) (read t)) (after head l))
+    (λ l. option_and_then (passing test) (option_and_then read (after head l))) (λ x. head ++ text x)
+    (λ x. test x ≡ true)
+    (λ l. and_then_assoc read (passing test) (after head l))
+    (value_after head (λ t. option_and_then (passing test) (read t)) text (λ x. test x ≡ true) line empty
+    (value_passing read text test found again is_line))
+
+-- a text behind a word that passes a test
+pub text_field : (head : List ℕ) (test : List ℕ → Bool) → IsLine head → after head [] ≡ None
+    → ((t : List ℕ) → test t ≡ true → IsLine t)
+    → IsField (λ l. option_and_then (passing test) (after head l)) (λ t. head ++ t) (λ t. test t ≡ true)
+text_field head test line empty is_line =
+    value_after head (passing test) (λ t. t) (λ t. test t ≡ true) line empty (record {
+      found = λ t x fits e. passing_some test t x e;
+      again = λ x passes. cond-true _ (Some x) None passes;
+      is_line = is_line;
+    })
+
+-- ---- lists
+
+-- what follows the word of a list
+abbrev pub listed_text : List (List ℕ) → List ℕ
+listed_text [] = []
+listed_text (t ∷ ts) = 32 ∷ join_with_byte 44 (t ∷ ts)
+
+list_text : (word : List ℕ) (ts : List (List ℕ)) → word ++ listed_text ts ≡ list_line word ts
+list_text word [] = append-nil word
+list_text word (t ∷ ts) = refl
+
+-- a field with the same texts
+pub same_text : {X : Type 0} (read : List ℕ → Option X) (text texts : X → List ℕ) (IsLawful : X → Type 0)
+    → ((x : X) → text x ≡ texts x) → IsField read text IsLawful → IsField read texts IsLawful
+same_text read text texts IsLawful same field = record {
+  found = λ l x fits e. let is = field.found l x fits e in (is.0, is.1 ∙ same x);
+  again = λ x lawful. ap read (sym (same x)) ∙ field.again x lawful;
+  empty = field.empty;
+  is_line = λ x lawful. subst IsLine (same x) (field.is_line x lawful);
+}
+
+-- texts joined by commas are cut at the commas
+pub split_joined : (t : List ℕ) (ts : List (List ℕ)) → AllLack 44 (t ∷ ts)
+    → slice_split (λ c. eqb c 44) (join_with_byte 44 (t ∷ ts)) ≡ t ∷ ts
+split_joined t [] h = slice_split_none (λ c. eqb c 44) t h.0
+split_joined t (u ∷ ts) h =
+    slice_split_at (λ c. eqb c 44) t 44 (join_with_byte 44 (u ∷ ts)) h.0 refl
+    ∙ ap (λ (xs : List (List ℕ)). t ∷ xs) (split_joined u ts h.1)
+
+-- the text of a list that is not empty
+cut_text : (text : List ℕ) (ts : List (List ℕ)) → slice_split (λ c. eqb c 44) text ≡ ts → 32 ∷ text ≡ listed_text ts
+cut_text text [] e = absurd (omega (arith, length-slice_split (λ c. eqb c 44) text, ap length e))
+cut_text text (t ∷ ts) e =
+    ap (λ (x : List ℕ). 32 ∷ x) (sym (join_with_byte-slice_split 44 text) ∙ ap (join_with_byte 44) e)
+
+listed_found : (t : List ℕ) (ts : List (List ℕ)) → listed t ≡ Some ts → t ≡ listed_text ts
+listed_found [] ts e = ap listed_text (same_Some [] ts e)
+listed_found (b ∷ text) ts e = elim (cases_Bool (eqb b 32)) [
+  | inl space ↦
+      let cut : slice_split (λ c. eqb c 44) text ≡ ts =
+      same_Some _ _ (sym (cond-true _ (Some (slice_split (λ c. eqb c 44) text)) None space) ∙ e) in
+      ap (λ (x : ℕ). x ∷ text) (eqb-true _ _ space) ∙ cut_text text ts cut
+  | inr other ↦ absurd (cc (sym (cond-false _ (Some (slice_split (λ c. eqb c 44) text)) None other) ∙ e))
+]
+
+listed_again : (ts : List (List ℕ)) → AllLack 44 ts → listed (listed_text ts) ≡ Some ts
+listed_again [] h = refl
+listed_again (t ∷ ts) h = ap (λ (xs : List (List ℕ)). Some xs) (split_joined t ts h)
+
+listed_line : (ts : List (List ℕ)) → AllLack 10 ts → IsLine (listed_text ts)
+listed_line [] h = All-nil (λ b. eqb b 10 ≡ false)
+listed_line (t ∷ ts) h =
+    All-cons (λ b. eqb b 10 ≡ false) 32 (join_with_byte 44 (t ∷ ts)) refl (lacks_joined 10 44 (t ∷ ts) refl h)
+
+-- a list behind its word that passes a test
+pub list_field : (word : List ℕ) (test : List (List ℕ) → Bool) → IsLine word → after word [] ≡ None
+    → ((ts : List (List ℕ)) → test ts ≡ true → AllLack 44 ts × AllLack 10 ts)
+    → IsField (λ l. option_and_then (passing test) (option_and_then listed (after word l))) (list_line word)
+    (λ ts. test ts ≡ true)
+list_field word test line empty lack =
+    same_text _ (λ ts. word ++ listed_text ts) (list_line word) (λ ts. test ts ≡ true) (list_text word)
+    (field_passing word listed listed_text test line empty (λ t ts fits e. listed_found t ts e)
+    (λ ts passes. listed_again ts (lack ts passes).0) (λ ts passes. listed_line ts (lack ts passes).1))

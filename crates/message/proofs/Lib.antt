@@ -1,0 +1,15 @@
+pub mod Lines
+pub mod Readings
+pub mod Choices
+pub mod Fields
+pub mod Elements
+pub mod Numbers
+pub mod Keys
+pub mod Options
+pub mod Departments
+pub mod Issues
+pub mod Messages
+pub mod TextLaws
+pub mod Steps
+pub mod PutLines
+pub mod Renewals

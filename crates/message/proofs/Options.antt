@@ -1,0 +1,292 @@
+-- Option lines: which options may follow which, and how their lines are read.
+use Rattle.std.proofs.Common.{
+  ◌≡◌,
+  ℕ,
+  zero,
+  suc,
+  ◌+◌,
+  ◌<◌,
+  ◌≤◌,
+  List,
+  [],
+  ◌∷◌,
+  ◌++◌,
+  length,
+  map,
+  drop,
+  Bool,
+  true,
+  false,
+  cond,
+  not,
+  ◌&&◌,
+  ◌||◌,
+  ◌⊎◌,
+  eqb,
+  Option,
+  Some,
+  None,
+  All,
+  refl,
+  sym,
+  ap,
+  subst,
+  ◌∙◌,
+  arith,
+  inl,
+  inr,
+  append-nil,
+}
+use Rattle.std.specs.Prelude.{codes}
+use Rattle.std.specs.List.{list_all, list_any, join_with_byte, AllByRecursion}
+use Rattle.std.specs.Option.{option_and_then}
+use Rattle.std.specs.Str.{bytes_eq}
+use Rattle.std.proofs.lemmas.Bool.{
+  cases_Bool,
+  and_parts,
+  and_from,
+  or_cases,
+  or_parts,
+  or_from,
+  cond-true,
+  cond-false,
+  eqb-true,
+  not-true,
+  not_from_false,
+}
+use Rattle.std.proofs.lemmas.List.{nil_from_length}
+use Rattle.std.proofs.lemmas.List.Elements.{All-append, All-cons, recursion_from_All}
+use Rattle.std.proofs.lemmas.List.Folds.{list_any-append}
+use Rattle.std.proofs.lemmas.Option.{same_Some}
+use Rattle.std.proofs.lemmas.Slice.Eq.{bytes_eq-Decides}
+use Rattle.base64.specs.GeneralPurpose.{IsBytes}
+use Rattle.text.specs.declared.pair.Pair.{Pair}
+use Rattle.profile.specs.Lists.{are_distinct}
+use Rattle.profile.specs.Laws.{AreNetworks}
+use Rattle.profile.specs.Networks.{Network, IsNetwork, network_text, are_networks}
+use Rattle.profile.specs.Options.{is_known, is_flag, is_option_value, is_command}
+use Rattle.profile.specs.declared.option_field.OptionField.TheVariants.{CriticalOptions}
+use Rattle.profile.proofs.Lacking.{Lacks, lacks_from}
+use Rattle.profile.proofs.NetworkLaws.{network_lacks, networks_found}
+use Rattle.profile.proofs.OptionLemmas.{critical_cases}
+use Rattle.lines.specs.KeyLines.{comment_text}
+use Rattle.lines.specs.Reading.{word_of, comment_of}
+use Rattle.lines.proofs.Words.{word_of-text, comment_of-text, text_is}
+use Rattle.message.specs.Texts.{option_text, option_line}
+use Rattle.message.specs.Values.{is_option}
+use Rattle.message.specs.Reading.{pair_of, is_new_option, option_after}
+use Rattle.message.proofs.Readings.{IsField, IsLine}
+use Rattle.message.proofs.Fields.{AllLack, lacks_by, lacks_joined, field_passing}
+use Rattle.message.proofs.Elements.{known_lacks_space, known_line}
+
+-- ---- the text of an option
+
+-- the text of a flag is its name
+flag_text : (p : Pair) → is_flag p.name ≡ true → option_text p ≡ p.name
+flag_text p is = cond-true _ p.name (p.name ++ 32 ∷ p.value) is
+
+-- the text of another option has its value
+value_text : (p : Pair) → is_flag p.name ≡ false → option_text p ≡ p.name ++ 32 ∷ p.value
+value_text p is = cond-false _ p.name (p.name ++ 32 ∷ p.value) is
+
+abbrev flag : List ℕ → Pair
+flag name = record { name = name; value = [] }
+
+abbrev valued : List ℕ → List ℕ → Pair
+valued name value = record { name = name; value = value }
+
+abbrev pair_by : List ℕ → Option (List ℕ) → Option Pair
+pair_by name None = cond (is_flag name) (Some (flag name)) None
+pair_by name (Some value) = cond (is_flag name) None (Some (valued name value))
+
+pair_by_found : (name : List ℕ) (o : Option (List ℕ)) (p : Pair) → pair_by name o ≡ Some p → name ++ comment_text o
+    ≡ option_text p
+pair_by_found name None p e = elim (cases_Bool (is_flag name)) [
+  | inl is ↦
+      let same : flag name ≡ p = same_Some _ _ (sym (cond-true _ (Some (flag name)) None is) ∙ e) in
+      append-nil name ∙ sym (flag_text (flag name) is) ∙ ap option_text same
+  | inr other ↦ absurd (cc (sym (cond-false _ (Some (flag name)) None other) ∙ e))
+]
+pair_by_found name (Some value) p e = elim (cases_Bool (is_flag name)) [
+  | inl is ↦ absurd (cc (sym (cond-true _ None (Some (valued name value)) is) ∙ e))
+  | inr other ↦
+      let same : valued name value ≡ p = same_Some _ _ (sym (cond-false _ None (Some (valued name value)) other) ∙ e) in
+      sym (value_text (valued name value) other) ∙ ap option_text same
+]
+
+-- an option is read from its text alone
+pair_found : (text : List ℕ) (p : Pair) → pair_of text ≡ Some p → text ≡ option_text p
+pair_found text p e = text_is text ∙ pair_by_found (word_of text) (comment_of text) p e
+
+-- the text of a name without space, alone or with a value
+pair_behind : (name : List ℕ) (o : Option (List ℕ)) → Lacks 32 name
+    → pair_of (name ++ comment_text o) ≡ pair_by name o
+pair_behind name o lacks =
+    let free = recursion_from_All (λ b. eqb b 32 ≡ false) name lacks in
+    ap (λ (n : List ℕ). pair_by n (comment_of (name ++ comment_text o))) (word_of-text name o free)
+    ∙ ap (pair_by name) (comment_of-text name o free)
+
+-- an option with a value is read again
+valued_again : (p : Pair) → is_flag p.name ≡ false → Lacks 32 p.name → pair_of (option_text p) ≡ Some p
+valued_again p other lacks =
+    ap pair_of (value_text p other) ∙ pair_behind p.name (Some p.value) lacks
+    ∙ cond-false _ None (Some (valued p.name p.value)) other
+
+-- a flag is read again
+flag_again : (p : Pair) → is_flag p.name ≡ true → p.value ≡ [] → Lacks 32 p.name → pair_of (option_text p) ≡ Some p
+flag_again p is none lacks =
+    ap pair_of (flag_text p is ∙ sym (append-nil p.name)) ∙ pair_behind p.name None lacks
+    ∙ cond-true _ (Some (flag p.name)) None is ∙ ap (λ (v : List ℕ). Some (valued p.name v)) (sym none)
+
+-- the value of an option, where its name is this one
+value_at : (name : List ℕ) (p : Pair) → p.name ≡ name → is_option p ≡ true → is_option_value name p.value ≡ true
+value_at name p same is = ap (λ (n : List ℕ). is_option_value n p.value) (sym same) ∙ (and_parts _ _ is).1
+
+-- a lawful option is read again
+pair_again : (p : Pair) → is_option p ≡ true → pair_of (option_text p) ≡ Some p
+pair_again p is =
+    let known = (and_parts _ _ is).0 in
+    let lacks : Lacks 32 p.name = known_lacks_space CriticalOptions p.name known in
+    elim (critical_cases p.name known) [
+      | inl command ↦ valued_again p (ap is_flag command) lacks
+      | inr rest ↦ elim rest [
+        | inl address ↦ valued_again p (ap is_flag address) lacks
+        | inr verify ↦
+            let none : p.value ≡ [] =
+            nil_from_length p.value (eqb-true (length p.value) 0 (value_at (codes "verify-required") p verify is)) in
+            flag_again p (ap is_flag verify) none lacks
+      ]
+    ]
+
+-- ---- options in lines
+
+all_networks_lack : (ns : List Network) → All IsNetwork ns → AllLack 10 (map network_text ns)
+all_networks_lack [] each = tt
+all_networks_lack (n ∷ ns) each = (
+  network_lacks 10 n (each 0 n (omega arith)) refl refl refl,
+  all_networks_lack ns
+      (λ k d inside. each (suc k) d (omega (arith, inside))),
+)
+
+networks_line : (t : List ℕ) → are_networks t ≡ true → IsLine t
+networks_line t is =
+    let law = networks_found t is in
+    subst IsLine (sym law.spelled)
+    (lacks_joined 10 44 (map network_text law.networks) refl (all_networks_lack law.networks law.each))
+
+command_line : (t : List ℕ) → is_command t ≡ true → IsLine t
+command_line t is = lacks_from _ 10 t refl (and_parts _ _ is).1
+
+-- the text of a lawful option has no line feed
+option_is_line : (p : Pair) → is_option p ≡ true → IsLine (option_text p)
+option_is_line p is =
+    let name : IsLine p.name = known_line CriticalOptions p.name (and_parts _ _ is).0 in
+    elim (critical_cases p.name (and_parts _ _ is).0) [
+      | inl command ↦ with_value p name (ap is_flag command)
+          (command_line p.value (value_at (codes "force-command") p command is))
+      | inr rest ↦ elim rest [
+        | inl address ↦ with_value p name (ap is_flag address)
+            (networks_line p.value (value_at (codes "source-address") p address is))
+        | inr verify ↦ subst IsLine (sym (flag_text p (ap is_flag verify))) name
+      ]
+    ]
+  where
+    with_value : (p : Pair) → IsLine p.name → is_flag p.name ≡ false → IsLine p.value → IsLine (option_text p)
+    with_value p name other value =
+        subst IsLine (sym (value_text p other))
+        (All-append (λ b. eqb b 10 ≡ false) p.name (32 ∷ p.value) name
+        (All-cons (λ b. eqb b 10 ≡ false) 32 p.value refl value))
+
+-- the line of an option that may follow those before it
+pub option_field : (before : List Pair) → IsField (option_after before) option_line (λ p. is_new_option before p ≡ true)
+option_field before =
+    field_passing (codes "option ") pair_of option_text (is_new_option before) (lacks_by 10 (codes "option ") refl) refl
+    (λ t p fits e. pair_found t p e)
+    (λ p is. pair_again p (and_parts _ _ is).0)
+    (λ p is. option_is_line p (and_parts _ _ is).0)
+
+-- ---- options one after the other
+
+-- each option may follow those before it
+abbrev pub AreNew : List Pair → List Pair → Type 0
+AreNew before [] = Unit {0}
+AreNew before (p ∷ ps) = (is_new_option before p ≡ true) × AreNew (before ++ p ∷ []) ps
+
+-- some option has this name
+abbrev has_name : List Pair → List ℕ → Bool
+has_name ps name = list_any (λ q. bytes_eq q.name name) ps
+
+abbrev names : List Pair → List (List ℕ)
+names ps = map (λ p. p.name) ps
+
+-- none of the names stands before
+abbrev none_before : List Pair → List Pair → Bool
+none_before before ps = list_all (λ p. not (has_name before p.name)) ps
+
+same_way : (a b : List ℕ) → bytes_eq a b ≡ false → bytes_eq b a ≡ false
+same_way a b other = elim (cases_Bool (bytes_eq b a)) [
+  | inl same ↦ absurd (cc (sym other ∙ (bytes_eq-Decides a b).1 (sym ((bytes_eq-Decides b a).0 same))))
+  | inr so ↦ so
+]
+
+one_more : (before : List Pair) (p : Pair) (name : List ℕ) → has_name (before ++ p ∷ []) name
+    ≡ (has_name before name || (bytes_eq p.name name || false))
+one_more before p name = list_any-append (λ q. bytes_eq q.name name) before (p ∷ [])
+
+-- no name stands before or is the first's
+apart : (before : List Pair) (p : Pair) (ps : List Pair) → none_before (before ++ p ∷ []) ps ≡ true
+    → (none_before before ps ≡ true) × (list_any (λ u. bytes_eq u p.name) (names ps) ≡ false)
+apart before p [] e = (refl, refl)
+apart before p (q ∷ ps) e =
+    let both = and_parts _ _ e in
+    let other : has_name (before ++ p ∷ []) q.name ≡ false = not-true _ both.0 in
+    let parts = or_parts _ _ (sym (one_more before p q.name) ∙ other) in
+    let first = or_parts _ _ parts.1 in
+    let rest = apart before p ps both.1 in
+    (and_from _ _ (not_from_false _ parts.0) rest.0, or_from _ _ (same_way p.name q.name first.0) rest.1)
+
+together : (before : List Pair) (p : Pair) (ps : List Pair) → none_before before ps ≡ true
+    → list_any (λ u. bytes_eq u p.name) (names ps) ≡ false
+    → none_before (before ++ p ∷ []) ps ≡ true
+together before p [] none other = refl
+together before p (q ∷ ps) none other =
+    let both = and_parts _ _ none in
+    let parts = or_parts _ _ other in
+    let other : has_name (before ++ p ∷ []) q.name ≡ false =
+    one_more before p q.name
+    ∙ or_from _ _ (not-true _ both.0) (or_from _ false (same_way q.name p.name parts.0) refl) in
+    and_from _ _ (not_from_false _ other) (together before p ps both.1 parts.1)
+
+-- options that follow one another are lawful and of distinct names
+new_found : (before ps : List Pair) → AreNew before ps → (list_all is_option ps ≡ true)
+    × ((are_distinct (names ps) ≡ true) × (none_before before ps ≡ true))
+new_found before [] is = (refl, (refl, refl))
+new_found before (p ∷ ps) is =
+    let rest = new_found (before ++ p ∷ []) ps is.1 in
+    let this = and_parts _ _ is.0 in
+    let others = apart before p ps rest.1.1 in
+    (and_from _ _ this.0 rest.0, (and_from _ _ (not_from_false _ others.1) rest.1.0, and_from _ _ this.1 others.0))
+
+new_from : (before ps : List Pair) → list_all is_option ps ≡ true → are_distinct (names ps) ≡ true
+    → none_before before ps ≡ true → AreNew before ps
+new_from before [] lawful distinct none = tt
+new_from before (p ∷ ps) lawful distinct none =
+    let first = and_parts _ _ lawful in
+    let other = and_parts _ _ distinct in
+    let this = and_parts _ _ none in (
+      and_from _ _ first.0 this.0,
+      new_from (before ++ p ∷ []) ps first.1 other.1 (together before p ps this.1 (not-true _ other.0)),
+    )
+
+none_first : (ps : List Pair) → none_before [] ps ≡ true
+none_first [] = refl
+none_first (p ∷ ps) = none_first ps
+
+-- lawful options of distinct names may follow one another, and no others
+pub options_are_new : (ps : List Pair) → (list_all is_option ps && are_distinct (map (λ p. p.name) ps)) ≡ true
+    → AreNew [] ps
+options_are_new ps is = let both = and_parts _ _ is in new_from [] ps both.0 both.1 (none_first ps)
+
+pub new_are_options : (ps : List Pair) → AreNew [] ps → (list_all is_option ps && are_distinct (map (λ p. p.name) ps))
+    ≡ true
+new_are_options ps is = let found = new_found [] ps is in and_from _ _ found.0 found.1.0

@@ -1,0 +1,50 @@
+-- Renewals: what is read is a renewal's text, its text is read, and the first fault.
+use Rattle.std.proofs.Common.{◌≡◌, ℕ, ◌<◌, ◌≤◌, ◌^◌, ◌&&◌, leb, true, refl, ap, arith}
+use Rattle.std.specs.Prelude.{codes}
+use Rattle.std.proofs.lemmas.Bool.{and_from, and_parts, leb-true}
+use Rattle.message.specs.Values.{is_end}
+use Rattle.message.specs.Renewals.{is_renewal, is_serial, renewal_in, renewal_lines}
+use Rattle.message.specs.declared.renewal.Renewal.{Renewal}
+use Rattle.message.proofs.Fields.{lacks_by}
+use Rattle.message.proofs.Numbers.{end_small, number_field}
+use Rattle.message.proofs.Readings.{IsReading, line_then, same_messages, then_end}
+
+-- a serial has 64 bits
+pub serial_small : (n : ℕ) → is_serial n ≡ true → n < 2 ^ 64
+serial_small n is =
+    let most : n ≤ 9223372036854775806 =
+    leb-true n 9223372036854775806 (and_parts (leb 1 n) (leb n 9223372036854775806) is).1 in
+    omega arith
+
+-- The values of a renewal's lines in turn are lawful, and they are all.
+abbrev IsWhole : Renewal → Type 0
+IsWhole r = (is_serial r.serial ≡ true) × ((is_end r.after ≡ true) × ((is_end r.before ≡ true) × (r ≡ r)))
+
+whole_lines : IsReading 0 renewal_in IsWhole renewal_lines
+unfolding renewal_in
+whole_lines =
+    line_then 0 _ _ _ (λ r. r.serial) _ _ _
+    (number_field is_serial (codes "renew ") (lacks_by 10 (codes "renew ") refl) refl serial_small) 1 refl
+    (λ serial _. line_then 1 _ _ _ (λ r. r.after) _ _ _
+    (number_field is_end (codes "after ") (lacks_by 10 (codes "after ") refl) refl end_small) 0 refl
+    (λ after _. line_then 2 _ _ _ (λ r. r.before) _ _ _
+    (number_field is_end (codes "before ") (lacks_by 10 (codes "before ") refl) refl end_small) 0 refl
+    (λ before _. then_end 3 (record { serial = serial; after = after; before = before }))
+    (λ x r e. ap (λ (r : Renewal). r.before) e))
+    (λ x r p. ap (λ (r : Renewal). r.after) p.1))
+    (λ x r p. ap (λ (r : Renewal). r.serial) p.1.1)
+
+-- a renewal is read from its text alone, its text is read, and the fault is at the first line of no renewal
+pub renewal_reads : IsReading 0 renewal_in (λ r. is_renewal r ≡ true) renewal_lines
+renewal_reads =
+    same_messages 0 renewal_in IsWhole (λ r. is_renewal r ≡ true) renewal_lines renewal_lines
+    (λ r is. (to r is, refl)) from whole_lines
+  where
+    to : (r : Renewal) → IsWhole r → is_renewal r ≡ true
+    to r is = and_from _ _ is.0 (and_from _ _ is.1.0 is.1.1.0)
+
+    from : (r : Renewal) → is_renewal r ≡ true → IsWhole r
+    from r is =
+        let p1 = and_parts _ _ is in
+        let p2 = and_parts _ _ p1.1 in
+        (p1.0, (p2.0, (p2.1, refl)))

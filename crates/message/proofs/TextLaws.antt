@@ -1,0 +1,241 @@
+-- Messages as texts: a text is read as the message that it belongs to, and the fault is at the first line of none.
+use Rattle.std.proofs.Common.{
+  ◌≡◌,
+  ◌≢◌,
+  ◌↔◌,
+  ℕ,
+  zero,
+  suc,
+  ◌+◌,
+  ◌-◌,
+  ◌<◌,
+  ◌≤◌,
+  List,
+  [],
+  ◌∷◌,
+  ◌++◌,
+  length,
+  take,
+  drop,
+  get_or,
+  slice_index,
+  Bool,
+  true,
+  false,
+  cond,
+  ◌⊎◌,
+  eqb,
+  ltb,
+  Option,
+  Some,
+  None,
+  Result,
+  Ok,
+  Err,
+  All,
+  refl,
+  sym,
+  ap,
+  subst,
+  ◌∙◌,
+  arith,
+  inl,
+  inr,
+  min,
+}
+use Rattle.std.specs.Prelude.{IsTrue, IfOk}
+use Rattle.std.specs.List.{AllByRecursion, slice_split, onto_first, join_with_byte}
+use Rattle.std.proofs.lemmas.Bool.{cases_order}
+use Rattle.std.proofs.lemmas.List.{length-append}
+use Rattle.std.proofs.lemmas.List.Splits.{slice_split_at, join_with_byte-slice_split, length-slice_split}
+use Rattle.base64.specs.GeneralPurpose.{IsBytes}
+use Rattle.message.specs.declared.fault.MessageFault.{MessageFault}
+use Rattle.message.specs.declared.fault.MessageFault.TheVariants as fault
+use Rattle.message.specs.declared.kinds.Message.{Message}
+use Rattle.message.specs.Values.{is_message}
+use Rattle.message.specs.Texts.{lines_text, message_lines, message_text}
+use Rattle.message.specs.Reading.{Gives, pieces, line_of, message_in, message_at}
+use Rattle.message.specs.Faults.{SharesLines, IsFirstBad}
+use Rattle.message.proofs.Readings.{IsLine, AreBytes, IsReading}
+use Rattle.message.proofs.Messages.{messages_read}
+
+-- ---- lines and texts
+
+-- the pieces of lines are the lines, and a last piece of no bytes
+pieces_of : (ls : List (List ℕ)) → AllByRecursion IsLine ls → pieces (lines_text ls) ≡ ls ++ [] ∷ []
+pieces_of [] h = refl
+pieces_of (l ∷ ls) h =
+    slice_split_at (λ b. eqb b 10) l 10 (lines_text ls) h.0 refl
+    ∙ ap (λ (xs : List (List ℕ)). l ∷ xs) (pieces_of ls h.1)
+
+-- lines and a last piece of no bytes, joined by line feeds, are the text of the lines
+join_lines : (ls : List (List ℕ)) → join_with_byte 10 (ls ++ [] ∷ []) ≡ lines_text ls
+join_lines [] = refl
+join_lines (l ∷ []) = refl
+join_lines (l ∷ m ∷ ls) = ap (λ (t : List ℕ). l ++ 10 ∷ t) (join_lines (m ∷ ls))
+
+-- a text whose pieces are these is the text of the lines
+text_of : (bytes : List ℕ) (ls : List (List ℕ)) → pieces bytes ≡ ls ++ [] ∷ [] → bytes ≡ lines_text ls
+text_of bytes ls e = sym (join_with_byte-slice_split 10 bytes) ∙ ap (join_with_byte 10) e ∙ join_lines ls
+
+-- ---- bytes
+
+bytes_first : (b : ℕ) (bs : List ℕ) → b < 256 → IsBytes bs → IsBytes (b ∷ bs)
+bytes_first b bs this rest zero = this
+bytes_first b bs this rest (suc i) = rest i
+
+no_bytes : IsBytes []
+no_bytes i = omega arith
+
+onto_bytes : (b : ℕ) (ps : List (List ℕ)) → b < 256 → AllByRecursion IsBytes ps
+    → AllByRecursion IsBytes (onto_first b ps)
+onto_bytes b [] this rest = (bytes_first b [] this no_bytes, tt)
+onto_bytes b (p ∷ ps) this rest = (bytes_first b p this rest.0, rest.1)
+
+bytes_one : (p : ℕ → Bool) (b : ℕ) (rest : List (List ℕ)) (c : Bool) → b < 256 → AllByRecursion IsBytes rest
+    → AllByRecursion IsBytes (cond c ([] ∷ rest) (onto_first b rest))
+bytes_one p b rest true this fits = (no_bytes, fits)
+bytes_one p b rest false this fits = onto_bytes b rest this fits
+
+bytes_split : (p : ℕ → Bool) (bs : List ℕ) → IsBytes bs → AllByRecursion IsBytes (slice_split p bs)
+bytes_split p [] fits = (no_bytes, tt)
+bytes_split p (b ∷ bs) fits = bytes_one p b (slice_split p bs) (p b) (fits 0) (bytes_split p bs (λ i. fits (suc i)))
+
+bytes_at : (ps : List (List ℕ)) (i : ℕ) → AllByRecursion IsBytes ps → IsBytes (get_or ps i [])
+bytes_at [] i fits = no_bytes
+bytes_at (p ∷ ps) zero fits = fits.0
+bytes_at (p ∷ ps) (suc i) fits = bytes_at ps i fits.1
+
+-- the lines of bytes are bytes
+lines_fit : (bytes : List ℕ) → IsBytes bytes → AreBytes (pieces bytes)
+lines_fit bytes fits n = by (ltb n (length (pieces bytes)))
+  where
+    by : (c : Bool) → IsBytes (cond c (get_or (pieces bytes) (n - 1) []) [])
+    by true = bytes_at (pieces bytes) (n - 1) (bytes_split (λ b. eqb b 10) bytes fits)
+    by false = no_bytes
+
+-- ---- messages
+
+abbrev reads : IsReading 0 message_in (λ m. is_message m ≡ true) message_lines
+reads = messages_read
+
+pieces_of_message : (m : Message) → is_message m ≡ true → pieces (message_text m) ≡ message_lines m ++ [] ∷ []
+pieces_of_message m is = pieces_of (message_lines m) (reads.are_lines m is)
+
+-- what is read is a lawful message, and the text is its text
+pub message_found : (bytes : List ℕ) (m : Message) → IsBytes bytes → message_at bytes ≡ Ok m → (is_message m ≡ true)
+    × (bytes ≡ message_text m)
+message_found bytes m fits e =
+    let is = reads.found (pieces bytes) m (lines_fit bytes fits) e in
+    (is.0, text_of bytes (message_lines m) is.1)
+
+-- the text of a lawful message is read as it
+pub message_again : (m : Message) → is_message m ≡ true → message_at (message_text m) ≡ Ok m
+message_again m is = reads.again (pieces (message_text m)) m is (pieces_of_message m is)
+
+-- what a function that reads returned
+pub found_from : (bytes : List ℕ) (r : Result Message MessageFault) → IsBytes bytes → Gives r (message_at bytes)
+    → IfOk r (λ m. IsTrue (is_message m) × (bytes ≡ message_text m))
+found_from bytes (Ok m) fits given = message_found bytes m fits given
+found_from bytes (Err e) fits given = tt
+
+pub only_from : (bytes : List ℕ) (r : Result Message MessageFault) (m : Message) → IsTrue (is_message m) → bytes
+    ≡ message_text m
+    → Gives r (message_at bytes) → Gives r (Ok m)
+only_from bytes r m is text given = subst (Gives r) (ap message_at text ∙ message_again m is) given
+
+-- a text belongs to one message
+pub one_message : (a b : Message) → IsTrue (is_message a) → IsTrue (is_message b) → message_text a ≡ message_text b
+    → a ≡ b
+one_message a b is_a is_b same = ok_is a b (sym (message_again a is_a) ∙ ap message_at same ∙ message_again b is_b)
+  where
+    ok_is : (a b : Message) → ◌≡◌ {A = Result Message ℕ} (Ok a) (Ok b) → a ≡ b
+    ok_is a b e = cc
+
+-- ---- the first line that fits no message
+
+some_pieces : (bytes : List ℕ) → 0 < length (pieces bytes)
+some_pieces bytes = omega (arith, length-slice_split (λ b. eqb b 10) bytes)
+
+-- the line that is answered is the first bad one
+pub first_bad : (bytes : List ℕ) (n : ℕ) → IsBytes bytes → message_at bytes ≡ Err n → IsFirstBad bytes n
+first_bad bytes n fits e =
+    let first = reads.fault (pieces bytes) n (lines_fit bytes fits) (some_pieces bytes) e in
+    let j = first.0 in
+    let at : n ≡ suc j = omega (arith, first.1.0) in
+    let m = first.1.1.0 in
+    let before : n - 1 ≡ j = omega arith in
+    record {
+      counted = omega arith;
+      lawless = λ a is text. apart bytes a n (sym e ∙ ap message_at text ∙ message_again a is);
+      some = (
+        m,
+        (
+          first.1.1.1.0,
+          subst (λ (k : ℕ). SharesLines k bytes (message_text m)) (sym before)
+              (subst (λ (ps : List (List ℕ)). (j < length (pieces bytes)) × (j < length ps)
+              × (take j (pieces bytes) ≡ take j ps))
+              (sym (pieces_of_message m first.1.1.1.0)) first.1.1.1.1),
+        ),
+      );
+      none = λ a is shared. first.1.2 a is
+          (subst (λ (ps : List (List ℕ)). (suc j < length (pieces bytes)) × (suc j < length ps)
+          × (take (suc j) (pieces bytes) ≡ take (suc j) ps))
+          (pieces_of_message a is) (subst (λ (k : ℕ). SharesLines k bytes (message_text a)) at shared));
+    }
+  where
+    apart : (bytes : List ℕ) (m : Message) (n : ℕ) → ◌≡◌ {A = Result Message ℕ} (Err n) (Ok m) → ⊥
+    apart bytes m n e = cc
+
+-- the first of the first
+take-take-le : (j n : ℕ) (xs : List (List ℕ)) → j ≤ n → take j (take n xs) ≡ take j xs
+take-take-le zero n xs le = refl
+take-take-le (suc j) zero xs le = absurd (omega (arith, le))
+take-take-le (suc j) (suc n) [] le = refl
+take-take-le (suc j) (suc n) (x ∷ xs) le = ap (λ (l : List (List ℕ)). x ∷ l) (take-take-le j n xs (omega (arith, le)))
+
+-- fewer lines are shared too
+fewer : (j n : ℕ) (a b : List ℕ) → j ≤ n → SharesLines n a b → SharesLines j a b
+fewer j n a b le s = (
+  omega (arith, s.0),
+  omega (arith, s.1),
+  sym (take-take-le j n (pieces a) le) ∙ ap (take j) s.2 ∙ take-take-le j n (pieces b) le,
+)
+
+-- there is one first bad line
+one_first : (bytes : List ℕ) (i n : ℕ) → IsFirstBad bytes i → IsFirstBad bytes n → i < n → ⊥
+one_first bytes i n first then less =
+    let some = then.some in
+    let le : i ≤ n - 1 = omega arith in
+    first.none some.0 some.1.0 (fewer i (n - 1) bytes (message_text some.0) le some.1.1)
+
+-- the first bad line is answered
+pub bad_answered : (bytes : List ℕ) (n : ℕ) → IsBytes bytes → IsFirstBad bytes n → message_at bytes ≡ Err n
+bad_answered bytes n fits bad = by (message_at bytes) refl
+  where
+    by : (r : Result Message ℕ) → message_at bytes ≡ r → r ≡ Err n
+    by (Ok m) e = let is = message_found bytes m fits e in absurd (bad.lawless m is.0 is.1)
+    by (Err i) e = at i (first_bad bytes i fits e)
+      where
+        at : (i : ℕ) → IsFirstBad bytes i → ◌≡◌ {A = Result Message ℕ} (Err i) (Err n)
+        at i first = elim (cases_order i n) [
+          | inl same ↦ ap (λ (k : ℕ). Err k) same
+          | inr other ↦ elim other [
+            | inl less ↦ absurd (one_first bytes i n first bad less)
+            | inr more ↦ absurd (one_first bytes n i bad first more)
+          ]
+        ]
+
+-- a line is answered exactly where it is the first bad one
+pub bad_exactly : (bytes : List ℕ) (n : ℕ) → IsBytes bytes → (message_at bytes ≡ Err n) ↔ IsFirstBad bytes n
+bad_exactly bytes n fits = ((λ e. first_bad bytes n fits e), λ bad. bad_answered bytes n fits bad)
+
+-- the line that a function that reads answered
+pub fault_from : (bytes : List ℕ) (r : Result Message MessageFault) (n : ℕ) → IsBytes bytes → r
+    ≡ Err (fault.BadLine n) → Gives r (message_at bytes) → IsFirstBad bytes n
+fault_from bytes r n fits is given =
+    first_bad bytes n fits (subst (λ (r : Result Message MessageFault). Gives r (message_at bytes)) is given)
+
+pub answered_from : (bytes : List ℕ) (r : Result Message MessageFault) (n : ℕ) → IsBytes bytes → IsFirstBad bytes n
+    → Gives r (message_at bytes) → Gives r (Err n)
+answered_from bytes r n fits bad given = subst (Gives r) (bad_answered bytes n fits bad) given

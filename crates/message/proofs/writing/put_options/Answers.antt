@@ -1,0 +1,20 @@
+use Rattle.std.proofs.Common.{◌≡◌, ◌+◌, ◌<◌, ◌++◌, ◌∷◌, [], ℕ, List, length, map, take, refl, ap, sym, ◌∙◌, arith}
+use Rattle.std.proofs.lemmas.List.{map_more}
+use Rattle.text.specs.declared.pair.Pair.{Pair}
+use Rattle.message.specs.Texts.{lines_text, option_line}
+use Rattle.message.proofs.PutLines.{then_line}
+use Rattle.message.proofs.writing.put_options.Goals as goal
+
+pub loop-option-preserved : goal.loop-option-preserved
+loop-option-preserved c =
+    let options : List Pair = c.args.options.now in
+    let i : ℕ = c.loop-option.option-index in
+    let item : Pair = c.option-item.result in
+    let inside : i < length options = omega arith in
+    let before : List (List ℕ) = map option_line (take i options) in
+    let more : map option_line (take (i + 1) options) ≡ before ++ option_line item ∷ [] =
+    map_more option_line options i item inside
+    ∙ ap (λ (p : Pair). before ++ option_line p ∷ []) (sym c.option-item.is) in
+    then_line c.args.out.now.items _ _ before (option_line item) (option_line item) refl c.loop-option.invariant
+    c.in_ok-put_option.ensures
+    ∙ ap (λ (ls : List (List ℕ)). c.args.out.now.items ++ lines_text ls) (sym more)

@@ -1,0 +1,5 @@
+pub mod Values
+pub mod Texts
+pub mod Reading
+pub mod Faults
+pub mod Renewals

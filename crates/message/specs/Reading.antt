@@ -1,0 +1,225 @@
+-- Messages read line by line, with the number of the first line that does not fit.
+use Rattle.std.specs.Prelude.{
+  ◌≡◌,
+  ℕ,
+  suc,
+  zero,
+  ◌+◌,
+  ◌-◌,
+  List,
+  [],
+  ◌∷◌,
+  ◌++◌,
+  length,
+  take,
+  drop,
+  codes,
+  Bool,
+  not,
+  ◌&&◌,
+  ◌==◌,
+  nat_le,
+  nat_lt,
+  if◌then◌else◌,
+  Option,
+  Some,
+  None,
+  Result,
+  Ok,
+  Err,
+}
+use Rattle.std.specs.List.{list_any, slice_split, slice_index_or, before_first, after_first}
+use Rattle.std.specs.Option.{option_and_then, is_some}
+use Rattle.std.specs.Result.{result_ok}
+use Rattle.std.specs.Str.{bytes_eq}
+use Rattle.text.specs.declared.pair.Pair.{Pair}
+use Rattle.profile.specs.declared.kind.Kind.{Kind}
+use Rattle.profile.specs.declared.kind.Kind.TheVariants.{User, Host}
+use Rattle.profile.specs.Decimals.{number_of}
+use Rattle.profile.specs.Names.{is_name, is_key_id}
+use Rattle.profile.specs.Options.{is_flag}
+use Rattle.lines.specs.Reading.{comment_of, key_line_at, word_of}
+use Rattle.lines.specs.declared.key_line.KeyLine.{KeyLine}
+use Rattle.message.specs.declared.fault.MessageFault.{MessageFault}
+use Rattle.message.specs.declared.fault.MessageFault.TheVariants as fault
+use Rattle.message.specs.declared.department.Department.{Department}
+use Rattle.message.specs.declared.issue.Issue.{Issue}
+use Rattle.message.specs.declared.kinds.Message.{Message}
+use Rattle.message.specs.declared.kinds.Message.TheVariants as message
+use Rattle.message.specs.Values.{
+  are_administrators,
+  are_rules,
+  are_principals,
+  are_option_names,
+  are_extension_names,
+  are_namespaces,
+  fits_kind,
+  is_longest_life,
+  is_end,
+  is_option,
+}
+
+infixl 10 ◌>>=◌
+abbrev pub ◌>>=◌ : {A B : Type 0} → Result A ℕ → (A → Result B ℕ) → Result B ℕ
+(Ok x) >>= f = f x
+(Err e) >>= f = Err e
+
+-- a value, or the number of the line that does not give one
+abbrev pub or_bad : {A : Type 0} → ℕ → Option A → Result A ℕ
+or_bad n (Some x) = Ok x
+or_bad n None = Err n
+
+-- What a function returned is what reading gives, unless memory was refused.
+abbrev pub Gives : {X : Type 0} → Result X MessageFault → Result X ℕ → Type 0
+Gives (Ok x) read = read ≡ Ok x
+Gives (Err (fault.BadLine n)) read = read ≡ Err n
+Gives (Err fault.NoMemory) read = Unit {0}
+
+-- a value, where it passes a test
+abbrev pub passing : {A : Type 0} → (A → Bool) → A → Option A
+passing test x = if test x then Some x else None
+
+-- ---- lines
+
+-- the pieces between line feeds; what stands behind the last of them is no line
+abbrev pub pieces : List ℕ → List (List ℕ)
+pieces bytes = slice_split (λ b. b == 10) bytes
+
+-- the nth line from 1, or no bytes, which fit nothing, where it is missing or not ended
+abbrev pub line_of : ℕ → List (List ℕ) → List ℕ
+line_of n ps = if nat_lt n (length ps) then slice_index_or ps (n - 1) [] else []
+
+-- whether n lines are all: one piece stands behind them, and it has no bytes
+abbrev pub ends_after : ℕ → List (List ℕ) → Bool
+ends_after n ps = length ps == n + 1 && list_any (λ p. length p == 0) (drop n ps)
+
+-- ---- what a line says
+
+-- what follows these bytes
+abbrev pub after : List ℕ → List ℕ → Option (List ℕ)
+after head line = if bytes_eq (take (length head) line) head then Some (drop (length head) line) else None
+
+abbrev pub name_after : List ℕ → List ℕ → Option (List ℕ)
+name_after head line = option_and_then (passing is_name) (after head line)
+
+abbrev pub key_id_after : List ℕ → List ℕ → Option (List ℕ)
+key_id_after head line = option_and_then (passing is_key_id) (after head line)
+
+abbrev pub key_line_after : List ℕ → List ℕ → Option KeyLine
+key_line_after head line = option_and_then (λ text. result_ok (key_line_at text)) (after head line)
+
+-- a number that passes a test
+abbrev pub number_after : (ℕ → Bool) → List ℕ → List ℕ → Option ℕ
+number_after test head line = option_and_then (passing test) (option_and_then number_of (after head line))
+
+-- nothing, or a space and texts between commas
+abbrev pub listed : List ℕ → Option (List (List ℕ))
+listed [] = Some []
+listed (b ∷ text) = if b == 32 then Some (slice_split (λ c. c == 44) text) else None
+
+-- a list that passes a test
+abbrev pub list_after : (List (List ℕ) → Bool) → List ℕ → List ℕ → Option (List (List ℕ))
+list_after test head line = option_and_then (passing test) (option_and_then listed (after head line))
+
+abbrev pub kind_of : List ℕ → Option Kind
+kind_of line = if bytes_eq line (codes "kind user") then Some User else
+    (if bytes_eq line (codes "kind host") then Some Host else None)
+
+-- an option: the name of a flag alone, or another name, a space and a value
+abbrev pub pair_of : List ℕ → Option Pair
+pair_of text = elim (comment_of text) [
+  | None ↦ if is_flag (word_of text) then Some (record { name = word_of text; value = [] }) else None
+  | Some value ↦ if is_flag (word_of text) then None else Some (record { name = word_of text; value = value })
+]
+
+-- whether an option may follow those before it
+abbrev pub is_new_option : List Pair → Pair → Bool
+is_new_option before p = is_option p && not (list_any (λ q. bytes_eq q.name p.name) before)
+
+-- an option that may follow those before it
+abbrev pub option_after : List Pair → List ℕ → Option Pair
+option_after before line =
+    option_and_then (passing (is_new_option before)) (option_and_then pair_of (after (codes "option ") line))
+
+-- the options before line n, with those of up to k lines from there on
+unfoldable pub options_from : ℕ → ℕ → List Pair → List (List ℕ) → List Pair
+options_from zero n before ps = before
+options_from (suc k) n before ps = elim (option_after before (line_of n ps)) [
+  | None ↦ before
+  | Some p ↦ options_from k (suc n) (before ++ p ∷ []) ps
+]
+
+-- ---- messages
+
+-- a department, from the pieces of its text
+unfoldable pub department_in : List (List ℕ) → Result Department ℕ
+department_in ps = do
+  name ← or_bad 1 (name_after (codes "department ") (line_of 1 ps))
+  kind ← or_bad 2 (kind_of (line_of 2 ps))
+  administrators ← or_bad 3 (list_after are_administrators (codes "admins") (line_of 3 ps))
+  rules ← or_bad 4 (list_after are_rules (codes "principals") (line_of 4 ps))
+  options ← or_bad 5 (list_after (λ ts. are_option_names ts && fits_kind kind ts) (codes "options") (line_of 5 ps))
+  extensions ← or_bad 6
+      (list_after (λ ts. are_extension_names ts && fits_kind kind ts) (codes "extensions") (line_of 6 ps))
+  longest_life ← or_bad 7 (number_after is_longest_life (codes "maxlife ") (line_of 7 ps))
+  namespaces ← or_bad 8 (list_after (λ ts. are_namespaces ts && fits_kind kind ts) (codes "namespaces") (line_of 8 ps))
+  if ends_after 8 ps
+      then Ok (record {
+        name = name;
+        kind = kind;
+        administrators = administrators;
+        rules = rules;
+        options = options;
+        extensions = extensions;
+        longest_life = longest_life;
+        namespaces = namespaces;
+      })
+      else Err 9
+
+-- an issue, from the pieces of its text
+unfoldable pub issue_in : List (List ℕ) → Result Issue ℕ
+issue_in ps = do
+  department ← or_bad 1 (name_after (codes "issue ") (line_of 1 ps))
+  key_id ← or_bad 2 (key_id_after (codes "keyid ") (line_of 2 ps))
+  key ← or_bad 3 (key_line_after (codes "key ") (line_of 3 ps))
+  principals ← or_bad 4 (list_after are_principals (codes "principals") (line_of 4 ps))
+  after ← or_bad 5 (number_after is_end (codes "after ") (line_of 5 ps))
+  before ← or_bad 6 (number_after is_end (codes "before ") (line_of 6 ps))
+  let options = options_from 3 7 [] ps
+  extensions ← or_bad (7 + length options)
+      (list_after are_extension_names (codes "extensions") (line_of (7 + length options) ps))
+  if ends_after (7 + length options) ps
+      then Ok (record {
+        department = department;
+        key_id = key_id;
+        key = key;
+        principals = principals;
+        after = after;
+        before = before;
+        options = options;
+        extensions = extensions;
+      })
+      else Err (8 + length options)
+
+-- whether line 1 begins with these bytes
+abbrev pub begins : List ℕ → List (List ℕ) → Bool
+begins head ps = is_some (after head (line_of 1 ps))
+
+-- the message of a value
+abbrev pub made : {A B : Type 0} → (A → B) → Result A ℕ → Result B ℕ
+made f (Ok x) = Ok (f x)
+made f (Err n) = Err n
+
+-- a message, from the pieces of its text: line 1 says the kind
+abbrev pub message_in : List (List ℕ) → Result Message ℕ
+message_in ps =
+    if begins (codes "department ") ps then made (λ d. message.Department d) (department_in ps)
+    else (if begins (codes "issue ") ps then made (λ i. message.Issue i) (issue_in ps) else Err 1)
+
+-- the message that a text is, or the first line that does not fit
+abbrev pub message_at : List ℕ → Result Message ℕ
+message_at bytes = message_in (pieces bytes)
+
+-- the message that a text is, if it is one
+abbrev pub message_of : List ℕ → Option Message
+message_of bytes = result_ok (message_at bytes)

@@ -1,0 +1,73 @@
+-- The texts of messages: lines, each ended by a line feed.
+use Rattle.std.specs.Prelude.{ℕ, List, [], ◌∷◌, ◌++◌, map, codes, if◌then◌else◌}
+use Rattle.std.specs.List.{join_with_byte}
+use Rattle.std.specs.Fmt.{decimal}
+use Rattle.text.specs.declared.pair.Pair.{Pair}
+use Rattle.profile.specs.declared.kind.Kind.{Kind}
+use Rattle.profile.specs.declared.kind.Kind.TheVariants.{User, Host}
+use Rattle.profile.specs.Options.{is_flag}
+use Rattle.lines.specs.KeyLines.{key_line_text}
+use Rattle.message.specs.declared.department.Department.{Department}
+use Rattle.message.specs.declared.issue.Issue.{Issue}
+use Rattle.message.specs.declared.kinds.Message.{Message}
+use Rattle.message.specs.declared.kinds.Message.TheVariants as message
+
+-- lines, each with its line feed
+abbrev pub lines_text : List (List ℕ) → List ℕ
+lines_text [] = []
+lines_text (line ∷ lines) = line ++ 10 ∷ lines_text lines
+
+-- a word, a space and a value
+abbrev pub line : List ℕ → List ℕ → List ℕ
+line word value = word ++ 32 ∷ value
+
+-- a word, a space and a list joined by commas; of an empty list the word alone
+abbrev pub list_line : List ℕ → List (List ℕ) → List ℕ
+list_line word [] = word
+list_line word (t ∷ ts) = line word (join_with_byte 44 (t ∷ ts))
+
+-- the word of a kind
+abbrev pub kind_text : Kind → List ℕ
+kind_text User = codes "user"
+kind_text Host = codes "host"
+
+-- the name of an option, and where it is no flag a space and the value
+abbrev pub option_text : Pair → List ℕ
+option_text p = if is_flag p.name then p.name else line p.name p.value
+
+-- the line of an option
+abbrev pub option_line : Pair → List ℕ
+option_line p = line (codes "option") (option_text p)
+
+-- the lines of a department
+abbrev pub department_lines : Department → List (List ℕ)
+department_lines d =
+    line (codes "department") d.name ∷ line (codes "kind") (kind_text d.kind)
+    ∷ list_line (codes "admins") d.administrators ∷ list_line (codes "principals") d.rules
+    ∷ list_line (codes "options") d.options ∷ list_line (codes "extensions") d.extensions
+    ∷ line (codes "maxlife") (decimal d.longest_life) ∷ list_line (codes "namespaces") d.namespaces ∷ []
+
+-- the lines of an issue
+abbrev pub issue_lines : Issue → List (List ℕ)
+issue_lines i =
+    line (codes "issue") i.department ∷ line (codes "keyid") i.key_id ∷ line (codes "key") (key_line_text i.key)
+    ∷ list_line (codes "principals") i.principals
+    ∷ line (codes "after") (decimal i.after) ∷ line (codes "before") (decimal i.before)
+    ∷ (map option_line i.options ++ list_line (codes "extensions") i.extensions ∷ [])
+
+-- the lines of a message
+abbrev pub message_lines : Message → List (List ℕ)
+message_lines (message.Department d) = department_lines d
+message_lines (message.Issue i) = issue_lines i
+
+-- the text of a department
+abbrev pub department_text : Department → List ℕ
+department_text d = lines_text (department_lines d)
+
+-- the text of an issue
+abbrev pub issue_text : Issue → List ℕ
+issue_text i = lines_text (issue_lines i)
+
+-- the text of a message
+abbrev pub message_text : Message → List ℕ
+message_text m = lines_text (message_lines m)

@@ -1,0 +1,83 @@
+-- Which values a message may hold.
+use Rattle.std.specs.Prelude.{ℕ, List, length, map, Bool, true, ◌&&◌, ◌||◌, ◌==◌, nat_le}
+use Rattle.std.specs.List.{list_all}
+use Rattle.text.specs.declared.pair.Pair.{Pair}
+use Rattle.profile.specs.declared.kind.Kind.{Kind}
+use Rattle.profile.specs.declared.kind.Kind.TheVariants.{User, Host}
+use Rattle.profile.specs.declared.option_field.OptionField.TheVariants.{CriticalOptions, Extensions}
+use Rattle.profile.specs.Names.{is_name, is_rule, is_principal, is_key_id, is_namespace}
+use Rattle.profile.specs.Lists.{are_distinct}
+use Rattle.profile.specs.Options.{is_known, is_option_value}
+use Rattle.lines.specs.KeyLines.{is_key_line}
+use Rattle.message.specs.declared.department.Department.{Department}
+use Rattle.message.specs.declared.issue.Issue.{Issue}
+use Rattle.message.specs.declared.kinds.Message.{Message}
+use Rattle.message.specs.declared.kinds.Message.TheVariants as message
+
+-- distinct texts, each of which passes a test
+abbrev pub are_distinct_and : (List ℕ → Bool) → List (List ℕ) → Bool
+are_distinct_and is_element ts = list_all is_element ts && are_distinct ts
+
+-- 0 to 16 distinct names
+abbrev pub are_administrators : List (List ℕ) → Bool
+are_administrators ts = nat_le (length ts) 16 && are_distinct_and is_name ts
+
+-- 1 to 16 distinct rules
+abbrev pub are_rules : List (List ℕ) → Bool
+are_rules ts = (nat_le 1 (length ts) && nat_le (length ts) 16) && are_distinct_and is_rule ts
+
+-- 1 to 16 distinct principals
+abbrev pub are_principals : List (List ℕ) → Bool
+are_principals ts = (nat_le 1 (length ts) && nat_le (length ts) 16) && are_distinct_and is_principal ts
+
+-- distinct names of critical options
+abbrev pub are_option_names : List (List ℕ) → Bool
+are_option_names ts = are_distinct_and (is_known CriticalOptions) ts
+
+-- distinct names of extensions
+abbrev pub are_extension_names : List (List ℕ) → Bool
+are_extension_names ts = are_distinct_and (is_known Extensions) ts
+
+-- 0 to 8 distinct namespaces
+abbrev pub are_namespaces : List (List ℕ) → Bool
+are_namespaces ts = nat_le (length ts) 8 && are_distinct_and is_namespace ts
+
+-- a department for hosts has none of these
+abbrev pub fits_kind : Kind → List (List ℕ) → Bool
+fits_kind User ts = true
+fits_kind Host ts = length ts == 0
+
+-- 1 to 253402300799 seconds
+abbrev pub is_longest_life : ℕ → Bool
+is_longest_life n = nat_le 1 n && nat_le n 253402300799
+
+-- an end of a validity: up to 9999-12-31 23:59:59 UTC, in seconds since 1970-01-01 00:00:00 UTC
+abbrev pub is_end : ℕ → Bool
+is_end n = nat_le n 253402300799
+
+-- a critical option that a certificate may have, with a value that it may have
+abbrev pub is_option : Pair → Bool
+is_option p = is_known CriticalOptions p.name && is_option_value p.name p.value
+
+-- 0 to 3 critical options of distinct names
+abbrev pub are_options : List Pair → Bool
+are_options ps = nat_le (length ps) 3 && (list_all is_option ps && are_distinct (map (λ p. p.name) ps))
+
+-- a department with a lawful profile
+abbrev pub is_department : Department → Bool
+is_department d =
+    is_name d.name && (are_administrators d.administrators && (are_rules d.rules
+    && ((are_option_names d.options && fits_kind d.kind d.options)
+    && ((are_extension_names d.extensions && fits_kind d.kind d.extensions)
+    && (is_longest_life d.longest_life && (are_namespaces d.namespaces && fits_kind d.kind d.namespaces))))))
+
+-- a certificate that may be asked for
+abbrev pub is_issue : Issue → Bool
+is_issue i =
+    is_name i.department && (is_key_id i.key_id && (is_key_line i.key && (are_principals i.principals
+    && (is_end i.after && (is_end i.before && (are_options i.options && are_extension_names i.extensions))))))
+
+-- a message that may be sent
+abbrev pub is_message : Message → Bool
+is_message (message.Department d) = is_department d
+is_message (message.Issue i) = is_issue i

@@ -1,0 +1,90 @@
+//! One line of a message.
+
+ghost use Rattle.std.specs.Prelude.{◌≡◌, ◌≤◌, map, IfOk, option_copied};
+ghost use Rattle.std.specs.Option.{option_and_then};
+ghost use Rattle.profile.specs.Decimals.{number_of};
+ghost use Rattle.message.specs.Reading.{after, ends_after, line_of, listed, name_after};
+
+use profile::{is_name, read_decimal};
+use std::alloc::Global;
+use text::{NoMemory, Text, Texts, cut};
+
+/// Line `n` from 1. A line that is missing, or whose line feed is, is no bytes, which fit nothing.
+pub(crate) fn line<'a>(pieces: &[&'a [u8]], n: usize) -> &'a [u8]
+    requires { 1 ≤ n }
+    ensures { result.now ≡ line_of n (map (λ x. x.now) pieces.now) }
+{
+    if n < pieces.len() {
+        pieces[n - 1]
+    } else {
+        b"".as_slice()
+    }
+}
+
+/// Whether the text ends behind line `n`.
+pub(crate) fn ends_after(pieces: &[&[u8]], n: usize) -> bool
+    requires { n ≤ 64 }
+    ensures { result ≡ ends_after n (map (λ x. x.now) pieces.now) }
+{
+    pieces.len() == n + 1 && pieces[n].is_empty()
+}
+
+/// What follows these bytes.
+pub(crate) fn after<'a>(line: &'a [u8], head: &[u8]) -> Option<&'a [u8]>
+    ensures { option_copied result ≡ after head.now line.now }
+{
+    line.strip_prefix(head)
+}
+
+/// A name behind these bytes.
+pub(crate) fn name_after(alloc: Global, line: &[u8], head: &[u8]) -> Result<Option<Text>, NoMemory>
+    ensures { IfOk result (λ o. o ≡ name_after head.now line.now) }
+{
+    let Some(name) = after(line, head) else {
+        return Ok(None);
+    };
+    if !is_name(name) {
+        return Ok(None);
+    }
+    Ok(Some(Text::from_slice(alloc, name)?))
+}
+
+/// A number behind these bytes.
+pub(crate) fn number_after(line: &[u8], head: &[u8]) -> Option<u64>
+    ensures { result ≡ option_and_then number_of (after head.now line.now) }
+{
+    read_decimal(after(line, head)?)
+}
+
+fn texts(alloc: Global, parts: &[&[u8]]) -> Result<Texts, NoMemory>
+    ensures { IfOk result (λ t. t ≡ map (λ x. x.now) parts.now) }
+{
+    let mut list = Texts::new(alloc);
+    for part in parts {
+        list.push(Text::from_slice(alloc, part)?)?;
+    }
+    Ok(list)
+}
+
+fn listed(alloc: Global, text: &[u8]) -> Result<Option<Texts>, NoMemory>
+    ensures { IfOk result (λ o. o ≡ listed text.now) }
+{
+    match text {
+        [] => Ok(Some(Texts::new(alloc))),
+        [b' ', list @ ..] => {
+            let parts = cut(alloc, list, b',')?;
+            Ok(Some(texts(alloc, parts.as_slice())?))
+        }
+        _ => Ok(None),
+    }
+}
+
+/// The texts behind this word: none where the word stands alone, else those between commas behind a space.
+pub(crate) fn list_after(alloc: Global, line: &[u8], word: &[u8]) -> Result<Option<Texts>, NoMemory>
+    ensures { IfOk result (λ o. o ≡ option_and_then listed (after word.now line.now)) }
+{
+    let Some(text) = after(line, word) else {
+        return Ok(None);
+    };
+    listed(alloc, text)
+}

@@ -1,0 +1,95 @@
+//! Option lines.
+
+ghost use Rattle.std.specs.Prelude.{◌≡◌, ◌==◌, IfOk, option_copied, position};
+ghost use Rattle.lines.specs.Reading.{comment_of, word_of};
+ghost use Rattle.message.specs.Reading.{is_new_option, option_after, pair_of};
+ghost use Rattle.message.specs.Values.{is_option};
+
+use crate::line::after;
+use profile::{OptionField, is_flag, is_known, is_option_value};
+use std::alloc::Global;
+use text::{NoMemory, Pair, Pairs, Text};
+
+fn first_space(text: &[u8]) -> Option<usize>
+    ensures { result ≡ position (λ b. b == 32) text.now }
+{
+    text.iter().position(|b| *b == b' ')
+}
+
+/// The word up to the first space, and what stands behind that.
+fn name_and_value(text: &[u8]) -> (&[u8], Option<&[u8]>)
+    ensures name { result.0.now ≡ word_of text.now }
+    ensures value { option_copied result.1 ≡ comment_of text.now }
+{
+    match first_space(text) {
+        Some(at) => (&text[..at], Some(&text[at + 1..])),
+        None => (text, None),
+    }
+}
+
+fn copied(alloc: Global, name: &[u8], value: &[u8]) -> Result<Pair, NoMemory>
+    ensures name { IfOk result (λ p. p.name ≡ name.now) }
+    ensures value { IfOk result (λ p. p.value ≡ value.now) }
+{
+    Ok(Pair {
+        name: Text::from_slice(alloc, name)?,
+        value: Text::from_slice(alloc, value)?,
+    })
+}
+
+/// The option of a text: the name of a flag alone, or another name, a space and a value.
+fn pair_of(alloc: Global, text: &[u8]) -> Result<Option<Pair>, NoMemory>
+    ensures { IfOk result (λ o. o ≡ pair_of text.now) }
+{
+    let (name, value) = name_and_value(text);
+    match value {
+        None => {
+            if !is_flag(name) {
+                return Ok(None);
+            }
+            Ok(Some(copied(alloc, name, b"")?))
+        }
+        Some(value) => {
+            if is_flag(name) {
+                return Ok(None);
+            }
+            Ok(Some(copied(alloc, name, value)?))
+        }
+    }
+}
+
+/// Whether this is a critical option that a certificate may have, with a value that it may have.
+pub fn is_option(option: &Pair) -> bool
+    ensures { result ≡ is_option option.now }
+{
+    let name = option.name.as_slice();
+    is_known(OptionField::CriticalOptions, name) && is_option_value(name, option.value.as_slice())
+}
+
+/// Whether the option may follow those before it: it is lawful, and none of them has its name.
+fn is_new_option(before: &Pairs, option: &Pair) -> bool
+    ensures { result ≡ is_new_option before.now option.now }
+{
+    is_option(option) && !before.has_name(option.name.as_slice())
+}
+
+/// The option of a line that may follow those before it.
+pub(crate) fn option_after(
+    alloc: Global,
+    before: &Pairs,
+    line: &[u8],
+) -> Result<Option<Pair>, NoMemory>
+    ensures { IfOk result (λ o. o ≡ option_after before.now line.now) }
+{
+    let Some(text) = after(line, b"option ") else {
+        return Ok(None);
+    };
+    let Some(option) = pair_of(alloc, text)? else {
+        return Ok(None);
+    };
+    Ok(if is_new_option(before, &option) {
+        Some(option)
+    } else {
+        None
+    })
+}

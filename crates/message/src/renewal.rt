@@ -1,0 +1,58 @@
+//! A certificate that is asked for once more.
+
+ghost use Rattle.std.specs.Prelude.{◌≡◌, codes, map};
+ghost use Rattle.message.specs.Reading.{Gives, number_after};
+ghost use Rattle.message.specs.Renewals.{is_serial, renewal_in};
+
+use crate::fault::MessageFault;
+use crate::issue::end_after;
+use crate::line::{ends_after, line, number_after};
+use profile::LAST_SERIAL;
+
+/// A certificate once more, with another validity.
+#[derive(Clone, Copy, Debug, PartialEq, Eq)]
+pub struct Renewal {
+    /// The serial of the certificate, 1 to 9223372036854775806.
+    pub serial: u64,
+    /// The first second of the validity, since 1970-01-01 00:00:00 UTC.
+    pub after: u64,
+    /// The first second after the validity.
+    pub before: u64,
+}
+
+fn serial_after(line: &[u8], head: &[u8]) -> Option<u64>
+    ensures { result ≡ number_after is_serial head.now line.now }
+{
+    let serial = number_after(line, head)?;
+    if 1 <= serial && serial <= LAST_SERIAL {
+        Some(serial)
+    } else {
+        None
+    }
+}
+
+impl Renewal {
+    /// The renewal whose lines these are.
+    #[tactic(auto, unfolding(crate::specs::Renewals::renewal_in))]
+    pub(crate) fn read(pieces: &[&[u8]]) -> Result<Renewal, MessageFault>
+        ensures { Gives result (renewal_in (map (λ x. x.now) pieces.now)) }
+    {
+        let Some(serial) = serial_after(line(pieces, 1), b"renew ") else {
+            return Err(MessageFault::BadLine(1));
+        };
+        let Some(after) = end_after(line(pieces, 2), b"after ") else {
+            return Err(MessageFault::BadLine(2));
+        };
+        let Some(before) = end_after(line(pieces, 3), b"before ") else {
+            return Err(MessageFault::BadLine(3));
+        };
+        if !ends_after(pieces, 3) {
+            return Err(MessageFault::BadLine(4));
+        }
+        Ok(Renewal {
+            serial,
+            after,
+            before,
+        })
+    }
+}

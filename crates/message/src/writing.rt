@@ -1,0 +1,134 @@
+//! Messages written.
+
+ghost use Rattle.std.specs.Prelude.{◌≡◌, ◌++◌, [], ◌∷◌, IfOk, OnOk, codes, decimal, map};
+ghost use Rattle.lines.specs.KeyLines.{key_line_text};
+ghost use Rattle.message.specs.Texts.{
+  department_text,
+  issue_text,
+  kind_text,
+  line,
+  lines_text,
+  list_line,
+  message_text,
+  option_line,
+};
+
+use crate::department::Department;
+use crate::issue::Issue;
+use crate::kinds::Message;
+use lines::{KeyLine, put_key_line};
+use profile::{Kind, is_flag, put_decimal};
+use std::alloc::Global;
+use text::{NoMemory, Pair, Text};
+
+/// Puts a line of two parts.
+fn put_line(out: &mut Vec<u8>, head: &[u8], value: &[u8]) -> Result<(), NoMemory>
+    ensures { OnOk result (out.new.items ≡ out.old.items ++ lines_text ((head.now ++ value.now) ∷ [])) }
+{
+    out.extend_from_slice(head)?;
+    out.extend_from_slice(value)?;
+    out.push(b'\n')?;
+    Ok(())
+}
+
+fn put_number(out: &mut Vec<u8>, head: &[u8], number: u64) -> Result<(), NoMemory>
+    ensures { OnOk result (out.new.items ≡ out.old.items ++ lines_text ((head.now ++ decimal number) ∷ [])) }
+{
+    out.extend_from_slice(head)?;
+    put_decimal(out, number)?;
+    out.push(b'\n')?;
+    Ok(())
+}
+
+fn put_list(out: &mut Vec<u8>, word: &[u8], texts: &[Text]) -> Result<(), NoMemory>
+    ensures { OnOk result (out.new.items ≡ out.old.items ++ lines_text (list_line word.now texts.now ∷ [])) }
+{
+    out.extend_from_slice(word)?;
+    let mut before = b' ';
+    for text in texts {
+        out.push(before)?;
+        out.extend_from_slice(text.as_slice())?;
+        before = b',';
+    }
+    out.push(b'\n')?;
+    Ok(())
+}
+
+fn put_option(out: &mut Vec<u8>, option: &Pair) -> Result<(), NoMemory>
+    ensures { OnOk result (out.new.items ≡ out.old.items ++ lines_text (option_line option.now ∷ [])) }
+{
+    let name = option.name.as_slice();
+    if is_flag(name) {
+        return put_line(out, b"option ", name);
+    }
+    out.extend_from_slice(b"option ")?;
+    out.extend_from_slice(name)?;
+    put_line(out, b" ", option.value.as_slice())
+}
+
+fn put_options(out: &mut Vec<u8>, options: &[Pair]) -> Result<(), NoMemory>
+    ensures { OnOk result (out.new.items ≡ out.old.items ++ lines_text (map option_line options.now)) }
+{
+    for option in options {
+        put_option(out, option)?;
+    }
+    Ok(())
+}
+
+fn put_kind(out: &mut Vec<u8>, kind: Kind) -> Result<(), NoMemory>
+    ensures { OnOk result (out.new.items ≡ out.old.items ++ lines_text (line (codes "kind") (kind_text kind) ∷ [])) }
+{
+    match kind {
+        Kind::User => put_line(out, b"kind ", b"user"),
+        Kind::Host => put_line(out, b"kind ", b"host"),
+    }
+}
+
+fn put_department(out: &mut Vec<u8>, department: &Department) -> Result<(), NoMemory>
+    ensures { OnOk result (out.new.items ≡ out.old.items ++ department_text department.now) }
+{
+    put_line(out, b"department ", department.name.as_slice())?;
+    put_kind(out, department.kind)?;
+    put_list(out, b"admins", department.administrators.as_slice())?;
+    put_list(out, b"principals", department.rules.as_slice())?;
+    put_list(out, b"options", department.options.as_slice())?;
+    put_list(out, b"extensions", department.extensions.as_slice())?;
+    put_number(out, b"maxlife ", department.longest_life)?;
+    put_list(out, b"namespaces", department.namespaces.as_slice())?;
+    Ok(())
+}
+
+fn put_key(out: &mut Vec<u8>, key: &KeyLine) -> Result<(), NoMemory>
+    ensures { OnOk result (out.new.items ≡ out.old.items ++ lines_text (line (codes "key") (key_line_text key.now) ∷ [])) }
+{
+    out.extend_from_slice(b"key ")?;
+    put_key_line(out, key)?;
+    out.push(b'\n')?;
+    Ok(())
+}
+
+fn put_issue(out: &mut Vec<u8>, issue: &Issue) -> Result<(), NoMemory>
+    ensures { OnOk result (out.new.items ≡ out.old.items ++ issue_text issue.now) }
+{
+    put_line(out, b"issue ", issue.department.as_slice())?;
+    put_line(out, b"keyid ", issue.key_id.as_slice())?;
+    put_key(out, &issue.key)?;
+    put_list(out, b"principals", issue.principals.as_slice())?;
+    put_number(out, b"after ", issue.after)?;
+    put_number(out, b"before ", issue.before)?;
+    put_options(out, issue.options.as_slice())?;
+    put_list(out, b"extensions", issue.extensions.as_slice())?;
+    Ok(())
+}
+
+/// The text of a message. Read again, the text of a lawful message gives it.
+pub fn write_message(alloc: Global, message: &Message) -> Result<Vec<u8>, NoMemory>
+    ensures { IfOk result (λ text. text.items ≡ message_text message.now) }
+{
+    let mut out = Vec::new(alloc);
+    match message {
+        Message::Department(department) => put_department(&mut out, department)?,
+        Message::Issue(issue) => put_issue(&mut out, issue)?,
+    }
+    Ok(out)
+}

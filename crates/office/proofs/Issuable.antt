@@ -1,0 +1,231 @@
+-- What an allowed issue asks for makes a lawful certificate.
+use Rattle.std.proofs.Common.{◌≡◌, ℕ, ◌-◌, ◌≤◌, List, [], ◌∷◌, ◌++◌, length, map, Bool, true, false, not, ◌&&◌, ◌||◌, ◌⊎◌, leb, ltb, eqb, Option, Some, None, refl, sym, ap, subst, ◌∙◌, inl, inr, arith}
+use Rattle.std.specs.Prelude.{IsTrue}
+use Rattle.std.specs.List.{list_any, list_all, AllByRecursion}
+use Rattle.std.specs.Str.{bytes_eq}
+use Rattle.std.proofs.lemmas.Bool.{and_parts, or_cases, leb-true, le-leb, ltb-true, eqb-true}
+use Rattle.std.proofs.lemmas.Slice.Eq.{bytes_eq-Decides}
+use Rattle.std.proofs.lemmas.List.{nil_from_length}
+use Rattle.text.specs.declared.pair.Pair.{Pair}
+use Rattle.profile.specs.Names.{is_key_id, is_name, is_principal}
+use Rattle.profile.specs.Lists.{are_distinct}
+use Rattle.profile.specs.Options.{is_known, known_names, is_option_value}
+use Rattle.profile.specs.declared.kind.Kind.{Kind}
+use Rattle.profile.specs.declared.kind.Kind.TheVariants.{User, Host}
+use Rattle.profile.specs.declared.option_field.OptionField.{OptionField}
+use Rattle.profile.specs.declared.option_field.OptionField.TheVariants.{CriticalOptions, Extensions}
+use Rattle.cert.specs.Options.{is_option, are_for_kind}
+use Rattle.lines.specs.KeyLines.{is_key, is_key_line, is_comment_or_none}
+use Rattle.cert.specs.Bodies.{IsCertFields}
+use Rattle.cert.proofs.Listing.{is_options-listing}
+use Rattle.cert.specs.OptionFaults.{pair_fault, first_fault, options_fault}
+use Rattle.message.specs.declared.department.Department.{Department}
+use Rattle.message.specs.declared.issue.Issue.{Issue}
+use Rattle.message.specs.Values.{fits_kind, is_department, is_issue, are_principals, are_administrators, are_rules, are_option_names, are_extension_names, are_namespaces, is_longest_life, are_options, is_end}
+use Rattle.office.specs.declared.view.View.{View}
+use Rattle.office.specs.Openings.{IsOpening}
+use Rattle.office.specs.Views.{IsIssuable}
+use Rattle.office.specs.Machine.{flags, is_listed, is_permitted, is_life_permitted, meet_rules, fields_for}
+
+same_bytes : (xs ys : List ℕ) → bytes_eq xs ys ≡ true → xs ≡ ys
+same_bytes xs ys e = (bytes_eq-Decides xs ys).0 e
+
+both_and : (a b : Bool) → a ≡ true → b ≡ true → (a && b) ≡ true
+both_and a b p q = rw (p, q) refl
+
+not_true : (b : Bool) → not b ≡ true → b ≡ false
+not_true true e = absurd cc
+not_true false e = refl
+
+-- ---- options without a fault
+
+-- no pair has the name of one of the earlier ones
+abbrev pub AreApart : List Pair → List Pair → Type 0
+AreApart earlier ps = AllByRecursion (λ p. list_any (λ q. bytes_eq q.name p.name) earlier ≡ false) ps
+
+apart_nil : (ps : List Pair) → AreApart [] ps
+apart_nil [] = tt
+apart_nil (p ∷ ps) = (refl, apart_nil ps)
+
+bytes_eq-swap_false : (xs ys : List ℕ) → bytes_eq xs ys ≡ false → bytes_eq ys xs ≡ false
+bytes_eq-swap_false xs ys e = by_test (bytes_eq ys xs) refl
+  where
+    by_test : (b : Bool) → bytes_eq ys xs ≡ b → b ≡ false
+    by_test false is = refl
+    by_test true is =
+        let back : bytes_eq xs ys ≡ true = (bytes_eq-Decides xs ys).1 (sym (same_bytes ys xs is)) in absurd cc
+
+any-push : (name : List ℕ) (earlier : List Pair) (p : Pair) → list_any (λ q. bytes_eq q.name name) earlier ≡ false → bytes_eq p.name name ≡ false
+    → list_any (λ q. bytes_eq q.name name) (earlier ++ p ∷ []) ≡ false
+any-push name [] p e f = rw f refl
+any-push name (q ∷ earlier) p e f =
+    let parts = none_of (bytes_eq q.name name) (list_any (λ q. bytes_eq q.name name) earlier) e in
+    rw (parts.0, any-push name earlier p parts.1 f) refl
+  where
+    none_of : (a b : Bool) → (a || b) ≡ false → (a ≡ false) × (b ≡ false)
+    none_of true b e = absurd cc
+    none_of false b e = (refl, e)
+
+none_of_any : (a b : Bool) → (a || b) ≡ false → (a ≡ false) × (b ≡ false)
+none_of_any true b e = absurd cc
+none_of_any false b e = (refl, e)
+
+apart_push : (earlier : List Pair) (p : Pair) (ps : List Pair) → AreApart earlier ps → list_any (λ u. bytes_eq u p.name) (map (λ q. q.name) ps) ≡ false → AreApart (earlier ++ p ∷ []) ps
+apart_push earlier p [] a e = tt
+apart_push earlier p (q ∷ ps) a e =
+    let parts = none_of_any (bytes_eq q.name p.name) (list_any (λ u. bytes_eq u p.name) (map (λ q. q.name) ps)) e in
+    (any-push q.name earlier p a.0 (bytes_eq-swap_false q.name p.name parts.0), apart_push earlier p ps a.1 parts.1)
+
+first_fault-none : (field : OptionField) (earlier ps : List Pair) → list_all (is_option field) ps ≡ true → are_distinct (map (λ p. p.name) ps) ≡ true → AreApart earlier ps
+    → first_fault field earlier ps ≡ None
+first_fault-none field earlier [] all distinct apart = refl
+first_fault-none field earlier (p ∷ ps) all distinct apart =
+    let a = and_parts _ _ all in
+    let lawful = and_parts (is_known field p.name) (is_option_value p.name p.value) a.0 in
+    let d = and_parts _ _ distinct in
+    rw (lawful.0, lawful.1, apart.0) (first_fault-none field (earlier ++ p ∷ []) ps a.1 d.1 (apart_push earlier p ps apart.1 (not_true _ d.0)))
+
+-- lawful pairs of distinct names have no fault
+pub no_fault : (field : OptionField) (kind : Kind) (ps : List Pair) → are_for_kind kind ps ≡ true → list_all (is_option field) ps ≡ true → are_distinct (map (λ p. p.name) ps) ≡ true
+    → options_fault field kind ps ≡ None
+no_fault field kind ps fits all distinct = rw fits (first_fault-none field [] ps all distinct (apart_nil ps))
+
+-- ---- extensions as flags
+
+-- an extension is a flag
+flag_value : (ks : List (List ℕ)) (n : List ℕ) → AllByRecursion (λ k. is_option_value k [] ≡ true) ks → list_any (λ k. bytes_eq k n) ks ≡ true → is_option_value n [] ≡ true
+flag_value [] n all e = absurd cc
+flag_value (k ∷ ks) n all e = elim (or_cases (bytes_eq k n) (list_any (λ k. bytes_eq k n) ks) e) [
+  | inl here ↦ subst (λ (t : List ℕ). is_option_value t [] ≡ true) (same_bytes k n here) all.0
+  | inr later ↦ flag_value ks n all.1 later
+]
+
+pub flags_lawful : (names : List (List ℕ)) → list_all (is_known Extensions) names ≡ true → list_all (is_option Extensions) (flags names) ≡ true
+flags_lawful [] e = refl
+flags_lawful (n ∷ names) e =
+    let parts = and_parts (is_known Extensions n) (list_all (is_known Extensions) names) e in
+    let value : is_option_value n [] ≡ true = flag_value (known_names Extensions) n (refl, (refl, (refl, (refl, (refl, (refl, tt)))))) parts.0 in
+    both_and (is_known Extensions n && is_option_value n []) (list_all (is_option Extensions) (flags names))
+    (both_and (is_known Extensions n) (is_option_value n []) parts.0 value) (flags_lawful names parts.1)
+
+pub flags-names : (names : List (List ℕ)) → map (λ p. p.name) (flags names) ≡ names
+flags-names [] = refl
+flags-names (n ∷ names) = ap (λ (ns : List (List ℕ)). n ∷ ns) (flags-names names)
+
+-- ---- what a department for hosts permits
+
+none_listed : (ps : List Pair) → list_all (λ o. is_listed [] o.name) ps ≡ true → ps ≡ []
+none_listed [] e = refl
+none_listed (p ∷ ps) e = absurd cc
+
+for_kind : (kind : Kind) (known : List (List ℕ)) (ps : List Pair) → fits_kind kind known ≡ true → list_all (λ o. is_listed known o.name) ps ≡ true → are_for_kind kind ps ≡ true
+for_kind User known ps fits listed = refl
+for_kind Host known ps fits listed =
+    let empty = none_listed ps (subst (λ (k : List (List ℕ)). list_all (λ o. is_listed k o.name) ps ≡ true) (nil_from_length known (eqb-true _ _ fits)) listed) in
+    rw empty refl
+
+flags_listed : (known names : List (List ℕ)) → list_all (λ e. is_listed known e) names ≡ true → list_all (λ o. is_listed known o.name) (flags names) ≡ true
+flags_listed known [] e = refl
+flags_listed known (n ∷ names) e =
+    let parts = and_parts (is_listed known n) (list_all (λ e. is_listed known e) names) e in
+    both_and (is_listed known n) (list_all (λ o. is_listed known o.name) (flags names)) parts.0 (flags_listed known names parts.1)
+
+-- ---- an allowed issue
+
+-- the parts of what is known of it
+record IsLawful (d : Department) (i : Issue) : Type 0 where
+  options_fit : fits_kind d.kind d.options ≡ true
+  extensions_fit : fits_kind d.kind d.extensions ≡ true
+  key_id : is_key_id i.key_id ≡ true
+  key : eqb (length i.key.key) 32 ≡ true
+  principals : are_principals i.principals ≡ true
+  before : leb i.before 253402300799 ≡ true
+  options : list_all (is_option CriticalOptions) i.options ≡ true
+  options_apart : are_distinct (map (λ p. p.name) i.options) ≡ true
+  extensions : list_all (is_known Extensions) i.extensions ≡ true
+  extensions_apart : are_distinct i.extensions ≡ true
+  options_listed : list_all (λ o. is_listed d.options o.name) i.options ≡ true
+  extensions_listed : list_all (λ e. is_listed d.extensions e) i.extensions ≡ true
+  life : ltb i.after i.before ≡ true
+
+lawful_parts : (d : Department) (i : Issue) → is_department d ≡ true → is_issue i ≡ true → is_permitted d i ≡ true → IsLawful d i
+lawful_parts d i department issue permitted =
+    let d6 : Bool = is_longest_life d.longest_life && (are_namespaces d.namespaces && fits_kind d.kind d.namespaces) in
+    let d5 : Bool = (are_extension_names d.extensions && fits_kind d.kind d.extensions) && d6 in
+    let d4 : Bool = (are_option_names d.options && fits_kind d.kind d.options) && d5 in
+    let d3 : Bool = are_rules d.rules && d4 in
+    let d2 : Bool = are_administrators d.administrators && d3 in
+    let of_d4 = and_parts (are_rules d.rules) d4 (and_parts (are_administrators d.administrators) d3 (and_parts (is_name d.name) d2 department).1).1 in
+    let options_d5 = and_parts (are_option_names d.options && fits_kind d.kind d.options) d5 of_d4.1 in
+    let extensions_d6 = and_parts (are_extension_names d.extensions && fits_kind d.kind d.extensions) d6 options_d5.1 in
+    let i8 : Bool = are_options i.options && are_extension_names i.extensions in
+    let i7 : Bool = is_end i.before && i8 in
+    let i6 : Bool = is_end i.after && i7 in
+    let i5 : Bool = are_principals i.principals && i6 in
+    let i4 : Bool = is_key_line i.key && i5 in
+    let i3 : Bool = is_key_id i.key_id && i4 in
+    let key_id_i4 = and_parts (is_key_id i.key_id) i4 (and_parts (is_name i.department) i3 issue).1 in
+    let key_i5 = and_parts (is_key_line i.key) i5 key_id_i4.1 in
+    let principals_i6 = and_parts (are_principals i.principals) i6 key_i5.1 in
+    let before_i8 = and_parts (is_end i.before) i8 (and_parts (is_end i.after) i7 principals_i6.1).1 in
+    let options_extensions = and_parts (are_options i.options) (are_extension_names i.extensions) before_i8.1 in
+    let options = and_parts (list_all (is_option CriticalOptions) i.options) (are_distinct (map (λ p. p.name) i.options))
+    (and_parts (leb (length i.options) 3) (list_all (is_option CriticalOptions) i.options && are_distinct (map (λ p. p.name) i.options)) options_extensions.0).1 in
+    let extensions = and_parts (list_all (is_known Extensions) i.extensions) (are_distinct i.extensions) options_extensions.1 in
+    let key = and_parts (is_key i.key.key) (is_comment_or_none i.key.comment) key_i5.0 in
+    let size = and_parts (eqb (length i.key.key) 32) (list_all (λ b. ltb b 256) i.key.key) key.0 in
+    let p4 : Bool = is_life_permitted d i.after i.before in
+    let p3 : Bool = list_all (λ e. is_listed d.extensions e) i.extensions && p4 in
+    let p2 : Bool = list_all (λ o. is_listed d.options o.name) i.options && p3 in
+    let options_p3 = and_parts (list_all (λ o. is_listed d.options o.name) i.options) p3 (and_parts (meet_rules d i.principals) p2 permitted).1 in
+    let extensions_p4 = and_parts (list_all (λ e. is_listed d.extensions e) i.extensions) p4 options_p3.1 in
+    let life = and_parts (ltb i.after i.before) (leb (i.before - i.after) d.longest_life) extensions_p4.1 in
+    record {
+      options_fit = (and_parts (are_option_names d.options) (fits_kind d.kind d.options) options_d5.0).1;
+      extensions_fit = (and_parts (are_extension_names d.extensions) (fits_kind d.kind d.extensions) extensions_d6.0).1;
+      key_id = key_id_i4.0; key = size.0; principals = principals_i6.0; before = before_i8.0;
+      options = options.0; options_apart = options.1; extensions = extensions.0; extensions_apart = extensions.1;
+      options_listed = options_p3.0; extensions_listed = extensions_p4.0; life = life.0;
+    }
+
+is_lawful : (v : View) (d : Department) (i : Issue) → IsIssuable v d i → IsLawful d i
+is_lawful v d i is = lawful_parts d i is.department is.issue is.permitted
+
+-- its options have no fault
+pub issuable_options : (v : View) (d : Department) (i : Issue) → IsIssuable v d i → options_fault CriticalOptions d.kind i.options ≡ None
+issuable_options v d i is =
+    let p = is_lawful v d i is in
+    no_fault CriticalOptions d.kind i.options (for_kind d.kind d.options i.options p.options_fit p.options_listed) p.options p.options_apart
+
+-- nor have its extensions
+pub issuable_extensions : (v : View) (d : Department) (i : Issue) → IsIssuable v d i → options_fault Extensions d.kind (flags i.extensions) ≡ None
+issuable_extensions v d i is =
+    let p = is_lawful v d i is in
+    no_fault Extensions d.kind (flags i.extensions)
+    (for_kind d.kind d.extensions (flags i.extensions) p.extensions_fit (flags_listed d.extensions i.extensions p.extensions_listed))
+    (flags_lawful i.extensions p.extensions) (rw (flags-names i.extensions) p.extensions_apart)
+
+-- and its fields are a certificate's
+pub issuable_fields : (v : View) (d : Department) (i : Issue) (ca nonce : List ℕ) → IsIssuable v d i → length ca ≡ 32 → length nonce ≡ 32 → IsCertFields (fields_for i v.next d.kind ca nonce)
+issuable_fields v d i ca nonce is ca_size nonce_size =
+    let p = is_lawful v d i is in
+    let o = v.opening.now in
+    let ends = and_parts (leb 1 o.first) (leb o.first o.last && leb o.last 9223372036854775806) is.opening.serials in
+    let last = and_parts (leb o.first o.last) (leb o.last 9223372036854775806) ends.1 in
+    let low : 1 ≤ v.next = omega (arith, leb-true _ _ ends.0, is.next) in
+    let high : v.next ≤ 9223372036854775806 = omega (arith, leb-true _ _ last.1, is.left) in
+    let few : Bool = leb 1 (length i.principals) && leb (length i.principals) 16 in
+    let each : Bool = list_all is_principal i.principals in
+    let ps = and_parts few (each && are_distinct i.principals) p.principals in
+    let qs = and_parts each (are_distinct i.principals) ps.1 in
+    record {
+      nonce = nonce_size;
+      key = eqb-true _ _ p.key;
+      serial = both_and _ _ (le-leb _ _ low) (le-leb _ _ high);
+      key_id = p.key_id;
+      principals = both_and (few && each) (are_distinct i.principals) (both_and few each ps.0 qs.0) qs.1;
+      validity = both_and _ _ p.life p.before;
+      options = is_options-listing CriticalOptions d.kind i.options (issuable_options v d i is);
+      extensions = is_options-listing Extensions d.kind (flags i.extensions) (issuable_extensions v d i is);
+      ca = ca_size;
+    }

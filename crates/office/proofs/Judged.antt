@@ -1,0 +1,61 @@
+-- What is known of an arrival that is judged to be a first acceptance.
+use Rattle.std.proofs.Common.{◌≡◌, ℕ, List, [], ◌∷◌, Bool, true, false, cond, Option, Some, None, Result, Ok, Err, refl, sym, ap, ◌∙◌}
+use Rattle.std.specs.Prelude.{nat_lt}
+use Rattle.std.specs.List.{list_any, AllByRecursion}
+use Rattle.profile.specs.declared.limits.TheConstants.{LATEST_MOMENT}
+use Rattle.profile.specs.declared.refusal.Refusal.{Refusal}
+use Rattle.profile.specs.declared.refusal.Refusal.TheVariants.{BadMessage, BadMoment, KeyReused}
+use Rattle.message.specs.declared.kinds.Message.{Message}
+use Rattle.office.specs.Messages.{message_with_text}
+use Rattle.office.specs.declared.arrival.Arrival.{Arrival}
+use Rattle.office.specs.declared.arrival.Kept.{Kept}
+use Rattle.office.specs.Machine.{State, Stepped, after, reply_to, refusals, first_holding, refused_or, step}
+use Rattle.office.specs.History.{◌>>=◌, First, has_key, judged, first_of_step, or_refuse, refuse_if}
+
+pub record IsFirst (s : State) (kept : List Kept) (a : Arrival) (f : First) : Type 0 where
+  pub arrival : f.arrival ≡ a
+  pub message : message_with_text a.bytes ≡ Some f.message
+  pub in_time : nat_lt LATEST_MOMENT a.moment ≡ false
+  pub new : list_any (has_key a) kept ≡ false
+  pub allowed : first_holding (refusals s a.caller f.message a.moment) ≡ None
+  pub reply : f.reply ≡ reply_to s f.message a.nonce
+
+-- what a step that isn't refused gives
+allowed_step : (a : Arrival) (m : Message) (r : Option Refusal) (x : Stepped) (f : First) → (refused_or r x >>= λ st. Ok (first_of_step a m st)) ≡ Ok f
+    → (r ≡ None) × (first_of_step a m x ≡ f)
+allowed_step a m (Some r) x f e = absurd cc
+allowed_step a m None x f e = (refl, cc)
+
+found_through : (s : State) (kept : List Kept) (a : Arrival) (o : Option Message) (late known : Bool) (f : First)
+    → message_with_text a.bytes ≡ o → nat_lt LATEST_MOMENT a.moment ≡ late → list_any (has_key a) kept ≡ known
+    → (or_refuse o BadMessage >>= λ m. refuse_if late BadMoment >>= λ _. refuse_if known KeyReused >>= λ _. step s a.caller m a.moment a.nonce >>= λ st. Ok (first_of_step a m st)) ≡ Ok f
+    → IsFirst s kept a f
+found_through s kept a None late known f is-m is-late is-known e = absurd cc
+found_through s kept a (Some m) true known f is-m is-late is-known e = absurd cc
+found_through s kept a (Some m) false true f is-m is-late is-known e = absurd cc
+found_through s kept a (Some m) false false f is-m is-late is-known e =
+    let r = first_holding (refusals s a.caller m a.moment) in
+    let x : Stepped = record { state = after s m a.moment a.nonce; reply = reply_to s m a.nonce } in
+    let g = allowed_step a m r x f e in
+    let same : m ≡ f.message = ap (λ (f : First). f.message) g.1 in record {
+      arrival = sym (ap (λ (f : First). f.arrival) g.1);
+      message = is-m ∙ ap (λ (m : Message). Some m) same;
+      in_time = is-late;
+      new = is-known;
+      allowed = ap (λ (m : Message). first_holding (refusals s a.caller m a.moment)) (sym same) ∙ g.0;
+      reply = sym (ap (λ (f : First). f.reply) g.1) ∙ ap (λ (m : Message). reply_to s m a.nonce) same;
+    }
+
+-- a first acceptance is the arrival's message, allowed, with the machine's reply
+pub judged_is_first : (s : State) (kept : List Kept) (a : Arrival) (f : First) → judged s kept a ≡ Ok f → IsFirst s kept a f
+judged_is_first s kept a f e = found_through s kept a (message_with_text a.bytes) (nat_lt LATEST_MOMENT a.moment) (list_any (has_key a) kept) f refl refl refl e
+
+-- where no refusal applies, each test is false
+pub none_holds : (rs : List (Refusal × Bool)) → first_holding rs ≡ None → AllByRecursion (λ r. r.1 ≡ false) rs
+none_holds [] e = tt
+none_holds (r ∷ rs) e =
+    let p = by_test r.1 (first_holding rs) r.0 e in (p.0, none_holds rs p.1)
+  where
+    by_test : (b : Bool) (rest : Option Refusal) (x : Refusal) → cond b (Some x) rest ≡ None → (b ≡ false) × (rest ≡ None)
+    by_test true rest x e = absurd cc
+    by_test false rest x e = (refl, e)

@@ -1,0 +1,81 @@
+-- One arrival more.
+use Rattle.std.proofs.Common.{◌≡◌, ℕ, List, [], ◌∷◌, ◌++◌, Bool, true, false, cond, ◌&&◌, ◌||◌, map, Option, Some, None, Result, Ok, Err, refl, sym, ap, subst, ◌∙◌}
+use Rattle.std.specs.Prelude.{nat_lt, IsErr, find}
+use Rattle.std.specs.List.{list_any}
+use Rattle.std.proofs.lemmas.List.Sums.{fold_push}
+use Rattle.std.proofs.lemmas.List.{map-append}
+use Rattle.profile.specs.declared.limits.TheConstants.{LATEST_MOMENT}
+use Rattle.profile.specs.declared.refusal.Refusal.{Refusal}
+use Rattle.profile.specs.declared.refusal.Refusal.TheVariants.{BadMessage, BadMoment, KeyReused}
+use Rattle.message.specs.declared.kinds.Message.{Message}
+use Rattle.office.specs.Messages.{message_with_text}
+use Rattle.office.specs.declared.opening.Opening.{Opening}
+use Rattle.office.specs.declared.arrival.Arrival.{Arrival}
+use Rattle.office.specs.declared.arrival.Kept.{Kept}
+use Rattle.office.specs.declared.arrival.Outcome.TheVariants as outcome
+use Rattle.office.specs.Machine.{State, Stepped, opened, step}
+use Rattle.office.specs.History.{◌>>=◌, First, has_key, is_repeat, reply_kept, kept_row, kept_by, judged, first_of_step, or_refuse, refuse_if, due_on, due, add_accepted, with_arrival, first_accepted, state, state_after, change}
+use Rattle.office.specs.Shows.{Shows}
+
+-- a message that is kept has its key kept
+has_key_kept : (kept : List Kept) (a : Arrival) (r : List ℕ) → reply_kept kept a ≡ Some r → list_any (has_key a) kept ≡ true
+has_key_kept [] a r e = absurd cc
+has_key_kept (k ∷ kept) a r e = by_key (has_key a k) (has_key_kept kept a r) refl e
+  where
+    by_key : (b : Bool) → (reply_kept kept a ≡ Some r → list_any (has_key a) kept ≡ true) → has_key a k ≡ b → reply_kept (k ∷ kept) a ≡ Some r → (has_key a k || list_any (has_key a) kept) ≡ true
+    by_key true rest is e = rw is refl
+    by_key false rest is e = rw is (rest (rw is at e))
+
+known_key_is_refused : (s : State) (a : Arrival) (m : Option Message) (late : Bool)
+    → IsErr {T = First} {E = Refusal} (or_refuse m BadMessage >>= λ message. refuse_if late BadMoment >>= λ _. refuse_if true KeyReused >>= λ _.
+    step s a.caller message a.moment a.nonce >>= λ stepped. Ok (first_of_step a message stepped))
+known_key_is_refused s a None late = refl
+known_key_is_refused s a (Some m) true = refl
+known_key_is_refused s a (Some m) false = refl
+
+-- so it is judged to be no first acceptance
+repeat_is_refused : (s : State) (kept : List Kept) (a : Arrival) (r : List ℕ) → reply_kept kept a ≡ Some r → IsErr (judged s kept a)
+repeat_is_refused s kept a r e = rw (has_key_kept kept a r e) (known_key_is_refused s a (message_with_text a.bytes) (nat_lt LATEST_MOMENT a.moment))
+
+due_is : (s : State) (kept : List Kept) (o : Opening) (l : List Arrival) (a : Arrival) → Shows s kept o l → due o l a ≡ due_on s kept a
+due_is s kept o l a m = sym (ap (λ t. due_on t (kept_by (first_accepted o l)) a) m.is_state) ∙ sym (ap (λ k. due_on s k a) m.is_kept)
+
+judged_is : (s : State) (kept : List Kept) (o : Opening) (l : List Arrival) (a : Arrival) → Shows s kept o l
+    → judged (state o l) (kept_by (first_accepted o l)) a ≡ judged s kept a
+judged_is s kept o l a m = sym (ap (λ t. judged t (kept_by (first_accepted o l)) a) m.is_state) ∙ sym (ap (λ k. judged s k a) m.is_kept)
+
+accepted_step : (o : Opening) (l : List Arrival) (a : Arrival) (r : Result First Refusal) → judged (state o l) (kept_by (first_accepted o l)) a ≡ r
+    → first_accepted o (l ++ a ∷ []) ≡ add_accepted (first_accepted o l) r
+accepted_step o l a r e = fold_push (with_arrival o) [] l a ∙ ap (add_accepted (first_accepted o l)) e
+
+-- an arrival that is no first acceptance leaves all as it was
+stays : (s : State) (kept : List Kept) (o : Opening) (l : List Arrival) (a : Arrival) (r : Result First Refusal) → judged s kept a ≡ r → IsErr r → Shows s kept o l → Shows s kept o (l ++ a ∷ [])
+stays s kept o l a (Ok f) e err m = absurd cc
+stays s kept o l a (Err x) e err m =
+    let step = accepted_step o l a (Err x) (judged_is s kept o l a m ∙ e) in
+    record { lawful = m.lawful; is_kept = m.is_kept ∙ ap kept_by (sym step); is_state = m.is_state ∙ ap (state_after o) (sym step) }
+
+-- a repeat is due the reply that is kept
+pub shows_repeated : (s : State) (kept : List Kept) (o : Opening) (l : List Arrival) (a : Arrival) (r : List ℕ) → reply_kept kept a ≡ Some r → Shows s kept o l
+    → (outcome.Repeated r ≡ due o l a) × Shows s kept o (l ++ a ∷ [])
+shows_repeated s kept o l a r e m =
+    (sym (due_is s kept o l a m ∙ rw e refl), stays s kept o l a _ refl (repeat_is_refused s kept a r e) m)
+
+-- a refusal is due, and changes nothing
+pub shows_refused : (s : State) (kept : List Kept) (o : Opening) (l : List Arrival) (a : Arrival) (r : Refusal) → reply_kept kept a ≡ None → judged s kept a ≡ Err r → Shows s kept o l
+    → (outcome.Refused r ≡ due o l a) × Shows s kept o (l ++ a ∷ [])
+shows_refused s kept o l a r new e m =
+    (sym (due_is s kept o l a m ∙ rw (new, e) refl), stays s kept o l a (Err r) e refl m)
+
+-- a first acceptance is due its reply, which is kept, and changes the state
+pub shows_accepted : (s : State) (kept : List Kept) (o : Opening) (l : List Arrival) (a : Arrival) (f : First) → reply_kept kept a ≡ None → judged s kept a ≡ Ok f → Shows s kept o l
+    → (outcome.Accepted f.reply ≡ due o l a) × Shows (change s f) (kept ++ kept_row f ∷ []) o (l ++ a ∷ [])
+shows_accepted s kept o l a f new e m =
+    let step = accepted_step o l a (Ok f) (judged_is s kept o l a m ∙ e) in (
+      sym (due_is s kept o l a m ∙ rw (new, e) refl),
+      record {
+        lawful = m.lawful;
+        is_kept = ap (λ ks. ks ++ kept_row f ∷ []) m.is_kept ∙ sym (map-append kept_row (first_accepted o l) (f ∷ [])) ∙ ap kept_by (sym step);
+        is_state = ap (λ t. change t f) m.is_state ∙ sym (fold_push change (opened o) (first_accepted o l) f) ∙ ap (state_after o) (sym step);
+      },
+    )

@@ -1,0 +1,21 @@
+-- When a register may answer which fault.
+use Rattle.office.specs.declared.fault.StoreFault.{StoreFault}
+use Rattle.office.specs.declared.fault.StoreFault.TheVariants.{AlreadyAnOffice, NotAnOffice, WrongSchema, Damaged, Device, NoMemory}
+
+-- a failure of the database is answered only where there was one
+abbrev pub HasCause : StoreFault → Type 0 → Type 0
+HasCause Device failed = failed
+HasCause AlreadyAnOffice failed = Unit {0}
+HasCause NotAnOffice failed = Unit {0}
+HasCause WrongSchema failed = Unit {0}
+HasCause Damaged failed = Unit {0}
+HasCause NoMemory failed = Unit {0}
+
+-- a register that means a history lacks memory or meets a failure, and nothing else
+abbrev pub IsOfARegister : StoreFault → Type 0
+IsOfARegister Device = Unit {0}
+IsOfARegister NoMemory = Unit {0}
+IsOfARegister AlreadyAnOffice = ⊥
+IsOfARegister NotAnOffice = ⊥
+IsOfARegister WrongSchema = ⊥
+IsOfARegister Damaged = ⊥

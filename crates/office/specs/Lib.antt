@@ -1,0 +1,11 @@
+pub mod Openings
+pub mod Replies
+pub mod Machine
+pub mod Concerns
+pub mod Messages
+pub mod History
+pub mod Laws
+pub mod Faults
+pub mod Decided
+pub mod Shows
+pub mod Views

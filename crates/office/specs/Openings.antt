@@ -1,0 +1,28 @@
+-- What an office begins with.
+use Rattle.std.specs.Prelude.{◌≡◌, ℕ, ◌≤◌, List, length, Bool, false, ◌&&◌, ◌||◌, not, ◌==◌, nat_le, nat_lt, if◌then◌else◌, IsTrue, Result, Ok, Err}
+use Rattle.std.specs.Str.{bytes_eq}
+use Rattle.profile.specs.Names.{is_name}
+use Rattle.profile.specs.declared.limits.TheConstants.{LAST_SERIAL}
+use Rattle.office.specs.declared.opening.Opening.{Opening}
+use Rattle.office.specs.declared.opening.OpeningFault.{OpeningFault}
+use Rattle.office.specs.declared.opening.OpeningFault.TheVariants.{BadName, SameName, BadSerials}
+
+-- 1 <= first <= last <= 9223372036854775806
+abbrev pub are_serials : ℕ → ℕ → Bool
+are_serials first last = nat_le 1 first && (nat_le first last && nat_le last LAST_SERIAL)
+
+-- the opening, or its first fault
+abbrev pub made_opening : List ℕ → List ℕ → List ℕ → ℕ → ℕ → Result Opening OpeningFault
+made_opening ca root station first last =
+    if not (is_name root && is_name station) then Err BadName
+    else if bytes_eq root station then Err SameName
+    else if not (are_serials first last) then Err BadSerials
+    else Ok (record { ca = ca; root = root; station = station; first = first; last = last })
+
+-- what every opening keeps: names of two callers, and serials in order
+pub record IsOpening (o : Opening) : Type 0 where
+  pub ca : length o.ca ≡ 32
+  pub root : IsTrue (is_name o.root)
+  pub station : IsTrue (is_name o.station)
+  pub apart : bytes_eq o.root o.station ≡ false
+  pub serials : IsTrue (are_serials o.first o.last)

@@ -1,0 +1,14 @@
+-- A register's state and what it keeps, after a history.
+use Rattle.std.specs.Prelude.{◌≡◌, List}
+use Rattle.office.specs.declared.opening.Opening.{Opening}
+use Rattle.office.specs.declared.arrival.Arrival.{Arrival}
+use Rattle.office.specs.declared.arrival.Kept.{Kept}
+use Rattle.office.specs.Openings.{IsOpening}
+use Rattle.office.specs.Machine.{State}
+use Rattle.office.specs.History.{first_accepted, kept_by, state}
+
+-- the office of a lawful opening after a history: the plain machine's state, and a row for each first acceptance
+pub record Shows (s : State) (kept : List Kept) (o : Opening) (l : List Arrival) : Type 0 where
+  pub lawful : IsOpening o
+  pub is_state : s ≡ state o l
+  pub is_kept : kept ≡ kept_by (first_accepted o l)

@@ -1,0 +1,10 @@
+//! The CAs of an office.
+
+/// A CA of an office. They are numbered from 1, in the order in which they came.
+#[derive(Clone, Copy, Debug, PartialEq, Eq)]
+pub struct Ca {
+    /// The Ed25519 public key.
+    pub key: [u8; 32],
+    /// The first serial that it serves.
+    pub since: u64,
+}

@@ -1,0 +1,66 @@
+//! What an office begins with.
+
+ghost use Rattle.std.specs.Prelude.{◌≡◌, string_bytes};
+ghost use Rattle.office.specs.Openings.{made_opening};
+
+use profile::{LAST_SERIAL, is_name};
+use text::Text;
+
+/// What an office begins with and keeps for good.
+#[derive(Debug, Drop)]
+pub struct Opening {
+    /// The Ed25519 public key of the first CA.
+    pub ca: [u8; 32],
+    /// The name of the caller who may do all but deliver signatures.
+    pub root: Text,
+    /// The name of the caller who delivers signatures.
+    pub station: Text,
+    /// The first serial, from 1 on.
+    pub first: u64,
+    /// The last serial, up to 9223372036854775806.
+    pub last: u64,
+}
+
+/// Why an office can't begin so, in the order in which it is looked at.
+#[derive(Clone, Copy, Debug, PartialEq, Eq)]
+pub enum OpeningFault {
+    /// Root or the station has no name of 1 to 32 bytes of `a-z 0-9 -`.
+    BadName,
+    /// Root and the station have the same name.
+    SameName,
+    /// It isn't so that 1 <= first <= last <= 9223372036854775806.
+    BadSerials,
+}
+
+impl Opening {
+    /// An opening of these values, or the first fault in the order of `OpeningFault`. It takes no memory, and on a fault
+    /// the texts are dropped.
+    pub fn new(
+        ca: [u8; 32],
+        root: String,
+        station: String,
+        first: u64,
+        last: u64,
+    ) -> Result<Opening, OpeningFault>
+        ensures { result ≡ made_opening ca (string_bytes root) (string_bytes station) first last }
+    {
+        let root = Text::from_vec(root.into_bytes());
+        let station = Text::from_vec(station.into_bytes());
+        if !is_name(root.as_slice()) || !is_name(station.as_slice()) {
+            return Err(OpeningFault::BadName);
+        }
+        if root.is(station.as_slice()) {
+            return Err(OpeningFault::SameName);
+        }
+        if first < 1 || last < first || LAST_SERIAL < last {
+            return Err(OpeningFault::BadSerials);
+        }
+        Ok(Opening {
+            ca,
+            root,
+            station,
+            first,
+            last,
+        })
+    }
+}

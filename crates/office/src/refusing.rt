@@ -1,0 +1,81 @@
+//! What is refused.
+
+ghost use Rattle.std.specs.Prelude.{◌≡◌, ◌≤◌, ℕ, None, IfSome, IsSome, IsTrue, option_copied};
+ghost use Rattle.profile.specs.declared.kind.Kind.{Kind};
+ghost use Rattle.message.specs.declared.kinds.Message.TheVariants as message;
+ghost use Rattle.office.specs.Machine.{State, refusals, first_holding, same_kind, is_permitted};
+ghost use Rattle.office.specs.Decided.{Agrees};
+
+use crate::permission::{is_permitted, may_administer};
+use crate::view::View;
+use message::{Department, Issue};
+use profile::{Kind, Refusal, department_of};
+
+fn is_same_kind(kind: Kind, other: Kind) -> bool
+    ensures { result ≡ same_kind kind other }
+{
+    match (kind, other) {
+        (Kind::User, Kind::User) => true,
+        (Kind::Host, Kind::Host) => true,
+        (Kind::User, Kind::Host) => false,
+        (Kind::Host, Kind::User) => false,
+    }
+}
+
+/// The refusal of a department's message with the least number.
+pub(crate) fn refusal_of_department(
+    view: &View,
+    caller: &[u8],
+    department: &Department,
+) -> Option<Refusal>
+    ensures { (s : State) → Agrees view.now s (message.Department department.now) → (moment : ℕ)
+        → result ≡ first_holding (refusals s caller.now (message.Department department.now) moment) }
+{
+    if !view.opening.root.is(caller) {
+        return Some(Refusal::NotAllowed);
+    }
+    let Some(standing) = view.department else {
+        return None;
+    };
+    if !is_same_kind(standing.kind, department.kind) {
+        return Some(Refusal::KindFixed);
+    }
+    None
+}
+
+/// The refusal of an issue with the least number.
+pub(crate) fn refusal_of_issue(
+    view: &View,
+    caller: &[u8],
+    issue: &Issue,
+    moment: u64,
+) -> Option<Refusal>
+    ensures least { (s : State) → Agrees view.now s (message.Issue issue.now)
+        → result ≡ first_holding (refusals s caller.now (message.Issue issue.now) moment) }
+    ensures left { result ≡ None → view.now.next ≤ view.now.opening.now.last }
+    ensures permitted { result ≡ None → IfSome (option_copied view.now.department) (λ d. IsTrue (is_permitted d issue.now)) }
+    ensures there { result ≡ None → IsSome view.now.department }
+{
+    if !may_administer(view.opening, caller, view.department) {
+        return Some(Refusal::NotAllowed);
+    }
+    let Some(department) = view.department else {
+        return Some(Refusal::NoDepartment);
+    };
+    if !issue.department.is(department_of(issue.key_id.as_slice())) {
+        return Some(Refusal::BadKeyId);
+    }
+    if !is_permitted(department, issue) {
+        return Some(Refusal::NotPermitted);
+    }
+    if issue.before <= moment {
+        return Some(Refusal::AlreadyEnded);
+    }
+    if view.is_key_id_revoked {
+        return Some(Refusal::KeyIdRevoked);
+    }
+    if view.opening.last < view.next {
+        return Some(Refusal::SerialsExhausted);
+    }
+    None
+}

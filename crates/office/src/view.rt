@@ -1,0 +1,73 @@
+//! What a decision reads, and what it says.
+
+ghost use Rattle.std.specs.Prelude.{◌≡◌};
+ghost use Rattle.office.specs.declared.view.Stop.TheVariants.{NoMemory};
+
+use crate::ca::Ca;
+use crate::certificate::Certificate;
+use crate::opening::Opening;
+use message::Department;
+use profile::Refusal;
+use text::Text;
+
+/// The rows that a message concerns, as `concerned` names them, and the office's own row.
+#[derive(Debug, Drop)]
+pub struct View<'a> {
+    pub opening: &'a Opening,
+    /// The serial to be handed out next, at most the last and one.
+    pub next: u64,
+    /// The version and the date of the published list.
+    pub version: u64,
+    pub date: u64,
+    /// The CAs by number.
+    pub cas: &'a [Ca],
+    /// The department concerned, if it is there: that of the certificate concerned where the message names a serial.
+    pub department: Option<&'a Department>,
+    /// The certificate concerned, if it is there.
+    pub certificate: Option<&'a Certificate>,
+    /// Whether the serial concerned, or each of the range concerned, is revoked.
+    pub is_revoked: bool,
+    /// Whether the key id concerned, or that of the certificate concerned, is revoked.
+    pub is_key_id_revoked: bool,
+    /// Whether any key id is revoked.
+    pub has_revoked_key_ids: bool,
+}
+
+/// What is to be written.
+#[derive(Debug, Drop)]
+pub enum Change {
+    /// A department, put in the place of the one of its name if there is one.
+    Department(Department),
+    /// A certificate, under the next serial.
+    Certificate(Certificate),
+}
+
+/// What an accepted message is answered, and what it changes.
+#[derive(Debug, Drop)]
+pub struct Decision {
+    /// The reply's text.
+    pub reply: Text,
+    /// The serial to be handed out next, from then on.
+    pub next: u64,
+    /// The version and the date of the published list, from then on.
+    pub version: u64,
+    pub date: u64,
+    pub change: Change,
+}
+
+/// Why a message isn't accepted now.
+#[derive(Clone, Copy, Debug, PartialEq, Eq)]
+pub enum Stop {
+    /// The refusal with the least number.
+    Refused(Refusal),
+    /// A growth was refused.
+    NoMemory,
+}
+
+impl From<text::NoMemory> for Stop {
+    ghost from_gives = { λ _ e. e ≡ NoMemory };
+
+    fn from(_e: text::NoMemory) -> Stop {
+        Stop::NoMemory
+    }
+}

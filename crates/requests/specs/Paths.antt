@@ -1,0 +1,25 @@
+-- The paths that are answered, as texts.
+use Rattle.std.specs.Prelude.{ℕ, ◌≤◌, List, ◌++◌, codes, decimal, IsTrue}
+use Rattle.profile.specs.declared.limits.TheConstants.{LAST_SERIAL}
+use Rattle.profile.specs.Names.{is_name}
+use Rattle.requests.specs.declared.resource.Resource.{Resource}
+use Rattle.requests.specs.declared.resource.Resource.TheVariants.{Body}
+
+-- a serial that may be issued
+abbrev pub IsSerial : ℕ → Type 0
+IsSerial n = (1 ≤ n) × (n ≤ LAST_SERIAL)
+
+-- where a path leads: to the messages of a caller under a request key, or to a resource
+pub data Path : Type 0 where
+  message : (caller key : List ℕ) → Path
+  resource : Resource → Path
+
+-- names are names, and a serial is one
+abbrev pub IsPath : Path → Type 0
+IsPath (message caller key) = IsTrue (is_name caller) × IsTrue (is_name key)
+IsPath (resource (Body n)) = IsSerial n
+
+-- the text of a path
+abbrev pub path_text : Path → List ℕ
+path_text (message caller key) = codes "/v1/callers/" ++ (caller ++ (codes "/requests/" ++ key))
+path_text (resource (Body n)) = codes "/v1/certs/" ++ (decimal n ++ codes "/body")

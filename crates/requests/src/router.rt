@@ -1,0 +1,43 @@
+//! The routes, kept for finding.
+
+ghost use Rattle.std.specs.Prelude.{◌≡◌, IfOk};
+ghost use Rattle.requests.specs.Routing.{routing};
+
+use matchit::{InsertError, Router};
+use std::alloc::Global;
+use text::NoMemory;
+
+/// Which route a path has.
+#[derive(Clone, Copy, Debug, PartialEq, Eq)]
+pub enum RouteKind {
+    /// `/v1/callers/{caller}/requests/{key}`
+    Message,
+    /// `/v1/certs/{serial}/body`
+    Body,
+}
+
+/// The routes of the office, made once and lent to each call that looks for one.
+#[derive(Drop)]
+pub struct Routes {
+    pub(crate) router: Router<RouteKind>,
+    pub(crate) ghost whole: { router ≡ routing },
+}
+
+fn router_of(alloc: Global) -> Result<Router<RouteKind>, InsertError>
+    ensures { IfOk result (λ r. r ≡ routing) }
+{
+    let mut router = Router::new(alloc);
+    router.insert("/v1/callers/{caller}/requests/{key}", RouteKind::Message)?;
+    router.insert("/v1/certs/{serial}/body", RouteKind::Body)?;
+    Ok(router)
+}
+
+impl Routes {
+    /// The routes. Only want of memory is in the way.
+    pub fn new(alloc: Global) -> Result<Routes, NoMemory> {
+        match router_of(alloc) {
+            Ok(router) => Ok(Routes { router }),
+            Err(_) => Err(NoMemory),
+        }
+    }
+}

@@ -1,0 +1,21 @@
+-- Bytes that are printed one after the other.
+use Rattle.std.proofs.Common.{◌≡◌, ℕ, ◌+◌, ◌<◌, List, [], ◌∷◌, ◌++◌, length, take, Option, Some, None, refl, sym, ap, subst, ◌∙◌, arith, append_assoc}
+use Rattle.std.specs.Io.KnownBytes.{Appends}
+use Rattle.std.specs.List.{flat_map}
+use Rattle.std.proofs.lemmas.Grind.{flat_map-append}
+use Rattle.std.proofs.lemmas.List.{append-nil}
+use Rattle.web.specs.declared.exchange.Given.{Given}
+use Rattle.sshoffice.specs.Printing.{all_given_text, given_text}
+
+-- What is appended twice is appended at once.
+pub appends_both : (a b c : Option (List ℕ)) (xs ys : List ℕ) → Appends a b xs → Appends b c ys → Appends a c (xs ++ ys)
+appends_both None b c xs ys first second = tt
+appends_both (Some a) None c xs ys first second = absurd first
+appends_both (Some a) (Some b) None xs ys first second = absurd second
+appends_both (Some a) (Some b) (Some c) xs ys first second =
+    second ∙ ap (λ (t : List ℕ). t ++ ys) first ∙ append_assoc a xs ys
+
+-- Nothing is appended to what stays.
+pub appends_none : (a : Option (List ℕ)) → Appends a a []
+appends_none None = tt
+appends_none (Some a) = sym (append-nil a)

@@ -1,0 +1,36 @@
+-- What is printed for exchanges.
+use Rattle.std.specs.Prelude.{◌≡◌, ℕ, List, [], ◌∷◌, ◌++◌, length, codes, Bool, true, false, Option}
+use Rattle.std.specs.Fmt.{decimal}
+use Rattle.std.specs.Io.KnownBytes.{Appends}
+use Rattle.std.specs.List.{flat_map, list_any}
+use Rattle.office.specs.declared.opening.Opening.{Opening}
+use Rattle.office.specs.declared.arrival.Arrival.{Arrival}
+use Rattle.web.specs.declared.exchange.Exchange.{Exchange}
+use Rattle.web.specs.declared.exchange.Given.{Given}
+use Rattle.web.specs.declared.exchange.Given.TheVariants.{Answer, Fault}
+use Rattle.web.specs.Runs.{Serves}
+
+-- a response behind its length, or the word alone
+abbrev pub given_text : Given → List ℕ
+given_text (Answer response) = codes "answer " ++ (decimal (length response) ++ 10 ∷ response)
+given_text Fault = codes "fault" ++ 10 ∷ []
+
+-- one after the other
+abbrev pub all_given_text : List Given → List ℕ
+all_given_text given = flat_map given_text given
+
+abbrev pub is_fault : Given → Bool
+is_fault (Answer response) = false
+is_fault Fault = true
+
+-- whether one of them was given no response
+abbrev pub has_fault : List Given → Bool
+has_fault given = list_any is_fault given
+
+-- What a register gave to the exchanges is printed behind what the output held, and one of it is a fault or none.
+pub record Prints (before after : Opening → List Arrival → Type 0) (exchanges : List Exchange) (old new : Option (List ℕ))
+    (fault : Bool) : Type 0 where
+  pub given : List Given
+  pub serves : Serves before after exchanges given
+  pub printed : Appends old new (all_given_text given)
+  pub faults : has_fault given ≡ fault

@@ -1,0 +1,65 @@
+//! The trial office, on which `apply` runs without a database.
+
+ghost use Rattle.std.specs.Prelude.{◌≡◌, ◌++◌, [], ◌∷◌, List, IfOk, OnOk, OnErr};
+ghost use Rattle.office.specs.declared.opening.Opening.{Opening};
+ghost use Rattle.office.specs.declared.arrival.Arrival.{Arrival};
+ghost use Rattle.sshoffice.specs.Trial.{trial_arrival, trial_opening};
+
+use office::{Arrival, Opening, Outcome, Registry, StoreFault};
+use plain::PlainStore;
+use std::alloc::Global;
+use text::{NoMemory, Text};
+
+const CA_KEY: [u8; 32] = [0x11; 32];
+
+// The arrival issues nothing.
+const NO_NONCE: [u8; 32] = [0; 32];
+
+const FIRST_SERIAL: u64 = 1;
+
+const LAST_SERIAL: u64 = 9223372036854775806;
+
+const MESSAGE: &str = "department web\nkind user\nadmins ana\nprincipals alice,*@example.org\noptions force-command\nextensions permit-X11-forwarding,permit-agent-forwarding,permit-pty\nmaxlife 86400\nnamespaces file,git\n";
+
+fn trial_opening(alloc: Global) -> Result<Opening, StoreFault>
+    ensures { IfOk result (λ o. o ≡ trial_opening) }
+{
+    let root = String::from_str(alloc, "root").map_err(NoMemory::from)?;
+    let station = String::from_str(alloc, "station").map_err(NoMemory::from)?;
+    match Opening::new(CA_KEY, root, station, FIRST_SERIAL, LAST_SERIAL) {
+        Ok(opening) => Ok(opening),
+        Err(_) => Err(StoreFault::Damaged),
+    }
+}
+
+fn trial_arrival(alloc: Global) -> Result<Arrival, NoMemory>
+    ensures { IfOk result (λ a. a ≡ trial_arrival) }
+{
+    Ok(Arrival {
+        caller: Text::from_slice(alloc, b"root")?,
+        key: Text::from_slice(alloc, b"trial-web")?,
+        bytes: Text::from_slice(alloc, MESSAGE.as_bytes())?,
+        moment: 0,
+        nonce: NO_NONCE,
+    })
+}
+
+/// Puts the trial office's department.
+pub(crate) fn put_department<S: Registry>(registry: &mut S, alloc: Global) -> Result<(), StoreFault>
+    ensures honest { S.is_honest registry.new → S.is_honest registry.old }
+    ensures ok { S.is_honest registry.new → OnOk result ((o : Opening) (l : List Arrival) → S.means registry.old o l → S.means registry.new o (l ++ trial_arrival ∷ [])) }
+{
+    let arrival = trial_arrival(alloc)?;
+    match registry.apply(alloc, arrival)? {
+        Outcome::Accepted(_) => Ok(()),
+        Outcome::Repeated(_) | Outcome::Refused(_) => Err(StoreFault::Damaged),
+    }
+}
+
+/// The trial office: the opening, and then the department.
+pub(crate) fn trial_office(alloc: Global) -> Result<PlainStore, StoreFault> {
+    let opening = trial_opening(alloc)?;
+    let mut office = PlainStore::new(alloc, opening)?;
+    put_department(&mut office, alloc)?;
+    Ok(office)
+}

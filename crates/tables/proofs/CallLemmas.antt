@@ -1,0 +1,166 @@
+-- What the calls do, from what their texts mean.
+use Rattle.std.proofs.Common.{◌≡◌, ◌⊎◌, inl, inr, ℕ, List, [], length, true, false, None, Option, Ok, Result, refl, subst, IfOk, IfErr, IsTrue}
+use Rattle.std.specs.Prelude.{Vec, OnOk, ◌||◌}
+use Rattle.std.specs.declared.alloc.Global.{Global}
+use Rattle.std.specs.List.Sorted.{IsPermutation}
+use Rattle.std.proofs.Common.{map}
+use Rattle.sqlite.specs.Order.{Row}
+use Rattle.sqlite.specs.Tree.{Trees}
+use Rattle.sqlite.specs.Command.{Command}
+use Rattle.sqlite.specs.Command.TheVariants.{Select, Insert, InsertOr, Update, Delete, Begin, Commit, Rollback, Release, RollbackTo}
+use Rattle.sqlite.specs.Query.{Query, IsAnswer}
+use Rattle.sqlite.specs.Program.{overlay}
+use Rattle.sqlite_sql.specs.Program.{ProgramOverflows}
+use Rattle.sqlite_typing.specs.Types.{accepts_program}
+use Rattle.sqlite.specs.Does.{Tally, Does}
+use Rattle.sqlite.specs.Effect.{Database, is_query}
+use Rattle.sqlite.specs.Calls.{IsWrite}
+use Rattle.sqlite.specs.Listing.{understood, reads_listing}
+use Rattle.sqlite.specs.declared.error.Error.{Error}
+use Rattle.sqlite.specs.State.{State, Survives, Writes, Runs, Executes, CommitsBy, Shown, FailsToQuery, CommitsShowing, is_pragma}
+use Rattle.sqlite.proofs.Callers.{IsPlain, command_of, statement_of}
+use Rattle.tables.specs.declared.fault.Fault.{Fault}
+use Rattle.tables.specs.Schema.{whole}
+use Rattle.tables.specs.Contents.{Contents, Holds, Means}
+use Rattle.tables.specs.Calls.{Changes, Finds, FindsOne, FailsBy, Leaves, Never}
+use Rattle.tables.specs.Done.{IsDone, IsRead, IsFirstRead}
+use Rattle.tables.specs.Faults.{fault_of, HasCause, HasWriteCause}
+use Rattle.tables.proofs.Statements.{mode, survives_as}
+use Rattle.tables.proofs.Queries.{answers_open}
+use Rattle.tables.proofs.Texts.{Shows, changes, leaves, finds, never}
+use Rattle.tables.proofs.FaultLemmas.{IsWhole, faults, write_faults}
+use Rattle.tables.proofs.DoneLemmas.{changes_done, fault_done}
+use Rattle.tables.proofs.FoundLemmas.{finds_read, finds_first, causes_read, causes_first, open_read, open_first}
+
+-- ---- writes
+
+-- a statement on the rows of a table
+abbrev pub IsOnRows : Command → Type 0
+IsOnRows (Insert at from) = Unit {0}
+IsOnRows (InsertOr at way from clauses) = Unit {0}
+IsOnRows (Update at q) = Unit {0}
+IsOnRows (Delete at q) = Unit {0}
+IsOnRows _ = ⊥
+
+-- a text that makes this of the contents
+pub record Write (sql : List ℕ) (params : Row) (after : Contents → Contents) : Type 0 where
+  pub command : Command
+  pub is : command_of (understood whole sql) ≡ command
+  pub plain : IsPlain (understood whole sql)
+  pub one : IsWhole sql (length params) (understood whole sql)
+  pub on_rows : IsOnRows command
+  pub does : (limit : Option ℕ) (db next : Database) (tally : Tally) (c : Contents) → Means db c
+      → Does limit mode params db (statement_of sql (understood whole sql)) None command (Ok (tally, next))
+      → (next.schema ≡ whole) × Holds next.trees (after c)
+
+is_write : (command : Command) → IsOnRows command → IsWrite command
+is_write (Insert at from) on = tt
+is_write (InsertOr at way from clauses) on = tt
+is_write (Update at q) on = tt
+is_write (Delete at q) on = tt
+is_write _ on = absurd on
+
+writes : (command : Command) → IsOnRows command → (params : Row) (old new : State) (text : List ℕ) (count : ℕ)
+    → Runs old new None command text params count → Writes old new None command text params count
+writes (Insert at from) on params old new text count w = w
+writes (InsertOr at way from clauses) on params old new text count w = w
+writes (Update at q) on params old new text count w = w
+writes (Delete at q) on params old new text count w = w
+writes _ on params old new text count w = absurd on
+
+shows_none : (command : Command) → IsOnRows command → (is_query command || (is_pragma command || false)) ≡ false
+shows_none (Insert at from) on = refl
+shows_none (InsertOr at way from clauses) on = refl
+shows_none (Update at q) on = refl
+shows_none (Delete at q) on = refl
+shows_none _ on = absurd on
+
+ends_none : (command : Command) → IsOnRows command → (command ≡ Begin) ⊎ ((command ≡ Commit) ⊎ (command ≡ Rollback)) → ⊥
+ends_none command on (inl e) = subst IsOnRows e on
+ends_none command on (inr (inl e)) = subst IsOnRows e on
+ends_none command on (inr (inr e)) = subst IsOnRows e on
+
+saves_none : (command : Command) → IsOnRows command → (name : List ℕ) → (command ≡ Release name)
+    ⊎ (command ≡ RollbackTo name) → ⊥
+saves_none command on name (inl e) = subst IsOnRows e on
+saves_none command on name (inr e) = subst IsOnRows e on
+
+module _ {X : Type 0} {sql : List ℕ} {params : Row} {after : Contents → Contents} (w : Write sql params after)
+    (old new : State) where
+  pub write_changes : (answer : Result ℕ Error) (r : Result X Fault) → IsDone answer r
+      → Executes sql params old new answer → Changes after old new r
+  write_changes answer r done ran =
+      changes_done old new after answer r done
+      (changes sql params w.command w.is w.plain (is_write w.command w.on_rows)
+      (writes w.command w.on_rows params) after w.does old new answer ran)
+
+  pub write_fails : (answer : Result ℕ Error) (r : Result X Fault) → IsDone answer r
+      → Executes sql params old new answer → FailsBy (HasWriteCause sql params) old new r
+  write_fails answer r done ran =
+      fault_done (λ f. (c : Contents) → Means old.now c → HasWriteCause sql params old new f) answer r done
+      (write_faults sql params w.command w.is w.plain w.one (shows_none w.command w.on_rows)
+      (ends_none w.command w.on_rows) (saves_none w.command w.on_rows) old new answer ran)
+
+pub write_survives : {sql : List ℕ} {params : Row} {after : Contents → Contents} (w : Write sql params after)
+    (old new : State) → Survives old new (CommitsBy sql params old) → Survives old new (Leaves after old)
+write_survives {sql} {params} {after} w old new = survives_as old new _ _
+    (leaves sql params w.command w.is w.plain (is_write w.command w.on_rows) (writes w.command w.on_rows params) after
+    w.does old)
+
+-- ---- queries
+
+-- a text that finds these structs
+pub record Find {X : Type 0} (sql : List ℕ) (params : Row) (cells : X → Row) (of : Contents → List X) : Type 0 where
+  pub query : Query
+  pub names : List (List ℕ)
+  pub is : command_of (understood whole sql) ≡ Select (record { lets = []; body = query }) names
+  pub unlisted : reads_listing whole sql ≡ false
+  pub plain : IsPlain (understood whole sql)
+  pub one : IsWhole sql (length params) (understood whole sql)
+  pub typed : accepts_program whole [] query params ≡ true
+  pub sure : (trees : Trees) → ProgramOverflows trees params [] [] query → ⊥
+  pub apart : (x y : X) → cells x ≡ cells y → x ≡ y
+  pub answers : (trees : Trees) (rows : List Row) (c : Contents) → Holds trees c
+      → IsAnswer query (overlay trees []) params rows → IsPermutation (map cells (of c)) rows
+
+module _ {X : Type 0} {sql : List ℕ} {params : Row} {cells : X → Row} {of : Contents → List X}
+    (f : Find sql params cells of) (old new : State) (answer : Result (Vec Row Global) Error)
+    (ok : IfOk answer (λ rows. Shown sql params old new rows.items))
+    (err : IfErr answer (FailsToQuery sql params old new)) where
+  shown : Shows cells of old new answer
+  shown = finds sql params f.query f.names f.is f.plain f.unlisted cells of f.answers old new answer ok err
+
+  causes : IfErr answer (λ e. (c : Contents) → Means old.now c → HasCause old new (fault_of e))
+  causes = faults sql params f.query f.names f.is f.plain f.unlisted f.one f.typed f.sure old new answer err
+
+  pub find_all : (r : Result (Vec X Global) Fault) → IsRead cells answer r → Finds of old new r
+  find_all r read = finds_read cells of f.apart old new answer r read shown
+
+  pub find_all_fails : (r : Result (Vec X Global) Fault) → IsRead cells answer r → FailsBy HasCause old new r
+  find_all_fails r read = causes_read cells of f.apart old new answer r read shown causes
+
+  pub find_one : (r : Result (Option X) Fault) → IsFirstRead cells answer r → FindsOne of old new r
+  find_one r read = finds_first cells of f.apart old new answer r read shown
+
+  pub find_one_fails : (r : Result (Option X) Fault) → IsFirstRead cells answer r → FailsBy HasCause old new r
+  find_one_fails r read = causes_first cells of f.apart old new answer r read shown causes
+
+-- what is found is found in an open connection
+pub find_all_open : {X : Type 0} (cells : X → Row) (sql : List ℕ) (params : Row) (old new : State)
+    (answer : Result (Vec Row Global) Error) (r : Result (Vec X Global) Fault)
+    → IfOk answer (λ rows. Shown sql params old new rows.items) → IsRead cells answer r → OnOk r (IsTrue old.is_open)
+find_all_open cells sql params old new answer r ok read = open_read cells _ answer r read
+    (answers_open sql params old new answer ok)
+
+pub find_one_open : {X : Type 0} (cells : X → Row) (sql : List ℕ) (params : Row) (old new : State)
+    (answer : Result (Vec Row Global) Error) (r : Result (Option X) Fault)
+    → IfOk answer (λ rows. Shown sql params old new rows.items) → IsFirstRead cells answer r
+    → OnOk r (IsTrue old.is_open)
+find_one_open cells sql params old new answer r ok read = open_first cells _ answer r read
+    (answers_open sql params old new answer ok)
+
+pub find_survives : {X : Type 0} {sql : List ℕ} {params : Row} {cells : X → Row} {of : Contents → List X}
+    (f : Find sql params cells of) (old new : State)
+    → Survives old new (CommitsShowing sql params old) → Survives old new (Never old)
+find_survives {sql = sql} {params = params} {cells = cells} {of = of} f old new = survives_as old new _ _
+    (never sql params f.query f.names f.is f.plain f.unlisted cells of f.answers old)

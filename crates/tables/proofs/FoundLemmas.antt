@@ -1,0 +1,107 @@
+-- From what a query shows to what a call finds.
+use Rattle.std.proofs.Common.{◌≡◌, ◌≢◌, inl, arith, List, [], ◌∷◌, map, Option, None, Some, Ok, Err, Result, refl, sym, ap, subst, ◌∙◌, IfErr}
+use Rattle.std.specs.Prelude.{Vec, OnOk}
+use Rattle.std.specs.declared.alloc.Global.{Global}
+use Rattle.std.specs.List.Sorted.{IsPermutation}
+use Rattle.std.proofs.lemmas.List.Sorted.{length_permutation}
+use Rattle.sqlite.specs.Order.{Row}
+use Rattle.sqlite.specs.declared.error.Error.{Error}
+use Rattle.sqlite.specs.State.{State}
+use Rattle.tables.specs.declared.fault.Fault.{Fault}
+use Rattle.tables.specs.declared.fault.Fault.TheVariants.{Device, Damaged, NoMemory}
+use Rattle.tables.specs.Faults.{fault_of, HasCause, Misread}
+use Rattle.tables.specs.Done.{IsFirst, IsRead, IsFirstRead}
+use Rattle.tables.specs.Contents.{Contents, Means}
+use Rattle.tables.specs.Calls.{Finds, FindsOne, IsOneOf}
+use Rattle.tables.proofs.Texts.{Shows}
+use Rattle.tables.proofs.Unmapped.{unmapped}
+
+-- rows that are those of structs are not misread
+not_misread : {X : Type 0} (cells : X → Row) (xs : List X) (rows : List Row) → IsPermutation (map cells xs) rows
+    → (f : Fault) → Misread ((ys : List X) → rows ≢ map cells ys) f → (old new : State) → HasCause old new f
+not_misread cells xs rows same NoMemory h old new = tt
+not_misread cells xs rows same Damaged h old new = let all = unmapped cells xs rows same in h all.0 all.2
+not_misread cells xs rows same Device h old new = absurd h
+
+module _ {X : Type 0} (cells : X → Row) (of : Contents → List X) (apart : (x y : X) → cells x ≡ cells y → x ≡ y)
+    (old new : State) where
+  -- structs with the same rows are the same
+  same_structs : (xs ys : List X) → map cells xs ≡ map cells ys → xs ≡ ys
+  same_structs [] [] e = refl
+  same_structs [] (y ∷ ys) e = absurd cc
+  same_structs (x ∷ xs) [] e = absurd cc
+  same_structs (x ∷ xs) (y ∷ ys) e =
+      let head : cells x ≡ cells y = cc in
+      let rest : map cells xs ≡ map cells ys = cc in
+      let one = apart x y head in
+      let others = same_structs xs ys rest in
+      cc
+
+  pub finds_read : (answer : Result (Vec Row Global) Error) (r : Result (Vec X Global) Fault) → IsRead cells answer r
+      → Shows cells of old new answer → Finds of old new r
+  finds_read (Ok rows) (Ok xs) read shows = λ c means.
+      let it = shows c means in
+      let all = unmapped cells (of c) rows.items it.1 in
+      (it.0, subst (IsPermutation (of c)) (same_structs all.0 xs.items (sym all.2 ∙ read)) all.1)
+  finds_read (Ok rows) (Err f) read shows = λ c means. inl (shows c means).0
+  finds_read (Err e) (Ok xs) read shows = absurd read
+  finds_read (Err e) (Err f) read shows = λ c means. shows
+
+  one_of : (xs : List X) (rows : List Row) (found : Option X) → IsPermutation (map cells xs) rows
+      → IsFirst cells rows found → IsOneOf xs found
+  one_of xs rows None same none = none_left xs (subst (IsPermutation (map cells xs)) none same)
+    where
+      none_left : (xs : List X) → IsPermutation (map cells xs) [] → xs ≡ []
+      none_left [] p = refl
+      none_left (x ∷ xs) p = absurd (let many = length_permutation (map cells (x ∷ xs)) [] p in omega arith)
+  one_of xs rows (Some x) same first =
+      let all = unmapped cells xs rows same in
+      let split = first_of all.0 (sym all.2 ∙ first.1) in
+      (split.0, subst (IsPermutation xs) split.1 all.1)
+    where
+      first_of : (ys : List X) → map cells ys ≡ cells x ∷ first.0 → (others : List X) × (ys ≡ x ∷ others)
+      first_of [] e = absurd cc
+      first_of (y ∷ ys) e = (ys, let head : cells y ≡ cells x = cc in ap (λ z. z ∷ ys) (apart y x head))
+
+  pub finds_first : (answer : Result (Vec Row Global) Error) (r : Result (Option X) Fault)
+      → IsFirstRead cells answer r → Shows cells of old new answer → FindsOne of old new r
+  finds_first (Ok rows) (Ok found) read shows = λ c means. let it = shows c means
+      in (it.0, one_of (of c) rows.items found it.1 read)
+  finds_first (Ok rows) (Err f) read shows = λ c means. inl (shows c means).0
+  finds_first (Err e) (Ok found) read shows = absurd read
+  finds_first (Err e) (Err f) read shows = λ c means. shows
+
+  pub causes_read : (answer : Result (Vec Row Global) Error) (r : Result (Vec X Global) Fault) → IsRead cells answer r
+      → Shows cells of old new answer
+      → IfErr answer (λ e. (c : Contents) → Means old.now c → HasCause old new (fault_of e))
+      → IfErr r (λ f. (c : Contents) → Means old.now c → HasCause old new f)
+  causes_read (Ok rows) (Ok xs) read shows causes = tt
+  causes_read (Ok rows) (Err f) read shows causes = λ c means. not_misread cells (of c) rows.items (shows c means).1 f
+      read old new
+  causes_read (Err e) (Ok xs) read shows causes = absurd read
+  causes_read (Err e) (Err f) read shows causes = λ c means. subst (HasCause old new) (sym read) (causes c means)
+
+  pub causes_first : (answer : Result (Vec Row Global) Error) (r : Result (Option X) Fault)
+      → IsFirstRead cells answer r → Shows cells of old new answer
+      → IfErr answer (λ e. (c : Contents) → Means old.now c → HasCause old new (fault_of e))
+      → IfErr r (λ f. (c : Contents) → Means old.now c → HasCause old new f)
+  causes_first (Ok rows) (Ok xs) read shows causes = tt
+  causes_first (Ok rows) (Err f) read shows causes = λ c means. not_misread cells (of c) rows.items (shows c means).1
+      f read old new
+  causes_first (Err e) (Ok xs) read shows causes = absurd read
+  causes_first (Err e) (Err f) read shows causes = λ c means. subst (HasCause old new) (sym read) (causes c means)
+
+-- an answer that was had was asked of an open connection
+pub open_read : {X : Type 0} (cells : X → Row) (P : Type 0) (answer : Result (Vec Row Global) Error)
+    (r : Result (Vec X Global) Fault) → IsRead cells answer r → OnOk answer P → OnOk r P
+open_read cells P (Ok rows) (Ok xs) read h = h
+open_read cells P (Ok rows) (Err f) read h = tt
+open_read cells P (Err e) (Ok xs) read h = absurd read
+open_read cells P (Err e) (Err f) read h = tt
+
+pub open_first : {X : Type 0} (cells : X → Row) (P : Type 0) (answer : Result (Vec Row Global) Error)
+    (r : Result (Option X) Fault) → IsFirstRead cells answer r → OnOk answer P → OnOk r P
+open_first cells P (Ok rows) (Ok xs) read h = h
+open_first cells P (Ok rows) (Err f) read h = tt
+open_first cells P (Err e) (Ok xs) read h = absurd read
+open_first cells P (Err e) (Err f) read h = tt

@@ -1,0 +1,182 @@
+-- What the statements on one table do, whatever the table is.
+use Rattle.std.proofs.Common.{◌≡◌, ◌⊎◌, inl, inr, ℕ, ◌/◌, List, [], length, slice_get, false, Some, None, Option, Ok, Err, Result, sym, ap, subst, subst₂, append-nil, IsTrue, ◌∙◌}
+use Rattle.std.proofs.lemmas.Bool.{cases_Bool}
+use Rattle.sqlite.specs.Order.{Row}
+use Rattle.sqlite.specs.Term.{Term}
+use Rattle.sqlite.specs.Table.{Table}
+use Rattle.sqlite.specs.Schema.{Schema}
+use Rattle.sqlite_schema.specs.declared.schema.Keys.TheVariants.{Enforced}
+use Rattle.sqlite.specs.Source.TheVariants.{Values}
+use Rattle.sqlite.specs.Command.{Command}
+use Rattle.sqlite.specs.Command.TheVariants.{Insert, Update, Delete, Commit, Release}
+use Rattle.sqlite.specs.declared.run.Mode.{Mode}
+use Rattle.sqlite.specs.Calls.{IsWrite}
+use Rattle.sqlite.specs.Listing.{understood}
+use Rattle.sqlite.specs.Edit.{edit_of, taken_by, Applies}
+use Rattle.sqlite.specs.Rowids.TheVariants.{Chosen, Given}
+use Rattle.sqlite_rules.specs.Action.{works}
+use Rattle.sqlite_rules.specs.Calls.{ids_of}
+use Rattle.sqlite_schema.specs.declared.program.Program.{Program}
+use Rattle.sqlite.specs.Does.{Tally, Does, OnRows, AtPlace}
+use Rattle.sqlite.specs.Rows.{Written, Edited, stamped}
+use Rattle.sqlite.specs.Tree.{Trees}
+use Rattle.sqlite.specs.declared.error.Error.{Error}
+use Rattle.sqlite.specs.Effect.{Database, IsDatabase, value_rows, Answers}
+use Rattle.sqlite.specs.State.{State, Executes, ExecutesIn, IsNotRun, IsUnchanged, IsRolledBack, shows_rows, Survives, CommitsBy, MayCommit, IsNewestNamed, names_in, begins_at}
+use Rattle.sqlite.proofs.Callers.{one_step, command_of, statement_of, IsPlain}
+
+-- a part that gave a value did not stop on the way
+pub went : {B E R : Type 0} {b : B} {Stops : E → Type 0} → ((stop : E) × Stops stop × (Ok b ≡ Err stop)) ⊎ R → R
+went (inl stopped) = absurd (let e = stopped.2 in cc)
+went (inr on) = on
+
+pub same_value : {B E : Type 0} {a b : B} → ◌≡◌ {A = Result B E} (Ok a) (Ok b) → a ≡ b
+same_value e = cc
+
+-- whatever the text is, a statement that failed left the database as it was, or the transaction is undone
+pub stopped : (sql : List ℕ) (params : Row) (old new : State) (e : Error) → Executes sql params old new (Err e)
+    → IsUnchanged old new ⊎ IsRolledBack old new
+unfolding ExecutesIn IsNotRun
+stopped sql params old new e (inl (inl h)) = inl h.1
+stopped sql params old new e (inl (inr h)) = inr h.3
+stopped sql params old new e (inr h) = elim (cases_Bool (shows_rows false h.0)) [
+  | inl shows ↦ inl (rw shows at h.2).1
+  | inr runs ↦ elim (rw runs at h.2) [ inl refused ↦ inl refused.1 | inr failed ↦ inr failed.3 ]
+]
+
+-- so that the count in sqlite_sequence computes away
+abbrev pub uncounted : Table → Table
+uncounted table = record table { is_counted = false }
+
+abbrev pub mode : Mode
+mode = record { keys = Enforced; in_doubt = false; may_wait = false }
+
+-- What a text that is a write commits, if a crash comes, is what it does outside a transaction.
+module _ (sql : List ℕ) (params : Row) (s : State) (schema : Schema) (has : s.now.schema ≡ schema) (command : Command)
+    (is : command_of (understood schema sql) ≡ command)
+    (plain : IsPlain (understood schema sql)) (writes : IsWrite command) where
+  ends_none : (command : Command) → IsWrite command → (command ≡ Commit)
+      ⊎ ((name : List ℕ) × (at : ℕ) × (command ≡ Release name) × IsNewestNamed (names_in s) name at
+      × IsTrue (begins_at s at)) → ⊥
+  ends_none command w (inl e) = subst IsWrite e w
+  ends_none command w (inr h) = subst IsWrite h.2 w
+
+  pub commits_as : (trees : Trees) → CommitsBy sql params s trees
+      → (s.in_transaction ≡ false) × (tally : Tally) × (after : Database)
+      × Does s.step_limit mode params s.now (statement_of sql (understood schema sql)) None command
+      (Ok (tally, after)) × IsDatabase after × (trees ≡ after.trees)
+  unfolding CommitsBy
+  commits_as trees h =
+      let known = sym h.1.is ∙ ap (λ s. understood s sql) has in
+      let bare = subst IsPlain (sym known) plain in
+      let all = subst₂ (λ k t. MayCommit s None k t params trees) (ap command_of known ∙ is)
+      (ap (statement_of sql) known) (rw (bare.0, bare.1, append-nil params) at h.2) in
+      elim all [
+        | inl ended ↦ absurd (ends_none command writes ended.0)
+        | inr wrote ↦ (wrote.0, wrote.1, wrote.2, wrote.3, wrote.4, wrote.5)
+      ]
+
+module _ (limit : Option ℕ) (db after : Database) (tally : Tally) (schema : Schema) (has : db.schema ≡ schema)
+    (at : ℕ) (table : Table) (found : slice_get schema.tables at ≡ Some (uncounted table)) (params : Row)
+    (text : List ℕ) where
+  pub inserts : (terms : List Term) (width : ℕ) → Does limit mode params db text None (Insert at (Values terms width))
+      (Ok (tally, after))
+      → let rows = value_rows (stamped (uncounted table) params) width (length terms / width) terms in
+      let edit = edit_of db.trees (uncounted table) [] Chosen 0 rows in
+      works schema Enforced 0 table.tree (taken_by db.trees edit) edit.news ≡ []
+      → Applies schema Enforced db.trees edit after.trees × (after.schema ≡ schema)
+  inserts terms width h none =
+      let command = Insert at (Values terms width) in
+      let table′ = uncounted table in
+      let ran = subst (λ s. Does limit mode params (record db { schema = s }) text None command (Ok (tally, after)))
+      has h in
+      let done = went (subst (λ o. AtPlace
+      (λ t. OnRows (record { limit = limit; keys = Enforced; schema = schema; table = t; params = params }) mode
+      None command db.trees) o (Ok (tally, after))) found ran) in
+      let now = ap (λ (p : Tally × Database). p.1) (same_value (went (went done.2).2).2) in
+      let given = went done.1 in
+      let written = went (went given.2).2 in
+      let counted = went written.2 in
+      let trees : done.0.trees ≡ written.0 = ap (λ (it : Written). it.trees) (same_value counted.2)
+      ∙ same_value counted.1 in
+      let wrote = subst (λ rows. Edited schema Enforced db.trees (edit_of db.trees table′ [] Chosen 0 rows)
+      (Ok written.0)) given.1.1 written.1 in
+      let all : after.trees ≡ written.0 = ap (λ (d : Database). d.trees) now ∙ trees in (
+        rw all (one_step schema Enforced db.trees written.0
+            (edit_of db.trees table′ [] Chosen 0
+            (value_rows (stamped table′ params) width (length terms / width) terms)) none wrote),
+        ap
+            (λ (d : Database). d.schema) now,
+      )
+
+  -- UPDATE writes the rows that its query shows, each after the rowid that it had
+  pub updates : (q : Program) → Does limit mode params db text None (Update at q) (Ok (tally, after))
+      → ((olds news : List Row) → works schema Enforced 0 table.tree olds news ≡ [])
+      → (rows : List Row) × Answers (record { schema = schema; trees = db.trees }) q params rows
+      × Applies schema Enforced db.trees (edit_of db.trees (uncounted table) (ids_of rows) Given 1 rows)
+      after.trees × (after.schema ≡ schema)
+  updates q h none =
+      let command = Update at q in
+      let ran = subst (λ s. Does limit mode params (record db { schema = s }) text None command (Ok (tally, after)))
+      has h in
+      let done = went (subst (λ o. AtPlace
+      (λ t. OnRows (record { limit = limit; keys = Enforced; schema = schema; table = t; params = params }) mode
+      None command db.trees) o (Ok (tally, after))) found ran) in
+      let now = ap (λ (p : Tally × Database). p.1) (same_value (went (went done.2).2).2) in
+      let given = went done.1 in
+      let written = went given.2 in
+      let all : after.trees ≡ written.0 = ap (λ (d : Database). d.trees) now
+      ∙ ap (λ (it : Written). it.trees) (same_value written.2) in (
+        given.0,
+        given.1,
+        subst (Applies schema Enforced db.trees
+            (edit_of db.trees (uncounted table) (ids_of given.0) Given 1 given.0)) (sym all)
+            (one_step schema Enforced db.trees written.0
+            (edit_of db.trees (uncounted table) (ids_of given.0) Given 1 given.0)
+            (none (taken_by db.trees (edit_of db.trees (uncounted table) (ids_of given.0) Given 1 given.0))
+            (edit_of db.trees (uncounted table) (ids_of given.0) Given 1 given.0).news) written.1),
+        ap
+            (λ (d : Database). d.schema) now,
+      )
+
+  -- DELETE takes out the rowids that its query shows
+  pub deletes : (q : Program) → Does limit mode params db text None (Delete at q) (Ok (tally, after))
+      → ((olds news : List Row) → works schema Enforced 0 table.tree olds news ≡ [])
+      → (rows : List Row) × Answers (record { schema = schema; trees = db.trees }) q params rows
+      × Applies schema Enforced db.trees (edit_of db.trees (uncounted table) (ids_of rows) Given 0 []) after.trees
+      × (after.schema ≡ schema)
+  deletes q h none =
+      let command = Delete at q in
+      let ran = subst (λ s. Does limit mode params (record db { schema = s }) text None command (Ok (tally, after)))
+      has h in
+      let done = went (subst (λ o. AtPlace
+      (λ t. OnRows (record { limit = limit; keys = Enforced; schema = schema; table = t; params = params }) mode
+      None command db.trees) o (Ok (tally, after))) found ran) in
+      let now = ap (λ (p : Tally × Database). p.1) (same_value (went (went done.2).2).2) in
+      let given = went done.1 in
+      let written = went given.2 in
+      let all : after.trees ≡ written.0 = ap (λ (d : Database). d.trees) now
+      ∙ ap (λ (it : Written). it.trees) (same_value written.2) in (
+        given.0,
+        given.1,
+        subst (Applies schema Enforced db.trees
+            (edit_of db.trees (uncounted table) (ids_of given.0) Given 0 [])) (sym all)
+            (one_step schema Enforced db.trees written.0
+            (edit_of db.trees (uncounted table) (ids_of given.0) Given 0 [])
+            (none (taken_by db.trees (edit_of db.trees (uncounted table) (ids_of given.0) Given 0 []))
+            (edit_of db.trees (uncounted table) (ids_of given.0) Given 0 []).news) written.1),
+        ap
+            (λ (d : Database). d.schema) now,
+      )
+
+pub survives_as : (old new : State) (P Q : Trees → Type 0) → ((trees : Trees) → P trees → Q trees)
+    → Survives old new P → Survives old new Q
+survives_as old new P Q more s = record {
+  clean = s.clean;
+  shield = s.shield;
+  counts = s.counts;
+  limit = s.limit;
+  closes = s.closes;
+  crash = λ clean db
+      left. elim (s.crash clean db left) [ inl was ↦ inl was | inr p ↦ inr (more db p) ];
+}

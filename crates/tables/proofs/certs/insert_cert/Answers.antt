@@ -1,0 +1,17 @@
+use Rattle.sqlite.specs.Held.{state}
+use Rattle.tables.proofs.CallLemmas.{write_changes, write_fails, write_survives}
+use Rattle.tables.proofs.CertTable.{put}
+use Rattle.tables.proofs.certs.insert_cert.Goals as goal
+
+pub returns : goal.returns
+returns g c =
+    let old = state g.S.Store c.args.conn.now in
+    let new = state g.S.Store c.execute.new.self in
+    let write = put c.args.cert.now in
+    record {
+      changes = λ clean. write_changes write old new c.execute.result c.done.result c.done.ensures
+          (rw c.values.ensures at (c.execute.ensures.runs clean));
+      fault = λ clean. write_fails write old new c.execute.result c.done.result c.done.ensures
+          (rw c.values.ensures at (c.execute.ensures.runs clean));
+      survives = write_survives write old new (rw c.values.ensures at c.execute.ensures.survives);
+    }

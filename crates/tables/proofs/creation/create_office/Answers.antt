@@ -1,0 +1,16 @@
+use Rattle.sqlite.specs.Held.{state}
+use Rattle.tables.specs.Schema.{no_schema, office}
+use Rattle.tables.proofs.Statements.{survives_as}
+use Rattle.tables.proofs.DoneLemmas.{creates_done}
+use Rattle.tables.proofs.Makes.{creates, creates_left, office_text}
+use Rattle.tables.proofs.creation.create_office.Goals as goal
+
+pub returns : goal.returns
+returns g c =
+    let old = state g.S.Store c.args.conn.now in
+    let new = state g.S.Store c.execute.new.self in
+    record {
+      creates = λ clean. creates_done old new no_schema office c.execute.result c.done.result c.done.ensures
+          (creates office_text old new c.execute.result (c.execute.ensures.runs clean));
+      survives = survives_as old new _ _ (creates_left office_text old) c.execute.ensures.survives;
+    }

@@ -1,0 +1,21 @@
+use Rattle.sqlite.specs.Held.{state}
+use Rattle.tables.specs.Cells.{key_id_cells}
+use Rattle.tables.proofs.CallLemmas.{find_one, find_one_fails, find_one_open, find_survives}
+use Rattle.tables.proofs.RevokedTable.{find}
+use Rattle.tables.proofs.revoked.find_revoked.Goals as goal
+
+pub returns : goal.returns
+returns g c =
+    let old = state g.S.Store c.args.conn.now in
+    let new = state g.S.Store c.query_all.new.self in
+    let query = find c.args.key_id.now in
+    let q = c.query_all.ensures in
+    record {
+      finds = λ clean. find_one query old new c.query_all.result (q.ok clean) (q.err clean) c.found_first.result
+          c.found_first.ensures;
+      was_open = λ clean. find_one_open key_id_cells _ _ old new c.query_all.result c.found_first.result (q.ok clean)
+          c.found_first.ensures;
+      fault = λ clean. find_one_fails query old new c.query_all.result (q.ok clean) (q.err clean) c.found_first.result
+          c.found_first.ensures;
+      survives = find_survives query old new (q.survives);
+    }

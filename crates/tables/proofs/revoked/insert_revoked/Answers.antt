@@ -1,0 +1,17 @@
+use Rattle.sqlite.specs.Held.{state}
+use Rattle.tables.proofs.CallLemmas.{write_changes, write_fails, write_survives}
+use Rattle.tables.proofs.RevokedTable.{put}
+use Rattle.tables.proofs.revoked.insert_revoked.Goals as goal
+
+pub returns : goal.returns
+returns g c =
+    let old = state g.S.Store c.args.conn.now in
+    let new = state g.S.Store c.execute.new.self in
+    let write = put c.args.key_id.now in
+    record {
+      changes = λ clean. write_changes write old new c.execute.result c.done.result c.done.ensures
+          (c.execute.ensures.runs clean);
+      fault = λ clean. write_fails write old new c.execute.result c.done.result c.done.ensures
+          (c.execute.ensures.runs clean);
+      survives = write_survives write old new (c.execute.ensures.survives);
+    }

@@ -1,0 +1,49 @@
+-- Why a call on the tables fails.
+use Rattle.std.specs.Prelude.{◌≡◌, ◌⊎◌, ℕ, List, Bool, true, false, if◌then◌else◌, Option, None, Err, IsSome, IfOk}
+use Rattle.sqlite.specs.Order.{Row}
+use Rattle.sqlite.specs.Listing.{understood}
+use Rattle.sqlite.specs.Does.{Does}
+use Rattle.sqlite_disk.specs.Disk.{MoreFaults}
+use Rattle.sqlite.specs.declared.error.Error.{Error}
+use Rattle.sqlite.specs.declared.error.Error.TheVariants.{SqliteFailure}
+use Rattle.sqlite.specs.declared.error.ErrorCode.TheVariants.{OutOfMemory}
+use Rattle.sqlite.specs.State.{State, mode_of, text_of}
+use Rattle.tables.specs.Schema.{whole}
+use Rattle.tables.specs.declared.fault.Fault.{Fault}
+use Rattle.tables.specs.declared.fault.Fault.TheVariants.{Device, Damaged, NoMemory}
+
+abbrev pub is_out_of_memory : Error → Bool
+is_out_of_memory (SqliteFailure OutOfMemory) = true
+is_out_of_memory _ = false
+
+-- the fault that an error of the database is
+abbrev pub fault_of : Error → Fault
+fault_of e = if is_out_of_memory e then NoMemory else Device
+
+-- the disk failed during the call, an earlier failure has shut the connection, or its limit on steps was met
+abbrev pub HasFailed : State → State → Type 0
+HasFailed old new = MoreFaults old.faults new.faults ⊎ ((old.is_open ≡ false) ⊎ IsSome old.step_limit)
+
+-- the cause of each fault of a call on tables that mean something: none is damaged
+abbrev pub HasCause : State → State → Fault → Type 0
+HasCause old new NoMemory = Unit {0}
+HasCause old new Device = HasFailed old new
+HasCause old new Damaged = ⊥
+
+-- the rules of the tables refuse the statement, as for a key that is taken, or a row of it is too big
+abbrev pub IsRefused : List ℕ → Row → State → Type 0
+IsRefused sql params s =
+    IfOk (understood whole sql) (λ c. (stop : Option Error)
+    × Does s.step_limit (mode_of s) params s.now (text_of sql c) None c.command (Err stop))
+
+-- the cause of each fault of a write on tables that mean something
+abbrev pub HasWriteCause : List ℕ → Row → State → State → Fault → Type 0
+HasWriteCause sql params old new NoMemory = Unit {0}
+HasWriteCause sql params old new Device = HasFailed old new ⊎ IsRefused sql params old
+HasWriteCause sql params old new Damaged = ⊥
+
+-- why reading fails: memory was refused, or this holds
+abbrev pub Misread : Type 0 → Fault → Type 0
+Misread P NoMemory = Unit {0}
+Misread P Damaged = P
+Misread P Device = ⊥

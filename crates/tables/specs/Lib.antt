@@ -1,0 +1,9 @@
+pub mod Faults
+pub mod Kinds
+pub mod Schema
+pub mod Cells
+pub mod Contents
+pub mod Changes
+pub mod Calls
+pub mod Done
+pub mod Look

@@ -1,0 +1,97 @@
+//! The table of CAs.
+
+ghost use Rattle.std.specs.Prelude.{◌≡◌, ◌∷◌, [], IsTrue, OnOk};
+ghost use Rattle.std.specs.Ordering.{nat_cmp};
+ghost use Rattle.sqlite.specs.Held.{state};
+ghost use Rattle.sqlite.specs.State.{HasCleanDisk, Survives};
+ghost use Rattle.tables.specs.Cells.{ca_cells};
+ghost use Rattle.tables.specs.Changes.{with_ca};
+ghost use Rattle.tables.specs.Calls.{Changes, FailsBy, Finds, Leaves, Never, Rises};
+ghost use Rattle.tables.specs.Faults.{HasCause, HasWriteCause};
+
+use crate::columns::{Columns, found};
+use crate::fault::{Fault, done};
+use crate::kind::{Kind, blob_at, is_row_of, number_at};
+use crate::number::Number;
+use crate::sql::{EVERY_CA, INSERT_CA};
+use sqlite::types::ValueRef;
+use sqlite::{Alter, Connection, Row};
+use std::alloc::Global;
+use text::{NoMemory, Text};
+
+/// A CA.
+#[derive(Debug, Drop)]
+pub struct CaRow {
+    /// From 1 on.
+    pub number: Number,
+    /// Its key blob, 51 bytes.
+    pub ca: Text,
+    /// The serial that it serves first.
+    pub since: Number,
+}
+
+impl CaRow {
+    ghost use Rattle.sqlite.specs.Values.{bound};
+    ghost use Rattle.tables.specs.Cells.{ca_cells};
+
+    fn values(&self) -> [ValueRef<'_>; 3]
+        ensures { bound result ≡ ca_cells self.now }
+    {
+        [
+            self.number.value(),
+            ValueRef::Blob(self.ca.as_slice()),
+            self.since.value(),
+        ]
+    }
+}
+
+impl Columns for CaRow {
+    ghost use Rattle.std.specs.Prelude.{◌∷◌, [], refl};
+    ghost use Rattle.tables.specs.Kinds.{has_kinds};
+    ghost use Rattle.tables.specs.Cells.{ca_cells, ca_kinds};
+
+    ghost cells = { ca_cells };
+
+    ghost is_row = { has_kinds ca_kinds };
+
+    ghost fits = { λ _. refl };
+
+    fn is_row(row: &Row) -> bool {
+        is_row_of(row, &[Kind::Number, Kind::Blob, Kind::Number])
+    }
+
+    fn copied_from(alloc: Global, row: &Row) -> Result<CaRow, NoMemory> {
+        Ok(CaRow {
+            number: number_at(row, 0),
+            ca: blob_at(alloc, row, 1)?,
+            since: number_at(row, 2),
+        })
+    }
+}
+
+/// Keeps a CA.
+pub fn insert_ca<S: Alter>(conn: &mut Connection<S>, ca: &CaRow) -> Result<(), Fault>
+    ensures changes { HasCleanDisk (state S.Store conn.new) →
+        Changes (with_ca ca.now) (state S.Store conn.old) (state S.Store conn.new) result }
+    ensures fault { HasCleanDisk (state S.Store conn.new) →
+        FailsBy (HasWriteCause INSERT_CA.now (ca_cells ca.now)) (state S.Store conn.old) (state S.Store conn.new)
+        result }
+    ensures survives { Survives (state S.Store conn.old) (state S.Store conn.new)
+        (Leaves (with_ca ca.now) (state S.Store conn.old)) }
+{
+    done(conn.execute(INSERT_CA, &ca.values()))
+}
+
+/// Each CA, by number.
+pub fn every_ca<S: Alter>(alloc: Global, conn: &mut Connection<S>) -> Result<Vec<CaRow>, Fault>
+    ensures finds { HasCleanDisk (state S.Store conn.new) →
+        Finds (λ c. c.cas) (state S.Store conn.old) (state S.Store conn.new) result }
+    ensures sorted { HasCleanDisk (state S.Store conn.new)
+        → Rises (λ a. a.number) (nat_cmp) (state S.Store conn.old) result }
+    ensures was_open { HasCleanDisk (state S.Store conn.new) → OnOk result (IsTrue (state S.Store conn.old).is_open) }
+    ensures fault { HasCleanDisk (state S.Store conn.new) →
+        FailsBy HasCause (state S.Store conn.old) (state S.Store conn.new) result }
+    ensures survives { Survives (state S.Store conn.old) (state S.Store conn.new) (Never (state S.Store conn.old)) }
+{
+    found(alloc, conn.query_all(EVERY_CA, &[]))
+}

@@ -1,0 +1,147 @@
+//! The table of certificates.
+
+ghost use Rattle.std.specs.Prelude.{◌≡◌, ◌∷◌, [], IsTrue, OnOk, pos};
+ghost use Rattle.std.specs.Ordering.{nat_cmp};
+ghost use Rattle.sqlite.specs.Held.{state};
+ghost use Rattle.sqlite.specs.State.{HasCleanDisk, Survives};
+ghost use Rattle.sqlite.specs.declared.types.Value.TheVariants.{Int, Blob};
+ghost use Rattle.tables.specs.Cells.{cert_cells};
+ghost use Rattle.tables.specs.Changes.{certs_numbered, with_cert, with_signature};
+ghost use Rattle.tables.specs.Calls.{Changes, FailsBy, Finds, FindsOne, Leaves, Never, Rises};
+ghost use Rattle.tables.specs.Faults.{HasCause, HasWriteCause};
+
+use crate::columns::{Columns, found, found_first};
+use crate::fault::{Fault, done};
+use crate::kind::{Kind, blob_at, is_row_of, number_at, optional_blob, optional_blob_at, text_at};
+use crate::number::Number;
+use crate::sql::{EVERY_CERT, FIND_CERT, INSERT_CERT, SIGN_CERT};
+use sqlite::types::ValueRef;
+use sqlite::{Alter, Connection, Row};
+use std::alloc::Global;
+use text::{NoMemory, Text};
+
+/// A certificate.
+#[derive(Debug, Drop)]
+pub struct CertRow {
+    pub serial: Number,
+    /// The name of its department.
+    pub department: Text,
+    pub key_id: Text,
+    /// All that is signed.
+    pub body: Text,
+    /// 64 bytes, once it is signed.
+    pub signature: Option<Text>,
+}
+
+impl CertRow {
+    ghost use Rattle.sqlite.specs.Values.{bound};
+    ghost use Rattle.tables.specs.Cells.{cert_cells};
+
+    fn values(&self) -> [ValueRef<'_>; 5]
+        ensures { bound result ≡ cert_cells self.now }
+    {
+        [
+            self.serial.value(),
+            ValueRef::Text(self.department.as_slice()),
+            ValueRef::Text(self.key_id.as_slice()),
+            ValueRef::Blob(self.body.as_slice()),
+            optional_blob(&self.signature),
+        ]
+    }
+}
+
+impl Columns for CertRow {
+    ghost use Rattle.std.specs.Prelude.{◌∷◌, []};
+    ghost use Rattle.tables.specs.Cells.{signed_or_not};
+    ghost use Rattle.tables.specs.Kinds.{has_kinds};
+    ghost use Rattle.tables.specs.Cells.{cert_cells, cert_kinds};
+
+    ghost cells = { cert_cells };
+
+    ghost is_row = { has_kinds cert_kinds };
+
+    ghost fits = { signed_or_not };
+
+    fn is_row(row: &Row) -> bool {
+        is_row_of(
+            row,
+            &[
+                Kind::Number,
+                Kind::Text,
+                Kind::Text,
+                Kind::Blob,
+                Kind::OptionalBlob,
+            ],
+        )
+    }
+
+    fn copied_from(alloc: Global, row: &Row) -> Result<CertRow, NoMemory> {
+        Ok(CertRow {
+            serial: number_at(row, 0),
+            department: text_at(alloc, row, 1)?,
+            key_id: text_at(alloc, row, 2)?,
+            body: blob_at(alloc, row, 3)?,
+            signature: optional_blob_at(alloc, row, 4)?,
+        })
+    }
+}
+
+/// Keeps a certificate.
+pub fn insert_cert<S: Alter>(conn: &mut Connection<S>, cert: &CertRow) -> Result<(), Fault>
+    ensures changes { HasCleanDisk (state S.Store conn.new) →
+        Changes (with_cert cert.now) (state S.Store conn.old) (state S.Store conn.new) result }
+    ensures fault { HasCleanDisk (state S.Store conn.new) →
+        FailsBy (HasWriteCause INSERT_CERT.now (cert_cells cert.now)) (state S.Store conn.old)
+        (state S.Store conn.new) result }
+    ensures survives { Survives (state S.Store conn.old) (state S.Store conn.new)
+        (Leaves (with_cert cert.now) (state S.Store conn.old)) }
+{
+    done(conn.execute(INSERT_CERT, &cert.values()))
+}
+
+/// The certificate of this serial, if it is there.
+pub fn find_cert<S: Alter>(
+    alloc: Global,
+    conn: &mut Connection<S>,
+    serial: Number,
+) -> Result<Option<CertRow>, Fault>
+    ensures finds { HasCleanDisk (state S.Store conn.new) →
+        FindsOne (certs_numbered serial) (state S.Store conn.old) (state S.Store conn.new) result }
+    ensures was_open { HasCleanDisk (state S.Store conn.new) → OnOk result (IsTrue (state S.Store conn.old).is_open) }
+    ensures fault { HasCleanDisk (state S.Store conn.new) →
+        FailsBy HasCause (state S.Store conn.old) (state S.Store conn.new) result }
+    ensures survives { Survives (state S.Store conn.old) (state S.Store conn.new) (Never (state S.Store conn.old)) }
+{
+    found_first(alloc, conn.query_all(FIND_CERT, &[serial.value()]))
+}
+
+/// Each certificate, by serial.
+pub fn every_cert<S: Alter>(alloc: Global, conn: &mut Connection<S>) -> Result<Vec<CertRow>, Fault>
+    ensures finds { HasCleanDisk (state S.Store conn.new) →
+        Finds (λ c. c.certs) (state S.Store conn.old) (state S.Store conn.new) result }
+    ensures sorted { HasCleanDisk (state S.Store conn.new)
+        → Rises (λ c. c.serial) (nat_cmp) (state S.Store conn.old) result }
+    ensures was_open { HasCleanDisk (state S.Store conn.new) → OnOk result (IsTrue (state S.Store conn.old).is_open) }
+    ensures fault { HasCleanDisk (state S.Store conn.new) →
+        FailsBy HasCause (state S.Store conn.old) (state S.Store conn.new) result }
+    ensures survives { Survives (state S.Store conn.old) (state S.Store conn.new) (Never (state S.Store conn.old)) }
+{
+    found(alloc, conn.query_all(EVERY_CERT, &[]))
+}
+
+/// Keeps the signature of the certificate of this serial.
+pub fn update_signature<S: Alter>(
+    conn: &mut Connection<S>,
+    serial: Number,
+    signature: &[u8],
+) -> Result<(), Fault>
+    ensures changes { HasCleanDisk (state S.Store conn.new) →
+        Changes (with_signature serial signature.now) (state S.Store conn.old) (state S.Store conn.new) result }
+    ensures fault { HasCleanDisk (state S.Store conn.new) →
+        FailsBy (HasWriteCause SIGN_CERT.now (Int (pos serial) ∷ Blob signature.now ∷ [])) (state S.Store conn.old)
+        (state S.Store conn.new) result }
+    ensures survives { Survives (state S.Store conn.old) (state S.Store conn.new)
+        (Leaves (with_signature serial signature.now) (state S.Store conn.old)) }
+{
+    done(conn.execute(SIGN_CERT, &[serial.value(), ValueRef::Blob(signature)]))
+}

@@ -1,0 +1,150 @@
+//! The table of departments.
+
+ghost use Rattle.std.specs.Prelude.{◌≡◌, ◌∷◌, [], IsTrue, OnOk};
+ghost use Rattle.std.specs.Ordering.{nat_cmp};
+ghost use Rattle.std.specs.Cmp.Lexicographic.{slice_cmp};
+ghost use Rattle.sqlite.specs.Held.{state};
+ghost use Rattle.sqlite.specs.State.{HasCleanDisk, Survives};
+ghost use Rattle.tables.specs.Cells.{department_cells};
+ghost use Rattle.tables.specs.Changes.{departments_named, with_department};
+ghost use Rattle.tables.specs.Calls.{Changes, FailsBy, Finds, FindsOne, Leaves, Never, Rises};
+ghost use Rattle.tables.specs.Faults.{HasCause, HasWriteCause};
+
+use crate::columns::{Columns, found, found_first};
+use crate::fault::{Fault, done};
+use crate::kind::{Kind, is_row_of, number_at, text_at};
+use crate::number::Number;
+use crate::sql::{EVERY_DEPARTMENT, FIND_DEPARTMENT, PUT_DEPARTMENT};
+use sqlite::types::ValueRef;
+use sqlite::{Alter, Connection, Row};
+use std::alloc::Global;
+use text::{NoMemory, Text};
+
+/// A department. Lists are texts joined by commas, in the order given.
+#[derive(Debug, Drop)]
+pub struct DepartmentRow {
+    /// Its key.
+    pub name: Text,
+    /// 1 for users, 2 for hosts.
+    pub kind: Number,
+    pub admins: Text,
+    pub rules: Text,
+    pub options: Text,
+    pub extensions: Text,
+    /// The longest life of a certificate, in seconds.
+    pub max_life: Number,
+    pub namespaces: Text,
+}
+
+impl DepartmentRow {
+    ghost use Rattle.sqlite.specs.Values.{bound};
+    ghost use Rattle.tables.specs.Cells.{department_cells};
+
+    fn values(&self) -> [ValueRef<'_>; 8]
+        ensures { bound result ≡ department_cells self.now }
+    {
+        [
+            ValueRef::Text(self.name.as_slice()),
+            self.kind.value(),
+            ValueRef::Text(self.admins.as_slice()),
+            ValueRef::Text(self.rules.as_slice()),
+            ValueRef::Text(self.options.as_slice()),
+            ValueRef::Text(self.extensions.as_slice()),
+            self.max_life.value(),
+            ValueRef::Text(self.namespaces.as_slice()),
+        ]
+    }
+}
+
+impl Columns for DepartmentRow {
+    ghost use Rattle.std.specs.Prelude.{◌∷◌, [], refl};
+    ghost use Rattle.tables.specs.Kinds.{has_kinds};
+    ghost use Rattle.tables.specs.Cells.{department_cells, department_kinds};
+
+    ghost cells = { department_cells };
+
+    ghost is_row = { has_kinds department_kinds };
+
+    ghost fits = { λ _. refl };
+
+    fn is_row(row: &Row) -> bool {
+        is_row_of(
+            row,
+            &[
+                Kind::Text,
+                Kind::Number,
+                Kind::Text,
+                Kind::Text,
+                Kind::Text,
+                Kind::Text,
+                Kind::Number,
+                Kind::Text,
+            ],
+        )
+    }
+
+    fn copied_from(alloc: Global, row: &Row) -> Result<DepartmentRow, NoMemory> {
+        Ok(DepartmentRow {
+            name: text_at(alloc, row, 0)?,
+            kind: number_at(row, 1),
+            admins: text_at(alloc, row, 2)?,
+            rules: text_at(alloc, row, 3)?,
+            options: text_at(alloc, row, 4)?,
+            extensions: text_at(alloc, row, 5)?,
+            max_life: number_at(row, 6),
+            namespaces: text_at(alloc, row, 7)?,
+        })
+    }
+}
+
+/// Puts a department, in place of the one of its name if there is one.
+pub fn put_department<S: Alter>(
+    conn: &mut Connection<S>,
+    department: &DepartmentRow,
+) -> Result<(), Fault>
+    ensures changes { HasCleanDisk (state S.Store conn.new) →
+        Changes (with_department department.now) (state S.Store conn.old) (state S.Store conn.new) result }
+    ensures fault { HasCleanDisk (state S.Store conn.new) →
+        FailsBy (HasWriteCause PUT_DEPARTMENT.now (department_cells department.now)) (state S.Store conn.old)
+        (state S.Store conn.new) result }
+    ensures survives { Survives (state S.Store conn.old) (state S.Store conn.new)
+        (Leaves (with_department department.now) (state S.Store conn.old)) }
+{
+    done(conn.execute(PUT_DEPARTMENT, &department.values()))
+}
+
+/// The department of this name, if it is there.
+pub fn find_department<S: Alter>(
+    alloc: Global,
+    conn: &mut Connection<S>,
+    name: &[u8],
+) -> Result<Option<DepartmentRow>, Fault>
+    ensures finds { HasCleanDisk (state S.Store conn.new) →
+        FindsOne (departments_named name.now) (state S.Store conn.old) (state S.Store conn.new) result }
+    ensures was_open { HasCleanDisk (state S.Store conn.new) → OnOk result (IsTrue (state S.Store conn.old).is_open) }
+    ensures fault { HasCleanDisk (state S.Store conn.new) →
+        FailsBy HasCause (state S.Store conn.old) (state S.Store conn.new) result }
+    ensures survives { Survives (state S.Store conn.old) (state S.Store conn.new) (Never (state S.Store conn.old)) }
+{
+    found_first(
+        alloc,
+        conn.query_all(FIND_DEPARTMENT, &[ValueRef::Text(name)]),
+    )
+}
+
+/// Each department, in byte order of the names.
+pub fn every_department<S: Alter>(
+    alloc: Global,
+    conn: &mut Connection<S>,
+) -> Result<Vec<DepartmentRow>, Fault>
+    ensures finds { HasCleanDisk (state S.Store conn.new) →
+        Finds (λ c. c.departments) (state S.Store conn.old) (state S.Store conn.new) result }
+    ensures sorted { HasCleanDisk (state S.Store conn.new)
+        → Rises (λ d. d.name) (slice_cmp nat_cmp) (state S.Store conn.old) result }
+    ensures was_open { HasCleanDisk (state S.Store conn.new) → OnOk result (IsTrue (state S.Store conn.old).is_open) }
+    ensures fault { HasCleanDisk (state S.Store conn.new) →
+        FailsBy HasCause (state S.Store conn.old) (state S.Store conn.new) result }
+    ensures survives { Survives (state S.Store conn.old) (state S.Store conn.new) (Never (state S.Store conn.old)) }
+{
+    found(alloc, conn.query_all(EVERY_DEPARTMENT, &[]))
+}

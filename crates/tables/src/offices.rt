@@ -1,0 +1,188 @@
+//! The table of the office.
+
+ghost use Rattle.std.specs.Prelude.{◌≡◌, ◌∷◌, [], IsTrue, OnOk, pos};
+ghost use Rattle.std.specs.Ordering.{nat_cmp};
+ghost use Rattle.sqlite.specs.Held.{state};
+ghost use Rattle.sqlite.specs.State.{HasCleanDisk, Survives};
+ghost use Rattle.sqlite.specs.declared.types.Value.TheVariants.{Int};
+ghost use Rattle.tables.specs.Cells.{office_cells, counter_cells};
+ghost use Rattle.tables.specs.Changes.{with_office, with_counters, with_schema};
+ghost use Rattle.tables.specs.Calls.{Changes, FailsBy, Finds, Leaves, Never, Rises};
+ghost use Rattle.tables.specs.Faults.{HasCause, HasWriteCause};
+
+use crate::columns::{Columns, found};
+use crate::fault::{Fault, done};
+use crate::kind::{Kind, blob_at, is_row_of, number_at, text_at};
+use crate::number::Number;
+use crate::sql::{COUNT_OFFICE, EVERY_OFFICE, INSERT_OFFICE, NUMBER_OFFICE};
+use sqlite::types::ValueRef;
+use sqlite::{Alter, Connection, Row};
+use std::alloc::Global;
+use text::{NoMemory, Text};
+
+/// The one row of the office.
+#[derive(Debug, Drop)]
+pub struct OfficeRow {
+    /// 1 in an office.
+    pub id: Number,
+    /// The number of the schema.
+    pub schema: Number,
+    /// The key blob of the first CA, 51 bytes.
+    pub ca: Text,
+    /// The name of the caller that may send anything.
+    pub root: Text,
+    /// The name of the signing station.
+    pub station: Text,
+    /// The first serial.
+    pub first: Number,
+    /// The last serial.
+    pub last: Number,
+    /// The serial that is handed out next, at most one above the last.
+    pub next: Number,
+    /// The version of the revocation list.
+    pub version: Number,
+    /// The moment of its last change, in seconds since 1970.
+    pub date: Number,
+}
+
+/// What moves as the office works.
+#[derive(Clone, Copy, Debug, PartialEq, Eq)]
+pub struct Counters {
+    pub next: Number,
+    pub version: Number,
+    pub date: Number,
+}
+
+impl Counters {
+    ghost use Rattle.sqlite.specs.Values.{bound};
+    ghost use Rattle.tables.specs.Cells.{counter_cells};
+
+    fn values(&self) -> [ValueRef<'_>; 3]
+        ensures { bound result ≡ counter_cells self.now }
+    {
+        [self.next.value(), self.version.value(), self.date.value()]
+    }
+}
+
+impl OfficeRow {
+    ghost use Rattle.sqlite.specs.Values.{bound};
+    ghost use Rattle.tables.specs.Cells.{office_cells};
+
+    fn values(&self) -> [ValueRef<'_>; 10]
+        ensures { bound result ≡ office_cells self.now }
+    {
+        [
+            self.id.value(),
+            self.schema.value(),
+            ValueRef::Blob(self.ca.as_slice()),
+            ValueRef::Text(self.root.as_slice()),
+            ValueRef::Text(self.station.as_slice()),
+            self.first.value(),
+            self.last.value(),
+            self.next.value(),
+            self.version.value(),
+            self.date.value(),
+        ]
+    }
+}
+
+impl Columns for OfficeRow {
+    ghost use Rattle.std.specs.Prelude.{◌∷◌, [], refl};
+    ghost use Rattle.tables.specs.Kinds.{has_kinds};
+    ghost use Rattle.tables.specs.Cells.{office_cells, office_kinds};
+
+    ghost cells = { office_cells };
+
+    ghost is_row = { has_kinds office_kinds };
+
+    ghost fits = { λ _. refl };
+
+    fn is_row(row: &Row) -> bool {
+        is_row_of(
+            row,
+            &[
+                Kind::Number,
+                Kind::Number,
+                Kind::Blob,
+                Kind::Text,
+                Kind::Text,
+                Kind::Number,
+                Kind::Number,
+                Kind::Number,
+                Kind::Number,
+                Kind::Number,
+            ],
+        )
+    }
+
+    fn copied_from(alloc: Global, row: &Row) -> Result<OfficeRow, NoMemory> {
+        Ok(OfficeRow {
+            id: number_at(row, 0),
+            schema: number_at(row, 1),
+            ca: blob_at(alloc, row, 2)?,
+            root: text_at(alloc, row, 3)?,
+            station: text_at(alloc, row, 4)?,
+            first: number_at(row, 5),
+            last: number_at(row, 6),
+            next: number_at(row, 7),
+            version: number_at(row, 8),
+            date: number_at(row, 9),
+        })
+    }
+}
+
+/// Puts the row of an office.
+pub fn insert_office<S: Alter>(conn: &mut Connection<S>, office: &OfficeRow) -> Result<(), Fault>
+    ensures changes { HasCleanDisk (state S.Store conn.new) →
+        Changes (with_office office.now) (state S.Store conn.old) (state S.Store conn.new) result }
+    ensures fault { HasCleanDisk (state S.Store conn.new) →
+        FailsBy (HasWriteCause INSERT_OFFICE.now (office_cells office.now)) (state S.Store conn.old)
+        (state S.Store conn.new) result }
+    ensures survives { Survives (state S.Store conn.old) (state S.Store conn.new)
+        (Leaves (with_office office.now) (state S.Store conn.old)) }
+{
+    done(conn.execute(INSERT_OFFICE, &office.values()))
+}
+
+/// Each row of the table of the office, by id. An office has one.
+pub fn every_office<S: Alter>(
+    alloc: Global,
+    conn: &mut Connection<S>,
+) -> Result<Vec<OfficeRow>, Fault>
+    ensures finds { HasCleanDisk (state S.Store conn.new) →
+        Finds (λ c. c.offices) (state S.Store conn.old) (state S.Store conn.new) result }
+    ensures sorted { HasCleanDisk (state S.Store conn.new)
+        → Rises (λ o. o.id) (nat_cmp) (state S.Store conn.old) result }
+    ensures was_open { HasCleanDisk (state S.Store conn.new) → OnOk result (IsTrue (state S.Store conn.old).is_open) }
+    ensures fault { HasCleanDisk (state S.Store conn.new) →
+        FailsBy HasCause (state S.Store conn.old) (state S.Store conn.new) result }
+    ensures survives { Survives (state S.Store conn.old) (state S.Store conn.new) (Never (state S.Store conn.old)) }
+{
+    found(alloc, conn.query_all(EVERY_OFFICE, &[]))
+}
+
+/// Moves the counters of the office, the row of id 1.
+pub fn update_office<S: Alter>(conn: &mut Connection<S>, counters: &Counters) -> Result<(), Fault>
+    ensures changes { HasCleanDisk (state S.Store conn.new) →
+        Changes (with_counters counters.now) (state S.Store conn.old) (state S.Store conn.new) result }
+    ensures fault { HasCleanDisk (state S.Store conn.new) →
+        FailsBy (HasWriteCause COUNT_OFFICE.now (counter_cells counters.now)) (state S.Store conn.old)
+        (state S.Store conn.new) result }
+    ensures survives { Survives (state S.Store conn.old) (state S.Store conn.new)
+        (Leaves (with_counters counters.now) (state S.Store conn.old)) }
+{
+    done(conn.execute(COUNT_OFFICE, &counters.values()))
+}
+
+/// Sets the number of the schema in the office, the row of id 1.
+pub fn update_schema<S: Alter>(conn: &mut Connection<S>, schema: Number) -> Result<(), Fault>
+    ensures changes { HasCleanDisk (state S.Store conn.new) →
+        Changes (with_schema schema) (state S.Store conn.old) (state S.Store conn.new) result }
+    ensures fault { HasCleanDisk (state S.Store conn.new) →
+        FailsBy (HasWriteCause NUMBER_OFFICE.now (Int (pos schema) ∷ [])) (state S.Store conn.old)
+        (state S.Store conn.new) result }
+    ensures survives { Survives (state S.Store conn.old) (state S.Store conn.new)
+        (Leaves (with_schema schema) (state S.Store conn.old)) }
+{
+    done(conn.execute(NUMBER_OFFICE, &[schema.value()]))
+}

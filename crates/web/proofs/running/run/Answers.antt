@@ -1,0 +1,48 @@
+use Rattle.std.proofs.Common.{arith, ℕ, suc, ◌≡◌, ◌+◌, ◌<◌, ◌++◌, [], ◌∷◌, List, length, drop, sym, ap, subst, ◌∙◌, add-one, drop-cons, get_or}
+use Rattle.std.proofs.lemmas.Grind.{common_steps}
+use Rattle.std.proofs.Math.ListN.{drop_of_length-le}
+use Rattle.web.specs.declared.exchange.Exchange.{Exchange}
+use Rattle.web.specs.declared.exchange.Given.{Given}
+use Rattle.web.specs.declared.exchange.Given.TheVariants.{Answer, Fault}
+use Rattle.web.specs.Answers.{Answers}
+use Rattle.web.proofs.Underway.{IsUnderway, goes_on, goes_by, is_done}
+use Rattle.web.proofs.running.run.Goals.{in-Ok, in-Err}
+use Rattle.web.proofs.running.run.Goals as goal
+
+pub loop-exchange-preserved : goal.loop-exchange-preserved
+loop-exchange-preserved g c =
+    let x = c.exchange-item.result in
+    let i = c.loop-exchange.exchange-index in
+    let before = g.R.Registry.means c.args.registry.now in
+    let now = g.R.Registry.means c.loop-exchange.registry in
+    let new = g.R.Registry.means c.answer_by.new.registry in
+    let all = c.args.exchanges.now in
+    let given = c.loop-exchange.given.items in
+    let rest : List Exchange = drop (i + 1) all in
+    let pushed : c.push.new.self.items ≡ given ++ c.match-answer_by.one ∷ [] = grind (arith, common_steps) in
+    let left : drop i all ≡ x ∷ rest =
+    rw (add-one, drop-cons all i x c.loop-exchange-test.true) (ap (λ (y : Exchange). y ∷ drop (suc i) all) (sym c.exchange-item.is)) in
+    record {
+      honest = λ h. c.loop-exchange.invariant.honest (c.answer_by.ensures.honest h);
+      underway = λ h.
+          let u : IsUnderway before now all (x ∷ rest) given =
+          subst (λ (r : List Exchange). IsUnderway before now all r given) left (c.loop-exchange.invariant.underway (c.answer_by.ensures.honest h)) in
+          elim c.match-answer_by.branch [
+            | in-Ok w ↦ subst (λ (g : List Given). IsUnderway before new all rest g)
+                (ap (λ (y : Given). given ++ y ∷ []) (ap (λ (t : List ℕ). Answer t) (sym w.from_vec.ensures) ∙ sym w.one-is) ∙ sym pushed)
+                (goes_on before now new all rest x given w.in-Ok.response.items
+                  (λ o l m. subst (λ (t : List ℕ). Answers o l t x.moment x.nonce w.in-Ok.response.items (new o)) c.as_slice-request.ensures (w.in-Ok.ensures.answered h o l m)) u)
+            | in-Err w ↦ subst (λ (g : List Given). IsUnderway before new all rest g)
+                (ap (λ (y : Given). given ++ y ∷ []) (sym w.one-is) ∙ sym pushed)
+                (goes_by before now new all rest x given (w.in-Err.ensures.fault h) u)
+          ];
+      room = grind (arith, common_steps);
+    }
+
+pub returns-clause-serves : goal.returns-clause-serves
+returns-clause-serves g c honest =
+    let before = g.R.Registry.means c.args.registry.now in
+    let now = g.R.Registry.means c.loop-exchange.registry in
+    let ended : drop c.loop-exchange.exchange-index c.args.exchanges.now ≡ [] = drop_of_length-le c.args.exchanges.now c.loop-exchange-test.false in
+    is_done before now c.args.exchanges.now c.loop-exchange.given.items
+    (subst (λ (r : List Exchange). IsUnderway before now c.args.exchanges.now r c.loop-exchange.given.items) ended (c.loop-exchange.invariant.underway honest))

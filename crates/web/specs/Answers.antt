@@ -1,0 +1,51 @@
+-- What is answered to a request.
+use Rattle.std.specs.Prelude.{◌≡◌, ℕ, List, [], ◌∷◌, ◌++◌, Option, Some, None}
+use Rattle.profile.specs.declared.refusal.Refusal.TheVariants.{UnknownSerial}
+use Rattle.requests.specs.declared.resource.Resource.{Resource}
+use Rattle.requests.specs.declared.resource.Resource.TheVariants.{Body}
+use Rattle.requests.specs.declared.response.MediaType.TheVariants.{PlainText, Bytes}
+use Rattle.requests.specs.Asks.{Ask, Asks, refused, get, post}
+use Rattle.requests.specs.Responses.{response_text, refusal_response}
+use Rattle.office.specs.declared.opening.Opening.{Opening}
+use Rattle.office.specs.declared.arrival.Arrival.{Arrival}
+use Rattle.office.specs.declared.arrival.Outcome.{Outcome}
+use Rattle.office.specs.declared.arrival.Outcome.TheVariants as outcome
+use Rattle.office.specs.Machine.{State, body_of}
+use Rattle.office.specs.History.{state, due}
+
+-- the response to an arrival
+abbrev pub outcome_response : Outcome → List ℕ
+outcome_response (outcome.Accepted reply) = response_text 200 PlainText reply
+outcome_response (outcome.Repeated reply) = response_text 200 PlainText reply
+outcome_response (outcome.Refused refusal) = refusal_response refusal
+
+-- the bytes of a body
+abbrev pub body_response : Option (List ℕ) → List ℕ
+body_response (Some body) = response_text 200 Bytes body
+body_response None = refusal_response UnknownSerial
+
+-- the response to a GET
+abbrev pub resource_response : State → Resource → List ℕ
+resource_response s (Body serial) = body_response (body_of s serial)
+
+abbrev pub arrival_by : (caller key message : List ℕ) → ℕ → List ℕ → Arrival
+arrival_by caller key message moment nonce = record { caller = caller; key = key; bytes = message; moment = moment; nonce = nonce }
+
+-- the response that is due after a history
+abbrev pub answer_text : Opening → List Arrival → Ask → ℕ → List ℕ → List ℕ
+answer_text o l (refused refusal) moment nonce = refusal_response refusal
+answer_text o l (get resource) moment nonce = resource_response (state o l) resource
+answer_text o l (post caller key message) moment nonce = outcome_response (due o l (arrival_by caller key message moment nonce))
+
+-- the history with the arrival of what was asked, where it has one
+abbrev pub with_ask : List Arrival → Ask → ℕ → List ℕ → List Arrival
+with_ask l (refused refusal) moment nonce = l
+with_ask l (get resource) moment nonce = l
+with_ask l (post caller key message) moment nonce = l ++ arrival_by caller key message moment nonce ∷ []
+
+-- The response is the one that is due to what the request asks, and the register then means the history with its arrival.
+pub record Answers (o : Opening) (l : List Arrival) (request : List ℕ) (moment : ℕ) (nonce response : List ℕ) (means : List Arrival → Type 0) : Type 0 where
+  pub ask : Ask
+  pub asks : Asks request ask
+  pub text : response ≡ answer_text o l ask moment nonce
+  pub history : means (with_ask l ask moment nonce)

@@ -1,0 +1,80 @@
+//! What a request is answered.
+
+ghost use Rattle.std.specs.Prelude.{◌≡◌, List, IfOk, OnErr, IfErr};
+ghost use Rattle.office.specs.declared.opening.Opening.{Opening};
+ghost use Rattle.office.specs.declared.arrival.Arrival.{Arrival};
+ghost use Rattle.office.specs.Faults.{IsOfARegister};
+ghost use Rattle.web.specs.Answers.{Answers, arrival_by};
+
+use crate::answering::{to_arrival, to_body, to_refusal};
+use office::{Arrival, Registry, StoreFault};
+use requests::{Asked, Resource, Routes, asks};
+use std::alloc::Global;
+use text::{NoMemory, Text};
+
+fn arrival_of(
+    alloc: Global,
+    caller: &[u8],
+    key: &[u8],
+    message: &[u8],
+    moment: u64,
+    nonce: &[u8; 32],
+) -> Result<Arrival, NoMemory>
+    ensures { IfOk result (λ a. a ≡ arrival_by caller.now key.now message.now moment nonce.now) }
+{
+    Ok(Arrival {
+        caller: Text::from_slice(alloc, caller)?,
+        key: Text::from_slice(alloc, key)?,
+        bytes: Text::from_slice(alloc, message)?,
+        moment,
+        nonce: *nonce,
+    })
+}
+
+/// The response to a request, by routes that were made before.
+pub(crate) fn answer_by<R: Registry>(
+    routes: &Routes,
+    registry: &mut R,
+    alloc: Global,
+    request: &[u8],
+    moment: u64,
+    nonce: &[u8; 32],
+) -> Result<Vec<u8>, StoreFault>
+    ensures honest { R.is_honest registry.new → R.is_honest registry.old }
+    ensures answered { R.is_honest registry.new → IfOk result (λ v. (o : Opening) (l : List Arrival) → R.means registry.old o l → Answers o l request.now moment nonce.now v.items (R.means registry.new o)) }
+    ensures fault { R.is_honest registry.new → OnErr result ((o : Opening) (l : List Arrival) → R.means registry.old o l → R.means registry.new o l) }
+    ensures only { R.is_honest registry.new → IfErr result (λ e. (o : Opening) (l : List Arrival) → R.means registry.old o l → IsOfARegister e) }
+{
+    match asks(routes, request) {
+        Asked::Refused(refusal) => to_refusal(alloc, refusal),
+        Asked::Get(Resource::Body(serial)) => to_body(registry, alloc, serial),
+        Asked::Post {
+            caller,
+            key,
+            message,
+        } => {
+            let arrival = arrival_of(alloc, caller, key, message, moment, nonce)?;
+            to_arrival(registry, alloc, arrival)
+        }
+    }
+}
+
+/// The response to the bytes of a request (RFC 9112): the one that is due after the arrivals so far. Bytes after the
+/// request aren't looked at.
+///
+/// The routes and room for a response are made before the register is asked, so after a fault nothing was applied.
+pub fn answer<R: Registry>(
+    registry: &mut R,
+    alloc: Global,
+    request: &[u8],
+    moment: u64,
+    nonce: &[u8; 32],
+) -> Result<Vec<u8>, StoreFault>
+    ensures honest { R.is_honest registry.new → R.is_honest registry.old }
+    ensures answered { R.is_honest registry.new → IfOk result (λ v. (o : Opening) (l : List Arrival) → R.means registry.old o l → Answers o l request.now moment nonce.now v.items (R.means registry.new o)) }
+    ensures fault { R.is_honest registry.new → OnErr result ((o : Opening) (l : List Arrival) → R.means registry.old o l → R.means registry.new o l) }
+    ensures only { R.is_honest registry.new → IfErr result (λ e. (o : Opening) (l : List Arrival) → R.means registry.old o l → IsOfARegister e) }
+{
+    let routes = Routes::new(alloc)?;
+    answer_by(&routes, registry, alloc, request, moment, nonce)
+}

@@ -1,0 +1,46 @@
+//! Exchanges one after the other.
+
+ghost use Rattle.std.specs.Prelude.{◌≡◌, IfOk, OnErr};
+ghost use Rattle.web.specs.Runs.{Serves};
+
+use crate::exchange::{Exchange, Given};
+use crate::request::answer_by;
+use office::Registry;
+use requests::Routes;
+use std::alloc::Global;
+use text::{NoMemory, Text};
+
+/// What each exchange is given, one after the other. After a fault it goes on with the next.
+///
+/// The result and the routes are made before the first exchange, so after `NoMemory` nothing was applied.
+pub fn run<R: Registry>(
+    registry: &mut R,
+    alloc: Global,
+    exchanges: &[Exchange],
+) -> Result<Vec<Given>, NoMemory>
+    ensures honest { R.is_honest registry.new → R.is_honest registry.old }
+
+    // Each exchange is given the response that is due after the arrivals before it that met no fault, or a fault, and the
+    // register then means the history with all arrivals that met none.
+    ensures serves { R.is_honest registry.new → IfOk result (λ given. Serves (R.means registry.old) (R.means registry.new) exchanges.now given.items) }
+    ensures err { OnErr result (registry.new ≡ registry.old) }
+{
+    let mut given = Vec::with_capacity(alloc, exchanges.len())?;
+    let routes = Routes::new(alloc)?;
+    for exchange in exchanges {
+        let request = exchange.request.as_slice();
+        let one = match answer_by(
+            &routes,
+            registry,
+            alloc,
+            request,
+            exchange.moment,
+            &exchange.nonce,
+        ) {
+            Ok(response) => Given::Answer(Text::from_vec(response)),
+            Err(_) => Given::Fault,
+        };
+        given.push(one).unwrap();
+    }
+    Ok(given)
+}

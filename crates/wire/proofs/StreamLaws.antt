@@ -1,0 +1,51 @@
+-- Bytes that a writer takes one after the other.
+use Rattle.std.proofs.Common.{◌≡◌, ℕ, ◌+◌, ◌≤◌, List, ◌++◌, length, take, drop, sym, ap, ◌∙◌, append_assoc, Option, subst}
+use Rattle.std.proofs.Math.Seq.{take-append-add, take-append_seam}
+use Rattle.std.proofs.lemmas.List.{length-take-le, take-take, take-append-drop}
+use Rattle.std.specs.Io.KnownBytes.{Appends}
+use Rattle.std.proofs.KnownBytes.{Appends-nil, Appends-trans}
+use Rattle.wire.specs.Streams.{AppendsBeginning}
+
+-- a piece that was taken, and then a beginning of the next
+pub begins_after : (old mid new : Option (List ℕ)) (a b : List ℕ) → Appends old mid a
+    → AppendsBeginning mid new b → AppendsBeginning old new (a ++ b)
+begins_after old mid new a b x y =
+    let P : List ℕ → Type 0 = Appends old new in
+    record {
+      count = length a + y.count;
+      grown = subst P (sym (take-append-add a b y.count)) (Appends-trans old mid new a (take y.count b) x y.grown);
+    }
+
+-- a beginning of a piece begins what goes on after the piece
+pub begins_longer : (old new : Option (List ℕ)) (a b : List ℕ) → AppendsBeginning old new a
+    → AppendsBeginning old new (a ++ b)
+begins_longer old new a b x =
+    let P : List ℕ → Type 0 = Appends old new in
+    record {
+      count = length (take x.count a);
+      grown = subst P (beginning x.count a b) x.grown;
+    }
+  where
+    beginning : (n : ℕ) (xs ys : List ℕ) → take n xs ≡ take (length (take n xs)) (xs ++ ys)
+    beginning n xs ys =
+        sym (take-append_seam (take n xs) (drop n xs ++ ys))
+        ∙ ap (take (length (take n xs))) (sym (append_assoc (take n xs) (drop n xs) ys))
+        ∙ ap (λ t. take (length (take n xs)) (t ++ ys)) (take-append-drop n xs)
+
+-- a piece that was taken begins what goes on after it
+pub appends_begins : (old new : Option (List ℕ)) (a b : List ℕ) → Appends old new a → AppendsBeginning old new (a ++ b)
+appends_begins old new a b x =
+    let P : List ℕ → Type 0 = Appends old new in
+    record { count = length a; grown = subst P (sym (take-append_seam a b)) x }
+
+-- where nothing changes, a beginning was taken
+pub begins_none : (old : Option (List ℕ)) (a : List ℕ) → AppendsBeginning old old a
+begins_none old a = record { count = 0; grown = Appends-nil old }
+
+-- so many bytes, and then so many of the rest, are that many bytes together
+pub piece_more : (at n k : ℕ) (xs : List ℕ) → at ≤ length xs → n ≤ k
+    → take (at + n) xs ≡ take at xs ++ take n (take k (drop at xs))
+piece_more at n k xs within most =
+    let size = length-take-le at xs within in
+    ap (take (at + n)) (sym (take-append-drop at xs)) ∙ ap (λ m. take (m + n) (take at xs ++ drop at xs)) (sym size)
+    ∙ take-append-add (take at xs) (drop at xs) n ∙ ap (λ t. take at xs ++ t) (sym (take-take n k (drop at xs) most))

@@ -1,0 +1,5 @@
+//! Reads and writes that failed.
+
+/// A call of a reader or a writer failed. The reader or writer counts it.
+#[derive(Clone, Copy, Debug, PartialEq, Eq)]
+pub struct Failed;
