@@ -1,13 +1,12 @@
 -- Bytes with a cut that is supported have no fault, and no bytes have two first faults.
-use Rattle.std.proofs.Common.{◌≡◌, ◌≢◌, ℕ, ◌<◌, ◌^◌, List, [], ◌∷◌, ◌++◌, length, Bool, true, false, ◌&&◌, ◌||◌, ◌⊎◌, inl, inr, Option, Some, None, refl, sym, ap, subst, ◌∙◌, arith, append_assoc, lit<}
+use Rattle.std.proofs.Common.{◌≡◌, ◌≢◌, ℕ, List, [], ◌∷◌, ◌++◌, Bool, true, false, ◌&&◌, inl, inr, Option, Some, None, refl, sym, subst, ◌∙◌, append_assoc, lit<}
 use Rattle.std.specs.Prelude.{MatchOption}
 use Rattle.std.specs.List.{flat_map, list_all, AllByRecursion}
 use Rattle.wire.specs.Texts.{u32_text, u64_text, string_text}
-use Rattle.krl.specs.declared.run.Run.{Run}
 use Rattle.krl.specs.declared.fault.KrlFault.{KrlFault}
 use Rattle.krl.specs.declared.fault.KrlFault.TheVariants.{Truncated, BadMagic, BadVersion, BadFlags, Unsupported, BadSection}
-use Rattle.krl.specs.Format.{Part, Serials, Range, KeyIds, OtherPart, part_type, part_data, part_text, tagged_text, Section, Certificates, OtherSection, section_type, section_data, section_text, Header, header_text, magic, RevocationList, list_text, is_supported, is_supported_part, is_supported_section, IsString, IsPart, IsSection, IsHeader, IsCut}
-use Rattle.krl.specs.Faults.{FieldFault, ItemFault, IsU32, IsU64, accepted, refused_unless, is_magic, is_one, is_zero, NothingAfter, CommentFault, ReservedFault, FlagsFault, DateFault, NumberFault, VersionFault, Tagged, text_of, HasString, HeaderFault, NoPart, is_part_type, PartFault, IsReadPart, PartsFault, CertificatesFault, SectionFault, IsReadSection, FirstFault}
+use Rattle.krl.specs.Format.{Part, Serials, Range, KeyIds, OtherPart, part_type, part_data, part_text, Section, Certificates, OtherSection, section_data, section_text, Header, header_text, magic, RevocationList, is_supported, is_supported_part, is_supported_section, IsString, IsPart, IsSection, IsHeader, IsCut}
+use Rattle.krl.specs.Faults.{FieldFault, IsU32, IsU64, accepted, refused_unless, is_magic, is_one, is_zero, NothingAfter, CommentFault, ReservedFault, FlagsFault, DateFault, NumberFault, VersionFault, text_of, HasString, HeaderFault, NoPart, is_part_type, PartFault, IsReadPart, PartsFault, CertificatesFault, SectionFault, IsReadSection, FirstFault}
 use Rattle.krl.proofs.Texts.{IsUnique, HasBytes, u32_unique, u64_unique, strings_unique, tagged_unique, part_unique, part_has_bytes, section_unique, section_has_bytes, header_fields, header_unique}
 
 -- ---- one field

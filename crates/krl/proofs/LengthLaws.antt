@@ -1,5 +1,5 @@
 -- Lengths of parts and of lists, as sums.
-use Rattle.std.proofs.Common.{◌≡◌, ◌≢◌, ℕ, zero, suc, ◌+◌, ◌*◌, ◌<◌, ◌≤◌, List, [], ◌∷◌, ◌++◌, length, Bool, true, false, ◌&&◌, ◌||◌, cond, eqb, refl, sym, ap, subst, ◌∙◌, arith, length-append}
+use Rattle.std.proofs.Common.{◌≡◌, ℕ, ◌+◌, ◌*◌, ◌<◌, ◌≤◌, List, [], ◌∷◌, ◌++◌, length, Bool, true, false, cond, refl, sym, ap, ◌∙◌, arith, length-append}
 use Rattle.std.specs.List.{sum_by, flat_map}
 use Rattle.std.proofs.lemmas.Bool.Decides.{nat_tests}
 use Rattle.std.proofs.lemmas.Grind.{flat_map-append}
@@ -8,8 +8,8 @@ use Rattle.wire.specs.Texts.{u64_text, string_text}
 use Rattle.lines.specs.Keys.{key_blob}
 use Rattle.krl.specs.declared.run.Run.{Run}
 use Rattle.krl.specs.declared.ca_part.CaPart.{CaPart}
-use Rattle.krl.specs.Format.{Part, Serials, Range, KeyIds, part_text, section_data, section_text}
-use Rattle.krl.specs.Published.{parts_length, is_short, serials_of, listed, ranges, serial_list, serial_parts, serial_length, key_id_parts, is_idle, ca_section, sections_of, published_sections, published_length}
+use Rattle.krl.specs.Format.{Serials, Range, KeyIds, part_text, section_data, section_text}
+use Rattle.krl.specs.Published.{is_short, serials_of, listed, ranges, serial_list, serial_parts, serial_length, key_id_parts, is_idle, ca_section, published_sections}
 use Rattle.krl.specs.Lengths.{listed_text, listed_length, range_text, range_length, key_id_length, tagged_length, section_length}
 
 u64s_length : (ns : List ℕ) → length (flat_map u64_text ns) ≡ 8 * length ns

@@ -1,8 +1,8 @@
 -- Parts that are read.
-use Rattle.std.proofs.Common.{◌≡◌, ◌≢◌, ℕ, ◌<◌, ◌^◌, List, [], ◌∷◌, ◌++◌, Bool, true, false, ◌||◌, Option, Some, None, Result, Ok, Err, inl, inr, eqb, length, ◌+◌, ◌≤◌, refl, sym, ap, subst, ◌∙◌, arith, length-append}
+use Rattle.std.proofs.Common.{◌≡◌, ◌≢◌, ℕ, ◌<◌, ◌^◌, List, [], ◌++◌, Bool, false, Option, Some, None, Result, Ok, Err, inr, eqb, length, refl, sym, ap, subst, ◌∙◌, arith, length-append}
 use Rattle.std.specs.Prelude.{IfSome, IfNone, IfOk, IfErr, ◌==◌}
 use Rattle.std.specs.Option.{ok_or}
-use Rattle.std.specs.List.{list_any, flat_map, AllByRecursion}
+use Rattle.std.specs.List.{flat_map, AllByRecursion}
 use Rattle.std.specs.Str.{bytes_eq}
 use Rattle.std.proofs.lemmas.Bool.Decides.{nat_tests}
 use Rattle.wire.specs.Texts.{string_text, u64_text}
@@ -10,8 +10,8 @@ use Rattle.krl.specs.declared.run.Run.{Run}
 use Rattle.krl.specs.declared.fault.KrlFault.{KrlFault}
 use Rattle.krl.specs.declared.fault.KrlFault.TheVariants.{Unsupported, BadSection}
 use Rattle.krl.specs.Sets.{is_within}
-use Rattle.krl.specs.Format.{Part, Serials, Range, KeyIds, OtherPart, part_type, part_data, part_text, tagged_text, names, IsString, IsPart}
-use Rattle.krl.specs.Faults.{IsU64, IsReadPart, NoPart, is_part_type, PartFault}
+use Rattle.krl.specs.Format.{Serials, Range, KeyIds, OtherPart, tagged_text, IsString}
+use Rattle.krl.specs.Faults.{IsU64, NoPart, PartFault}
 use Rattle.krl.specs.Reading.{AreItems, ReadsPartData, RefusesPartData, ReadsPart}
 
 no_serials : (bytes : List ℕ) → ((ns : List ℕ) → AllByRecursion IsU64 ns → bytes ≢ flat_map u64_text ns) → NoPart (0x20, bytes)

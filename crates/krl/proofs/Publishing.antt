@@ -1,19 +1,18 @@
 -- The published list is lawful and supported, and revokes just what its parts name.
-use Rattle.std.proofs.Common.{◌≡◌, ◌≢◌, ℕ, zero, suc, ◌+◌, ◌*◌, ◌<◌, ◌≤◌, ◌^◌, List, [], ◌∷◌, ◌++◌, length, Bool, true, false, ◌&&◌, ◌||◌, ◌⊎◌, cond, eqb, leb, ltb, inl, inr, refl, sym, ap, subst, ◌∙◌, arith, length-append, append_assoc}
+use Rattle.std.proofs.Common.{◌≡◌, ◌≢◌, ℕ, suc, ◌+◌, ◌<◌, ◌≤◌, ◌^◌, List, [], ◌∷◌, ◌++◌, length, Bool, true, false, ◌&&◌, ◌||◌, cond, eqb, leb, inl, inr, refl, sym, ap, subst, ◌∙◌, arith, length-append}
 use Rattle.std.specs.List.{list_any, list_all, flat_map, AllByRecursion}
 use Rattle.std.specs.Str.{bytes_eq}
-use Rattle.std.proofs.lemmas.Bool.{cases_lt, le-ltb}
 use Rattle.std.proofs.lemmas.Bool.Decides.{nat_tests}
 use Rattle.std.proofs.lemmas.Slice.Eq.{bytes_eq-Decides}
-use Rattle.wire.specs.Texts.{u64_text, string_text}
+use Rattle.wire.specs.Texts.{string_text}
 use Rattle.lines.specs.Keys.{key_blob}
 use Rattle.krl.specs.declared.run.Run.{Run}
 use Rattle.krl.specs.declared.ca_part.CaPart.{CaPart}
 use Rattle.krl.specs.declared.krl_head.KrlHead.{KrlHead}
-use Rattle.krl.specs.Sets.{contains, is_among, AreRunsFrom, AreRuns}
-use Rattle.krl.specs.Format.{Part, Serials, Range, KeyIds, OtherPart, part_data, part_text, names, Section, Certificates, section_data, section_text, section_revokes, is_for, is_supported_part, is_supported_section, RevocationList, list_text, is_supported, revokes, IsString, IsPart, IsPartContent, IsSection, IsCut}
-use Rattle.krl.specs.Published.{names_serial, named_set, is_short, serials_of, listed, ranges, serial_list, serial_parts, key_id_parts, is_idle, ca_section, sections_of, published_sections, published_header, published_list, published_text, part_fits, fits, is_key_id, IsCaPartOf, AreDistinctCas, RevokesExactly, AreOnly}
-use Rattle.krl.proofs.Booleans.{ltb-yes, or_true, or_group, clash}
+use Rattle.krl.specs.Sets.{contains, AreRunsFrom, AreRuns}
+use Rattle.krl.specs.Format.{Part, Range, KeyIds, part_data, part_text, names, section_data, section_revokes, is_for, is_supported_part, is_supported_section, IsString, IsPart, IsPartContent, IsSection, IsCut}
+use Rattle.krl.specs.Published.{names_serial, named_set, is_short, serials_of, listed, ranges, serial_list, serial_parts, key_id_parts, is_idle, ca_section, published_sections, published_list, published_text, part_fits, fits, is_key_id, IsCaPartOf, AreDistinctCas, RevokesExactly, AreOnly}
+use Rattle.krl.proofs.Booleans.{or_group, clash}
 use Rattle.krl.proofs.Texts.{cut_unique}
 use Rattle.krl.proofs.Shortest.{serials_named}
 

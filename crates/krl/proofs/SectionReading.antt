@@ -1,13 +1,13 @@
 -- Sections and lists that are read.
-use Rattle.std.proofs.Common.{◌≡◌, ◌≢◌, ℕ, ◌+◌, ◌<◌, ◌≤◌, ◌^◌, List, [], ◌∷◌, ◌++◌, length, Bool, true, false, ◌&&◌, ◌||◌, eqb, Option, Some, None, Result, Ok, Err, inl, inr, refl, sym, ap, subst, ◌∙◌, arith, length-append}
+use Rattle.std.proofs.Common.{◌≡◌, ◌≢◌, ℕ, ◌<◌, List, [], ◌∷◌, ◌++◌, length, Bool, true, false, ◌&&◌, eqb, Option, Some, None, Result, Ok, Err, inl, inr, refl, sym, ap, ◌∙◌, arith, length-append}
 use Rattle.std.specs.Prelude.{IfOk, IfErr, MatchOption}
-use Rattle.std.specs.List.{list_any, list_all, flat_map, AllByRecursion}
+use Rattle.std.specs.List.{list_all, flat_map, AllByRecursion}
 use Rattle.std.proofs.lemmas.Bool.Decides.{nat_tests}
-use Rattle.wire.specs.Texts.{u32_text, u64_text, string_text}
+use Rattle.wire.specs.Texts.{string_text}
 use Rattle.krl.specs.declared.fault.KrlFault.{KrlFault}
-use Rattle.krl.specs.declared.fault.KrlFault.TheVariants.{Truncated, BadMagic, BadVersion, BadFlags, Unsupported, BadSection}
-use Rattle.krl.specs.Format.{Part, part_text, tagged_text, names, Section, Certificates, section_text, section_revokes, is_for, Header, header_text, RevocationList, list_text, is_supported, is_supported_part, is_supported_section, revokes, IsString, IsPart, IsSection, IsHeader, IsCut}
-use Rattle.krl.specs.Faults.{FieldFault, ItemFault, NothingAfter, accepted, refused_unless, is_one, Tagged, text_of, HasString, IsReadPart, CertificatesFault, SectionFault, IsReadSection, HeaderFault, FirstFault}
+use Rattle.krl.specs.declared.fault.KrlFault.TheVariants.{Unsupported}
+use Rattle.krl.specs.Format.{Part, part_text, tagged_text, names, Section, Certificates, section_text, section_revokes, is_for, Header, header_text, RevocationList, is_supported, is_supported_part, is_supported_section, revokes, IsString, IsPart, IsSection, IsHeader, IsCut}
+use Rattle.krl.specs.Faults.{FieldFault, ItemFault, NothingAfter, IsReadPart, CertificatesFault, SectionFault, IsReadSection, FirstFault}
 use Rattle.krl.specs.Reading.{AreItems, ReadsCertificates, ReadsList}
 use Rattle.krl.proofs.Texts.{cut_unique}
 use Rattle.krl.proofs.FaultLaws.{no_first_fault, one_first_fault}

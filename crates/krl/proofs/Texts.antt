@@ -1,11 +1,10 @@
 -- Texts that can be cut off the front of bytes in one way only.
-use Rattle.std.proofs.Common.{◌≡◌, ◌≢◌, ℕ, ◌<◌, ◌^◌, List, [], ◌∷◌, ◌++◌, length, Bool, true, false, refl, sym, ap, subst, ◌∙◌, arith, append_assoc, lit<}
+use Rattle.std.proofs.Common.{◌≡◌, ◌≢◌, ℕ, ◌^◌, List, [], ◌∷◌, ◌++◌, refl, sym, ap, ◌∙◌, arith, append_assoc, lit<}
 use Rattle.std.specs.List.{flat_map, AllByRecursion}
 use Rattle.std.specs.Int.{w32, w64}
 use Rattle.wire.specs.Texts.{u32_text, u64_text, string_text}
 use Rattle.wire.proofs.Laws.{wide32, wide64, number_unique, string_unique}
-use Rattle.krl.specs.declared.run.Run.{Run}
-use Rattle.krl.specs.Format.{Part, Serials, Range, KeyIds, OtherPart, part_type, part_data, part_text, tagged_text, Section, Certificates, OtherSection, section_type, section_data, section_text, Header, header_text, magic, RevocationList, list_text, IsString, IsPart, IsSection, IsHeader, IsCut}
+use Rattle.krl.specs.Format.{Part, Serials, Range, KeyIds, OtherPart, part_type, part_data, part_text, Section, Certificates, OtherSection, section_type, section_data, section_text, Header, header_text, magic, RevocationList, IsString, IsPart, IsSection, IsHeader, IsCut}
 use Rattle.krl.specs.Faults.{IsU32, IsU64, Tagged, text_of, HasString}
 
 -- what follows one text of the kind follows no other

@@ -1,5 +1,5 @@
 -- Lengths of what is written, a run, a key id and a CA at a time.
-use Rattle.std.specs.Prelude.{ℕ, ◌==◌, ◌+◌, ◌*◌, List, [], ◌∷◌, length, if◌then◌else◌}
+use Rattle.std.specs.Prelude.{ℕ, ◌==◌, ◌+◌, ◌*◌, List, [], length, if◌then◌else◌}
 use Rattle.std.specs.List.{flat_map}
 use Rattle.wire.specs.Texts.{u64_text}
 use Rattle.krl.specs.declared.run.Run.{Run}

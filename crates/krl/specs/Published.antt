@@ -1,5 +1,5 @@
 -- The list that is written: the shortest serial parts, and a section for each CA that has something revoked.
-use Rattle.std.specs.Prelude.{◌≡◌, ◌==◌, ℕ, ◌+◌, ◌<◌, ◌≤◌, ◌^◌, List, [], ◌∷◌, ◌++◌, length, Bool, true, false, ◌&&◌, ◌||◌, ◌⊎◌, ◌≢◌, nat_lt, nat_le, if◌then◌else◌}
+use Rattle.std.specs.Prelude.{◌≡◌, ◌==◌, ℕ, ◌+◌, ◌≤◌, List, [], ◌∷◌, ◌++◌, length, Bool, true, false, ◌&&◌, ◌||◌, ◌⊎◌, ◌≢◌, nat_lt, nat_le, if◌then◌else◌}
 use Rattle.std.specs.List.{list_any, list_all, flat_map}
 use Rattle.std.specs.Str.{bytes_eq}
 use Rattle.lines.specs.Keys.{key_blob}
@@ -7,7 +7,7 @@ use Rattle.krl.specs.declared.run.Run.{Run}
 use Rattle.krl.specs.declared.ca_part.CaPart.{CaPart}
 use Rattle.krl.specs.declared.krl_head.KrlHead.{KrlHead}
 use Rattle.krl.specs.Sets.{is_within, is_among, contains}
-use Rattle.krl.specs.Format.{Part, Serials, Range, KeyIds, OtherPart, part_text, Section, Certificates, section_data, section_text, Header, RevocationList, list_text, IsString, IsCut, is_supported, revokes}
+use Rattle.krl.specs.Format.{Part, Serials, Range, KeyIds, OtherPart, part_text, Section, Certificates, section_data, section_text, Header, RevocationList, list_text, IsCut, is_supported, revokes}
 
 -- ---- serials
 

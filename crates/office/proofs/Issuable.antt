@@ -183,9 +183,17 @@ lawful_parts d i department issue permitted =
     record {
       options_fit = (and_parts (are_option_names d.options) (fits_kind d.kind d.options) options_d5.0).1;
       extensions_fit = (and_parts (are_extension_names d.extensions) (fits_kind d.kind d.extensions) extensions_d6.0).1;
-      key_id = key_id_i4.0; key = size.0; principals = principals_i6.0; before = before_i8.0;
-      options = options.0; options_apart = options.1; extensions = extensions.0; extensions_apart = extensions.1;
-      options_listed = options_p3.0; extensions_listed = extensions_p4.0; life = life.0;
+      key_id = key_id_i4.0;
+      key = size.0;
+      principals = principals_i6.0;
+      before = before_i8.0;
+      options = options.0;
+      options_apart = options.1;
+      extensions = extensions.0;
+      extensions_apart = extensions.1;
+      options_listed = options_p3.0;
+      extensions_listed = extensions_p4.0;
+      life = life.0;
     }
 
 is_lawful : (v : View) (d : Department) (i : Issue) → IsIssuable v d i → IsLawful d i

@@ -53,6 +53,7 @@ issue_reply-le serial body last =
   where
     small : (n : ℕ) → n ≤ 9223372036854775806 → n < 10 ^ 19
     small n h = omega arith
+
     wide : (n : ℕ) → n ≤ 9223372036854775806 → n < 2 ^ 64
     wide n h = omega arith
 
@@ -145,6 +146,7 @@ due_short o l a is = by_kept (reply_kept (kept_by (first_accepted o l)) a) refl
     judged_short : (r : Result First Refusal) → judged (state o l) (kept_by (first_accepted o l)) a ≡ r → ReplyFits 99 (outcome_of r)
     judged_short (Ok f) e = first_short o (first_accepted o l) a f (last_after o l is) e
     judged_short (Err r) e = tt
+
     by_kept : (k : Option (List ℕ)) → reply_kept (kept_by (first_accepted o l)) a ≡ k → ReplyFits 99 (repeated_or k (outcome_of (judged (state o l) (kept_by (first_accepted o l)) a)))
     by_kept (Some reply) e = found_short (kept_by (first_accepted o l)) a reply (kept_short o l is) e
     by_kept None e = judged_short (judged (state o l) (kept_by (first_accepted o l)) a) refl

@@ -46,8 +46,14 @@ first_ca o = record { key = o.ca; since = o.first }
 
 abbrev pub opened : Opening → State
 opened o = record {
-  opening = o; cas = first_ca o ∷ []; departments = []; certificates = [];
-  revoked = λ _. false; revoked_key_ids = []; version = 0; date = 0
+  opening = o;
+  cas = first_ca o ∷ [];
+  departments = [];
+  certificates = [];
+  revoked = λ _. false;
+  revoked_key_ids = [];
+  version = 0;
+  date = 0;
 }
 
 -- the serial to be handed out next
@@ -161,8 +167,17 @@ kind_or_user None = User
 -- the fields of a certificate that is issued as asked
 abbrev pub fields_for : Issue → (serial : ℕ) → Kind → (ca nonce : List ℕ) → CertFields
 fields_for i serial kind ca nonce = record {
-  nonce = nonce; key = i.key.key; serial = serial; kind = kind; key_id = i.key_id; principals = i.principals;
-  after = i.after; before = i.before; options = listing i.options; extensions = listing (flags i.extensions); ca = ca
+  nonce = nonce;
+  key = i.key.key;
+  serial = serial;
+  kind = kind;
+  key_id = i.key_id;
+  principals = i.principals;
+  after = i.after;
+  before = i.before;
+  options = listing i.options;
+  extensions = listing (flags i.extensions);
+  ca = ca;
 }
 
 abbrev pub certificate_for : Issue → (serial : ℕ) → Kind → (ca nonce : List ℕ) → Certificate

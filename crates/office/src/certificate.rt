@@ -12,5 +12,4 @@ pub struct Certificate {
     pub fields: CertFields,
     /// The body's bytes, over which the signature is made.
     pub body: Text,
-
 }

@@ -76,7 +76,12 @@ pub(crate) fn issued(
         principals: issue.principals.copied(alloc)?,
         after: issue.after,
         before: issue.before,
-        options: options_of(alloc, kind, OptionField::CriticalOptions, issue.options.as_slice())?,
+        options: options_of(
+            alloc,
+            kind,
+            OptionField::CriticalOptions,
+            issue.options.as_slice(),
+        )?,
         extensions: options_of(alloc, kind, OptionField::Extensions, flags.as_slice())?,
         ca: newest_key(view),
     };

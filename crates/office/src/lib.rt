@@ -13,8 +13,8 @@ mod laws;
 mod opening;
 mod permission;
 mod refusing;
-mod replies;
 mod registry;
+mod replies;
 mod view;
 
 pub use arrival::{Arrival, Kept, Outcome};

@@ -59,11 +59,9 @@ fn is_life_permitted(department: &Department, after: u64, before: u64) -> bool
 fn are_options_permitted(department: &Department, issue: &Issue) -> bool
     ensures { result ≡ list_all (λ o. is_listed department.now.options o.name) issue.now.options }
 {
-    issue
+    issue.options.as_slice().iter().all(|option| department
         .options
-        .as_slice()
-        .iter()
-        .all(|option| department.options.contains(option.name.as_slice()))
+        .contains(option.name.as_slice()))
 }
 
 fn are_extensions_permitted(department: &Department, issue: &Issue) -> bool

@@ -29,5 +29,5 @@ accepted t new o l a d (Ok f) first e found w m =
     let state : change (state_of t) f ≡ state_of new = sym found.2 ∙ sym w.state in (
       ap (λ (x : List ℕ). outcome.Accepted x) (sym found.1) ∙ r.0,
       subst (λ (s : State). Shows s new.kept o (l ++ a ∷ [])) state
-        (subst (λ (ks : List Kept). Shows (change (state_of t) f) ks o (l ++ a ∷ [])) kept r.1),
+          (subst (λ (ks : List Kept). Shows (change (state_of t) f) ks o (l ++ a ∷ [])) kept r.1),
     )

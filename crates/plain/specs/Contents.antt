@@ -32,8 +32,14 @@ pub record Contents : Type 0 where
 -- the plain machine's state
 abbrev pub state_of : Contents → State
 state_of t = record {
-  opening = t.opening; cas = t.cas; departments = entries t.departments; certificates = t.certificates;
-  revoked = λ _. false; revoked_key_ids = []; version = t.version; date = t.date
+  opening = t.opening;
+  cas = t.cas;
+  departments = entries t.departments;
+  certificates = t.certificates;
+  revoked = λ _. false;
+  revoked_key_ids = [];
+  version = t.version;
+  date = t.date;
 }
 
 abbrev pub row_of : Arrival → List ℕ → Kept

@@ -20,7 +20,10 @@ fn is_before(department: &Department, name: &[u8]) -> bool
 fn place_of(departments: &[Department], name: &[u8]) -> usize
     ensures { result ≡ place_of departments.now name.now }
 {
-    departments.iter().take_while(|d| is_before(d, name)).count()
+    departments
+        .iter()
+        .take_while(|d| is_before(d, name))
+        .count()
 }
 
 fn is_at(departments: &[Department], place: usize, name: &[u8]) -> bool

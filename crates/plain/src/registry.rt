@@ -10,9 +10,7 @@ ghost use Rattle.plain.specs.Contents.{Writes, state_of};
 use crate::departments::put_department;
 use crate::judging::kept_reply;
 use crate::store::PlainStore;
-use office::{
-    Arrival, Certificate, Change, Decision, Kept, Outcome, Registry, Stop, StoreFault,
-};
+use office::{Arrival, Certificate, Change, Decision, Kept, Outcome, Registry, Stop, StoreFault};
 use std::alloc::Global;
 use text::{NoMemory, Text};
 
@@ -27,7 +25,10 @@ impl PlainStore {
         // Room for the rows first, so that a refusal changes nothing.
         self.kept.reserve(1)?;
         let Arrival {
-            caller, key, bytes, ..
+            caller,
+            key,
+            bytes,
+            ..
         } = arrival;
         let Decision {
             reply,
@@ -59,7 +60,8 @@ impl PlainStore {
         if serial < self.opening.first {
             return None;
         }
-        self.certificates.get((serial - self.opening.first) as usize)
+        self.certificates
+            .get((serial - self.opening.first) as usize)
     }
 }
 

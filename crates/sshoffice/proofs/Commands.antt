@@ -36,7 +36,7 @@ pair_is (Some p) name rows first second =
 pub not_named : (m : ArgMatches) (name file : Text) → (subcommand_name_of m ≡ Some name → ⊥) → named_in m ≢ Some (name, Some file)
 not_named m name file other same =
     let same_name : option_map (λ (p : Found). p.0) (subcommand_rows_of m) ≡ option_map (λ (p : Named). p.0) (named_in m) =
-        maps_twice (λ (p : Named). p.0) (λ (p : Found). let q : Named = (p.0, first_of (codes "FILE") p.1) in q) (subcommand_rows_of m) in
+    maps_twice (λ (p : Named). p.0) (λ (p : Found). let q : Named = (p.0, first_of (codes "FILE") p.1) in q) (subcommand_rows_of m) in
     other (name_is m ∙ same_name ∙ ap (option_map (λ (p : Named). p.0)) same)
 
 -- Where the subcommand is this one, its file is that of its own matches.

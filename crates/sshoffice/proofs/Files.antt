@@ -36,13 +36,13 @@ goes_on (e ∷ es) [] rest are_es are_fs same =
     absurd (not_empty e (exchanges_text es ++ rest) (sym (append_assoc (exchange_text e) (exchanges_text es) rest) ∙ same))
 goes_on (e ∷ es) (f ∷ fs) rest are_es are_fs same =
     let left : exchange_at (exchange_text e ++ (exchanges_text es ++ rest)) ≡ Some (e, exchanges_text es ++ rest) =
-        exchange_at-text e (exchanges_text es ++ rest) are_es.0 in
+    exchange_at-text e (exchanges_text es ++ rest) are_es.0 in
     let right : exchange_at (exchange_text f ++ exchanges_text fs) ≡ Some (f, exchanges_text fs) =
-        exchange_at-text f (exchanges_text fs) are_fs.0 in
+    exchange_at-text f (exchanges_text fs) are_fs.0 in
     let at : exchange_text e ++ (exchanges_text es ++ rest) ≡ exchange_text f ++ exchanges_text fs =
-        sym (append_assoc (exchange_text e) (exchanges_text es) rest) ∙ same in
+    sym (append_assoc (exchange_text e) (exchanges_text es) rest) ∙ same in
     let both : (let q : Left = (e, exchanges_text es ++ rest) in q) ≡ (f, exchanges_text fs) =
-        same_Some _ _ (sym left ∙ ap exchange_at at ∙ right) in
+    same_Some _ _ (sym left ∙ ap exchange_at at ∙ right) in
     let first : e ≡ f = ap (λ (q : Left). q.0) both in
     let next = goes_on es fs rest are_es.1 are_fs.1 (ap (λ (q : Left). q.1) both) in
     record {
@@ -100,7 +100,7 @@ pub whole_file : (file rest : List ℕ) (es fs : List Exchange) → AreExchanges
 whole_file file rest es fs are text none whole at =
     let empty : rest ≡ [] = no_bytes rest none in
     let on = goes_on fs es [] whole.each are.each (append-nil (exchanges_text fs) ∙ sym at ∙ text
-        ∙ ap (λ (r : List ℕ). exchanges_text es ++ r) empty ∙ append-nil (exchanges_text es)) in
+    ∙ ap (λ (r : List ℕ). exchanges_text es ++ r) empty ∙ append-nil (exchanges_text es)) in
     on.all ∙ ap (λ (more : List Exchange). fs ++ more) (none_more on.more on.text) ∙ append-nil fs
   where
     no_bytes : (t : List ℕ) → length t ≡ 0 → t ≡ []
@@ -127,7 +127,7 @@ pub one_more : (file rest left : List ℕ) (es : List Exchange) (e : Exchange) �
 one_more file rest left es e are text within read =
     let found = exchange_at-found rest (e, left) read in
     let joined : exchanges_text (es ++ e ∷ []) ≡ exchanges_text es ++ exchange_text e =
-        flat_map-append exchange_text es (e ∷ []) ∙ ap (λ (x : List ℕ). exchanges_text es ++ x) (append-nil (exchange_text e)) in
+    flat_map-append exchange_text es (e ∷ []) ∙ ap (λ (x : List ℕ). exchanges_text es ++ x) (append-nil (exchange_text e)) in
     record {
       are = record {
         each = each_and es e are.each found.1;

@@ -1,4 +1,5 @@
 pub mod Commands
 pub mod Files
+pub mod Openings
 pub mod Printed
 pub mod Records

@@ -73,7 +73,7 @@ cut_again byte word rest lacks =
     let front : before_first (λ b. eqb b byte) t ≡ word = before_first-append byte word rest lacks in
     let back : after_first (λ b. eqb b byte) t ≡ rest = after_first-append byte word rest lacks in
     let short : length (before_first (λ b. eqb b byte) t) < length t =
-        omega (arith, ap length front, length-append word (byte ∷ rest)) in
+    omega (arith, ap length front, length-append word (byte ∷ rest)) in
     let found : Option Cut = Some (before_first (λ b. eqb b byte) t, after_first (λ b. eqb b byte) t) in
     cond-true _ found None (lt-ltb _ _ short)
     ∙ ap (λ (w : List ℕ). let q : Option Cut = Some (w, after_first (λ b. eqb b byte) t) in q) front
@@ -109,9 +109,11 @@ number_up_to_found : (byte : ℕ) (t : List ℕ) (p : Counted) → number_up_to 
 number_up_to_found byte t p e =
     option_and_then_some _ (cut_of byte t) p e (λ c cut kept.
     let parts = mapped c.1 (number_of c.0) p kept in
-    let number = number_is c.0 p.0 parts.0 in
-    (cut_found byte t c cut ∙ ap (λ (w : List ℕ). w ++ byte ∷ c.1) number.0
-    ∙ ap (λ (r : List ℕ). decimal p.0 ++ byte ∷ r) parts.1, number.1))
+    let number = number_is c.0 p.0 parts.0 in (
+      cut_found byte t c cut ∙ ap (λ (w : List ℕ). w ++ byte ∷ c.1) number.0
+          ∙ ap (λ (r : List ℕ). decimal p.0 ++ byte ∷ r) parts.1,
+      number.1,
+    ))
 
 -- one step of reading
 step : {A B : Type 0} (o : Option A) (x : A) (f : A → Option B) (r : Option B) → o ≡ Some x → f x ≡ r
@@ -257,14 +259,14 @@ exchange_at-found t p e =
     let size_is = number_up_to_found 10 digits.1 size fourth in
     let request_is = request_found size.0 size.1 request fifth in
     let tail : digits.1 ≡ decimal (length request.0) ++ 10 ∷ (request.0 ++ request.1) =
-        size_is.0 ∙ ap (λ (r : List ℕ). decimal size.0 ++ 10 ∷ r) request_is.0
-        ∙ ap (λ (n : ℕ). decimal n ++ 10 ∷ (request.0 ++ request.1)) (sym request_is.1) in
+    size_is.0 ∙ ap (λ (r : List ℕ). decimal size.0 ++ 10 ∷ r) request_is.0
+    ∙ ap (λ (n : ℕ). decimal n ++ 10 ∷ (request.0 ++ request.1)) (sym request_is.1) in
     let middle : moment.1 ≡ encode_lower nonce ++ 32 ∷ digits.1 =
-        digits_are ∙ ap (λ (d : List ℕ). d ++ 32 ∷ digits.1) nonce_is.0 in
+    digits_are ∙ ap (λ (d : List ℕ). d ++ 32 ∷ digits.1) nonce_is.0 in
     let whole : t ≡ codes "exchange " ++ words_before it request.1 =
-        word ∙ ap (λ (w : List ℕ). codes "exchange " ++ w) (moment_is.0
-        ∙ ap (λ (r : List ℕ). decimal moment.0 ++ 32 ∷ r) (middle
-        ∙ ap (λ (r : List ℕ). encode_lower nonce ++ 32 ∷ r) tail)) in
+    word ∙ ap (λ (w : List ℕ). codes "exchange " ++ w) (moment_is.0
+    ∙ ap (λ (r : List ℕ). decimal moment.0 ++ 32 ∷ r) (middle
+    ∙ ap (λ (r : List ℕ). encode_lower nonce ++ 32 ∷ r) tail)) in
     let lawful : IsExchange it = record {
       moment = moment_is.1;
       nonce = nonce_is.1;

@@ -1,18 +1,12 @@
 -- The trial office: an opening, and the arrival that comes first.
-use Rattle.std.specs.Prelude.{codes}
+use Rattle.std.specs.Prelude.{ℕ, codes}
 use Rattle.office.specs.declared.opening.Opening.{Opening}
 use Rattle.office.specs.declared.arrival.Arrival.{Arrival}
 use Rattle.sshoffice.specs.declared.trial.TheConstants.{CA_KEY, MESSAGE, NO_NONCE}
 
--- what the trial office begins with
-abbrev pub trial_opening : Opening
-trial_opening = record {
-  ca = CA_KEY;
-  root = codes "root";
-  station = codes "station";
-  first = 1;
-  last = 9223372036854775806;
-}
+-- what an office of these serials begins with
+abbrev pub opening_of : ℕ → ℕ → Opening
+opening_of first last = record { ca = CA_KEY; root = codes "root"; station = codes "station"; first = first; last = last }
 
 -- the department `web`, put by root
 abbrev pub trial_arrival : Arrival

@@ -173,7 +173,11 @@ fn exchange_of(alloc: Global, found: &Record<'_>) -> Result<Exchange, NoMemory>
 }
 
 // One more exchange at the end.
-fn push_record(exchanges: &mut Vec<Exchange>, alloc: Global, found: &Record<'_>) -> Result<(), NoMemory>
+fn push_record(
+    exchanges: &mut Vec<Exchange>,
+    alloc: Global,
+    found: &Record<'_>,
+) -> Result<(), NoMemory>
     ensures { OnOk result (exchanges.new.items ≡ exchanges.old.items ++ exchange_of found.now ∷ []) }
 {
     exchanges.push(exchange_of(alloc, found)?)?;

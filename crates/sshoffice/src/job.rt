@@ -7,9 +7,9 @@ use crate::exchanges::read_exchanges;
 use crate::fault::JobFault;
 use crate::trial::trial_office;
 use crate::words::{Job, WordsFault, read_words};
+use std::fs;
 use std::io::{ErrorKind, Write};
 use std::rt::Files;
-use std::fs;
 
 /// The status of a job that was done.
 pub const DONE: u8 = 0;
@@ -28,7 +28,11 @@ fn read_file<R: Files + AllocGlobal>(rt: &R, path: &str) -> Result<Vec<u8>, JobF
     }
 }
 
-fn apply<R: Files + AllocGlobal, O: Write>(rt: &R, file: &str, out: &mut O) -> Result<(), JobFault> {
+fn apply<R: Files + AllocGlobal, O: Write>(
+    rt: &R,
+    file: &str,
+    out: &mut O,
+) -> Result<(), JobFault> {
     let alloc = rt.alloc();
     let bytes = read_file(rt, file)?;
     let exchanges = read_exchanges(alloc, bytes.as_slice())?;

@@ -9,6 +9,8 @@ mod exchanges;
 mod fault;
 mod job;
 mod printing;
+#[cfg(test)]
+mod tests;
 mod trial;
 mod words;
 

@@ -3,10 +3,12 @@
 ghost use Rattle.std.specs.Prelude.{◌≡◌, ◌++◌, [], ◌∷◌, List, IfOk, OnOk, OnErr};
 ghost use Rattle.office.specs.declared.opening.Opening.{Opening};
 ghost use Rattle.office.specs.declared.arrival.Arrival.{Arrival};
-ghost use Rattle.sshoffice.specs.Trial.{trial_arrival, trial_opening};
+ghost use Rattle.office.specs.Openings.{IsOpening};
+ghost use Rattle.sshoffice.specs.Trial.{opening_of, trial_arrival};
 
 use office::{Arrival, Opening, Outcome, Registry, StoreFault};
 use plain::PlainStore;
+use profile::LAST_SERIAL;
 use std::alloc::Global;
 use text::{NoMemory, Text};
 
@@ -17,16 +19,17 @@ const NO_NONCE: [u8; 32] = [0; 32];
 
 const FIRST_SERIAL: u64 = 1;
 
-const LAST_SERIAL: u64 = 9223372036854775806;
+const MESSAGE: &str =
+    "department web\nkind user\nadmins ana\nprincipals alice,*@example.org\noptions force-command\nextensions permit-X11-forwarding,permit-agent-forwarding,permit-pty\nmaxlife 86400\nnamespaces file,git\n";
 
-const MESSAGE: &str = "department web\nkind user\nadmins ana\nprincipals alice,*@example.org\noptions force-command\nextensions permit-X11-forwarding,permit-agent-forwarding,permit-pty\nmaxlife 86400\nnamespaces file,git\n";
-
-fn trial_opening(alloc: Global) -> Result<Opening, StoreFault>
-    ensures { IfOk result (λ o. o ≡ trial_opening) }
+/// An opening with the trial office's CA and names, or `Damaged` where these are no serials.
+pub(crate) fn opening_of(alloc: Global, first: u64, last: u64) -> Result<Opening, StoreFault>
+    ensures lawful { IfOk result IsOpening }
+    ensures ok { IfOk result (λ o. o ≡ opening_of first last) }
 {
     let root = String::from_str(alloc, "root").map_err(NoMemory::from)?;
     let station = String::from_str(alloc, "station").map_err(NoMemory::from)?;
-    match Opening::new(CA_KEY, root, station, FIRST_SERIAL, LAST_SERIAL) {
+    match Opening::new(CA_KEY, root, station, first, last) {
         Ok(opening) => Ok(opening),
         Err(_) => Err(StoreFault::Damaged),
     }
@@ -58,7 +61,7 @@ pub(crate) fn put_department<S: Registry>(registry: &mut S, alloc: Global) -> Re
 
 /// The trial office: the opening, and then the department.
 pub(crate) fn trial_office(alloc: Global) -> Result<PlainStore, StoreFault> {
-    let opening = trial_opening(alloc)?;
+    let opening = opening_of(alloc, FIRST_SERIAL, LAST_SERIAL)?;
     let mut office = PlainStore::new(alloc, opening)?;
     put_department(&mut office, alloc)?;
     Ok(office)

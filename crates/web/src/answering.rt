@@ -55,7 +55,11 @@ pub(crate) fn to_refusal(alloc: Global, refusal: Refusal) -> Result<Vec<u8>, Sto
 }
 
 /// The response to an arrival.
-pub(crate) fn to_arrival<R: Registry>(registry: &mut R, alloc: Global, arrival: Arrival) -> Result<Vec<u8>, StoreFault>
+pub(crate) fn to_arrival<R: Registry>(
+    registry: &mut R,
+    alloc: Global,
+    arrival: Arrival,
+) -> Result<Vec<u8>, StoreFault>
     ensures honest { R.is_honest registry.new → R.is_honest registry.old }
     ensures due { R.is_honest registry.new → IfOk result (λ v. (o : Opening) (l : List Arrival) → R.means registry.old o l → v.items ≡ outcome_response (due o l arrival)) }
     ensures next { R.is_honest registry.new → OnOk result ((o : Opening) (l : List Arrival) → R.means registry.old o l → R.means registry.new o (l ++ arrival ∷ [])) }
@@ -71,7 +75,11 @@ pub(crate) fn to_arrival<R: Registry>(registry: &mut R, alloc: Global, arrival: 
 }
 
 /// The response with the body of a serial.
-pub(crate) fn to_body<R: Registry>(registry: &mut R, alloc: Global, serial: u64) -> Result<Vec<u8>, StoreFault>
+pub(crate) fn to_body<R: Registry>(
+    registry: &mut R,
+    alloc: Global,
+    serial: u64,
+) -> Result<Vec<u8>, StoreFault>
     ensures honest { R.is_honest registry.new → R.is_honest registry.old }
     ensures row { R.is_honest registry.new → IfOk result (λ v. (o : Opening) (l : List Arrival) → R.means registry.old o l → v.items ≡ body_response (body_of (state o l) serial)) }
     ensures same { R.is_honest registry.new → (o : Opening) (l : List Arrival) → R.means registry.old o l → R.means registry.new o l }

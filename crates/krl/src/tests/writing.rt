@@ -179,8 +179,11 @@ fn each_ca_has_its_section(rt: HostRuntime) -> Result<(), Fail> {
     let mut ids = Texts::new(rt.alloc());
     ids.push(Text::from_slice(rt.alloc(), b"web/alice")?)?;
     assert_eq!(rt; written(rt.alloc(), 3, 3000, &two, &ids)?.len(), 250);
-    let [first, second] = two;
-    let three = [first, second, part([0x13; 32], runs_of(rt.alloc(), &[])?)];
+    let three = [
+        part(CA, runs_of(rt.alloc(), &[1, 2])?),
+        part(CA2, runs_of(rt.alloc(), &[3, 4])?),
+        part([0x13; 32], runs_of(rt.alloc(), &[])?),
+    ];
     assert_eq!(rt; written(rt.alloc(), 4, 5000, &three, &ids)?.len(), 332);
     Ok(())
 }

@@ -1,9 +1,8 @@
-use Rattle.std.proofs.Common.{◌≡◌, ◌∙◌, ◌+◌, ap, sym, true, List, take, arith}
+use Rattle.std.proofs.Common.{◌∙◌, ◌+◌, ap, sym, List, arith}
 use Rattle.std.proofs.lemmas.List.{take_all}
 use Rattle.std.specs.List.{sum_by}
 use Rattle.krl.specs.declared.ca_part.CaPart.{CaPart}
 use Rattle.krl.specs.Lengths.{section_length}
-use Rattle.krl.specs.Published.{fits}
 use Rattle.krl.proofs.LengthLaws.{sections_length}
 use Rattle.krl.proofs.lengths.sections_len.Goals as goal
 

@@ -1,6 +1,5 @@
-use Rattle.std.proofs.Common.{◌≡◌, ◌≢◌, ◌∙◌, ◌++◌, ◌||◌, ◌<◌, ◌^◌, List, ℕ, [], ap, sym, refl, arith, subst, Bool}
+use Rattle.std.proofs.Common.{◌≡◌, ◌∙◌, ◌||◌, [], sym, arith, subst, Bool}
 use Rattle.std.specs.Str.{bytes_eq}
-use Rattle.std.specs.List.{flat_map, AllByRecursion}
 use Rattle.wire.specs.Texts.{string_text}
 use Rattle.krl.specs.Format.{IsString}
 use Rattle.krl.proofs.Bytes.{suffix_bytes}

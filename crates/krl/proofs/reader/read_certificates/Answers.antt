@@ -1,4 +1,4 @@
-use Rattle.std.proofs.Common.{◌≡◌, ◌≢◌, ◌∙◌, sym, subst, arith}
+use Rattle.std.proofs.Common.{◌∙◌, sym, arith}
 use Rattle.wire.specs.Texts.{string_text}
 use Rattle.krl.specs.Reading.{IsBytes}
 use Rattle.krl.proofs.Bytes.{suffix_bytes}

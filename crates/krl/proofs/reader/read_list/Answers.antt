@@ -1,4 +1,4 @@
-use Rattle.std.proofs.Common.{◌≡◌, ◌∙◌, sym, arith, inl, subst, List, ℕ}
+use Rattle.std.proofs.Common.{◌∙◌, sym, arith, inl, subst, List, ℕ}
 use Rattle.std.proofs.lemmas.Result.{err_from_is_err_and}
 use Rattle.krl.specs.Format.{header_text}
 use Rattle.krl.specs.Faults.{HeaderFault}

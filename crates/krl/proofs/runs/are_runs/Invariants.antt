@@ -1,4 +1,4 @@
-use Rattle.std.proofs.Common.{◌≡◌, ◌++◌, ◌+◌, drop}
+use Rattle.std.proofs.Common.{◌+◌, drop}
 use Rattle.std.specs.Prelude.{◌↔◌}
 use Rattle.krl.specs.Sets.{AreRuns, AreRunsFrom}
 use Rattle.krl.proofs.runs.are_runs.Given as goal

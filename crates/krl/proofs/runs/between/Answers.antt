@@ -1,4 +1,3 @@
-use Rattle.std.proofs.Common.{◌≡◌}
 use Rattle.krl.proofs.Splitting.{cut_runs, contains_cut}
 use Rattle.krl.proofs.runs.between.Goals as goal
 

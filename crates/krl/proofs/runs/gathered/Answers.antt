@@ -1,7 +1,6 @@
-use Rattle.std.proofs.Common.{◌≡◌, ◌≤◌, ◌<◌, ◌^◌, ◌||◌, ◌++◌, ◌+◌, ℕ, List, ◌∷◌, [], ◌∙◌, arith, sym, subst, ap, length, drop, get_or}
+use Rattle.std.proofs.Common.{◌≡◌, ◌||◌, ◌+◌, ◌∙◌, arith, ap}
 use Rattle.std.proofs.lemmas.List.{drop_all}
-use Rattle.krl.specs.declared.run.Run.{Run}
-use Rattle.krl.specs.Sets.{AreRuns, contains, is_among}
+use Rattle.krl.specs.Sets.{is_among}
 use Rattle.krl.proofs.Gathering.{gathered, AscendFrom, ascend, gathered_runs, contains_gathered, within_one}
 use Rattle.krl.proofs.runs.gathered.Goals as goal
 

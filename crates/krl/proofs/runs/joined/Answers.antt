@@ -1,7 +1,5 @@
-use Rattle.std.proofs.Common.{◌≡◌, ◌≤◌, ◌<◌, ◌^◌, ◌||◌, ◌++◌, ℕ, List, ◌∷◌, [], ◌∙◌, arith, sym, subst, ap, length, drop}
+use Rattle.std.proofs.Common.{◌≡◌, ◌∙◌, arith}
 use Rattle.std.proofs.lemmas.List.{drop_all}
-use Rattle.krl.specs.declared.run.Run.{Run}
-use Rattle.krl.specs.Sets.{AreRuns, contains, is_within}
 use Rattle.krl.proofs.Joining.{joined, joined_runs, contains_joined}
 use Rattle.krl.proofs.runs.joined.Goals as goal
 

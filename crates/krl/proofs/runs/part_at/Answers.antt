@@ -1,4 +1,4 @@
-use Rattle.std.proofs.Common.{◌≡◌, ◌∙◌, ◌&&◌, ap, sym, get_or}
+use Rattle.std.proofs.Common.{◌∙◌, ◌&&◌, ap, sym, get_or}
 use Rattle.std.proofs.lemmas.Result.{IfOk-weaker}
 use Rattle.krl.specs.Sets.{contains}
 use Rattle.krl.proofs.Splitting.{is_between, last_reached}

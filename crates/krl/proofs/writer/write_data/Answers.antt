@@ -1,4 +1,4 @@
-use Rattle.std.proofs.Common.{◌++◌, List, ℕ, [], ap}
+use Rattle.std.proofs.Common.{◌++◌, List, [], ap}
 use Rattle.std.specs.List.{flat_map}
 use Rattle.wire.specs.Texts.{string_text}
 use Rattle.lines.specs.Keys.{key_blob}

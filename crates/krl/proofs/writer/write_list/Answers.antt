@@ -1,4 +1,3 @@
-use Rattle.std.proofs.Common.{◌≡◌}
 use Rattle.std.specs.List.{flat_map}
 use Rattle.lines.proofs.Pieces.{writes_failed, writes_stop, writes_then}
 use Rattle.krl.specs.Format.{header_text, section_text}

@@ -1,4 +1,4 @@
-use Rattle.std.proofs.Common.{◌≡◌, ◌∷◌, ◌++◌, true, false, arith}
+use Rattle.std.proofs.Common.{◌≡◌, ◌∷◌, ◌++◌, false, arith}
 use Rattle.wire.specs.Texts.{u32_text, u64_text}
 use Rattle.lines.proofs.Pieces.{writes_as, writes_failed, writes_stop, writes_then}
 use Rattle.krl.specs.Published.{is_short}

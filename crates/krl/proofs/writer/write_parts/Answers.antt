@@ -1,4 +1,4 @@
-use Rattle.std.proofs.Common.{◌++◌, List, ℕ, ap}
+use Rattle.std.proofs.Common.{◌++◌}
 use Rattle.std.specs.List.{flat_map}
 use Rattle.lines.proofs.Pieces.{writes_as, writes_failed, writes_stop, writes_then}
 use Rattle.krl.specs.Format.{part_text}

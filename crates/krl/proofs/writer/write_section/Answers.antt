@@ -1,4 +1,4 @@
-use Rattle.std.proofs.Common.{◌∷◌, ◌++◌}
+use Rattle.std.proofs.Common.{◌∷◌}
 use Rattle.wire.specs.Texts.{u32_text}
 use Rattle.lines.proofs.Pieces.{writes_as, writes_failed, writes_stop, writes_then}
 use Rattle.krl.specs.Format.{section_data}

@@ -1,4 +1,4 @@
-use Rattle.std.proofs.Common.{arith, refl, All, ◌≡◌, ap, subst, ◌∙◌, List}
+use Rattle.std.proofs.Common.{arith, refl, All, ap, subst, ◌∙◌, List}
 use Rattle.std.specs.List.{list_all, flat_map}
 use Rattle.std.proofs.lemmas.List.{take_all}
 use Rattle.std.proofs.lemmas.List.Recursion.{and_at}

@@ -1,4 +1,4 @@
-use Rattle.std.proofs.Common.{◌≡◌, ◌∷◌, ◌++◌, arith}
+use Rattle.std.proofs.Common.{◌∷◌}
 use Rattle.std.specs.List.{flat_map}
 use Rattle.wire.specs.Texts.{u32_text}
 use Rattle.lines.proofs.Pieces.{writes_as, writes_failed, writes_nothing, writes_stop, writes_then}

@@ -17,5 +17,5 @@ returns-clause-decided c s agrees =
     issue_decided s i _ c.args.caller.now c.args.moment nonce (sym (c.refusal_of_issue.ensures.least s agrees) ∙ c.in_default.is)
     (ap (λ (x : Certificate). change.Certificate x) made)
     (c.in_ok-to_issue.ensures ∙ ap (λ (b : List ℕ). issue_reply c.args.view.now.next b) c.as_slice.ensures
-      ∙ ap (λ (n : ℕ). issue_reply n c.in_ok-certificate.certificate.body) agrees.next ∙ ap (λ (x : Certificate). issue_reply (next_serial s) x.body) made)
+    ∙ ap (λ (n : ℕ). issue_reply n c.in_ok-certificate.certificate.body) agrees.next ∙ ap (λ (x : Certificate). issue_reply (next_serial s) x.body) made)
     agrees.version agrees.date (ap (λ (n : ℕ). n + 1) agrees.next)

@@ -11,12 +11,31 @@ options_of-requires-2 c =
 
 pub write_body-requires : goal.write_body-requires
 write_body-requires c =
-    rw (c.in_ok-copied.ensures, c.in_ok-copied-2.ensures, c.in_ok-options_of.ensures.ok, c.as_slice-2.ensures,
-      c.in_ok-options_of-2.ensures.ok, c.as_slice-3.ensures.value, c.in_ok-flags.ensures, c.as_slice.ensures)
+    rw (
+      c.in_ok-copied.ensures,
+      c.in_ok-copied-2.ensures,
+      c.in_ok-options_of.ensures.ok,
+      c.as_slice-2.ensures,
+      c.in_ok-options_of-2.ensures.ok,
+      c.as_slice-3.ensures.value,
+      c.in_ok-flags.ensures,
+      c.as_slice.ensures,
+    )
     (issuable_fields c.args.view.now c.args.department.now c.args.issue.now c.newest_key.result c.args.nonce.now c.requires (search rules) (search rules))
 
 pub returns : goal.returns
 returns c =
-    rw (c.from_vec.ensures, c.in_ok-body.ensures.text, c.in_ok-copied-3.ensures, c.in_ok-copied.ensures, c.in_ok-copied-2.ensures,
-      c.in_ok-options_of.ensures.ok, c.as_slice-2.ensures, c.in_ok-options_of-2.ensures.ok, c.as_slice-3.ensures.value,
-      c.in_ok-flags.ensures, c.as_slice.ensures, c.newest_key.ensures) refl
+    rw (
+      c.from_vec.ensures,
+      c.in_ok-body.ensures.text,
+      c.in_ok-copied-3.ensures,
+      c.in_ok-copied.ensures,
+      c.in_ok-copied-2.ensures,
+      c.in_ok-options_of.ensures.ok,
+      c.as_slice-2.ensures,
+      c.in_ok-options_of-2.ensures.ok,
+      c.as_slice-3.ensures.value,
+      c.in_ok-flags.ensures,
+      c.as_slice.ensures,
+      c.newest_key.ensures,
+    ) refl

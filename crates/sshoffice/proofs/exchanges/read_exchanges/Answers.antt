@@ -35,8 +35,8 @@ loop-rest-preserved c =
     let longer = one_more c.args.file.now c.loop-rest.rest.now c.in-Some.record.rest.now c.loop-rest.exchanges.items _
     c.loop-rest.invariant.are c.loop-rest.invariant.text (omega arith) (sym c.in-Some.ensures) in
     let all : Longer c.args.file.now c.push_record.new.exchanges.items c.in-Some.record.rest.now =
-        subst (λ (es : List Exchange). Longer c.args.file.now es c.in-Some.record.rest.now) (sym c.in_ok-push_record.ensures)
-        longer in
+    subst (λ (es : List Exchange). Longer c.args.file.now es c.in-Some.record.rest.now) (sym c.in_ok-push_record.ensures)
+    longer in
     record { are = all.are; text = all.text }
 
 pub returns-clause-only : goal.returns-clause-only

@@ -1,9 +1,9 @@
-use Rattle.std.proofs.Common.{arith, ℕ, suc, ◌≡◌, ◌+◌, ◌<◌, ◌++◌, [], ◌∷◌, List, length, drop, sym, ap, subst, ◌∙◌, add-one, drop-cons, get_or}
+use Rattle.std.proofs.Common.{arith, ℕ, suc, ◌≡◌, ◌+◌, ◌++◌, [], ◌∷◌, List, drop, sym, ap, subst, ◌∙◌, add-one, drop-cons}
 use Rattle.std.proofs.lemmas.Grind.{common_steps}
 use Rattle.std.proofs.Math.ListN.{drop_of_length-le}
 use Rattle.web.specs.declared.exchange.Exchange.{Exchange}
 use Rattle.web.specs.declared.exchange.Given.{Given}
-use Rattle.web.specs.declared.exchange.Given.TheVariants.{Answer, Fault}
+use Rattle.web.specs.declared.exchange.Given.TheVariants.{Answer}
 use Rattle.web.specs.Answers.{Answers}
 use Rattle.web.proofs.Underway.{IsUnderway, goes_on, goes_by, is_done}
 use Rattle.web.proofs.running.run.Goals.{in-Ok, in-Err}
@@ -31,7 +31,7 @@ loop-exchange-preserved g c =
             | in-Ok w ↦ subst (λ (g : List Given). IsUnderway before new all rest g)
                 (ap (λ (y : Given). given ++ y ∷ []) (ap (λ (t : List ℕ). Answer t) (sym w.from_vec.ensures) ∙ sym w.one-is) ∙ sym pushed)
                 (goes_on before now new all rest x given w.in-Ok.response.items
-                  (λ o l m. subst (λ (t : List ℕ). Answers o l t x.moment x.nonce w.in-Ok.response.items (new o)) c.as_slice-request.ensures (w.in-Ok.ensures.answered h o l m)) u)
+                (λ o l m. subst (λ (t : List ℕ). Answers o l t x.moment x.nonce w.in-Ok.response.items (new o)) c.as_slice-request.ensures (w.in-Ok.ensures.answered h o l m)) u)
             | in-Err w ↦ subst (λ (g : List Given). IsUnderway before new all rest g)
                 (ap (λ (y : Given). given ++ y ∷ []) (sym w.one-is) ∙ sym pushed)
                 (goes_by before now new all rest x given (w.in-Err.ensures.fault h) u)

@@ -1,4 +1,4 @@
-use Rattle.std.proofs.Common.{◌≡◌, ◌+◌, ◌≤◌, length, drop, vec_len}
+use Rattle.std.proofs.Common.{◌+◌, ◌≤◌, length, drop, vec_len}
 use Rattle.std.specs.Prelude.{vec_capacity}
 use Rattle.web.proofs.Underway.{IsUnderway}
 use Rattle.web.proofs.running.run.Given as goal

@@ -17,16 +17,22 @@ invariant_of-self-2 c =
       | in-Department+in_ok-put_department-in-Department w ↦
           let d = w.in-Department.department in
           let lawful : is_department d ≡ true = subst IsLawfulChange w.in-Department.is c.requires.lawful in
-          subst P (sym w.self-inside-is) (c.self.invariant.0, record {
-            serials = c.self.invariant.1.serials;
-            departments = all_after_put is_department d c.self.inside.departments.items _ lawful c.self.invariant.1.departments w.in_ok-put_department-in-Department.ensures.ok;
-          })
+          subst P (sym w.self-inside-is) (
+            c.self.invariant.0,
+            record {
+              serials = c.self.invariant.1.serials;
+              departments = all_after_put is_department d c.self.inside.departments.items _ lawful c.self.invariant.1.departments w.in_ok-put_department-in-Department.ensures.ok;
+            },
+          )
       | in-Certificate+in_ok-push-in-Certificate w ↦
           let room = subst (λ (x : Change). HasRoom x (c.args.self.now.opening.first + length c.args.self.now.certificates) c.args.self.now.opening.last) w.in-Certificate.is c.requires.room in
           let inside_room : c.self.inside.opening.first + length c.self.inside.certificates.items ≤ c.self.inside.opening.last =
           subst (λ (t : Contents). t.opening.first + length t.certificates ≤ t.opening.last) (sym c.self.view_is) room in
-          subst P (sym w.self-inside-is) (c.self.invariant.0, record {
-            serials = rw w.in_ok-push-in-Certificate.ensures.items (omega (arith, length-append c.self.inside.certificates.items (w.in-Certificate.certificate ∷ [])));
-            departments = c.self.invariant.1.departments;
-          })
+          subst P (sym w.self-inside-is) (
+            c.self.invariant.0,
+            record {
+              serials = rw w.in_ok-push-in-Certificate.ensures.items (omega (arith, length-append c.self.inside.certificates.items (w.in-Certificate.certificate ∷ [])));
+              departments = c.self.invariant.1.departments;
+            },
+          )
     ]

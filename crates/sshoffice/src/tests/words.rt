@@ -1,0 +1,132 @@
+//! Words and jobs.
+
+use super::*;
+use crate::job::{do_job, do_words};
+use crate::words::{Job, WordsFault, read_words};
+use std::fs;
+
+// The words behind the program's name.
+fn words(alloc: Global, texts: &[&str]) -> Result<Vec<String>, Fail> {
+    let mut words = vec![in alloc; String::from_str(alloc, "sshoffice")?]?;
+    for text in texts {
+        words.push(String::from_str(alloc, text)?)?;
+    }
+    Ok(words)
+}
+
+#[test]
+fn apply_has_a_file(rt: HostRuntime) -> Result<(), Fail> {
+    let alloc = rt.alloc();
+    let words = words(alloc, ["apply", "first.exchange"].as_slice())?;
+    let Ok(Job::Apply { file }) = read_words(alloc, words.as_slice()) else {
+        return Err(Fail::from("no job"));
+    };
+    assert!(rt; file.as_str() == "first.exchange");
+    Ok(())
+}
+
+#[test]
+fn other_words_are_bad(rt: HostRuntime) -> Result<(), Fail> {
+    let alloc = rt.alloc();
+    let bad = [
+        [].as_slice(),
+        ["apply"].as_slice(),
+        ["apply", "a", "b"].as_slice(),
+        ["apply", "--db", "office.db", "a"].as_slice(),
+        ["serve"].as_slice(),
+        ["--first", "1"].as_slice(),
+    ];
+    for texts in bad {
+        let words = words(alloc, texts)?;
+        let fault = read_words(alloc, words.as_slice()).err();
+        let is_bad =
+            matches!(fault, Some(WordsFault::BadWords(text)) if text.as_str().starts_with("error: "));
+        assert!(rt; is_bad, "{texts:?}");
+    }
+    for texts in [
+        ["--help"].as_slice(),
+        ["apply", "--help"].as_slice(),
+        ["help"].as_slice(),
+    ] {
+        let words = words(alloc, texts)?;
+        let fault = read_words(alloc, words.as_slice()).err();
+        let is_help =
+            matches!(fault, Some(WordsFault::Help(text)) if text.as_str().contains("Usage: "));
+        assert!(rt; is_help, "{texts:?}");
+    }
+    Ok(())
+}
+
+#[test]
+fn a_fault_is_named(rt: HostRuntime) -> Result<(), Fail> {
+    let alloc = rt.alloc();
+    fs::write(
+        &rt,
+        "cut.exchange",
+        "exchange 1000 3333333333333333333333333333333333333333333333333333333333333333 4\nabc",
+    )?;
+    let jobs = [
+        ("/dev/null", 0, ""),
+        ("cut.exchange", 1, "sshoffice: BadExchange 1\n"),
+        ("there is no such file", 1, "sshoffice: File\n"),
+    ];
+    for (file, status, named) in jobs {
+        let (mut out, mut err) = (Vec::new(alloc), Vec::new(alloc));
+        let words = words(alloc, ["apply", file].as_slice())?;
+        assert_eq!(rt;
+            do_words(&rt, words.as_slice(), &mut out, &mut err),
+            status,
+            "{file}"
+        );
+        assert!(rt; out.is_empty(), "{file}");
+        assert!(rt; err.as_slice() == named.as_bytes(), "{file}");
+    }
+    fs::remove_file(&rt, "cut.exchange")?;
+    Ok(())
+}
+
+#[test]
+fn an_answer_is_printed_behind_its_length(rt: HostRuntime) -> Result<(), Fail> {
+    let alloc = rt.alloc();
+    let nonce = "3333333333333333333333333333333333333333333333333333333333333333";
+    let text = format!(in alloc; "exchange 1000 {nonce} 0\n")?;
+    fs::write(&rt, "short.exchange", text.as_str())?;
+    let job = Job::Apply {
+        file: String::from_str(alloc, "short.exchange")?,
+    };
+    let (mut out, mut err) = (Vec::new(alloc), Vec::new(alloc));
+    assert_eq!(rt; do_job(&rt, &job, &mut out, &mut err), 0);
+    let response = response(alloc, BAD_REQUEST, "text/plain", b"refused 1 BadHead\n")?;
+    let mut wanted = Vec::new(alloc);
+    write!(wanted, "answer {}\n", response.len())?;
+    wanted.write_all(response.as_slice())?;
+    assert!(rt; out == wanted);
+    assert!(rt; err.is_empty());
+
+    // The output has no room.
+    let mut room = [0; 8];
+    assert_eq!(rt; do_job(&rt, &job, &mut room.as_mut_slice(), &mut err), 1);
+    assert!(rt; err.as_slice() == b"sshoffice: Write\n".as_slice());
+    fs::remove_file(&rt, "short.exchange")?;
+    Ok(())
+}
+
+#[test]
+fn bad_words_have_status_2(rt: HostRuntime) -> Result<(), Fail> {
+    let alloc = rt.alloc();
+    for (text, status, is_error) in [("--help", 0, false), ("serve", 2, true)] {
+        let (mut out, mut err) = (Vec::new(alloc), Vec::new(alloc));
+        let words = words(alloc, [text].as_slice())?;
+        assert_eq!(rt;
+            do_words(&rt, words.as_slice(), &mut out, &mut err),
+            status,
+            "{text}"
+        );
+        assert_eq!(rt;
+            (out.is_empty(), err.is_empty()),
+            (is_error, !is_error),
+            "{text}"
+        );
+    }
+    Ok(())
+}
