@@ -4,3 +4,4 @@ pub mod Growth
 pub mod Issuable
 pub mod Decisions
 pub mod Sizes
+pub mod Examples
