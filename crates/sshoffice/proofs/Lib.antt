@@ -1,3 +1,4 @@
+pub mod Applied
 pub mod Commands
 pub mod Files
 pub mod Openings

@@ -1,5 +1,7 @@
+pub mod Applying
 pub mod Exchanges
-pub mod Reading
-pub mod Words
+pub mod Faults
 pub mod Printing
+pub mod Reading
 pub mod Trial
+pub mod Words

@@ -60,18 +60,29 @@ IsLack found (Help text) = ⊥
 IsLack found (BadWords text) = (job : Job) → found ≢ Some (name_of job)
 IsLack found NoMemory = Unit {0}
 
+-- a kind that is neither a wish for a text nor want of memory
+abbrev pub IsMistake : ErrorKind → Type 0
+IsMistake kind = (kind ≢ DisplayHelp) × (kind ≢ DisplayVersion) × (kind ≢ OutOfMemory)
+
 -- what an error of clap is answered with
 abbrev pub IsAnswered : ErrorKind → WordsFault → Type 0
 IsAnswered kind (Help text) = (kind ≡ DisplayHelp) ⊎ (kind ≡ DisplayVersion)
-IsAnswered kind (BadWords text) = (kind ≢ DisplayHelp) × (kind ≢ DisplayVersion) × (kind ≢ OutOfMemory)
+IsAnswered kind (BadWords text) = IsMistake kind
 IsAnswered kind NoMemory = Unit {0}
 
--- The words have an error of a kind that is answered so.
-abbrev pub HasError : List Text → WordsFault → Type 0
-HasError words fault = (kind : ErrorKind) × IsAmong kind (fault_of office_command words) × IsAnswered kind fault
+-- The words have a mistake, or name no job.
+abbrev pub AreBad : List Text → Type 0
+AreBad words =
+    ((kind : ErrorKind) × IsAmong kind (fault_of office_command words) × IsMistake kind)
+    ⊎ ((job : Job) → ¬ Names words job)
 
--- What is answered in place of a job: help where the words ask for it, bad words where they have a mistake or name no job.
+-- The words ask for help or the version.
+abbrev pub AskForText : List Text → Type 0
+AskForText words =
+    (kind : ErrorKind) × IsAmong kind (fault_of office_command words) × ((kind ≡ DisplayHelp) ⊎ (kind ≡ DisplayVersion))
+
+-- what is said of the words by what is answered in place of a job
 abbrev pub IsFaultOf : List Text → WordsFault → Type 0
-IsFaultOf words (Help text) = HasError words (Help text)
-IsFaultOf words (BadWords text) = HasError words (BadWords text) ⊎ ((job : Job) → ¬ Names words job)
+IsFaultOf words (Help text) = AskForText words
+IsFaultOf words (BadWords text) = AreBad words
 IsFaultOf words NoMemory = Unit {0}

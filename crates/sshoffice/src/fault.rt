@@ -45,6 +45,11 @@ impl From<text::NoMemory> for JobFault {
 }
 
 impl From<StoreFault> for JobFault {
+    ghost use Rattle.std.specs.Prelude.{◌≡◌};
+    ghost use Rattle.sshoffice.specs.Faults.{of_store};
+
+    ghost from_gives = { λ fault e. e ≡ of_store fault };
+
     fn from(fault: StoreFault) -> JobFault {
         match fault {
             StoreFault::NoMemory => JobFault::NoMemory,
@@ -54,6 +59,11 @@ impl From<StoreFault> for JobFault {
 }
 
 impl From<ExchangesFault> for JobFault {
+    ghost use Rattle.std.specs.Prelude.{◌≡◌};
+    ghost use Rattle.sshoffice.specs.Faults.{of_exchanges};
+
+    ghost from_gives = { λ fault e. e ≡ of_exchanges fault };
+
     fn from(fault: ExchangesFault) -> JobFault {
         match fault {
             ExchangesFault::BadExchange(record) => JobFault::BadExchange(record),

@@ -1,11 +1,10 @@
 //! Jobs done.
 
-ghost use Rattle.std.specs.Prelude.{◌≤◌};
+ghost use Rattle.std.specs.Prelude.{◌≡◌, ◌≤◌, map, string_bytes};
+ghost use Rattle.sshoffice.specs.Words.{AreBad};
 
-use crate::applying::apply_exchanges;
-use crate::exchanges::read_exchanges;
+use crate::applying::apply_to_trial;
 use crate::fault::JobFault;
-use crate::trial::trial_office;
 use crate::words::{Job, WordsFault, read_words};
 use std::fs;
 use std::io::{ErrorKind, Write};
@@ -33,11 +32,8 @@ fn apply<R: Files + AllocGlobal, O: Write>(
     file: &str,
     out: &mut O,
 ) -> Result<(), JobFault> {
-    let alloc = rt.alloc();
     let bytes = read_file(rt, file)?;
-    let exchanges = read_exchanges(alloc, bytes.as_slice())?;
-    let mut office = trial_office(alloc)?;
-    apply_exchanges(&mut office, alloc, exchanges.as_slice(), out)
+    apply_to_trial(rt.alloc(), bytes.as_slice(), out)
 }
 
 // The status of what was done. A fault is printed by its name.
@@ -81,7 +77,8 @@ pub fn do_words<R: Files + AllocGlobal, O: Write, E: Write>(
     out: &mut O,
     err: &mut E,
 ) -> u8
-    ensures { result ≤ BAD_WORDS }
+    ensures status { result ≤ BAD_WORDS }
+    ensures bad { result ≡ BAD_WORDS → AreBad (map string_bytes words.now) }
 {
     match read_words(rt.alloc(), words) {
         Ok(job) => do_job(rt, &job, out, err),
@@ -92,4 +89,15 @@ pub fn do_words<R: Files + AllocGlobal, O: Write, E: Write>(
         }
         Err(WordsFault::NoMemory) => status_of(Err(JobFault::NoMemory), err),
     }
+}
+
+/// The status where the words can't be had: memory was refused, or a word isn't UTF-8.
+pub fn do_no_words<E: Write>(fault: ErrorKind, err: &mut E) -> u8
+    ensures { result ≤ BAD_WORDS }
+{
+    if fault == ErrorKind::OutOfMemory {
+        return status_of(Err(JobFault::NoMemory), err);
+    }
+    let _ = show("error: a word is not UTF-8\n", err);
+    BAD_WORDS
 }

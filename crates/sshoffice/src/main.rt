@@ -23,10 +23,12 @@ fn words_of<R: Env + AllocGlobal>(rt: &R) -> io::Result<Vec<String>> {
     Ok(words)
 }
 
-fn main(rt: HostRuntime) -> io::Result<ExitCode> {
-    let words = words_of(&rt)?;
+fn main(rt: HostRuntime) -> ExitCode {
     let mut out = rt.stdout();
     let mut err = rt.stderr();
-    let status = job::do_words(&rt, words.as_slice(), &mut out, &mut err);
-    Ok(ExitCode::from(status))
+    let status = match words_of(&rt) {
+        Ok(words) => job::do_words(&rt, words.as_slice(), &mut out, &mut err),
+        Err(fault) => job::do_no_words(fault.kind(), &mut err),
+    };
+    ExitCode::from(status)
 }

@@ -1,8 +1,9 @@
 //! What the office is asked and what it answers, over the trial office, with values from outside.
 
+mod faults;
 mod files;
 mod fixtures;
-mod requests;
+mod heads;
 mod rows;
 mod words;
 

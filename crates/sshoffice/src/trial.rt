@@ -1,9 +1,11 @@
 //! The trial office, on which `apply` runs without a database.
 
-ghost use Rattle.std.specs.Prelude.{◌≡◌, ◌++◌, [], ◌∷◌, List, IfOk, OnOk, OnErr};
+ghost use Rattle.std.specs.Prelude.{◌≡◌, ◌++◌, [], ◌∷◌, List, IfOk, OnOk};
 ghost use Rattle.office.specs.declared.opening.Opening.{Opening};
 ghost use Rattle.office.specs.declared.arrival.Arrival.{Arrival};
 ghost use Rattle.office.specs.Openings.{IsOpening};
+ghost use Rattle.office.specs.Shows.{Shows};
+ghost use Rattle.plain.specs.Contents.{state_of};
 ghost use Rattle.sshoffice.specs.Trial.{opening_of, trial_arrival};
 
 use office::{Arrival, Opening, Outcome, Registry, StoreFault};
@@ -60,7 +62,9 @@ pub(crate) fn put_department<S: Registry>(registry: &mut S, alloc: Global) -> Re
 }
 
 /// The trial office: the opening, and then the department.
-pub(crate) fn trial_office(alloc: Global) -> Result<PlainStore, StoreFault> {
+pub(crate) fn trial_office(alloc: Global) -> Result<PlainStore, StoreFault>
+    ensures { IfOk result (λ s. Shows (state_of s) s.kept (opening_of 1 LAST_SERIAL) (trial_arrival ∷ [])) }
+{
     let opening = opening_of(alloc, FIRST_SERIAL, LAST_SERIAL)?;
     let mut office = PlainStore::new(alloc, opening)?;
     put_department(&mut office, alloc)?;

@@ -5,11 +5,11 @@ use crate::job::{do_job, do_words};
 use crate::words::{Job, WordsFault, read_words};
 use std::fs;
 
-// The words behind the program's name.
-fn words(alloc: Global, texts: &[&str]) -> Result<Vec<String>, Fail> {
+// The program's name and these words.
+fn words(alloc: Global, text: &str) -> Result<Vec<String>, Fail> {
     let mut words = vec![in alloc; String::from_str(alloc, "sshoffice")?]?;
-    for text in texts {
-        words.push(String::from_str(alloc, text)?)?;
+    for word in text.split_whitespace() {
+        words.push(String::from_str(alloc, word)?)?;
     }
     Ok(words)
 }
@@ -17,43 +17,11 @@ fn words(alloc: Global, texts: &[&str]) -> Result<Vec<String>, Fail> {
 #[test]
 fn apply_has_a_file(rt: HostRuntime) -> Result<(), Fail> {
     let alloc = rt.alloc();
-    let words = words(alloc, ["apply", "first.exchange"].as_slice())?;
+    let words = words(alloc, "apply first.exchange")?;
     let Ok(Job::Apply { file }) = read_words(alloc, words.as_slice()) else {
         return Err(Fail::from("no job"));
     };
     assert!(rt; file.as_str() == "first.exchange");
-    Ok(())
-}
-
-#[test]
-fn other_words_are_bad(rt: HostRuntime) -> Result<(), Fail> {
-    let alloc = rt.alloc();
-    let bad = [
-        [].as_slice(),
-        ["apply"].as_slice(),
-        ["apply", "a", "b"].as_slice(),
-        ["apply", "--db", "office.db", "a"].as_slice(),
-        ["serve"].as_slice(),
-        ["--first", "1"].as_slice(),
-    ];
-    for texts in bad {
-        let words = words(alloc, texts)?;
-        let fault = read_words(alloc, words.as_slice()).err();
-        let is_bad =
-            matches!(fault, Some(WordsFault::BadWords(text)) if text.as_str().starts_with("error: "));
-        assert!(rt; is_bad, "{texts:?}");
-    }
-    for texts in [
-        ["--help"].as_slice(),
-        ["apply", "--help"].as_slice(),
-        ["help"].as_slice(),
-    ] {
-        let words = words(alloc, texts)?;
-        let fault = read_words(alloc, words.as_slice()).err();
-        let is_help =
-            matches!(fault, Some(WordsFault::Help(text)) if text.as_str().contains("Usage: "));
-        assert!(rt; is_help, "{texts:?}");
-    }
     Ok(())
 }
 
@@ -68,11 +36,12 @@ fn a_fault_is_named(rt: HostRuntime) -> Result<(), Fail> {
     let jobs = [
         ("/dev/null", 0, ""),
         ("cut.exchange", 1, "sshoffice: BadExchange 1\n"),
-        ("there is no such file", 1, "sshoffice: File\n"),
+        ("no-such-file", 1, "sshoffice: File\n"),
     ];
     for (file, status, named) in jobs {
         let (mut out, mut err) = (Vec::new(alloc), Vec::new(alloc));
-        let words = words(alloc, ["apply", file].as_slice())?;
+        let text = format!(in alloc; "apply {file}")?;
+        let words = words(alloc, text.as_str())?;
         assert_eq!(rt;
             do_words(&rt, words.as_slice(), &mut out, &mut err),
             status,
@@ -116,7 +85,7 @@ fn bad_words_have_status_2(rt: HostRuntime) -> Result<(), Fail> {
     let alloc = rt.alloc();
     for (text, status, is_error) in [("--help", 0, false), ("serve", 2, true)] {
         let (mut out, mut err) = (Vec::new(alloc), Vec::new(alloc));
-        let words = words(alloc, [text].as_slice())?;
+        let words = words(alloc, text)?;
         assert_eq!(rt;
             do_words(&rt, words.as_slice(), &mut out, &mut err),
             status,
