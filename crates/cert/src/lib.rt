@@ -18,8 +18,9 @@ mod writing;
 
 pub use cert_fault::CertFault;
 pub use fields::CertFields;
+pub use lines::Signature;
 pub use option_fault::OptionFault;
 pub use options::Options;
 pub use reading::read_body;
-pub use signature::{Signature, join_signature, read_signature};
+pub use signature::{join_signature, read_signature};
 pub use writing::write_body;

@@ -4,16 +4,10 @@ ghost use Rattle.std.specs.Prelude.{◌≡◌, ◌<◌, ◌^◌, List, ℕ, leng
 ghost use Rattle.lines.specs.Keys.{signature_blob, signature_of};
 ghost use Rattle.cert.specs.Certificates.{certificate_text};
 
-use lines::{read_signature_blob, signature_blob_of};
+use lines::{Signature, read_signature_blob, signature_blob_of};
 use std::alloc::Global;
 use text::NoMemory;
 use wire::put_string;
-
-/// The 64 bytes of an Ed25519 signature (RFC 8032 section 5.1.6).
-#[derive(Clone, Copy, Debug, PartialEq, Eq)]
-pub struct Signature {
-    pub bytes: [u8; 64],
-}
 
 /// The signature in a signature blob of 83 bytes (RFC 8709 section 6), and none where the bytes are no such blob.
 /// It takes no memory.

@@ -11,6 +11,7 @@ mod digest;
 mod key_line;
 mod laws;
 mod reading;
+mod signature;
 mod signers;
 #[cfg(test)]
 mod tests;
@@ -22,5 +23,6 @@ pub use digest::{body_digest, fingerprint};
 pub use key_line::{KeyLine, LineFault};
 pub use laws::{base64_words_are_blobs, key_lines_are_lawful_or_faulty, key_lines_are_read_again};
 pub use reading::{MAX_COMMENT, is_comment, read_key_line};
+pub use signature::Signature;
 pub use signers::{OutFault, SignerRow, write_signers};
 pub use writing::{bare_key_line, put_key_line, write_key_line};
