@@ -1,9 +1,9 @@
--- Bytes that a writer takes one after the other.
+-- Bytes that a writer takes, or a reader gives, one after the other.
 use Rattle.std.proofs.Common.{◌≡◌, ℕ, ◌+◌, ◌≤◌, List, ◌++◌, length, take, drop, sym, ap, ◌∙◌, append_assoc, Option, subst}
-use Rattle.std.proofs.Math.Seq.{take-append-add, take-append_seam}
+use Rattle.std.proofs.Math.Seq.{take-add, take-append-add, take-append_seam}
 use Rattle.std.proofs.lemmas.List.{length-take-le, take-take, take-append-drop}
-use Rattle.std.specs.Io.KnownBytes.{Appends}
-use Rattle.std.proofs.KnownBytes.{Appends-nil, Appends-trans}
+use Rattle.std.specs.Io.KnownBytes.{Appends, Consumes}
+use Rattle.std.proofs.KnownBytes.{Appends-nil, Appends-trans, Consumes-trans}
 use Rattle.wire.specs.Streams.{AppendsBeginning}
 
 -- a piece that was taken, and then a beginning of the next
@@ -49,3 +49,11 @@ piece_more at n k xs within most =
     let size = length-take-le at xs within in
     ap (take (at + n)) (sym (take-append-drop at xs)) ∙ ap (λ m. take (m + n) (take at xs ++ drop at xs)) (sym size)
     ∙ take-append-add (take at xs) (drop at xs) n ∙ ap (λ t. take at xs ++ t) (sym (take-take n k (drop at xs) most))
+
+-- the front of a buffer came, and then so many bytes behind it
+pub given_more : (old mid new : Option (List ℕ)) (xs ys : List ℕ) (at n : ℕ) → take at ys ≡ take at xs
+    → Consumes old mid (take at xs) → Consumes mid new (take n (drop at ys)) → Consumes old new (take (at + n) ys)
+given_more old mid new xs ys at n kept first second =
+    let joined : take (at + n) ys ≡ take at xs ++ take n (drop at ys) =
+    take-add at n ys ∙ ap (λ l. l ++ take n (drop at ys)) kept in
+    subst (Consumes old new) (sym joined) (Consumes-trans old mid new (take at xs) _ first second)

@@ -24,5 +24,5 @@ pub use from_write::FromWrite;
 pub use put::{put_string, put_u32, put_u64};
 pub use scripted::{Ending, Pace, ScriptedNonces, ScriptedReader, ScriptedWriter};
 pub use sink::{Sink, write_all};
-pub use source::Source;
+pub use source::{Source, read_full};
 pub use vec_sink::VecSink;

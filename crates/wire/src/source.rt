@@ -1,7 +1,8 @@
 //! Where bytes come from.
 
-ghost use Rattle.std.specs.Prelude.{◌≡◌, ◌≤◌, ◌<◌, ◌+◌, ℕ, List, Option, None, length, IfOk, if◌then◌else◌, is_ok};
-ghost use Rattle.std.specs.Io.KnownBytes.{ReadConsumes};
+ghost use Rattle.std.specs.Prelude.{◌≡◌, ◌≤◌, ◌<◌, ◌+◌, ℕ, List, Option, None, length, take, drop, IfOk, OnErr, if◌then◌else◌, is_ok};
+ghost use Rattle.std.specs.Io.KnownBytes.{Consumes, Keeps, IsAtEnd, ReadConsumes};
+ghost use Rattle.wire.specs.Streams.{ConsumesBeginning};
 
 use crate::failure::Failed;
 
@@ -26,4 +27,40 @@ pub trait Source {
         ensures bound { IfOk result (λ n. n ≤ length buf.new) }
         ensures bytes { ReadConsumes (remaining self.old) (remaining self.new) result buf.new }
         ensures failed { failed self.new ≡ (if is_ok result then failed self.old else failed self.old + 1) };
+}
+
+/// One read, behind the first `at` bytes, which stay as they are.
+fn read_behind<S: Source>(source: &mut S, buf: &mut [u8], at: usize) -> Result<usize, Failed>
+    requires { (at < length buf.old) × (S.failed source.old < u64.MAX) }
+    ensures kept { take at buf.new ≡ take at buf.old }
+    ensures bound { IfOk result (λ n. at + n ≤ length buf.new) }
+    ensures bytes { IfOk result (λ n. Consumes (S.remaining source.old) (S.remaining source.new)
+        (take n (drop at buf.new))) }
+    ensures end { IfOk result (λ n. n ≡ 0 → IsAtEnd (S.remaining source.new)) }
+    ensures err { OnErr result (Keeps (S.remaining source.old) (S.remaining source.new)) }
+    ensures failed { S.failed source.new ≡ (if is_ok result then S.failed source.old else S.failed source.old + 1) }
+{
+    source.read(&mut buf[at..])
+}
+
+/// Reads until `buf` is full or nothing is left, in as many calls as it takes, and answers how many bytes came: all
+/// that fit, or fewer where nothing is left. A failure comes before `buf` is full, and what came until then has been
+/// taken from the reader.
+pub fn read_full<S: Source>(source: &mut S, buf: &mut [u8]) -> Result<usize, Failed>
+    requires { S.failed source.old < u64.MAX }
+    ensures bound { IfOk result (λ n. n ≤ length buf.new) }
+    ensures bytes { IfOk result (λ n. Consumes (S.remaining source.old) (S.remaining source.new) (take n buf.new)) }
+    ensures end { IfOk result (λ n. n < length buf.new → IsAtEnd (S.remaining source.new)) }
+    ensures err { OnErr result (ConsumesBeginning (S.remaining source.old) (S.remaining source.new) buf.new) }
+    ensures failed { S.failed source.new ≡ (if is_ok result then S.failed source.old else S.failed source.old + 1) }
+{
+    let mut at = 0;
+    while at < buf.len() {
+        let n = read_behind(source, buf, at)?;
+        if n == 0 {
+            return Ok(at);
+        }
+        at += n;
+    }
+    Ok(at)
 }

@@ -4,7 +4,7 @@ ghost use Rattle.std.specs.Prelude.{◌<◌, ◌≡◌, ◌+◌, ◌≤◌, IfOk
 
 use crate::{
     Ending, Failed, FromRead, FromWrite, Pace, ScriptedNonces, ScriptedReader, ScriptedWriter,
-    Sink, Source, VecSink, write_all,
+    Sink, Source, VecSink, read_full, write_all,
 };
 use std::alloc::{AllocError, Global};
 use std::io;
@@ -65,6 +65,33 @@ fn a_reader_fails_after_its_bytes(rt: HostRuntime) -> Result<(), Fail> {
     );
     assert_eq!(rt; reader.failures(), 2);
     Ok(())
+}
+
+#[test]
+fn a_buffer_is_filled_or_the_reader_is_at_its_end(rt: HostRuntime) {
+    for pace in [Pace::Whole, Pace::OneByte] {
+        let mut reader = ScriptedReader::new(TEXT, pace, Ending::Ends);
+        let mut buf = [b'-'; 5];
+        assert_eq!(rt; read_full(&mut reader, &mut buf), Ok(5));
+        assert_eq!(rt; buf, *b"testi");
+        assert_eq!(rt; reader.rest, b"ng".as_slice());
+        assert_eq!(rt; read_full(&mut reader, &mut buf), Ok(2));
+        assert_eq!(rt; buf[..2], b"ng"[..]);
+        assert_eq!(rt; read_full(&mut reader, &mut buf), Ok(0));
+        assert_eq!(rt; reader.failures(), 0);
+    }
+}
+
+#[test]
+fn a_reader_that_fails_has_given_what_it_had(rt: HostRuntime) {
+    for pace in [Pace::Whole, Pace::OneByte] {
+        let mut reader = ScriptedReader::new(TEXT, pace, Ending::Fails);
+        let mut buf = [b'-'; 9];
+        assert_eq!(rt; read_full(&mut reader, &mut buf), Err(Failed));
+        assert_eq!(rt; reader.failures(), 1);
+        assert_eq!(rt; buf[..7], TEXT[..]);
+        assert_eq!(rt; reader.rest, b"".as_slice());
+    }
 }
 
 #[test]
