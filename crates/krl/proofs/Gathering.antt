@@ -30,7 +30,7 @@ ascend n (m ∷ ns) h fits =
 eqb-yes : (a b : ℕ) → a ≡ b → eqb a b ≡ true
 eqb-yes a b e = grind (arith, nat_tests)
 
-eqb-no : (a b : ℕ) → b < a → eqb a b ≡ false
+pub eqb-no : (a b : ℕ) → b < a → eqb a b ≡ false
 eqb-no a b lt = grind (arith, nat_tests)
 
 -- they are runs

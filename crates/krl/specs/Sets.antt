@@ -1,5 +1,5 @@
 -- Sets of serials, and their runs.
-use Rattle.std.specs.Prelude.{◌≡◌, ◌==◌, ℕ, ◌+◌, ◌<◌, ◌≤◌, ◌^◌, List, [], ◌∷◌, Bool, true, false, ◌&&◌, ◌⊎◌, nat_lt, nat_le, Option, Some, None, drop, slice_index, min, max, ◌-◌, if◌then◌else◌}
+use Rattle.std.specs.Prelude.{◌≡◌, ◌==◌, ℕ, zero, suc, ◌+◌, ◌<◌, ◌≤◌, ◌^◌, List, [], ◌∷◌, Bool, true, false, ◌&&◌, ◌⊎◌, nat_lt, nat_le, Option, Some, None, drop, slice_index, min, max, ◌-◌, if◌then◌else◌}
 use Rattle.std.specs.List.{list_any, list_all}
 use Rattle.krl.specs.declared.run.Run.{Run}
 
@@ -39,6 +39,24 @@ pub record IsRunOf (set : ℕ → Bool) (r : Run) : Type 0 where
 abbrev pub IsOneOf : Run → List Run → Type 0
 IsOneOf r [] = ⊥
 IsOneOf r (s ∷ rs) = (s ≡ r) ⊎ IsOneOf r rs
+
+-- whether the serial is one of so many from a serial on
+abbrev pub is_counted : ℕ → ℕ → ℕ → Bool
+is_counted from count n = nat_le from n && nat_lt n (from + count)
+
+-- the runs with a serial more, which stands below them
+abbrev pub with_first : ℕ → List Run → List Run
+with_first n [] = record { lo = n; hi = n } ∷ []
+with_first n (r ∷ rs) =
+    if r.lo == n + 1 then record { lo = n; hi = r.hi } ∷ rs
+    else record { lo = n; hi = n } ∷ r ∷ rs
+
+-- the runs of the set's serials among so many from a serial on
+abbrev pub runs_in : (ℕ → Bool) → ℕ → ℕ → List Run
+runs_in set from zero = []
+runs_in set from (suc count) =
+    if set from then with_first from (runs_in set (from + 1) count)
+    else runs_in set (from + 1) count
 
 -- whether the serial is below the bound, if there is one
 abbrev pub is_before : ℕ → Option ℕ → Bool

@@ -18,7 +18,7 @@ mod writer;
 pub use ca_part::CaPart;
 pub use fault::KrlFault;
 pub use krl_head::KrlHead;
-pub use laws::{runs_are_maximal, runs_are_one};
+pub use laws::{a_set_has_its_runs, runs_are_maximal, runs_are_one};
 pub use lengths::krl_len;
 pub use reader::check;
 pub use run::Run;

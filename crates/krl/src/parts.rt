@@ -25,11 +25,11 @@ pub(crate) const SERIAL_RANGE: u8 = 0x21;
 pub(crate) const KEY_ID_LIST: u8 = 0x23;
 
 // Whether a serial list has the serial. `None` where the data is no serials.
-fn serials_name(data: &[u8], serial: u64) -> Option<bool>
-    ensures found { IfSome result (λ b. AreItems u64_text IsU64 (λ n. serial == n) data.now b) }
-    ensures none { IfNone result ((ns : List ℕ) → AllByRecursion IsU64 ns → data.now ≢ flat_map u64_text ns) }
+fn serials_name(bytes: &[u8], serial: u64) -> Option<bool>
+    ensures found { IfSome result (λ b. AreItems u64_text IsU64 (λ n. serial == n) bytes.now b) }
+    ensures none { IfNone result ((ns : List ℕ) → AllByRecursion IsU64 ns → bytes.now ≢ flat_map u64_text ns) }
 {
-    let mut cursor = Cursor::new(data);
+    let mut cursor = Cursor::new(bytes);
     let mut named = false;
     while !cursor.at_end() {
         let Some(next) = cursor.u64() else {
@@ -41,11 +41,11 @@ fn serials_name(data: &[u8], serial: u64) -> Option<bool>
 }
 
 // Whether a range has the serial. `None` where the data is no range.
-fn range_names(data: &[u8], serial: u64) -> Option<bool>
-    ensures found { IfSome result (λ b. (r : Run) × (r.lo < 2 ^ 64) × (r.hi < 2 ^ 64) × (data.now ≡ u64_text r.lo ++ u64_text r.hi) × (b ≡ is_within serial r)) }
-    ensures none { IfNone result ((r : Run) → r.lo < 2 ^ 64 → r.hi < 2 ^ 64 → data.now ≢ u64_text r.lo ++ u64_text r.hi) }
+fn range_names(bytes: &[u8], serial: u64) -> Option<bool>
+    ensures found { IfSome result (λ b. (r : Run) × (r.lo < 2 ^ 64) × (r.hi < 2 ^ 64) × (bytes.now ≡ u64_text r.lo ++ u64_text r.hi) × (b ≡ is_within serial r)) }
+    ensures none { IfNone result ((r : Run) → r.lo < 2 ^ 64 → r.hi < 2 ^ 64 → bytes.now ≢ u64_text r.lo ++ u64_text r.hi) }
 {
-    let mut cursor = Cursor::new(data);
+    let mut cursor = Cursor::new(bytes);
     let Some(lo) = cursor.u64() else {
         return None;
     };
@@ -59,12 +59,12 @@ fn range_names(data: &[u8], serial: u64) -> Option<bool>
 }
 
 // Whether a key id list has the key id. `None` where the data is no key ids, one or more.
-fn key_ids_name(data: &[u8], key_id: &[u8]) -> Option<bool>
-    ensures some { IfSome result (λ b. data.now ≢ []) }
-    ensures found { IfSome result (λ b. AreItems string_text IsString (λ i. bytes_eq i key_id.now) data.now b) }
-    ensures none { IfNone result ((ids : List (List ℕ)) → ids ≢ [] → AllByRecursion IsString ids → data.now ≢ flat_map string_text ids) }
+fn key_ids_name(bytes: &[u8], key_id: &[u8]) -> Option<bool>
+    ensures some { IfSome result (λ b. bytes.now ≢ []) }
+    ensures found { IfSome result (λ b. AreItems string_text IsString (λ i. bytes_eq i key_id.now) bytes.now b) }
+    ensures none { IfNone result ((ids : List (List ℕ)) → ids ≢ [] → AllByRecursion IsString ids → bytes.now ≢ flat_map string_text ids) }
 {
-    let mut cursor = Cursor::new(data);
+    let mut cursor = Cursor::new(bytes);
     if cursor.at_end() {
         return None;
     }
@@ -79,15 +79,15 @@ fn key_ids_name(data: &[u8], key_id: &[u8]) -> Option<bool>
 }
 
 // Whether the part of this type and data names the serial or the key id.
-fn data_names(kind: u8, data: &[u8], serial: u64, key_id: &[u8]) -> Result<bool, KrlFault>
-    requires { IsString data.now }
-    ensures found { IfOk result (ReadsPartData kind data.now serial key_id.now) }
-    ensures fault { IfErr result (RefusesPartData kind data.now) }
+fn data_names(kind: u8, bytes: &[u8], serial: u64, key_id: &[u8]) -> Result<bool, KrlFault>
+    requires { IsString bytes.now }
+    ensures found { IfOk result (ReadsPartData kind bytes.now serial key_id.now) }
+    ensures fault { IfErr result (RefusesPartData kind bytes.now) }
 {
     match kind {
-        SERIAL_LIST => serials_name(data, serial).ok_or(KrlFault::BadSection),
-        SERIAL_RANGE => range_names(data, serial).ok_or(KrlFault::BadSection),
-        KEY_ID_LIST => key_ids_name(data, key_id).ok_or(KrlFault::BadSection),
+        SERIAL_LIST => serials_name(bytes, serial).ok_or(KrlFault::BadSection),
+        SERIAL_RANGE => range_names(bytes, serial).ok_or(KrlFault::BadSection),
+        KEY_ID_LIST => key_ids_name(bytes, key_id).ok_or(KrlFault::BadSection),
         other => Err(KrlFault::Unsupported(other)),
     }
 }

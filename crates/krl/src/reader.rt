@@ -30,11 +30,16 @@ fn is_for_blob(ca: &[u8], blob: &[u8]) -> bool
 }
 
 // Reads the data of a certificates section.
-fn read_certificates(data: &[u8], blob: &[u8], serial: u64, key_id: &[u8]) -> Result<bool, KrlFault>
-    ensures found { IfOk result (ReadsCertificates data.now blob.now serial key_id.now) }
-    ensures fault { IfErr result (CertificatesFault data.now) }
+fn read_certificates(
+    bytes: &[u8],
+    blob: &[u8],
+    serial: u64,
+    key_id: &[u8],
+) -> Result<bool, KrlFault>
+    ensures found { IfOk result (ReadsCertificates bytes.now blob.now serial key_id.now) }
+    ensures fault { IfErr result (CertificatesFault bytes.now) }
 {
-    let mut cursor = Cursor::new(data);
+    let mut cursor = Cursor::new(bytes);
     let Some(ca) = next_string(&mut cursor) else {
         return Err(KrlFault::BadSection);
     };

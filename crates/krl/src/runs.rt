@@ -1,6 +1,6 @@
 //! Sets of serials as runs.
 
-ghost use Rattle.std.specs.Prelude.{◌≡◌, ◌≢◌, ◌↔◌, IsTrue, nat_le, ◌&&◌, ◌||◌, ◌<◌, ◌≤◌, ◌-◌, ◌^◌, ℕ, ◌+◌, [], ◌∷◌, IsSome, IfSome, OnOk, OnErr, IfOk, vec_len, length, slice_get, slice_index_or};
+ghost use Rattle.std.specs.Prelude.{All, ◌≡◌, ◌≢◌, ◌↔◌, IsTrue, nat_le, ◌&&◌, ◌||◌, ◌<◌, ◌≤◌, ◌-◌, ◌^◌, ℕ, ◌+◌, [], ◌∷◌, IsSome, IfSome, OnOk, OnErr, IfOk, vec_len, length, slice_get, slice_index_or};
 ghost use Rattle.std.specs.Bool.{OnTrue, OnFalse};
 ghost use Rattle.std.specs.List.{list_any, filter_map};
 ghost use Rattle.std.specs.Option.{SomeIff};
@@ -97,6 +97,7 @@ impl Runs {
     pub fn split(&self, alloc: Global, since: &[u64]) -> Result<Vec<Runs>, NoMemory>
         requires { IsNonDecreasing since.now }
         ensures places { IfOk result (λ v. vec_len v ≡ length since.now) }
+        ensures runs { IfOk result (λ v. All AreRuns v.items) }
         ensures split { IfOk result (λ v. (k n : ℕ) → k < length since.now
             → contains (slice_index_or v.items k []) n ≡ (is_last_reached since.now k n && contains self.now n)) }
     {

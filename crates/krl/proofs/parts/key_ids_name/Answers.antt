@@ -14,13 +14,13 @@ returns-then-at_end-clause-none c ids some h e =
 
 pub returns-in_default-clause-none : goal.returns-in_default-clause-none
 returns-in_default-clause-none c ids some =
-    stops_within string_text IsString (λ i. bytes_eq i c.args.key_id.now) strings_unique string_has_bytes c.args.data.now c.loop-cursor.cursor c.loop-cursor.named c.loop-cursor.invariant.so_far
+    stops_within string_text IsString (λ i. bytes_eq i c.args.key_id.now) strings_unique string_has_bytes c.args.bytes.now c.loop-cursor.cursor c.loop-cursor.named c.loop-cursor.invariant.so_far
     (λ end. absurd (cc (c.loop-cursor-test.ensures.1 end))) c.in_default.ensures.cut ids
 
 pub loop-cursor-preserved : goal.loop-cursor-preserved
 loop-cursor-preserved c = record {
   bytes_left = suffix_bytes c.loop-cursor.cursor (string_text c.in-Some.next.now) c.next_string.new.cursor c.loop-cursor.invariant.bytes_left c.in-Some.ensures.found.1;
   so_far =
-      subst (λ (b : Bool). SoFar string_text IsString (λ i. bytes_eq i c.args.key_id.now) c.args.data.now c.next_string.new.cursor (c.loop-cursor.named || b)) (sym c.is_same-named.ensures)
-      (so_far_more string_text IsString (λ i. bytes_eq i c.args.key_id.now) c.args.data.now _ _ c.loop-cursor.named c.in-Some.next.now c.loop-cursor.invariant.so_far c.in-Some.ensures.found.0 c.in-Some.ensures.found.1);
+      subst (λ (b : Bool). SoFar string_text IsString (λ i. bytes_eq i c.args.key_id.now) c.args.bytes.now c.next_string.new.cursor (c.loop-cursor.named || b)) (sym c.is_same-named.ensures)
+      (so_far_more string_text IsString (λ i. bytes_eq i c.args.key_id.now) c.args.bytes.now _ _ c.loop-cursor.named c.in-Some.next.now c.loop-cursor.invariant.so_far c.in-Some.ensures.found.0 c.in-Some.ensures.found.1);
 }

@@ -1,0 +1,70 @@
+//! Key revocation lists made, asked and timed from the command line.
+//!
+//!     krl_tool list SPECIFICATION VERSION DATE
+//!     krl_tool check LIST KEY SERIAL KEYID
+//!     krl_tool time RUNS
+//!
+//! `list` writes the list of a specification to standard output. `check` prints whether a list revokes the certificate of
+//! this serial and key id under the CA of a public key, or why the list is refused. `time` writes a list of so many runs
+//! into memory and reads it again; how long that took goes to standard error. Files and the clock are the system's, and
+//! nothing is proved of them.
+#![tactic(auto)]
+
+mod answer;
+mod listing;
+mod specification;
+mod timing;
+
+use answer::Answer;
+use anyhow::{Context, Result, bail};
+use krl::KrlHead;
+use listing::list_of;
+use specification::{read_key, read_specification};
+use std::io::{self, Write};
+use std::rt::Files;
+use std::time::Clock;
+use std::{env, fs};
+
+fn list<R: Files + Print + AllocGlobal>(rt: &R, file: &str, head: &KrlHead) -> Result<()> {
+    let text = fs::read_to_string(rt, file).context(format_args!("reading {file}"))?;
+    let wanted = read_specification(rt.alloc(), text.as_str())?;
+    let bytes = list_of(rt.alloc(), head, wanted.parts.as_slice(), &wanted.key_ids)?;
+    io::writer(rt).write_all(bytes.as_slice())?;
+    Ok(())
+}
+
+fn check<R: Files + Print + AllocGlobal>(
+    rt: &R,
+    list: &str,
+    key: &str,
+    serial: u64,
+    key_id: &str,
+) -> Result<()> {
+    let bytes = fs::read(rt, list).context(format_args!("reading {list}"))?;
+    let line = fs::read_to_string(rt, key).context(format_args!("reading {key}"))?;
+    let ca = read_key(rt.alloc(), line.as_str().trim_end())?;
+    let answer = Answer(krl::check(bytes.as_slice(), &ca, serial, key_id.as_bytes()));
+    println!(rt; "{answer}")?;
+    Ok(())
+}
+
+fn run<R: Files + Clock + Print + Eprint + AllocGlobal>(rt: &R, words: &[&str]) -> Result<()> {
+    match *words {
+        [_, "list", file, version, date] => {
+            let head = KrlHead {
+                version: version.parse()?,
+                date: date.parse()?,
+            };
+            list(rt, file, &head)
+        }
+        [_, "check", file, key, serial, key_id] => check(rt, file, key, serial.parse()?, key_id),
+        [_, "time", runs] => timing::time(rt, runs.parse()?),
+        _ => bail!("list SPECIFICATION VERSION DATE, check LIST KEY SERIAL KEYID, or time RUNS"),
+    }
+}
+
+fn main(rt: HostRuntime) -> Result<()> {
+    let words: Vec<String> = env::args(&rt)?.collect(rt.alloc())?;
+    let words: Vec<&str> = words.iter().map(|w| w.as_str()).collect(rt.alloc())?;
+    run(&rt, words.as_slice())
+}

@@ -1,0 +1,54 @@
+//! Lists timed.
+
+use crate::answer::Answer;
+use crate::listing::list_of;
+use anyhow::{Result, bail};
+use krl::{CaPart, KrlHead, Run, Runs, check};
+use std::alloc::{AllocError, Global};
+use std::time::{Clock, Instant};
+use text::Texts;
+
+const CA: [u8; 32] = [0x11; 32];
+
+const HEAD: KrlHead = KrlHead {
+    version: 1,
+    date: 3000,
+};
+
+/// From the first serial of a run to that of the next: so far that ssh-keygen makes no bitmaps of the same set.
+const STEP: u64 = 100;
+
+// Runs of one, two and three serials by turns.
+fn spaced_runs(alloc: Global, count: u32) -> Result<Vec<Run>, AllocError> {
+    let mut runs = Vec::with_capacity(alloc, count as usize)?;
+    for place in 0..u64::from(count) {
+        let lo = STEP * place + 1;
+        runs.push(Run {
+            lo,
+            hi: lo + place % 3,
+        })?;
+    }
+    Ok(runs)
+}
+
+/// Writes a list of so many runs into memory and reads it for a serial that it doesn't have. Prints the list's length
+/// and what was answered, and to standard error how long each took.
+pub(crate) fn time<R: Clock + Print + Eprint + AllocGlobal>(rt: &R, count: u32) -> Result<()> {
+    let Some(runs) = Runs::from_runs(spaced_runs(rt.alloc(), count)?) else {
+        bail!("runs that touch");
+    };
+    let parts = [CaPart { ca: CA, runs }];
+    let start = Instant::now(rt)?;
+    let list = list_of(rt.alloc(), &HEAD, &parts, &Texts::new(rt.alloc()))?;
+    let written = start.elapsed(rt)?;
+    let start = Instant::now(rt)?;
+    let answer = Answer(check(list.as_slice(), &CA, 0, b""));
+    let read = start.elapsed(rt)?;
+    println!(rt; "{count} runs, {} bytes, {answer}", list.len())?;
+    eprintln!(rt;
+        "written in {} us, read in {} us",
+        written.as_micros(),
+        read.as_micros()
+    )?;
+    Ok(())
+}
