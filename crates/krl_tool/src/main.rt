@@ -3,10 +3,11 @@
 //!     krl_tool list SPECIFICATION VERSION DATE
 //!     krl_tool check LIST KEY SERIAL KEYID
 //!     krl_tool time RUNS
+//!     krl_tool add SERIALS STRIDE
 //!
 //! `list` writes the list of a specification to standard output. `check` prints whether a list revokes the certificate of
 //! this serial and key id under the CA of a public key, or why the list is refused. `time` writes a list of so many runs
-//! into memory and reads it again; how long that took goes to standard error. Files and the clock are the system's, and
+//! into memory and reads it again, and `add` adds so many serials to a set; how long that took goes to standard error. Files and the clock are the system's, and
 //! nothing is proved of them.
 #![tactic(auto)]
 
@@ -59,7 +60,10 @@ fn run<R: Files + Clock + Print + Eprint + AllocGlobal>(rt: &R, words: &[&str]) 
         }
         [_, "check", file, key, serial, key_id] => check(rt, file, key, serial.parse()?, key_id),
         [_, "time", runs] => timing::time(rt, runs.parse()?),
-        _ => bail!("list SPECIFICATION VERSION DATE, check LIST KEY SERIAL KEYID, or time RUNS"),
+        [_, "add", serials, stride] => timing::add(rt, serials.parse()?, stride.parse()?),
+        _ => bail!(
+            "list FILE VERSION DATE, check LIST KEY SERIAL KEYID, time RUNS, or add SERIALS STRIDE"
+        ),
     }
 }
 

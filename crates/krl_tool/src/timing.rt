@@ -3,7 +3,7 @@
 use crate::answer::Answer;
 use crate::listing::list_of;
 use anyhow::{Result, bail};
-use krl::{CaPart, KrlHead, Run, Runs, check};
+use krl::{CaPart, KrlHead, Run, Runs, check, runs_of};
 use std::alloc::{AllocError, Global};
 use std::time::{Clock, Instant};
 use text::Texts;
@@ -50,5 +50,30 @@ pub(crate) fn time<R: Clock + Print + Eprint + AllocGlobal>(rt: &R, count: u32) 
         written.as_micros(),
         read.as_micros()
     )?;
+    Ok(())
+}
+
+/// Adds so many serials one by one to an empty set: at places that are `stride` apart, round and round. Prints how many
+/// runs they make, and to standard error how long it took.
+pub(crate) fn add<R: Clock + Print + Eprint + AllocGlobal>(
+    rt: &R,
+    count: u32,
+    stride: u32,
+) -> Result<()> {
+    let Ok(mut runs) = runs_of(rt.alloc(), &[]) else {
+        bail!("out of memory");
+    };
+    let mut place: u32 = 0;
+    let start = Instant::now(rt)?;
+    for _ in 0..count {
+        let serial = STEP * u64::from(place) + 1;
+        if runs.add_range(rt.alloc(), serial, serial).is_err() {
+            bail!("out of memory");
+        }
+        place = place.wrapping_add(stride) % count.max(1);
+    }
+    let added = start.elapsed(rt)?;
+    println!(rt; "{} runs of {count} serials", runs.runs().len())?;
+    eprintln!(rt; "added in {} us", added.as_micros())?;
     Ok(())
 }
