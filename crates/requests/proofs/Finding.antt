@@ -1,18 +1,16 @@
 -- The path of each place finds its route.
-use Rattle.std.proofs.Common.{◌≡◌, ℕ, ◌+◌, List, [], ◌∷◌, ◌++◌, length, drop, take, Some, Bool, true, false, cond, refl, sym, ap, ◌∙◌, arith, ◌==◌, codes, decimal}
-use Rattle.std.specs.Prelude.{position}
-use Rattle.std.specs.List.{position_from}
-use Rattle.std.proofs.lemmas.Iterator.Adapters.{position_from-zero}
-use Rattle.std.proofs.Math.Seq.{take-append_seam, drop-append_seam}
+use Rattle.std.proofs.Common.{◌≡◌, ℕ, ◌-◌, List, [], ◌∷◌, ◌++◌, length, Some, refl, sym, ap, ◌∙◌, subst, arith, codes, decimal}
+use Rattle.matchit.specs.Rows.{RowsOf}
 use Rattle.matchit.specs.Router.{RouteOf}
-use Rattle.matchit.specs.Seek.{first, has_slash}
+use Rattle.matchit.specs.Seek.{first, seek}
+use Rattle.matchit.proofs.OnLiterals.{matchit_on_literals}
 use Rattle.requests.specs.declared.resource.Resource.TheVariants as a
 use Rattle.requests.specs.declared.router.RouteKind.{RouteKind}
-use Rattle.requests.specs.declared.router.RouteKind.TheVariants.{Message, Body}
+use Rattle.requests.specs.declared.router.RouteKind.TheVariants.{Message, Certificate, Body, Fixed}
 use Rattle.requests.specs.Paths.{Path, message, resource, IsPath, path_text}
 use Rattle.requests.specs.Routing.{routing, row_of}
-use Rattle.requests.proofs.Seeking.{lits}
-use Rattle.requests.proofs.Parts.{IsPart, part_of_name, part_of_serial, slash_param, end_param, seek_whole}
+use Rattle.requests.proofs.Seeking.{steps, lits, by_param, step_to_slash, step_to_end, seek_past, cuts_slash, cuts_none}
+use Rattle.requests.proofs.Parts.{IsPart, byte_misses, part_of_name, part_of_serial, slash_param, end_param, seek_whole}
 
 -- the path of a message finds the route of messages
 message_found : (c k : List ℕ) → IsPart c → IsPart k
@@ -22,76 +20,83 @@ message_found c k caller key =
     (slash_param _ (row_of Message) (row_of Message) c (codes "requests/" ++ k) caller
     (lits (codes "/requests/") _ k (row_of Message) (end_param (row_of Message) k key)))
 
+-- the rows after the front of a certificate's path
+abbrev pub certificates : RowsOf (RouteOf RouteKind)
+certificates = steps (codes "/v1/certs/") routing
+
+-- the path of a certificate finds the route of certificates
+certificate_found : (c : List ℕ) → IsPart c → first routing (codes "/v1/certs/" ++ c) ≡ Some (row_of Certificate)
+certificate_found c part = lits (codes "/v1/certs/") routing c (row_of Certificate) (by c part)
+  where
+    by : (c : List ℕ) → IsPart c → seek 0 certificates c ≡ Some (row_of Certificate)
+    by [] part = absurd (omega (arith, part.some))
+    by (x ∷ p) part =
+        let c = x ∷ p in
+        let after : RowsOf (RouteOf RouteKind) = (codes "/body", row_of Body) ∷ ([], row_of Certificate) ∷ [] in
+        let miss = byte_misses x (part.byte x p refl) in
+        let none = cuts_none c part.clear in
+        let e : length c - 1 ≡ length p = omega arith in
+        by_param certificates x p (row_of Certificate) (length c, after) (rw miss (refl {a = []}))
+        (step_to_end after c part.clear (rw none (refl {a = []})))
+        (ap (λ n. seek n after p) e ∙ seek_whole after p)
+
 -- the path of a body finds the route of bodies
 body_found : (c : List ℕ) → IsPart c → first routing (codes "/v1/certs/" ++ (c ++ codes "/body")) ≡ Some (row_of Body)
-body_found c part =
-    lits (codes "/v1/certs/") routing (c ++ codes "/body") (row_of Body)
-    (slash_param _ (row_of Body) (row_of Body) c (codes "body") part
-    (lits (codes "/body") _ [] (row_of Body) (seek_whole _ [])))
+body_found c part = lits (codes "/v1/certs/") routing (c ++ codes "/body") (row_of Body) (by c part)
+  where
+    by : (c : List ℕ) → IsPart c → seek 0 certificates (c ++ codes "/body") ≡ Some (row_of Body)
+    by [] part = absurd (omega (arith, part.some))
+    by (x ∷ p) part =
+        let c = x ∷ p in
+        let after : RowsOf (RouteOf RouteKind) = (codes "/body", row_of Body) ∷ ([], row_of Certificate) ∷ [] in
+        let only : RowsOf (RouteOf RouteKind) = (codes "/body", row_of Body) ∷ [] in
+        let miss = byte_misses x (part.byte x p refl) in
+        let hit = cuts_slash c part.some in
+        let e : length c - 1 ≡ length p = omega arith in
+        by_param certificates x (p ++ codes "/body") (row_of Body) (length c, only) (rw miss (refl {a = []}))
+        (step_to_slash after c (codes "body") part.clear (rw hit (refl {a = 47 ∷ []})))
+        (ap (λ n. seek n only (p ++ codes "/body")) e ∙ seek_past only p (codes "/body")
+        ∙ lits (codes "/body") only [] (row_of Body) (seek_whole (([], row_of Body) ∷ []) []))
 
 -- the route of a path
 abbrev pub kind_at : Path → RouteKind
 kind_at (message caller key) = Message
+kind_at (resource (a.Certificate n)) = Certificate
 kind_at (resource (a.Body n)) = Body
+kind_at (resource r) = Fixed r
 
 -- the text of a path finds the path's route
-pub routed : (p : Path) → IsPath p
-    → (r : RouteOf RouteKind) × (first routing (path_text p) ≡ Some r) × (r.value ≡ kind_at p)
-routed (message caller key) is =
-    (row_of Message, message_found caller key (part_of_name caller is.0) (part_of_name key is.1), refl)
-routed (resource (a.Body n)) is = (row_of Body, body_found (decimal n) (part_of_serial n is), refl)
+pub routed : (p : Path) → IsPath p → first routing (path_text p) ≡ Some (row_of (kind_at p))
+unfolding matchit_on_literals
+routed (message caller key) is = message_found caller key (part_of_name caller is.0) (part_of_name key is.1)
+routed (resource (a.Certificate n)) is = certificate_found (decimal n) (part_of_serial n is)
+routed (resource (a.Body n)) is = body_found (decimal n) (part_of_serial n is)
+routed (resource r) is = refl
 
 -- the route that was found is the route of the path's text
 pub same_route : (path : List ℕ) (r : RouteOf RouteKind) (p : Path)
     → IsPath p → first routing path ≡ Some r → path ≡ path_text p → r.value ≡ kind_at p
 same_route path r p is found e =
-    let other = routed p is in
-    let same = sym found ∙ ap (first routing) e ∙ other.1 in
-    let r_is : r ≡ other.0 = cc in
-    ap (λ r. r.value) r_is ∙ other.2
+    let same = sym found ∙ ap (first routing) e ∙ routed p is in
+    let row : r ≡ row_of (kind_at p) = cc in
+    ap (λ r. r.value) row
 
--- only a message has the route of messages
-pub message_only : (p : Path) (path : List ℕ) → IsPath p → path ≡ path_text p → Message ≡ kind_at p
-    → ((caller key : List ℕ) → IsPath (message caller key) → path ≡ path_text (message caller key) → ⊥) → ⊥
-message_only (message caller key) path is e f none = none caller key is e
-message_only (resource (a.Body n)) path is e f none = cc
+-- the path is one of this route
+abbrev pub IsAt : RouteKind → Path → Type 0
+IsAt Message p = (caller : List ℕ) × (key : List ℕ) × (p ≡ message caller key)
+IsAt Certificate p = (n : ℕ) × (p ≡ resource (a.Certificate n))
+IsAt Body p = (n : ℕ) × (p ≡ resource (a.Body n))
+IsAt (Fixed r) p = p ≡ resource r
 
--- only a body has the route of bodies
-pub body_only : (p : Path) (path : List ℕ) → IsPath p → path ≡ path_text p → Body ≡ kind_at p
-    → ((n : ℕ) → IsPath (resource (a.Body n)) → path ≡ path_text (resource (a.Body n)) → ⊥) → ⊥
-body_only (message caller key) path is e f none = cc
-body_only (resource (a.Body n)) path is e f none = none n is e
+-- each path is one of its own route
+at_kind : (p : Path) → IsAt (kind_at p) p
+at_kind (message caller key) = (caller, key, refl)
+at_kind (resource (a.Certificate n)) = (n, refl)
+at_kind (resource (a.Body n)) = (n, refl)
+at_kind (resource r) = refl
 
--- the first slash comes after bytes that have none
-first_slash : (c q : List ℕ) (n : ℕ) → has_slash c ≡ false
-    → position_from (λ b. b == 47) n (c ++ 47 ∷ q) ≡ Some (n + length c)
-first_slash [] q n clear = ap Some (omega arith)
-first_slash (b ∷ c) q n clear = by (first_slash c q (n + 1)) (b == 47) refl clear
-  where
-    by : (has_slash c ≡ false → position_from (λ b. b == 47) (n + 1) (c ++ 47 ∷ q) ≡ Some (n + 1 + length c))
-        → (v : Bool) → (b == 47) ≡ v → cond v true (has_slash c) ≡ false
-        → position_from (λ b. b == 47) n (b ∷ (c ++ 47 ∷ q)) ≡ Some (n + length (b ∷ c))
-    by again true e f = cc
-    by again false e f = rw e (again f ∙ ap Some (omega arith))
-
--- what is cut off a message's path
-pub record IsCut (rest caller key : List ℕ) : Type 0 where
-  pub whole : rest ≡ caller ++ (codes "/requests/" ++ key)
-  pub slash : position (λ b. b == 47) rest ≡ Some (length caller)
-  pub front : take (length caller) rest ≡ caller
-  pub back : drop (length caller) rest ≡ codes "/requests/" ++ key
-
--- what comes after the front of a message's path is cut at its first slash
-pub message_cut : (path rest caller key : List ℕ) → IsPath (message caller key)
-    → path ≡ path_text (message caller key) → rest ≡ drop 12 path → IsCut rest caller key
-message_cut path rest caller key is e f =
-    let whole : rest ≡ caller ++ (codes "/requests/" ++ key) = f ∙ ap (drop 12) e in
-    let clear = (part_of_name caller is.0).clear in
-    let at = first_slash caller (codes "requests/" ++ key) 0 clear ∙ ap Some (omega arith) in
-    record {
-      whole = whole;
-      slash = ap (position (λ b. b == 47)) whole
-          ∙ position_from-zero (λ b. b == 47) (caller ++ (codes "/requests/" ++ key)) ∙ at;
-      front = ap (take (length caller)) whole ∙ take-append_seam caller (codes "/requests/" ++ key);
-      back = ap (drop (length caller)) whole ∙ drop-append_seam caller (codes "/requests/" ++ key);
-    }
+-- a path is one of the route that it has
+pub at_route : (kind : RouteKind) (p : Path) → kind ≡ kind_at p → IsAt kind p
+at_route kind p e =
+    let P : RouteKind → Type 0 = λ kind. IsAt kind p in
+    subst P (sym e) (at_kind p)

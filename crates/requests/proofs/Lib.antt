@@ -4,7 +4,10 @@ pub mod Refusals
 pub mod Seeking
 pub mod Parts
 pub mod Finding
+pub mod Cutting
+pub mod Matching
 pub mod OneAsk
 pub mod LawfulAsk
+pub mod Later
 pub mod Wanted
 pub mod Reading

@@ -4,10 +4,12 @@ use Rattle.std.proofs.lemmas.List.{append_cancel_right}
 use Rattle.std.proofs.lemmas.Fmt.{decimal_injective}
 use Rattle.httparse.specs.Grammar.{RequestHead}
 use Rattle.httparse.proofs.GrammarLemmas.{request_unique}
-use Rattle.requests.specs.declared.resource.Resource.TheVariants.{Body}
+use Rattle.requests.specs.declared.resource.Resource.TheVariants.{Certificate, Body}
 use Rattle.requests.specs.Paths.{Path, message, resource, IsPath, IsSerial, path_text}
+use Rattle.requests.specs.Routing.{row_of}
 use Rattle.requests.specs.Asks.{Ask, HeadAsks, Asks, asked_at}
-use Rattle.requests.proofs.Finding.{routed, same_route, kind_at, message_cut}
+use Rattle.requests.proofs.Finding.{routed, same_route, kind_at, IsAt, at_route}
+use Rattle.requests.proofs.Cutting.{message_cut}
 
 -- two messages whose paths have one text are of one caller and one key
 same_message : (c k d l : List ℕ) → IsPath (message c k) → IsPath (message d l)
@@ -22,26 +24,33 @@ same_message c k d l is also e =
     let keys : k ≡ l = ap (drop 10) tails in
     cc
 
--- two bodies whose paths have one text have one serial
-same_body : (m n : ℕ) → IsSerial m → IsSerial n → path_text (resource (Body m)) ≡ path_text (resource (Body n)) → m ≡ n
-same_body m n is also e =
-    let digits = append_cancel_right (decimal m) (decimal n) (codes "/body") (ap (drop 10) e) in
-    decimal_injective m n (omega arith) (omega arith) digits
+-- serials of one text are one
+same_serial : (m n : ℕ) → IsSerial m → IsSerial n → decimal m ≡ decimal n → m ≡ n
+same_serial m n is also e = decimal_injective m n (omega arith) (omega arith) e
 
 -- paths of one text lead to one route
 same_kind : (p q : Path) → IsPath p → IsPath q → path_text p ≡ path_text q → kind_at p ≡ kind_at q
-same_kind p q is also e =
-    let found = routed p is in
-    sym found.2 ∙ same_route (path_text p) found.0 q also found.1 e
+same_kind p q is also e = same_route (path_text p) (row_of (kind_at p)) q also (routed p is) e
+
+-- paths of one route and one text are one
+same_at : (p q : Path) → IsPath p → IsPath q → path_text p ≡ path_text q → IsAt (kind_at p) q → p ≡ q
+same_at (message c k) q is also e at =
+    let P : Path → Type 0 = IsPath in
+    same_message c k at.0 at.1 is (subst P at.2 also) (e ∙ ap path_text at.2) ∙ sym at.2
+same_at (resource (Certificate m)) q is also e at =
+    let P : Path → Type 0 = IsPath in
+    let digits = ap (drop 10) (e ∙ ap path_text at.1) in
+    ap (λ n. resource (Certificate n)) (same_serial m at.0 is (subst P at.1 also) digits) ∙ sym at.1
+same_at (resource (Body m)) q is also e at =
+    let P : Path → Type 0 = IsPath in
+    let ends = ap (drop 10) (e ∙ ap path_text at.1) in
+    let digits = append_cancel_right (decimal m) (decimal at.0) (codes "/body") ends in
+    ap (λ n. resource (Body n)) (same_serial m at.0 is (subst P at.1 also) digits) ∙ sym at.1
+same_at (resource r) q is also e at = sym at
 
 -- paths of one text are one
 pub same_path : (p q : Path) → IsPath p → IsPath q → path_text p ≡ path_text q → p ≡ q
-same_path (message c k) (message d l) is also e = same_message c k d l is also e
-same_path (resource (Body m)) (resource (Body n)) is also e = ap (λ n. resource (Body n)) (same_body m n is also e)
-same_path (message c k) (resource (Body n)) is also e =
-    let kinds = same_kind (message c k) (resource (Body n)) is also e in cc
-same_path (resource (Body m)) (message d l) is also e =
-    let kinds = same_kind (resource (Body m)) (message d l) is also e in cc
+same_path p q is also e = same_at p q is also e (at_route (kind_at p) q (same_kind p q is also e))
 
 -- a head asks one thing
 one_of_head : (h : RequestHead) (rest : List ℕ) (a b : Ask) → HeadAsks h rest a → HeadAsks h rest b → a ≡ b

@@ -19,7 +19,7 @@ pub record IsPart (c : List ℕ) : Type 0 where
   pub byte : (x : ℕ) (p : List ℕ) → c ≡ x ∷ p → x < 256
 
 -- a byte is no parameter
-byte_misses : (x : ℕ) → x < 256 → (256 == x) ≡ false
+pub byte_misses : (x : ℕ) → x < 256 → (256 == x) ≡ false
 byte_misses x h = grind (arith, nat_tests)
 
 -- at the end the row that ends here is found

@@ -1,12 +1,14 @@
 -- Heads in bytes that come one after the other.
-use Rattle.std.proofs.Common.{◌≡◌, ℕ, ◌+◌, ◌-◌, ◌<◌, List, [], ◌∷◌, ◌++◌, length, take, drop, refl, sym, ap, ◌∙◌, arith, length-append, append_assoc, subst}
+use Rattle.std.proofs.Common.{◌≡◌, ℕ, ◌+◌, ◌-◌, ◌<◌, ◌≤◌, List, [], ◌∷◌, ◌++◌, length, take, drop, Bool, true, false, refl, sym, ap, ◌∙◌, arith, length-append, append_assoc, subst, nat_lt}
 use Rattle.std.specs.List.{flat_map}
-use Rattle.std.proofs.Math.Seq.{take-append-add, take-append_seam, drop-append_seam}
-use Rattle.std.proofs.lemmas.List.{append-nil}
+use Rattle.std.proofs.Math.Seq.{take-append-add, take-append_seam, drop-append_seam, take-length}
+use Rattle.std.proofs.lemmas.List.{append-nil, take-append-le}
+use Rattle.std.proofs.lemmas.Bool.Decides.{nat_tests}
 use Rattle.httparse.specs.Grammar.{RequestHead, ReadsRequest, print_request, print_version, print_blank, print_end, print_field, LineEnd, crlf, lf}
 use Rattle.httparse.proofs.GrammarLemmas.{print_request-append, ReadsRequest-append}
 use Rattle.requests.specs.Heads.{IsGood}
-use Rattle.requests.specs.Reading.{HoldsNone, NeverHolds, IsNoMore}
+use Rattle.requests.specs.Reading.{HoldsNone, NeverHolds, IsNoMore, HasCome, WaitsBefore}
+use Rattle.requests.specs.declared.progress.Progress.TheVariants.{Waits}
 
 -- a head ends where the bytes end, or before the last byte
 head_before : (bytes : List ℕ) (b : ℕ) (h : RequestHead) (rest : List ℕ) → ReadsRequest (bytes ++ b ∷ []) h rest
@@ -41,6 +43,37 @@ pub never_none : (bytes : List ℕ) → NeverHolds bytes → HoldsNone bytes
 never_none bytes never =
     let P : List ℕ → Type 0 = HoldsNone in
     subst P (append-nil bytes) (never [])
+
+-- nothing comes before no bytes
+pub waits_before_nothing : WaitsBefore []
+waits_before_nothing n below = absurd (omega (arith, below))
+
+-- bytes that wait, and one more
+pub waits_before_more : (bytes : List ℕ) (b : ℕ) → WaitsBefore bytes → HasCome Waits bytes
+    → WaitsBefore (bytes ++ b ∷ [])
+waits_before_more bytes b before waits n below =
+    let size = length-append bytes (b ∷ []) in
+    let fits : n ≤ length bytes = omega (arith, size, below) in
+    let P : List ℕ → Type 0 = HasCome Waits in
+    subst P (sym (take-append-le n bytes (b ∷ []) fits)) (by (nat_lt n (length bytes)) refl fits)
+  where
+    by : (v : Bool) → nat_lt n (length bytes) ≡ v → n ≤ length bytes → HasCome Waits (take n bytes)
+    by true e fits = before n (grind (arith, nat_tests))
+    by false e fits =
+        let P : List ℕ → Type 0 = HasCome Waits in
+        let same : n ≡ length bytes = grind (arith, nat_tests) in
+        subst P (sym (ap (λ n. take n bytes) same ∙ take-length bytes)) waits
+
+-- with a head in no shorter beginning, a head is all the bytes
+pub no_more_of_waits : (bytes : List ℕ) → WaitsBefore bytes → IsNoMore bytes
+no_more_of_waits bytes before h [] reads = refl
+no_more_of_waits bytes before h (x ∷ rest) reads =
+    let p = print_request h in
+    let size = simp length-append at (ap length reads.0.1) in
+    let cut = ap (take (length p)) reads.0.1 ∙ take-append_seam p (x ∷ rest) in
+    let P : List ℕ → Type 0 = HoldsNone in
+    let none = subst P cut (before (length p) (omega (arith, size))).0 in
+    absurd (none h [] ((reads.0.0, sym (append-nil p)), reads.1))
 
 -- a head's last byte is a line feed
 ends_in_lf : (h : RequestHead) → (xs : List ℕ) × (print_request h ≡ xs ++ 10 ∷ [])

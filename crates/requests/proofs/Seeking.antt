@@ -1,7 +1,8 @@
 -- How the search of a router goes along a path: through literal bytes, and past a parameter.
-use Rattle.std.proofs.Common.{◌≡◌, ℕ, zero, suc, ◌-◌, ◌<◌, List, [], ◌∷◌, ◌++◌, length, drop, Some, None, Bool, true, false, cond, refl, ap, ◌∙◌, arith, ◌==◌, length-append}
+use Rattle.std.proofs.Common.{◌≡◌, ℕ, zero, suc, ◌-◌, ◌<◌, List, [], ◌∷◌, ◌++◌, length, drop, Some, None, Bool, true, false, cond, refl, ap, ◌∙◌, arith, ◌==◌, nat_eq, length-append}
 use Rattle.std.proofs.lemmas.Bool.Decides.{nat_tests}
-use Rattle.std.specs.Prelude.{ltb}
+use Rattle.std.specs.Prelude.{ltb, ◌&&◌}
+use Rattle.std.specs.Cmp.Lexicographic.{pointwise}
 use Rattle.std.proofs.Math.Seq.{drop-append_seam}
 use Rattle.matchit.specs.Rows.{RowsOf, param_token}
 use Rattle.matchit.specs.Seek.{step, seek, param_step, has_slash, with_suffix, segment, longest_suffix, cuts}
@@ -78,6 +79,33 @@ segment_whole (b ∷ c) clear = by (segment_whole c) (b == 47) refl clear
         → cond v (b ∷ []) (b ∷ segment c) ≡ b ∷ c
     by again true e f = cc
     by again false e f = ap (λ s. b ∷ s) (again f)
+
+-- what comes later in bytes without a slash has none
+clear_after : (n : ℕ) (c : List ℕ) → has_slash c ≡ false → has_slash (drop n c) ≡ false
+clear_after zero c clear = clear
+clear_after (suc n) [] clear = refl
+clear_after (suc n) (b ∷ c) clear = by (clear_after n c) (b == 47) clear
+  where
+    by : (has_slash c ≡ false → has_slash (drop n c) ≡ false) → (v : Bool) → cond v true (has_slash c) ≡ false
+        → has_slash (drop n c) ≡ false
+    by again true f = cc
+    by again false f = again f
+
+-- bytes without a slash aren't one
+no_slash_end : (q : List ℕ) → has_slash q ≡ false → pointwise nat_eq (47 ∷ []) q ≡ false
+no_slash_end [] clear = refl
+no_slash_end (y ∷ []) clear = by (y == 47) refl clear
+  where
+    by : (v : Bool) → (y == 47) ≡ v → cond v true false ≡ false → pointwise nat_eq (47 ∷ []) (y ∷ []) ≡ false
+    by true e f = cc
+    by false e f = grind (arith, nat_tests)
+no_slash_end (y ∷ z ∷ q) clear = elim (47 == y) as (λ v. (v && false) ≡ false) [ true ↦ refl | false ↦ refl ]
+
+-- a slash cuts nothing off bytes that have none
+pub cuts_none : (c : List ℕ) → has_slash c ≡ false → cuts c (47 ∷ []) ≡ false
+cuts_none c clear =
+    let e = no_slash_end (drop (length c - 1) c) (clear_after (length c - 1) c clear) in
+    rw e (elim (ltb 1 (length c)) as (λ v. (v && false) ≡ false) [ true ↦ refl | false ↦ refl ])
 
 -- a slash cuts off what is before it
 pub cuts_slash : (c : List ℕ) → 0 < length c → cuts (c ++ 47 ∷ []) (47 ∷ []) ≡ true

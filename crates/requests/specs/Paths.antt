@@ -1,9 +1,9 @@
 -- The paths that are answered, as texts.
-use Rattle.std.specs.Prelude.{ℕ, ◌≤◌, List, ◌++◌, codes, decimal, IsTrue}
+use Rattle.std.specs.Prelude.{⊤, ℕ, ◌≤◌, List, ◌++◌, codes, decimal, IsTrue}
 use Rattle.profile.specs.declared.limits.TheConstants.{LAST_SERIAL}
 use Rattle.profile.specs.Names.{is_name}
 use Rattle.requests.specs.declared.resource.Resource.{Resource}
-use Rattle.requests.specs.declared.resource.Resource.TheVariants.{Body}
+use Rattle.requests.specs.declared.resource.Resource.TheVariants.{Pending, Certificate, Body, RevocationList, Signers, Table, Cas}
 
 -- a serial that may be issued
 abbrev pub IsSerial : ℕ → Type 0
@@ -17,9 +17,17 @@ pub data Path : Type 0 where
 -- names are names, and a serial is one
 abbrev pub IsPath : Path → Type 0
 IsPath (message caller key) = IsTrue (is_name caller) × IsTrue (is_name key)
+IsPath (resource (Certificate n)) = IsSerial n
 IsPath (resource (Body n)) = IsSerial n
+IsPath (resource r) = ⊤
 
 -- the text of a path
 abbrev pub path_text : Path → List ℕ
 path_text (message caller key) = codes "/v1/callers/" ++ (caller ++ (codes "/requests/" ++ key))
+path_text (resource Pending) = codes "/v1/pending"
+path_text (resource (Certificate n)) = codes "/v1/certs/" ++ decimal n
 path_text (resource (Body n)) = codes "/v1/certs/" ++ (decimal n ++ codes "/body")
+path_text (resource RevocationList) = codes "/v1/krl"
+path_text (resource Signers) = codes "/v1/signers"
+path_text (resource Table) = codes "/v1/table"
+path_text (resource Cas) = codes "/v1/cas"

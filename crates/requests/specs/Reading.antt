@@ -1,5 +1,5 @@
 -- Heads in bytes that are still coming.
-use Rattle.std.specs.Prelude.{◌≡◌, ℕ, ◌≤◌, List, [], ◌++◌, length}
+use Rattle.std.specs.Prelude.{◌≡◌, ℕ, ◌<◌, ◌≤◌, List, [], ◌++◌, length, take}
 use Rattle.httparse.specs.Grammar.{RequestHead, ReadsRequest, MayBecomeRequest}
 use Rattle.requests.specs.declared.limits.TheConstants.{MAX_HEADER_LINES}
 use Rattle.requests.specs.declared.progress.Progress.{Progress}
@@ -30,3 +30,7 @@ abbrev pub HasCome : Progress → List ℕ → Type 0
 HasCome Whole bytes = HoldsHead bytes
 HasCome Waits bytes = HoldsNone bytes × MayBecomeRequest bytes
 HasCome Hopeless bytes = NeverHolds bytes
+
+-- all that came before the last byte may have become a head, at each byte
+abbrev pub WaitsBefore : List ℕ → Type 0
+WaitsBefore bytes = (n : ℕ) → n < length bytes → HasCome Waits (take n bytes)

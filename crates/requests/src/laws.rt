@@ -1,6 +1,6 @@
 //! What is true of every request.
 
-ghost use Rattle.std.specs.Prelude.{◌≡◌, ◌↔◌, ◌<◌, ℕ, List, length};
+ghost use Rattle.std.specs.Prelude.{◌≡◌, ◌≢◌, ◌↔◌, ◌<◌, ℕ, List, ◌++◌, length};
 ghost use Rattle.httparse.specs.Grammar.{RequestHead};
 ghost use Rattle.profile.specs.declared.refusal.Refusal.{Refusal};
 ghost use Rattle.requests.specs.Asks.{Ask, Asks, HeadAsks, IsLawful, refused};
@@ -21,6 +21,13 @@ pub fn one_ask()
 /// is no longer than a body may be.
 pub fn asks_are_lawful()
     ensures { (bytes : List ℕ) (a : Ask) → Asks bytes a → IsLawful a }
+{}
+
+/// Bytes after what is asked change nothing: only a request without a good head, or with a short body, may become
+/// another one as more bytes come.
+pub fn later_bytes_change_nothing()
+    ensures { (bytes more : List ℕ) (a : Ask) → Asks bytes a → a ≢ refused Refusal.BadHead
+        → a ≢ refused Refusal.ShortBody → Asks (bytes ++ more) a }
 {}
 
 /// A request is refused for a short body exactly where fewer bytes follow its head than the head wants.

@@ -21,7 +21,10 @@ mod tests;
 
 pub use asked::{Asked, asks, body_size};
 pub use head::{Head, read_head};
-pub use laws::{asks_are_lawful, one_ask, short_bodies_are_below_the_size, texts_tell_paths};
+pub use laws::{
+    asks_are_lawful, later_bytes_change_nothing, one_ask, short_bodies_are_below_the_size,
+    texts_tell_paths,
+};
 pub use limits::{MAX_BODY, MAX_HEAD, MAX_HEADER_LINES};
 pub use progress::{Progress, progress_of};
 pub use resource::Resource;

@@ -1,8 +1,20 @@
 //! What a GET gives.
 
-/// What a GET gives.
+/// What a GET gives. Serials are from 1 to `LAST_SERIAL`.
 #[derive(Clone, Copy, Debug, PartialEq, Eq)]
 pub enum Resource {
-    /// The body of the certificate with this serial, the bytes that are signed. The serial is from 1 to `LAST_SERIAL`.
+    /// The certificates that are neither signed nor revoked.
+    Pending,
+    /// The line of the certificate with this serial.
+    Certificate(u64),
+    /// The body of the certificate with this serial, the bytes that are signed.
     Body(u64),
+    /// The key revocation list.
+    RevocationList,
+    /// The allowed signers.
+    Signers,
+    /// The report of departments and certificates.
+    Table,
+    /// The keys of the certificate authorities.
+    Cas,
 }

@@ -80,6 +80,19 @@ fn serial_of(text: &[u8]) -> Option<u64>
     }
 }
 
+/// The serial in the path of a certificate.
+fn certificate_of(path: &[u8]) -> Option<u64>
+    ensures serial { IfSome result (λ n. IsPath (resource (Resource.Certificate n))) }
+    ensures text { IfSome result (λ n. path.now ≡ path_text (resource (Resource.Certificate n))) }
+    ensures none { IfNone result ((n : ℕ) → IsPath (resource (Resource.Certificate n))
+        → path.now ≢ path_text (resource (Resource.Certificate n))) }
+{
+    let Some(digits) = path.strip_prefix(b"/v1/certs/") else {
+        return None;
+    };
+    serial_of(digits)
+}
+
 /// The serial in the path of a body.
 fn body_of(path: &[u8]) -> Option<u64>
     ensures serial { IfSome result (λ n. IsPath (resource (Resource.Body n))) }
@@ -93,10 +106,7 @@ fn body_of(path: &[u8]) -> Option<u64>
     let Some(digits) = rest.strip_suffix(b"/body") else {
         return None;
     };
-    let Some(n) = serial_of(digits) else {
-        return None;
-    };
-    Some(n)
+    serial_of(digits)
 }
 
 /// Where the path leads.
@@ -111,9 +121,14 @@ pub fn route_of<'p>(routes: &Routes, path: &'p str) -> Option<Route<'p>>
             Some((caller, key)) => Some(Route::Message { caller, key }),
             None => None,
         },
+        Some(RouteKind::Certificate) => match certificate_of(path.as_bytes()) {
+            Some(serial) => Some(Route::Resource(Resource::Certificate(serial))),
+            None => None,
+        },
         Some(RouteKind::Body) => match body_of(path.as_bytes()) {
             Some(serial) => Some(Route::Resource(Resource::Body(serial))),
             None => None,
         },
+        Some(RouteKind::Fixed(resource)) => Some(Route::Resource(resource)),
     }
 }

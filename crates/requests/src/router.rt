@@ -3,6 +3,7 @@
 ghost use Rattle.std.specs.Prelude.{◌≡◌, IfOk};
 ghost use Rattle.requests.specs.Routing.{routing};
 
+use crate::resource::Resource;
 use matchit::{InsertError, Router};
 use std::alloc::Global;
 use text::NoMemory;
@@ -12,8 +13,12 @@ use text::NoMemory;
 pub enum RouteKind {
     /// `/v1/callers/{caller}/requests/{key}`
     Message,
+    /// `/v1/certs/{serial}`
+    Certificate,
     /// `/v1/certs/{serial}/body`
     Body,
+    /// A path without parameters, that of this resource.
+    Fixed(Resource),
 }
 
 /// The routes of the office, made once and lent to each call that looks for one.
@@ -28,7 +33,13 @@ fn router_of(alloc: Global) -> Result<Router<RouteKind>, InsertError>
 {
     let mut router = Router::new(alloc);
     router.insert("/v1/callers/{caller}/requests/{key}", RouteKind::Message)?;
+    router.insert("/v1/pending", RouteKind::Fixed(Resource::Pending))?;
+    router.insert("/v1/certs/{serial}", RouteKind::Certificate)?;
     router.insert("/v1/certs/{serial}/body", RouteKind::Body)?;
+    router.insert("/v1/krl", RouteKind::Fixed(Resource::RevocationList))?;
+    router.insert("/v1/signers", RouteKind::Fixed(Resource::Signers))?;
+    router.insert("/v1/table", RouteKind::Fixed(Resource::Table))?;
+    router.insert("/v1/cas", RouteKind::Fixed(Resource::Cas))?;
     Ok(router)
 }
 

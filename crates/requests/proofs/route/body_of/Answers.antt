@@ -1,4 +1,5 @@
 use Rattle.std.proofs.Common.{◌++◌, ◌∙◌, ap, codes, Some}
+use Rattle.std.proofs.lemmas.Option.{IfSome_then}
 use Rattle.std.proofs.lemmas.Slice.Eq.{strip_prefix_is, strip_suffix_is}
 use Rattle.std.proofs.lemmas.Bool.Decides.{Decides-eqb}
 use Rattle.requests.proofs.route.body_of.Goals as goal
@@ -9,4 +10,5 @@ returns-clause-text c =
     c.in-Some.ensures.cases in
     let end = strip_suffix_is Decides-eqb c.in-Some.rest.now (codes "/body")
     (Some c.in-Some-strip_suffix.digits) c.in-Some-strip_suffix.ensures.cases in
-    front ∙ ap (λ r. codes "/v1/certs/" ++ r) (end ∙ ap (λ d. d ++ codes "/body") c.in-Some-serial_of.ensures.text)
+    IfSome_then c.serial_of.result c.serial_of.ensures.text
+    (λ n e. front ∙ ap (λ r. codes "/v1/certs/" ++ r) (end ∙ ap (λ d. d ++ codes "/body") e))

@@ -4,7 +4,7 @@ use Rattle.std.proofs.lemmas.Slice.Eq.{strip_prefix_is}
 use Rattle.std.proofs.lemmas.Bool.Decides.{Decides-eqb}
 use Rattle.std.proofs.lemmas.List.{take-append-drop}
 use Rattle.profile.specs.Names.{is_name}
-use Rattle.requests.proofs.Finding.{message_cut}
+use Rattle.requests.proofs.Cutting.{message_cut}
 use Rattle.requests.proofs.route.message_of.Goals as goal
 
 pub returns-in_default-slash_at-clause-none : goal.returns-in_default-slash_at-clause-none
