@@ -1,34 +1,7 @@
 -- Departments: what is read is a department's text, its text is read, and the first fault.
-use Rattle.std.proofs.Common.{
-  ◌≡◌,
-  ℕ,
-  suc,
-  List,
-  [],
-  ◌∷◌,
-  ◌++◌,
-  Bool,
-  true,
-  false,
-  ◌&&◌,
-  Option,
-  Some,
-  None,
-  Result,
-  Ok,
-  Err,
-  refl,
-  sym,
-  ap,
-  subst,
-  ◌∙◌,
-  inl,
-  inr,
-}
+use Rattle.std.proofs.Common.{◌≡◌, ℕ, List, [], ◌∷◌, ◌++◌, true, ◌&&◌, Some, None, refl, sym, ap, ◌∙◌, inl, inr}
 use Rattle.std.specs.Prelude.{codes}
-use Rattle.std.specs.Option.{option_and_then}
 use Rattle.std.specs.Str.{bytes_eq}
-use Rattle.std.specs.Fmt.{decimal}
 use Rattle.std.proofs.lemmas.Bool.{and_parts, and_from, cases_Bool, cond-true, cond-false}
 use Rattle.std.proofs.lemmas.Option.{same_Some}
 use Rattle.std.proofs.lemmas.Slice.Eq.{bytes_eq-Decides}
@@ -46,20 +19,12 @@ use Rattle.message.specs.Values.{
   is_longest_life,
   is_department,
 }
-use Rattle.message.specs.Texts.{kind_text, list_line, department_lines}
-use Rattle.message.specs.Reading.{
-  ◌>>=◌,
-  or_bad,
-  line_of,
-  ends_after,
-  name_after,
-  kind_of,
-  list_after,
-  number_after,
-  department_in,
-}
-use Rattle.message.proofs.Lines.{chosen}
-use Rattle.message.proofs.Readings.{IsField, IsLine, IsReading, line_then, then_end, same_messages}
+use Rattle.message.specs.Texts.{kind_text, department_lines}
+use Rattle.message.specs.Reading.{kind_of, department_in}
+use Rattle.message.proofs.Readings.{IsField, IsLine, IsReading}
+use Rattle.message.proofs.FirstLines.{line_then}
+use Rattle.message.proofs.Ends.{then_end}
+use Rattle.message.proofs.Wordings.{same_messages}
 use Rattle.message.proofs.Fields.{lacks_by, text_field, list_field}
 use Rattle.message.proofs.Elements.{
   name_lacks,

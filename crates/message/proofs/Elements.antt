@@ -1,78 +1,18 @@
 -- What may stand in a line: no name, rule, principal, key id, namespace, option or number has a line feed or, in
 -- lists, a comma.
-use Rattle.std.proofs.Common.{
-  ◌≡◌,
-  ℕ,
-  zero,
-  suc,
-  ◌+◌,
-  ◌<◌,
-  ◌≤◌,
-  ◌^◌,
-  List,
-  [],
-  ◌∷◌,
-  ◌++◌,
-  length,
-  take,
-  drop,
-  Bool,
-  true,
-  false,
-  cond,
-  not,
-  ◌&&◌,
-  ◌||◌,
-  ◌⊎◌,
-  eqb,
-  Option,
-  Some,
-  None,
-  All,
-  refl,
-  sym,
-  ap,
-  subst,
-  ◌∙◌,
-  arith,
-  inl,
-  inr,
-}
-use Rattle.std.specs.List.{list_all, list_any, take_while, prefix_len}
+use Rattle.std.proofs.Common.{◌≡◌, ℕ, List, [], ◌∷◌, ◌++◌, length, take, drop, Bool, true, false, not, eqb, refl, sym, ap, subst, ◌∙◌, inl, inr}
+use Rattle.std.specs.List.{list_all, list_any, prefix_len}
 use Rattle.std.specs.Str.{bytes_eq}
-use Rattle.std.specs.Fmt.{decimal}
-use Rattle.std.proofs.lemmas.Bool.{and_parts, or_cases, eqb-true, leb-true}
+use Rattle.std.proofs.lemmas.Bool.{and_parts, or_cases, eqb-true}
 use Rattle.std.proofs.lemmas.List.{take-append-drop}
 use Rattle.std.proofs.lemmas.List.Folds.{length-prefix_len}
-use Rattle.std.proofs.lemmas.List.Elements.{All-append, All-cons, All-nil}
+use Rattle.std.proofs.lemmas.List.Elements.{All-append, All-cons}
 use Rattle.std.proofs.lemmas.Slice.Eq.{bytes_eq-Decides}
-use Rattle.profile.specs.Names.{
-  is_name,
-  is_name_byte,
-  is_principal,
-  is_principal_byte,
-  is_rule,
-  is_suffix_rule,
-  is_key_id,
-  is_key_id_byte,
-  is_key_id_end,
-  is_namespace,
-  department_of,
-  has_size,
-}
+use Rattle.profile.specs.Names.{is_name, is_name_byte, is_principal, is_principal_byte, is_rule, is_suffix_rule, is_key_id, is_key_id_byte, is_key_id_end, is_namespace, department_of}
 use Rattle.profile.specs.Options.{is_known, known_names}
 use Rattle.profile.specs.declared.option_field.OptionField.{OptionField}
 use Rattle.profile.specs.declared.option_field.OptionField.TheVariants.{CriticalOptions, Extensions}
-use Rattle.profile.specs.declared.kind.Kind.{Kind}
-use Rattle.message.specs.Values.{
-  are_administrators,
-  are_rules,
-  are_principals,
-  are_option_names,
-  are_extension_names,
-  are_namespaces,
-  fits_kind,
-}
+use Rattle.message.specs.Values.{are_administrators, are_rules, are_principals, are_option_names, are_extension_names, are_namespaces}
 use Rattle.profile.proofs.Lacking.{Lacks, lacks_from}
 use Rattle.message.proofs.Fields.{lacks_by, AllLack, all_lack}
 

@@ -1,56 +1,10 @@
 -- Values behind a word: what is read is the value's text, and the text is read.
-use Rattle.std.proofs.Common.{
-  ◌≡◌,
-  ℕ,
-  zero,
-  suc,
-  ◌+◌,
-  ◌<◌,
-  List,
-  [],
-  ◌∷◌,
-  ◌++◌,
-  length,
-  take,
-  drop,
-  Bool,
-  true,
-  false,
-  cond,
-  not,
-  ◌&&◌,
-  ◌||◌,
-  ◌⊎◌,
-  eqb,
-  Option,
-  Some,
-  None,
-  All,
-  refl,
-  sym,
-  ap,
-  subst,
-  ◌∙◌,
-  arith,
-  inl,
-  inr,
-  append-nil,
-}
-use Rattle.std.specs.List.{list_all, list_any, slice_split, join_with_byte, AllByRecursion}
+use Rattle.std.proofs.Common.{◌≡◌, ℕ, List, [], ◌∷◌, ◌++◌, length, take, drop, Bool, true, false, not, eqb, Option, Some, None, refl, sym, ap, subst, ◌∙◌, arith, inl, inr, append-nil}
+use Rattle.std.specs.List.{list_all, slice_split, join_with_byte, AllByRecursion}
 use Rattle.std.specs.Option.{option_and_then}
 use Rattle.std.specs.Str.{bytes_eq}
 use Rattle.std.proofs.Math.Seq.{take-append_seam, drop-append_seam}
-use Rattle.std.proofs.lemmas.Bool.{
-  cases_Bool,
-  cond-true,
-  cond-false,
-  and_parts,
-  or_cases,
-  eqb-true,
-  eq-eqb,
-  ne_eqb,
-  both_ways,
-}
+use Rattle.std.proofs.lemmas.Bool.{cases_Bool, cond-true, cond-false, and_parts, eqb-true}
 use Rattle.std.proofs.lemmas.List.{take-append-drop}
 use Rattle.std.proofs.lemmas.List.Elements.{All-append, All-cons, All-nil}
 use Rattle.std.proofs.lemmas.List.Splits.{

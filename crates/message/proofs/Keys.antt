@@ -1,52 +1,13 @@
 -- Key lines in lines: none has a line feed, and each is read from its text alone.
-use Rattle.std.proofs.Common.{
-  ◌≡◌,
-  ℕ,
-  zero,
-  suc,
-  ◌+◌,
-  ◌*◌,
-  ◌/◌,
-  ◌%◌,
-  ◌<◌,
-  ◌≤◌,
-  List,
-  [],
-  ◌∷◌,
-  ◌++◌,
-  length,
-  replicate,
-  get_or,
-  slice_index,
-  Bool,
-  true,
-  false,
-  not,
-  ◌&&◌,
-  eqb,
-  Option,
-  Some,
-  None,
-  Result,
-  Ok,
-  Err,
-  All,
-  refl,
-  sym,
-  ap,
-  subst,
-  ◌∙◌,
-  arith,
-}
-use Rattle.std.specs.Prelude.{codes, IfOk}
+use Rattle.std.proofs.Common.{◌≡◌, ℕ, zero, suc, ◌+◌, ◌*◌, ◌/◌, ◌%◌, List, [], ◌∷◌, ◌++◌, length, replicate, get_or, slice_index, true, false, not, eqb, Option, Some, None, Result, Ok, Err, refl, ap}
 use Rattle.std.specs.List.{list_all}
 use Rattle.std.specs.Result.{result_ok}
 use Rattle.std.proofs.lemmas.Bool.{and_parts, not-true}
 use Rattle.std.proofs.lemmas.List.Elements.{All-append, All-cons, All-nil, All-replicate}
 use Rattle.base64.specs.Engines.{standard}
-use Rattle.base64.specs.GeneralPurpose.{IsBytes, encode_of}
+use Rattle.base64.specs.GeneralPurpose.{encode_of}
 use Rattle.base64.specs.Rfc4648.{encode_symbols, padding_len}
-use Rattle.profile.proofs.Lacking.{Lacks, lacks_from}
+use Rattle.profile.proofs.Lacking.{lacks_from}
 use Rattle.lines.specs.Keys.{key_blob}
 use Rattle.lines.specs.KeyLines.{
   is_key_line,
@@ -137,3 +98,7 @@ key_field head line empty =
       again = λ k is. ap result_ok (key_line_again k is);
       is_line = key_is_line;
     })
+
+-- a lawful key line
+abbrev pub some_key : KeyLine
+some_key = record { key = replicate 32 0; comment = None }

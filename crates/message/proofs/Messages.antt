@@ -1,312 +1,114 @@
 -- Messages of all kinds: what is read is a message's text, its text is read, and the first fault.
-use Rattle.std.proofs.Common.{
-  ◌≡◌,
-  ℕ,
-  zero,
-  suc,
-  ◌+◌,
-  ◌-◌,
-  ◌<◌,
-  ◌≤◌,
-  List,
-  [],
-  ◌∷◌,
-  ◌++◌,
-  length,
-  take,
-  drop,
-  Bool,
-  true,
-  false,
-  cond,
-  ◌⊎◌,
-  Option,
-  Some,
-  None,
-  Result,
-  Ok,
-  Err,
-  refl,
-  sym,
-  ap,
-  subst,
-  ◌∙◌,
-  arith,
-  inl,
-  inr,
-}
+use Rattle.std.proofs.Common.{◌≡◌, [], ◌∷◌, ◌⊎◌, true, refl, ap, ◌∙◌, inl, inr}
 use Rattle.std.specs.Prelude.{codes}
-use Rattle.std.specs.List.{AllByRecursion}
-use Rattle.std.specs.Option.{is_some}
-use Rattle.std.proofs.lemmas.Bool.{cases_Bool, cond-true, cond-false}
-use Rattle.message.specs.declared.department.Department.{Department}
-use Rattle.message.specs.declared.issue.Issue.{Issue}
+use Rattle.std.specs.Fmt.{decimal}
+use Rattle.profile.specs.Names.{is_key_id}
+use Rattle.lines.specs.KeyLines.{is_key_line, key_line_text}
 use Rattle.message.specs.declared.kinds.Message.{Message}
 use Rattle.message.specs.declared.kinds.Message.TheVariants as message
-use Rattle.message.specs.Values.{is_message, is_department, is_issue}
-use Rattle.message.specs.Texts.{message_lines, department_lines, issue_lines}
-use Rattle.message.specs.Reading.{after, begins, made, line_of, department_in, issue_in, message_in}
-use Rattle.message.proofs.Lines.{line_there, line_is, Shares, shares_less, shares_none}
-use Rattle.message.proofs.Readings.{IsLine, AreBytes, FirstFault, IsReading, error_at, more_than_none, same_messages}
+use Rattle.message.specs.Values.{
+  is_delivery,
+  is_department,
+  is_issue,
+  is_message,
+  is_range,
+  is_renewal,
+  is_serial,
+}
+use Rattle.message.specs.Texts.{
+  delivery_lines,
+  department_lines,
+  issue_lines,
+  line,
+  message_lines,
+  range_text,
+  renewal_lines,
+}
+use Rattle.message.specs.Reading.{
+  delivery_in,
+  department_in,
+  issue_in,
+  key_id_after,
+  key_line_after,
+  message_in,
+  number_after,
+  one_line_in,
+  range_after,
+  renewal_in,
+}
+use Rattle.message.proofs.Readings.{IsReading}
+use Rattle.message.proofs.Wordings.{same_messages}
+use Rattle.message.proofs.KindReadings.{IsOf}
+use Rattle.message.proofs.KindsInTurn.{kind_alone, kind_or}
 use Rattle.message.proofs.Departments.{department_reads}
 use Rattle.message.proofs.Issues.{issue_reads}
+use Rattle.message.proofs.Renewals.{renewal_reads}
+use Rattle.message.proofs.Deliveries.{delivery_reads}
+use Rattle.message.proofs.Revocations.{key_id_reads, range_reads, serial_reads}
+use Rattle.message.proofs.Rollovers.{rollover_reads}
 
--- whether a line begins with these bytes
-abbrev has_head : List ℕ → List ℕ → Bool
-has_head head line = is_some (after head line)
+-- A message of one of the kinds, in turn.
+abbrev IsOfSome : Message → Type 0
+IsOfSome m =
+    IsOf (λ d. message.Department d) (λ d. is_department d ≡ true) m
+    ⊎ (IsOf (λ i. message.Issue i) (λ i. is_issue i ≡ true) m
+    ⊎ (IsOf (λ r. message.Renew r) (λ r. is_renewal r ≡ true) m
+    ⊎ (IsOf (λ d. message.Deliver d) (λ d. is_delivery d ≡ true) m
+    ⊎ (IsOf (λ n. message.RevokeSerial n) (λ n. is_serial n ≡ true) m
+    ⊎ (IsOf (λ r. message.RevokeRange r) (λ r. is_range r ≡ true) m
+    ⊎ (IsOf (λ k. message.RevokeKeyId k) (λ k. is_key_id k ≡ true) m
+    ⊎ IsOf (λ k. message.Rollover k) (λ k. is_key_line k ≡ true) m))))))
 
--- Line 1 of a text begins with these bytes, or does not.
-abbrev Heads : List ℕ → Bool → List (List ℕ) → Type 0
-Heads head answer lines = (l : List ℕ) × ((ls : List (List ℕ)) × ((lines ≡ l ∷ ls) × (has_head head l ≡ answer)))
-
--- ---- one kind
-
--- A message of one kind.
-abbrev pub IsOf : {A : Type 0} → (A → Message) → (A → Type 0) → Message → Type 0
-IsOf {A} of Is m = (a : A) × ((m ≡ of a) × Is a)
-
-made_ok : {A B : Type 0} (f : A → B) (r : Result A ℕ) (b : B) → made f r ≡ Ok b → (a : A) × ((r ≡ Ok a) × (b ≡ f a))
-made_ok f (Ok a) b e = (a, (refl, cc))
-made_ok f (Err n) b e = absurd cc
-
-made_err : {A B : Type 0} (f : A → B) (r : Result A ℕ) (i : ℕ) → made f r ≡ Err i → r ≡ Err i
-made_err f (Ok a) i e = absurd cc
-made_err f (Err n) i e = cc
-
--- the reading of one kind's values reads that kind's messages
-of_kind : {A : Type 0} (of : A → Message) (read : List (List ℕ) → Result A ℕ) (Is : A → Type 0)
-    (lines : A → List (List ℕ))
-    → ((a : A) → message_lines (of a) ≡ lines a) → IsReading 0 read Is lines
-    → IsReading 0 (λ ps. made of (read ps)) (IsOf of Is) message_lines
-of_kind {A} of read Is lines same reads = record {
-  some = (of reads.some.0, (reads.some.0, (refl, reads.some.1)));
-  found = λ ps m fits e.
-      let value = made_ok of (read ps) m e in
-      let is = reads.found ps value.0 fits value.1.0 in (
-        (value.0, (value.1.1, is.0)),
-        is.1
-            ∙ ap (λ (ls : List (List ℕ)). ls ++ [] ∷ []) (sym (lines_of m (value.0, (value.1.1, is.0)))),
-      );
-  again = λ ps m is e.
-      ap (made of) (reads.again ps is.0 is.1.1 (e ∙ ap (λ (ls : List (List ℕ)). ls ++ [] ∷ []) (lines_of m is)))
-      ∙ ap (λ (m : Message). Ok m) (sym is.1.0);
-  fault = λ ps i fits inside e.
-      let first = reads.fault ps i fits inside (made_err of (read ps) i e) in
-      let a = first.1.1.0 in (
-        first.0,
-        (
-          first.1.0,
-          (
-            of a,
-            (
-              (a, (refl, first.1.1.1.0)),
-              subst (λ (ls : List (List ℕ)). Shares first.0 ps (ls ++ [] ∷ [])) (sym (same a)) first.1.1.1.1,
-            ),
-          ),
-          λ m is shared. first.1.2 is.0 is.1.1
-              (subst (λ (ls : List (List ℕ)). Shares (suc first.0) ps (ls ++ [] ∷ [])) (lines_of m is) shared),
-        ),
-      );
-  are_lines = λ m is. subst (AllByRecursion IsLine) (sym (lines_of m is)) (reads.are_lines is.0 is.1.1);
-}
-  where
-    lines_of : (m : Message) (is : IsOf of Is m) → message_lines m ≡ lines is.0
-    lines_of m is = ap message_lines is.1.0 ∙ same is.0
-
--- the first line that two texts share
-shared_head : (ps : List (List ℕ)) (j : ℕ) (l : List ℕ) (ls lines : List (List ℕ)) → lines ≡ l ∷ ls
-    → Shares (suc j) ps (lines ++ [] ∷ []) → line_of 1 ps ≡ l
-shared_head ps j l ls lines is shared =
-    let ended : 1 < length ps = omega (arith, shared.0) in
-    let all = subst (λ (xs : List (List ℕ)). Shares (suc j) ps (xs ++ [] ∷ [])) is shared in
-    (shares_less j (line_of 1 ps) l (drop 1 ps) (ls ++ [] ∷ [])
-    (subst (λ (xs : List (List ℕ)). Shares (suc j) xs (l ∷ ls ++ [] ∷ [])) (line_there 0 ps ended) all)).0
-
--- the first line of a text that is whole
-whole_head : (ps : List (List ℕ)) (l : List ℕ) (ls lines : List (List ℕ)) → lines ≡ l ∷ ls → ps ≡ lines ++ [] ∷ []
-    → line_of 1 ps ≡ l
-whole_head ps l ls lines is e =
-    (line_is 0 ps l (ls ++ [] ∷ []) (e ∙ ap (λ (xs : List (List ℕ)). xs ++ [] ∷ []) is) (more_than_none ls)).1
-
--- ---- one kind alone
-
-module _ (head : List ℕ) (this : List (List ℕ) → Result Message ℕ) (IsThis : Message → Type 0)
-    (this_reads : IsReading 0 this IsThis message_lines)
-    (heads : (m : Message) → IsThis m → Heads head true (message_lines m)) where
-  abbrev alone : List (List ℕ) → Bool → Result Message ℕ
-  alone ps begun = cond begun (this ps) (Err 1)
-
-  found_alone : (ps : List (List ℕ)) (m : Message) (begun : Bool) → AreBytes ps → alone ps begun ≡ Ok m → IsThis m
-      × (ps ≡ message_lines m ++ [] ∷ [])
-  found_alone ps m true fits e = this_reads.found ps m fits e
-  found_alone ps m false fits e = absurd cc
-
-  again_alone : (ps : List (List ℕ)) (m : Message) → IsThis m → ps ≡ message_lines m ++ [] ∷ []
-      → alone ps (has_head head (line_of 1 ps)) ≡ Ok m
-  again_alone ps m is e =
-      let first = heads m is in
-      ap (alone ps) (ap (has_head head) (whole_head ps first.0 first.1.0 (message_lines m) first.1.1.0 e)
-      ∙ first.1.1.1) ∙ this_reads.again ps m is e
-
-  fault_alone : (ps : List (List ℕ)) (i : ℕ) (begun : Bool) → AreBytes ps → 0 < length ps
-      → has_head head (line_of 1 ps) ≡ begun → alone ps begun ≡ Err i
-      → FirstFault 0 IsThis message_lines ps i
-  fault_alone ps i true fits inside is e = this_reads.fault ps i fits inside e
-  fault_alone ps i false fits inside is e =
-      let some = this_reads.some in (
-        0,
-        (
-          error_at 0 i e,
-          (
-            some.0,
-            (some.1, shares_none ps (message_lines some.0 ++ [] ∷ []) inside (more_than_none (message_lines some.0))),
-          ),
-          λ m of shared. apart (not_begun m of shared),
-        ),
-      )
-    where
-      not_begun : (m : Message) → IsThis m → Shares 1 ps (message_lines m ++ [] ∷ []) → false ≡ true
-      not_begun m of shared =
-          let first = heads m of in
-          sym is ∙ ap (has_head head) (shared_head ps 0 first.0 first.1.0 (message_lines m) first.1.1.0 shared)
-          ∙ first.1.1.1
-
-      apart : false ≡ true → ⊥
-      apart e = cc
-
-  this_alone : IsReading 0 (λ ps. cond (has_head head (line_of 1 ps)) (this ps) (Err 1)) IsThis message_lines
-  this_alone = record {
-    some = this_reads.some;
-    found = λ ps m fits e. found_alone ps m (has_head head (line_of 1 ps)) fits e;
-    again = again_alone;
-    fault = λ ps i fits inside e. fault_alone ps i (has_head head (line_of 1 ps)) fits inside refl e;
-    are_lines = this_reads.are_lines;
-  }
-
--- ---- one kind, or others
-
-module _ (head : List ℕ) (this others : List (List ℕ) → Result Message ℕ) (IsThis IsOther : Message → Type 0)
-    (this_reads : IsReading 0 this IsThis message_lines) (others_read : IsReading 0 others IsOther message_lines)
-    (heads : (m : Message) → IsThis m → Heads head true (message_lines m))
-    (differs : (m : Message) → IsOther m → Heads head false (message_lines m)) where
-  abbrev pick : List (List ℕ) → Bool → Result Message ℕ
-  pick ps begun = cond begun (this ps) (others ps)
-
-  abbrev Either : Message → Type 0
-  Either m = IsThis m ⊎ IsOther m
-
-  found_by : (ps : List (List ℕ)) (m : Message) (begun : Bool) → AreBytes ps → pick ps begun ≡ Ok m → Either m
-      × (ps ≡ message_lines m ++ [] ∷ [])
-  found_by ps m true fits e = let is = this_reads.found ps m fits e in (inl is.0, is.1)
-  found_by ps m false fits e = let is = others_read.found ps m fits e in (inr is.0, is.1)
-
-  again_by : (ps : List (List ℕ)) (m : Message) → Either m → ps ≡ message_lines m ++ [] ∷ []
-      → pick ps (has_head head (line_of 1 ps)) ≡ Ok m
-  again_by ps m (inl is) e =
-      let first = heads m is in
-      ap (pick ps) (ap (has_head head) (whole_head ps first.0 first.1.0 (message_lines m) first.1.1.0 e)
-      ∙ first.1.1.1) ∙ this_reads.again ps m is e
-  again_by ps m (inr is) e =
-      let first = differs m is in
-      ap (pick ps) (ap (has_head head) (whole_head ps first.0 first.1.0 (message_lines m) first.1.1.0 e)
-      ∙ first.1.1.1) ∙ others_read.again ps m is e
-
-  not_both : (ps : List (List ℕ)) (j : ℕ) (m : Message) (a b : Bool) → has_head head (line_of 1 ps) ≡ a
-      → Heads head b (message_lines m)
-      → Shares (suc j) ps (message_lines m ++ [] ∷ []) → a ≡ b
-  not_both ps j m a b is first shared =
-      sym is ∙ ap (has_head head) (shared_head ps j first.0 first.1.0 (message_lines m) first.1.1.0 shared)
-      ∙ first.1.1.1
-
-  fault_by : (ps : List (List ℕ)) (i : ℕ) (begun : Bool) → AreBytes ps → 0 < length ps → has_head head (line_of 1 ps)
-      ≡ begun → pick ps begun ≡ Err i
-      → FirstFault 0 Either message_lines ps i
-  fault_by ps i true fits inside is e =
-      let first = this_reads.fault ps i fits inside e in (
-        first.0,
-        (
-          first.1.0,
-          (first.1.1.0, (inl first.1.1.1.0, first.1.1.1.1)),
-          λ m of shared. elim of [
-            | inl this ↦ first.1.2 m this shared
-            | inr other ↦ absurd (apart (not_both ps first.0 m true false is (differs m other) shared))
-          ],
-        ),
-      )
-    where
-      apart : true ≡ false → ⊥
-      apart e = cc
-  fault_by ps i false fits inside is e =
-      let first = others_read.fault ps i fits inside e in (
-        first.0,
-        (
-          first.1.0,
-          (first.1.1.0, (inr first.1.1.1.0, first.1.1.1.1)),
-          λ m of shared. elim of [
-            | inl this ↦ absurd (apart (not_both ps first.0 m false true is (heads m this) shared))
-            | inr other ↦ first.1.2 m other shared
-          ],
-        ),
-      )
-    where
-      apart : false ≡ true → ⊥
-      apart e = cc
-
-  lines_by : (m : Message) → Either m → AllByRecursion IsLine (message_lines m)
-  lines_by m (inl is) = this_reads.are_lines m is
-  lines_by m (inr is) = others_read.are_lines m is
-
-  this_or : IsReading 0 (λ ps. cond (has_head head (line_of 1 ps)) (this ps) (others ps)) Either message_lines
-  this_or = record {
-    some = (this_reads.some.0, inl this_reads.some.1);
-    found = λ ps m fits e. found_by ps m (has_head head (line_of 1 ps)) fits e;
-    again = again_by;
-    fault = λ ps i fits inside e. fault_by ps i (has_head head (line_of 1 ps)) fits inside refl e;
-    are_lines = lines_by;
-  }
-
--- ---- all kinds
-
-abbrev is_of_department : Message → Type 0
-is_of_department m = IsOf (λ d. message.Department d) (λ d. is_department d ≡ true) m
-
-abbrev is_of_issue : Message → Type 0
-is_of_issue m = IsOf (λ i. message.Issue i) (λ i. is_issue i ≡ true) m
-
-departments_read : IsReading 0 (λ ps. made (λ d. message.Department d) (department_in ps)) is_of_department
-    message_lines
-departments_read = of_kind (λ d. message.Department d) department_in
-    (λ d. is_department d ≡ true) department_lines (λ d. refl) department_reads
-
-issues_read : IsReading 0 (λ ps. made (λ i. message.Issue i) (issue_in ps)) is_of_issue message_lines
-issues_read = of_kind (λ i. message.Issue i) issue_in (λ i. is_issue i ≡ true) issue_lines (λ i. refl) issue_reads
-
-department_heads : (m : Message) → is_of_department m → Heads (codes "department ") true (message_lines m)
-department_heads m is =
-    subst (λ (m : Message). Heads (codes "department ") true (message_lines m)) (sym is.1.0) (_, (_, (refl, refl)))
-
-issue_heads : (m : Message) → is_of_issue m → Heads (codes "issue ") true (message_lines m)
-issue_heads m is = subst (λ (m : Message). Heads (codes "issue ") true (message_lines m)) (sym is.1.0)
-    (_, (_, (refl, refl)))
-
-issue_differs : (m : Message) → is_of_issue m → Heads (codes "department ") false (message_lines m)
-issue_differs m is = subst (λ (m : Message). Heads (codes "department ") false (message_lines m)) (sym is.1.0)
-    (_, (_, (refl, refl)))
+some_read : IsReading 0 message_in IsOfSome message_lines
+some_read = (
+    kind_or message_lines (codes "department ") (λ d. message.Department d) department_in
+    (λ d. is_department d ≡ true) department_lines (λ d. refl) department_reads (λ d. (_, (_, refl))) (
+    kind_or message_lines (codes "issue ") (λ i. message.Issue i) issue_in
+    (λ i. is_issue i ≡ true) issue_lines (λ i. refl) issue_reads (λ i. (_, (_, refl))) (
+    kind_or message_lines (codes "renew ") (λ r. message.Renew r) renewal_in
+    (λ r. is_renewal r ≡ true) renewal_lines (λ r. refl) renewal_reads (λ r. (_, (_, refl))) (
+    kind_or message_lines (codes "deliver ") (λ d. message.Deliver d) delivery_in
+    (λ d. is_delivery d ≡ true) delivery_lines (λ d. refl) delivery_reads (λ d. (_, (_, refl))) (
+    kind_or message_lines (codes "revoke-serial ") (λ n. message.RevokeSerial n)
+    (one_line_in (number_after is_serial (codes "revoke-serial ")))
+    (λ n. is_serial n ≡ true) (λ n. line (codes "revoke-serial") (decimal n) ∷ []) (λ n. refl) serial_reads
+    (λ n. (_, (_, refl))) (
+    kind_or message_lines (codes "revoke-range ") (λ r. message.RevokeRange r)
+    (one_line_in (range_after (codes "revoke-range ")))
+    (λ r. is_range r ≡ true) (λ r. line (codes "revoke-range") (range_text r) ∷ []) (λ r. refl) range_reads
+    (λ r. (_, (_, refl))) (
+    kind_or message_lines (codes "revoke-keyid ") (λ k. message.RevokeKeyId k)
+    (one_line_in (key_id_after (codes "revoke-keyid ")))
+    (λ k. is_key_id k ≡ true) (λ k. line (codes "revoke-keyid") k ∷ []) (λ k. refl) key_id_reads
+    (λ k. (_, (_, refl))) (
+    kind_alone message_lines (codes "rollover ") (λ k. message.Rollover k)
+    (one_line_in (key_line_after (codes "rollover ")))
+    (λ k. is_key_line k ≡ true) (λ k. line (codes "rollover") (key_line_text k) ∷ []) (λ k. refl) rollover_reads
+    (λ k. (_, (_, refl))))
+    refl) refl) refl) refl) refl) refl) refl).reads
 
 -- a message is read from its text alone, its text is read, and the fault is at the first line of no message
 pub messages_read : IsReading 0 message_in (λ m. is_message m ≡ true) message_lines
 messages_read =
-    same_messages 0 message_in _ (λ m. is_message m ≡ true) message_lines message_lines (λ m is. (to m is, refl)) from
-    (this_or (codes "department ") (λ ps. made (λ d. message.Department d) (department_in ps)) _ is_of_department
-    is_of_issue departments_read
-    (this_alone (codes "issue ") (λ ps. made (λ i. message.Issue i) (issue_in ps)) is_of_issue issues_read
-    issue_heads)
-    department_heads issue_differs)
+    same_messages 0 message_in IsOfSome (λ m. is_message m ≡ true) message_lines message_lines (λ m is. (to m is, refl))
+    from some_read
   where
-    to : (m : Message) → is_of_department m ⊎ is_of_issue m → is_message m ≡ true
-    to m (inl d) = ap is_message d.1.0 ∙ d.1.1
-    to m (inr i) = ap is_message i.1.0 ∙ i.1.1
+    to : (m : Message) → IsOfSome m → is_message m ≡ true
+    to m (inl is) = ap is_message is.1.0 ∙ is.1.1
+    to m (inr (inl is)) = ap is_message is.1.0 ∙ is.1.1
+    to m (inr (inr (inl is))) = ap is_message is.1.0 ∙ is.1.1
+    to m (inr (inr (inr (inl is)))) = ap is_message is.1.0 ∙ is.1.1
+    to m (inr (inr (inr (inr (inl is))))) = ap is_message is.1.0 ∙ is.1.1
+    to m (inr (inr (inr (inr (inr (inl is)))))) = ap is_message is.1.0 ∙ is.1.1
+    to m (inr (inr (inr (inr (inr (inr (inl is))))))) = ap is_message is.1.0 ∙ is.1.1
+    to m (inr (inr (inr (inr (inr (inr (inr is))))))) = ap is_message is.1.0 ∙ is.1.1
 
-    from : (m : Message) → is_message m ≡ true → is_of_department m ⊎ is_of_issue m
+    from : (m : Message) → is_message m ≡ true → IsOfSome m
     from (message.Department d) is = inl (d, (refl, is))
-    from (message.Issue i) is = inr (i, (refl, is))
+    from (message.Issue i) is = inr (inl (i, (refl, is)))
+    from (message.Renew r) is = inr (inr (inl (r, (refl, is))))
+    from (message.Deliver d) is = inr (inr (inr (inl (d, (refl, is)))))
+    from (message.RevokeSerial n) is = inr (inr (inr (inr (inl (n, (refl, is))))))
+    from (message.RevokeRange r) is = inr (inr (inr (inr (inr (inl (r, (refl, is)))))))
+    from (message.RevokeKeyId k) is = inr (inr (inr (inr (inr (inr (inl (k, (refl, is))))))))
+    from (message.Rollover k) is = inr (inr (inr (inr (inr (inr (inr (k, (refl, is))))))))

@@ -1,70 +1,18 @@
 -- Option lines: which options may follow which, and how their lines are read.
-use Rattle.std.proofs.Common.{
-  ◌≡◌,
-  ℕ,
-  zero,
-  suc,
-  ◌+◌,
-  ◌<◌,
-  ◌≤◌,
-  List,
-  [],
-  ◌∷◌,
-  ◌++◌,
-  length,
-  map,
-  drop,
-  Bool,
-  true,
-  false,
-  cond,
-  not,
-  ◌&&◌,
-  ◌||◌,
-  ◌⊎◌,
-  eqb,
-  Option,
-  Some,
-  None,
-  All,
-  refl,
-  sym,
-  ap,
-  subst,
-  ◌∙◌,
-  arith,
-  inl,
-  inr,
-  append-nil,
-}
+use Rattle.std.proofs.Common.{◌≡◌, ℕ, suc, List, [], ◌∷◌, ◌++◌, length, map, Bool, true, false, cond, not, ◌&&◌, ◌||◌, eqb, Option, Some, None, All, refl, sym, ap, subst, ◌∙◌, arith, inl, inr, append-nil}
 use Rattle.std.specs.Prelude.{codes}
-use Rattle.std.specs.List.{list_all, list_any, join_with_byte, AllByRecursion}
-use Rattle.std.specs.Option.{option_and_then}
+use Rattle.std.specs.List.{list_all, list_any}
 use Rattle.std.specs.Str.{bytes_eq}
-use Rattle.std.proofs.lemmas.Bool.{
-  cases_Bool,
-  and_parts,
-  and_from,
-  or_cases,
-  or_parts,
-  or_from,
-  cond-true,
-  cond-false,
-  eqb-true,
-  not-true,
-  not_from_false,
-}
+use Rattle.std.proofs.lemmas.Bool.{cases_Bool, and_parts, and_from, or_parts, or_from, cond-true, cond-false, eqb-true, not-true, not_from_false}
 use Rattle.std.proofs.lemmas.List.{nil_from_length}
 use Rattle.std.proofs.lemmas.List.Elements.{All-append, All-cons, recursion_from_All}
 use Rattle.std.proofs.lemmas.List.Folds.{list_any-append}
 use Rattle.std.proofs.lemmas.Option.{same_Some}
 use Rattle.std.proofs.lemmas.Slice.Eq.{bytes_eq-Decides}
-use Rattle.base64.specs.GeneralPurpose.{IsBytes}
 use Rattle.text.specs.declared.pair.Pair.{Pair}
 use Rattle.profile.specs.Lists.{are_distinct}
-use Rattle.profile.specs.Laws.{AreNetworks}
 use Rattle.profile.specs.Networks.{Network, IsNetwork, network_text, are_networks}
-use Rattle.profile.specs.Options.{is_known, is_flag, is_option_value, is_command}
+use Rattle.profile.specs.Options.{is_flag, is_option_value, is_command}
 use Rattle.profile.specs.declared.option_field.OptionField.TheVariants.{CriticalOptions}
 use Rattle.profile.proofs.Lacking.{Lacks, lacks_from}
 use Rattle.profile.proofs.NetworkLaws.{network_lacks, networks_found}

@@ -1,22 +1,5 @@
 -- Lines as they are put.
-use Rattle.std.proofs.Common.{
-  ◌≡◌,
-  ℕ,
-  zero,
-  suc,
-  ◌+◌,
-  List,
-  [],
-  ◌∷◌,
-  ◌++◌,
-  map,
-  refl,
-  sym,
-  ap,
-  ◌∙◌,
-  append-nil,
-  append_assoc,
-}
+use Rattle.std.proofs.Common.{◌≡◌, ℕ, List, [], ◌∷◌, ◌++◌, refl, sym, ap, ◌∙◌, append-nil, append_assoc}
 use Rattle.std.specs.List.{join_with_byte}
 use Rattle.message.specs.Texts.{lines_text, list_line}
 
@@ -55,3 +38,10 @@ pub then_line : (start before after : List ℕ) (ls : List (List ℕ)) (l line :
     → after ≡ start ++ lines_text (ls ++ line ∷ [])
 then_line start before after ls l line same first next =
     then_put start before after ls (l ∷ []) first next ∙ ap (λ (x : List ℕ). start ++ lines_text (ls ++ x ∷ [])) same
+
+-- three texts put one behind the other
+pub in_turn : (start one two three a b c : List ℕ) → one ≡ start ++ a → two ≡ one ++ b → three ≡ two ++ c
+    → three ≡ start ++ (a ++ (b ++ c))
+in_turn start one two three a b c first second third =
+    third ∙ ap (λ (t : List ℕ). t ++ c) (second ∙ ap (λ (t : List ℕ). t ++ b) first ∙ append_assoc start a b)
+    ∙ append_assoc start (a ++ b) c ∙ ap (λ (t : List ℕ). start ++ t) (append_assoc a b c)

@@ -1,20 +1,17 @@
 -- Renewals: what is read is a renewal's text, its text is read, and the first fault.
-use Rattle.std.proofs.Common.{◌≡◌, ℕ, ◌<◌, ◌≤◌, ◌^◌, ◌&&◌, leb, true, refl, ap, arith}
+use Rattle.std.proofs.Common.{◌≡◌, true, refl, ap}
 use Rattle.std.specs.Prelude.{codes}
-use Rattle.std.proofs.lemmas.Bool.{and_from, and_parts, leb-true}
-use Rattle.message.specs.Values.{is_end}
-use Rattle.message.specs.Renewals.{is_renewal, is_serial, renewal_in, renewal_lines}
+use Rattle.std.proofs.lemmas.Bool.{and_from, and_parts}
+use Rattle.message.specs.Values.{is_end, is_renewal, is_serial}
+use Rattle.message.specs.Texts.{renewal_lines}
+use Rattle.message.specs.Reading.{renewal_in}
 use Rattle.message.specs.declared.renewal.Renewal.{Renewal}
 use Rattle.message.proofs.Fields.{lacks_by}
-use Rattle.message.proofs.Numbers.{end_small, number_field}
-use Rattle.message.proofs.Readings.{IsReading, line_then, same_messages, then_end}
-
--- a serial has 64 bits
-pub serial_small : (n : ℕ) → is_serial n ≡ true → n < 2 ^ 64
-serial_small n is =
-    let most : n ≤ 9223372036854775806 =
-    leb-true n 9223372036854775806 (and_parts (leb 1 n) (leb n 9223372036854775806) is).1 in
-    omega arith
+use Rattle.message.proofs.Numbers.{end_small, number_field, serial_small}
+use Rattle.message.proofs.Readings.{IsReading}
+use Rattle.message.proofs.FirstLines.{line_then}
+use Rattle.message.proofs.Ends.{then_end}
+use Rattle.message.proofs.Wordings.{same_messages}
 
 -- The values of a renewal's lines in turn are lawful, and they are all.
 abbrev IsWhole : Renewal → Type 0

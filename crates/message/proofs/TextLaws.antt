@@ -1,52 +1,8 @@
 -- Messages as texts: a text is read as the message that it belongs to, and the fault is at the first line of none.
-use Rattle.std.proofs.Common.{
-  ◌≡◌,
-  ◌≢◌,
-  ◌↔◌,
-  ℕ,
-  zero,
-  suc,
-  ◌+◌,
-  ◌-◌,
-  ◌<◌,
-  ◌≤◌,
-  List,
-  [],
-  ◌∷◌,
-  ◌++◌,
-  length,
-  take,
-  drop,
-  get_or,
-  slice_index,
-  Bool,
-  true,
-  false,
-  cond,
-  ◌⊎◌,
-  eqb,
-  ltb,
-  Option,
-  Some,
-  None,
-  Result,
-  Ok,
-  Err,
-  All,
-  refl,
-  sym,
-  ap,
-  subst,
-  ◌∙◌,
-  arith,
-  inl,
-  inr,
-  min,
-}
+use Rattle.std.proofs.Common.{◌≡◌, ◌↔◌, ℕ, zero, suc, ◌-◌, ◌<◌, ◌≤◌, List, [], ◌∷◌, ◌++◌, length, take, get_or, Bool, true, false, cond, eqb, ltb, Result, Ok, Err, refl, sym, ap, subst, ◌∙◌, arith, inl, inr}
 use Rattle.std.specs.Prelude.{IsTrue, IfOk}
 use Rattle.std.specs.List.{AllByRecursion, slice_split, onto_first, join_with_byte}
 use Rattle.std.proofs.lemmas.Bool.{cases_order}
-use Rattle.std.proofs.lemmas.List.{length-append}
 use Rattle.std.proofs.lemmas.List.Splits.{slice_split_at, join_with_byte-slice_split, length-slice_split}
 use Rattle.base64.specs.GeneralPurpose.{IsBytes}
 use Rattle.message.specs.declared.fault.MessageFault.{MessageFault}
@@ -54,7 +10,7 @@ use Rattle.message.specs.declared.fault.MessageFault.TheVariants as fault
 use Rattle.message.specs.declared.kinds.Message.{Message}
 use Rattle.message.specs.Values.{is_message}
 use Rattle.message.specs.Texts.{lines_text, message_lines, message_text}
-use Rattle.message.specs.Reading.{Gives, pieces, line_of, message_in, message_at}
+use Rattle.message.specs.Reading.{Gives, pieces, message_in, message_at}
 use Rattle.message.specs.Faults.{SharesLines, IsFirstBad}
 use Rattle.message.proofs.Readings.{IsLine, AreBytes, IsReading}
 use Rattle.message.proofs.Messages.{messages_read}

@@ -2,4 +2,3 @@ pub mod Values
 pub mod Texts
 pub mod Reading
 pub mod Faults
-pub mod Renewals

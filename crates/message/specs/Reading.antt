@@ -1,35 +1,7 @@
 -- Messages read line by line, with the number of the first line that does not fit.
-use Rattle.std.specs.Prelude.{
-  ◌≡◌,
-  ℕ,
-  suc,
-  zero,
-  ◌+◌,
-  ◌-◌,
-  List,
-  [],
-  ◌∷◌,
-  ◌++◌,
-  length,
-  take,
-  drop,
-  codes,
-  Bool,
-  not,
-  ◌&&◌,
-  ◌==◌,
-  nat_le,
-  nat_lt,
-  if◌then◌else◌,
-  Option,
-  Some,
-  None,
-  Result,
-  Ok,
-  Err,
-}
-use Rattle.std.specs.List.{list_any, slice_split, slice_index_or, before_first, after_first}
-use Rattle.std.specs.Option.{option_and_then, is_some}
+use Rattle.std.specs.Prelude.{◌≡◌, ℕ, suc, zero, ◌+◌, ◌-◌, List, [], ◌∷◌, ◌++◌, length, take, drop, codes, Bool, not, ◌&&◌, ◌==◌, nat_lt, if◌then◌else◌, Option, Some, None, Result, Ok, Err}
+use Rattle.std.specs.List.{list_any, slice_split, slice_index_or}
+use Rattle.std.specs.Option.{option_and_then, option_map, is_some}
 use Rattle.std.specs.Result.{result_ok}
 use Rattle.std.specs.Str.{bytes_eq}
 use Rattle.text.specs.declared.pair.Pair.{Pair}
@@ -38,14 +10,21 @@ use Rattle.profile.specs.declared.kind.Kind.TheVariants.{User, Host}
 use Rattle.profile.specs.Decimals.{number_of}
 use Rattle.profile.specs.Names.{is_name, is_key_id}
 use Rattle.profile.specs.Options.{is_flag}
+use Rattle.base64.specs.Engines.{standard}
+use Rattle.base64.specs.GeneralPurpose.{decode_of}
+use Rattle.lines.specs.Keys.{signature_of}
 use Rattle.lines.specs.Reading.{comment_of, key_line_at, word_of}
 use Rattle.lines.specs.declared.key_line.KeyLine.{KeyLine}
+use Rattle.lines.specs.declared.signature.Signature.{Signature}
 use Rattle.message.specs.declared.fault.MessageFault.{MessageFault}
 use Rattle.message.specs.declared.fault.MessageFault.TheVariants as fault
+use Rattle.message.specs.declared.delivery.Delivery.{Delivery}
 use Rattle.message.specs.declared.department.Department.{Department}
 use Rattle.message.specs.declared.issue.Issue.{Issue}
 use Rattle.message.specs.declared.kinds.Message.{Message}
 use Rattle.message.specs.declared.kinds.Message.TheVariants as message
+use Rattle.message.specs.declared.renewal.Renewal.{Renewal}
+use Rattle.message.specs.declared.serial_range.SerialRange.{SerialRange}
 use Rattle.message.specs.Values.{
   are_administrators,
   are_rules,
@@ -57,6 +36,9 @@ use Rattle.message.specs.Values.{
   is_longest_life,
   is_end,
   is_option,
+  is_serial,
+  is_digest,
+  is_range,
 }
 
 infixl 10 ◌>>=◌
@@ -149,6 +131,32 @@ options_from (suc k) n before ps = elim (option_after before (line_of n ps)) [
   | Some p ↦ options_from k (suc n) (before ++ p ∷ []) ps
 ]
 
+abbrev pub digest_after : List ℕ → List ℕ → Option (List ℕ)
+digest_after head line = option_and_then (passing is_digest) (after head line)
+
+-- the signature whose blob the 112 characters of base64 stand for
+abbrev pub signature_at : List ℕ → Option Signature
+signature_at text =
+    if length text == 112
+    then option_map (λ bytes. record { bytes = bytes })
+    (option_and_then signature_of (result_ok (decode_of standard text)))
+    else None
+
+abbrev pub signature_after : List ℕ → List ℕ → Option Signature
+signature_after head line = option_and_then signature_at (after head line)
+
+-- the serials from one number to another
+abbrev pub range_between : Option ℕ → Option ℕ → Option SerialRange
+range_between lo hi = option_and_then (λ l. option_map (λ h. record { lo = l; hi = h }) hi) lo
+
+-- two numbers, and a space between them
+abbrev pub range_of : List ℕ → Option SerialRange
+range_of text =
+    option_and_then (λ last. range_between (number_of (word_of text)) (number_of last)) (comment_of text)
+
+abbrev pub range_after : List ℕ → List ℕ → Option SerialRange
+range_after head line = option_and_then (passing is_range) (option_and_then range_of (after head line))
+
 -- ---- messages
 
 -- a department, from the pieces of its text
@@ -201,6 +209,32 @@ issue_in ps = do
       })
       else Err (8 + length options)
 
+-- a renewal, from the pieces of its text
+unfoldable pub renewal_in : List (List ℕ) → Result Renewal ℕ
+renewal_in ps = do
+  serial ← or_bad 1 (number_after is_serial (codes "renew ") (line_of 1 ps))
+  after ← or_bad 2 (number_after is_end (codes "after ") (line_of 2 ps))
+  before ← or_bad 3 (number_after is_end (codes "before ") (line_of 3 ps))
+  if ends_after 3 ps
+      then Ok (record { serial = serial; after = after; before = before })
+      else Err 4
+
+-- a delivery, from the pieces of its text
+unfoldable pub delivery_in : List (List ℕ) → Result Delivery ℕ
+delivery_in ps = do
+  serial ← or_bad 1 (number_after is_serial (codes "deliver ") (line_of 1 ps))
+  digest ← or_bad 2 (digest_after (codes "digest ") (line_of 2 ps))
+  signature ← or_bad 3 (signature_after (codes "signature ") (line_of 3 ps))
+  if ends_after 3 ps
+      then Ok (record { serial = serial; digest = digest; signature = signature })
+      else Err 4
+
+-- the value of a message of one line, from the pieces of its text
+unfoldable pub one_line_in : {A : Type 0} → (List ℕ → Option A) → List (List ℕ) → Result A ℕ
+one_line_in read ps = do
+  x ← or_bad 1 (read (line_of 1 ps))
+  if ends_after 1 ps then Ok x else Err 2
+
 -- whether line 1 begins with these bytes
 abbrev pub begins : List ℕ → List (List ℕ) → Bool
 begins head ps = is_some (after head (line_of 1 ps))
@@ -214,7 +248,18 @@ made f (Err n) = Err n
 abbrev pub message_in : List (List ℕ) → Result Message ℕ
 message_in ps =
     if begins (codes "department ") ps then made (λ d. message.Department d) (department_in ps)
-    else (if begins (codes "issue ") ps then made (λ i. message.Issue i) (issue_in ps) else Err 1)
+    else (if begins (codes "issue ") ps then made (λ i. message.Issue i) (issue_in ps)
+    else (if begins (codes "renew ") ps then made (λ r. message.Renew r) (renewal_in ps)
+    else (if begins (codes "deliver ") ps then made (λ d. message.Deliver d) (delivery_in ps)
+    else (if begins (codes "revoke-serial ") ps
+    then made (λ n. message.RevokeSerial n) (one_line_in (number_after is_serial (codes "revoke-serial ")) ps)
+    else (if begins (codes "revoke-range ") ps
+    then made (λ r. message.RevokeRange r) (one_line_in (range_after (codes "revoke-range ")) ps)
+    else (if begins (codes "revoke-keyid ") ps
+    then made (λ k. message.RevokeKeyId k) (one_line_in (key_id_after (codes "revoke-keyid ")) ps)
+    else (if begins (codes "rollover ") ps
+    then made (λ k. message.Rollover k) (one_line_in (key_line_after (codes "rollover ")) ps)
+    else Err 1)))))))
 
 -- the message that a text is, or the first line that does not fit
 abbrev pub message_at : List ℕ → Result Message ℕ

@@ -6,11 +6,18 @@ use Rattle.text.specs.declared.pair.Pair.{Pair}
 use Rattle.profile.specs.declared.kind.Kind.{Kind}
 use Rattle.profile.specs.declared.kind.Kind.TheVariants.{User, Host}
 use Rattle.profile.specs.Options.{is_flag}
+use Rattle.base64.specs.Engines.{standard}
+use Rattle.base64.specs.GeneralPurpose.{encode_of}
 use Rattle.lines.specs.KeyLines.{key_line_text}
+use Rattle.lines.specs.Keys.{signature_blob}
+use Rattle.lines.specs.declared.signature.Signature.{Signature}
+use Rattle.message.specs.declared.delivery.Delivery.{Delivery}
 use Rattle.message.specs.declared.department.Department.{Department}
 use Rattle.message.specs.declared.issue.Issue.{Issue}
 use Rattle.message.specs.declared.kinds.Message.{Message}
 use Rattle.message.specs.declared.kinds.Message.TheVariants as message
+use Rattle.message.specs.declared.renewal.Renewal.{Renewal}
+use Rattle.message.specs.declared.serial_range.SerialRange.{SerialRange}
 
 -- lines, each with its line feed
 abbrev pub lines_text : List (List ℕ) → List ℕ
@@ -55,10 +62,36 @@ issue_lines i =
     ∷ line (codes "after") (decimal i.after) ∷ line (codes "before") (decimal i.before)
     ∷ (map option_line i.options ++ list_line (codes "extensions") i.extensions ∷ [])
 
+-- the lines of a renewal
+abbrev pub renewal_lines : Renewal → List (List ℕ)
+renewal_lines r =
+    line (codes "renew") (decimal r.serial) ∷ line (codes "after") (decimal r.after)
+    ∷ line (codes "before") (decimal r.before) ∷ []
+
+-- the signature's blob in base64 (112 characters)
+abbrev pub signature_text : Signature → List ℕ
+signature_text s = encode_of standard (signature_blob s.bytes)
+
+-- the lines of a delivery
+abbrev pub delivery_lines : Delivery → List (List ℕ)
+delivery_lines d =
+    line (codes "deliver") (decimal d.serial) ∷ line (codes "digest") d.digest
+    ∷ line (codes "signature") (signature_text d.signature) ∷ []
+
+-- the first serial, a space and the last
+abbrev pub range_text : SerialRange → List ℕ
+range_text r = line (decimal r.lo) (decimal r.hi)
+
 -- the lines of a message
 abbrev pub message_lines : Message → List (List ℕ)
 message_lines (message.Department d) = department_lines d
 message_lines (message.Issue i) = issue_lines i
+message_lines (message.Renew r) = renewal_lines r
+message_lines (message.Deliver d) = delivery_lines d
+message_lines (message.RevokeSerial serial) = line (codes "revoke-serial") (decimal serial) ∷ []
+message_lines (message.RevokeRange r) = line (codes "revoke-range") (range_text r) ∷ []
+message_lines (message.RevokeKeyId key_id) = line (codes "revoke-keyid") key_id ∷ []
+message_lines (message.Rollover key) = line (codes "rollover") (key_line_text key) ∷ []
 
 -- the text of a department
 abbrev pub department_text : Department → List ℕ

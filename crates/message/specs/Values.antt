@@ -1,5 +1,5 @@
 -- Which values a message may hold.
-use Rattle.std.specs.Prelude.{ℕ, List, length, map, Bool, true, ◌&&◌, ◌||◌, ◌==◌, nat_le}
+use Rattle.std.specs.Prelude.{ℕ, List, length, map, Bool, true, ◌&&◌, ◌||◌, ◌==◌, nat_le, nat_lt}
 use Rattle.std.specs.List.{list_all}
 use Rattle.text.specs.declared.pair.Pair.{Pair}
 use Rattle.profile.specs.declared.kind.Kind.{Kind}
@@ -9,10 +9,14 @@ use Rattle.profile.specs.Names.{is_name, is_rule, is_principal, is_key_id, is_na
 use Rattle.profile.specs.Lists.{are_distinct}
 use Rattle.profile.specs.Options.{is_known, is_option_value}
 use Rattle.lines.specs.KeyLines.{is_key_line}
+use Rattle.lines.specs.declared.signature.Signature.{Signature}
+use Rattle.message.specs.declared.delivery.Delivery.{Delivery}
 use Rattle.message.specs.declared.department.Department.{Department}
 use Rattle.message.specs.declared.issue.Issue.{Issue}
 use Rattle.message.specs.declared.kinds.Message.{Message}
 use Rattle.message.specs.declared.kinds.Message.TheVariants as message
+use Rattle.message.specs.declared.renewal.Renewal.{Renewal}
+use Rattle.message.specs.declared.serial_range.SerialRange.{SerialRange}
 
 -- distinct texts, each of which passes a test
 abbrev pub are_distinct_and : (List ℕ → Bool) → List (List ℕ) → Bool
@@ -77,7 +81,41 @@ is_issue i =
     is_name i.department && (is_key_id i.key_id && (is_key_line i.key && (are_principals i.principals
     && (is_end i.after && (is_end i.before && (are_options i.options && are_extension_names i.extensions))))))
 
+-- 1 to 9223372036854775806
+abbrev pub is_serial : ℕ → Bool
+is_serial n = nat_le 1 n && nat_le n 9223372036854775806
+
+-- a certificate that may be asked for once more
+abbrev pub is_renewal : Renewal → Bool
+is_renewal r = is_serial r.serial && (is_end r.after && is_end r.before)
+
+-- a digit, or a letter from a to f
+abbrev pub is_lower_hex : ℕ → Bool
+is_lower_hex b = (nat_le 48 b && nat_le b 57) || (nat_le 97 b && nat_le b 102)
+
+-- 64 hexadecimal digits in lower case
+abbrev pub is_digest : List ℕ → Bool
+is_digest digest = length digest == 64 && list_all is_lower_hex digest
+
+-- 64 bytes
+abbrev pub is_signature : Signature → Bool
+is_signature s = length s.bytes == 64 && list_all (λ b. nat_lt b 256) s.bytes
+
+-- a signature that may be delivered
+abbrev pub is_delivery : Delivery → Bool
+is_delivery d = is_serial d.serial && (is_digest d.digest && is_signature d.signature)
+
+-- serials from the first to the last, both included
+abbrev pub is_range : SerialRange → Bool
+is_range r = is_serial r.lo && (is_serial r.hi && nat_le r.lo r.hi)
+
 -- a message that may be sent
 abbrev pub is_message : Message → Bool
 is_message (message.Department d) = is_department d
 is_message (message.Issue i) = is_issue i
+is_message (message.Renew r) = is_renewal r
+is_message (message.Deliver d) = is_delivery d
+is_message (message.RevokeSerial serial) = is_serial serial
+is_message (message.RevokeRange r) = is_range r
+is_message (message.RevokeKeyId key_id) = is_key_id key_id
+is_message (message.Rollover key) = is_key_line key

@@ -1,15 +1,14 @@
 //! What is asked for in an issue.
 
-ghost use Rattle.std.specs.Prelude.{◌≡◌, ◌≤◌, IfOk, codes, length, map, []};
-ghost use Rattle.message.specs.Reading.{Gives, issue_in, key_id_after, key_line_after, number_after, options_from};
-ghost use Rattle.message.specs.Values.{is_end};
+ghost use Rattle.std.specs.Prelude.{◌≡◌, ◌≤◌, IfOk, length, map, []};
+ghost use Rattle.message.specs.Reading.{Gives, issue_in, options_from};
 
 use crate::fault::MessageFault;
-use crate::line::{after, ends_after, line, name_after, number_after};
+use crate::line::{ends_after, line, name_after};
 use crate::lists::{extensions_in, principals_in};
 use crate::option::option_after;
-use lines::{KeyLine, LineFault, read_key_line};
-use profile::{LATEST_MOMENT, is_key_id};
+use crate::value::{end_after, key_id_after, key_line_after};
+use lines::KeyLine;
 use std::alloc::Global;
 use text::{NoMemory, Pairs, Text, Texts};
 
@@ -31,45 +30,6 @@ pub struct Issue {
     pub options: Pairs,
     /// Distinct names of extensions, in the order given.
     pub extensions: Texts,
-}
-
-fn key_id_after(alloc: Global, line: &[u8]) -> Result<Option<Text>, NoMemory>
-    ensures { IfOk result (λ o. o ≡ key_id_after (codes "keyid ") line.now) }
-{
-    let Some(key_id) = after(line, b"keyid ") else {
-        return Ok(None);
-    };
-    if !is_key_id(key_id) {
-        return Ok(None);
-    }
-    Ok(Some(Text::from_slice(alloc, key_id)?))
-}
-
-fn key_line_after(alloc: Global, line: &[u8]) -> Result<Option<KeyLine>, NoMemory>
-    ensures { IfOk result (λ o. o ≡ key_line_after (codes "key ") line.now) }
-{
-    let Some(text) = after(line, b"key ") else {
-        return Ok(None);
-    };
-    match read_key_line(alloc, text) {
-        Ok(key) => Ok(Some(key)),
-        Err(LineFault::NoMemory) => Err(NoMemory),
-        Err(LineFault::WrongType) => Ok(None),
-        Err(LineFault::BadBase64) => Ok(None),
-        Err(LineFault::BadBlob) => Ok(None),
-        Err(LineFault::BadComment) => Ok(None),
-    }
-}
-
-pub(crate) fn end_after(line: &[u8], head: &[u8]) -> Option<u64>
-    ensures { result ≡ number_after is_end head.now line.now }
-{
-    let end = number_after(line, head)?;
-    if end <= LATEST_MOMENT {
-        Some(end)
-    } else {
-        None
-    }
 }
 
 /// The options of up to three lines from line 7 on.
@@ -95,10 +55,10 @@ impl Issue {
         let Some(department) = name_after(alloc, line(pieces, 1), b"issue ")? else {
             return Err(MessageFault::BadLine(1));
         };
-        let Some(key_id) = key_id_after(alloc, line(pieces, 2))? else {
+        let Some(key_id) = key_id_after(alloc, line(pieces, 2), b"keyid ")? else {
             return Err(MessageFault::BadLine(2));
         };
-        let Some(key) = key_line_after(alloc, line(pieces, 3))? else {
+        let Some(key) = key_line_after(alloc, line(pieces, 3), b"key ")? else {
             return Err(MessageFault::BadLine(3));
         };
         let Some(principals) = principals_in(alloc, line(pieces, 4))? else {

@@ -4,6 +4,7 @@
 //! answered with the number of the first line that no message has in that place after the lines before it.
 #![tactic(auto)]
 
+mod delivery;
 mod department;
 mod fault;
 mod issue;
@@ -14,8 +15,12 @@ mod lists;
 mod option;
 mod reading;
 mod renewal;
+mod serial_range;
+mod single;
+mod value;
 mod writing;
 
+pub use delivery::Delivery;
 pub use department::Department;
 pub use fault::MessageFault;
 pub use issue::Issue;
@@ -28,6 +33,7 @@ pub use lists::{
 pub use option::is_option;
 pub use reading::read_message;
 pub use renewal::Renewal;
+pub use serial_range::SerialRange;
 pub use writing::write_message;
 
 #[cfg(test)]

@@ -1,31 +1,13 @@
 //! Option lines.
 
-ghost use Rattle.std.specs.Prelude.{◌≡◌, ◌==◌, IfOk, option_copied, position};
-ghost use Rattle.lines.specs.Reading.{comment_of, word_of};
+ghost use Rattle.std.specs.Prelude.{◌≡◌, IfOk};
 ghost use Rattle.message.specs.Reading.{is_new_option, option_after, pair_of};
 ghost use Rattle.message.specs.Values.{is_option};
 
-use crate::line::after;
+use crate::line::{after, word_and_rest};
 use profile::{OptionField, is_flag, is_known, is_option_value};
 use std::alloc::Global;
 use text::{NoMemory, Pair, Pairs, Text};
-
-fn first_space(text: &[u8]) -> Option<usize>
-    ensures { result ≡ position (λ b. b == 32) text.now }
-{
-    text.iter().position(|b| *b == b' ')
-}
-
-/// The word up to the first space, and what stands behind that.
-fn name_and_value(text: &[u8]) -> (&[u8], Option<&[u8]>)
-    ensures name { result.0.now ≡ word_of text.now }
-    ensures value { option_copied result.1 ≡ comment_of text.now }
-{
-    match first_space(text) {
-        Some(at) => (&text[..at], Some(&text[at + 1..])),
-        None => (text, None),
-    }
-}
 
 fn copied(alloc: Global, name: &[u8], value: &[u8]) -> Result<Pair, NoMemory>
     ensures name { IfOk result (λ p. p.name ≡ name.now) }
@@ -41,7 +23,7 @@ fn copied(alloc: Global, name: &[u8], value: &[u8]) -> Result<Pair, NoMemory>
 fn pair_of(alloc: Global, text: &[u8]) -> Result<Option<Pair>, NoMemory>
     ensures { IfOk result (λ o. o ≡ pair_of text.now) }
 {
-    let (name, value) = name_and_value(text);
+    let (name, value) = word_and_rest(text);
     match value {
         None => {
             if !is_flag(name) {

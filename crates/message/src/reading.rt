@@ -7,11 +7,14 @@ ghost use Rattle.message.specs.Texts.{message_text};
 ghost use Rattle.message.specs.Values.{is_message};
 ghost use Rattle.message.specs.declared.kinds.Message.{Message};
 
+use crate::delivery::Delivery;
 use crate::department::Department;
 use crate::fault::MessageFault;
 use crate::issue::Issue;
 use crate::kinds::Message;
 use crate::line::{after, line};
+use crate::renewal::Renewal;
+use crate::single::{key_id_in, key_in, range_in, serial_in};
 use std::alloc::Global;
 use text::cut;
 
@@ -30,6 +33,24 @@ fn message_in(alloc: Global, pieces: &[&[u8]]) -> Result<Message, MessageFault>
     }
     if begins(pieces, b"issue ") {
         return Ok(Message::Issue(Issue::read(alloc, pieces)?));
+    }
+    if begins(pieces, b"renew ") {
+        return Ok(Message::Renew(Renewal::read(pieces)?));
+    }
+    if begins(pieces, b"deliver ") {
+        return Ok(Message::Deliver(Delivery::read(pieces)?));
+    }
+    if begins(pieces, b"revoke-serial ") {
+        return Ok(Message::RevokeSerial(serial_in(pieces)?));
+    }
+    if begins(pieces, b"revoke-range ") {
+        return Ok(Message::RevokeRange(range_in(pieces)?));
+    }
+    if begins(pieces, b"revoke-keyid ") {
+        return Ok(Message::RevokeKeyId(key_id_in(alloc, pieces)?));
+    }
+    if begins(pieces, b"rollover ") {
+        return Ok(Message::Rollover(key_in(alloc, pieces)?));
     }
     Err(MessageFault::BadLine(1))
 }

@@ -1,13 +1,11 @@
 //! A certificate that is asked for once more.
 
-ghost use Rattle.std.specs.Prelude.{◌≡◌, codes, map};
-ghost use Rattle.message.specs.Reading.{Gives, number_after};
-ghost use Rattle.message.specs.Renewals.{is_serial, renewal_in};
+ghost use Rattle.std.specs.Prelude.{map};
+ghost use Rattle.message.specs.Reading.{Gives, renewal_in};
 
 use crate::fault::MessageFault;
-use crate::issue::end_after;
-use crate::line::{ends_after, line, number_after};
-use profile::LAST_SERIAL;
+use crate::line::{ends_after, line};
+use crate::value::{end_after, serial_after};
 
 /// A certificate once more, with another validity.
 #[derive(Clone, Copy, Debug, PartialEq, Eq)]
@@ -20,20 +18,9 @@ pub struct Renewal {
     pub before: u64,
 }
 
-fn serial_after(line: &[u8], head: &[u8]) -> Option<u64>
-    ensures { result ≡ number_after is_serial head.now line.now }
-{
-    let serial = number_after(line, head)?;
-    if 1 <= serial && serial <= LAST_SERIAL {
-        Some(serial)
-    } else {
-        None
-    }
-}
-
 impl Renewal {
     /// The renewal whose lines these are.
-    #[tactic(auto, unfolding(crate::specs::Renewals::renewal_in))]
+    #[tactic(auto, unfolding(crate::specs::Reading::renewal_in))]
     pub(crate) fn read(pieces: &[&[u8]]) -> Result<Renewal, MessageFault>
         ensures { Gives result (renewal_in (map (λ x. x.now) pieces.now)) }
     {

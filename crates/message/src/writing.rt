@@ -3,6 +3,7 @@
 ghost use Rattle.std.specs.Prelude.{◌≡◌, ◌++◌, [], ◌∷◌, IfOk, OnOk, codes, decimal, map};
 ghost use Rattle.lines.specs.KeyLines.{key_line_text};
 ghost use Rattle.message.specs.Texts.{
+  delivery_lines,
   department_text,
   issue_text,
   kind_text,
@@ -11,12 +12,19 @@ ghost use Rattle.message.specs.Texts.{
   list_line,
   message_text,
   option_line,
+  range_text,
+  renewal_lines,
+  signature_text,
 };
 
+use crate::delivery::Delivery;
 use crate::department::Department;
 use crate::issue::Issue;
 use crate::kinds::Message;
-use lines::{KeyLine, put_key_line};
+use crate::renewal::Renewal;
+use crate::serial_range::SerialRange;
+use base64::engine::general_purpose::STANDARD;
+use lines::{KeyLine, Signature, put_key_line, signature_blob_of};
 use profile::{Kind, is_flag, put_decimal};
 use std::alloc::Global;
 use text::{NoMemory, Pair, Text};
@@ -98,10 +106,10 @@ fn put_department(out: &mut Vec<u8>, department: &Department) -> Result<(), NoMe
     Ok(())
 }
 
-fn put_key(out: &mut Vec<u8>, key: &KeyLine) -> Result<(), NoMemory>
-    ensures { OnOk result (out.new.items ≡ out.old.items ++ lines_text (line (codes "key") (key_line_text key.now) ∷ [])) }
+fn put_key(out: &mut Vec<u8>, head: &[u8], key: &KeyLine) -> Result<(), NoMemory>
+    ensures { OnOk result (out.new.items ≡ out.old.items ++ lines_text ((head.now ++ key_line_text key.now) ∷ [])) }
 {
-    out.extend_from_slice(b"key ")?;
+    out.extend_from_slice(head)?;
     put_key_line(out, key)?;
     out.push(b'\n')?;
     Ok(())
@@ -112,12 +120,51 @@ fn put_issue(out: &mut Vec<u8>, issue: &Issue) -> Result<(), NoMemory>
 {
     put_line(out, b"issue ", issue.department.as_slice())?;
     put_line(out, b"keyid ", issue.key_id.as_slice())?;
-    put_key(out, &issue.key)?;
+    put_key(out, b"key ", &issue.key)?;
     put_list(out, b"principals", issue.principals.as_slice())?;
     put_number(out, b"after ", issue.after)?;
     put_number(out, b"before ", issue.before)?;
     put_options(out, issue.options.as_slice())?;
     put_list(out, b"extensions", issue.extensions.as_slice())?;
+    Ok(())
+}
+
+fn put_renewal(out: &mut Vec<u8>, renewal: &Renewal) -> Result<(), NoMemory>
+    ensures { OnOk result (out.new.items ≡ out.old.items ++ lines_text (renewal_lines renewal.now)) }
+{
+    put_number(out, b"renew ", renewal.serial)?;
+    put_number(out, b"after ", renewal.after)?;
+    put_number(out, b"before ", renewal.before)?;
+    Ok(())
+}
+
+fn put_signature(out: &mut Vec<u8>, signature: &Signature) -> Result<(), NoMemory>
+    ensures { OnOk result (out.new.items ≡ out.old.items
+        ++ lines_text (line (codes "signature") (signature_text signature.now) ∷ [])) }
+{
+    let mut text = [0; 112];
+    let Ok(_) = STANDARD.encode_slice(&signature_blob_of(&signature.bytes), &mut text) else {
+        unreachable!();
+    };
+    put_line(out, b"signature ", &text)
+}
+
+fn put_delivery(out: &mut Vec<u8>, delivery: &Delivery) -> Result<(), NoMemory>
+    ensures { OnOk result (out.new.items ≡ out.old.items ++ lines_text (delivery_lines delivery.now)) }
+{
+    put_number(out, b"deliver ", delivery.serial)?;
+    put_line(out, b"digest ", &delivery.digest)?;
+    put_signature(out, &delivery.signature)?;
+    Ok(())
+}
+
+fn put_range(out: &mut Vec<u8>, range: SerialRange) -> Result<(), NoMemory>
+    ensures { OnOk result (out.new.items ≡ out.old.items
+        ++ lines_text (line (codes "revoke-range") (range_text range) ∷ [])) }
+{
+    out.extend_from_slice(b"revoke-range ")?;
+    put_decimal(out, range.lo)?;
+    put_number(out, b" ", range.hi)?;
     Ok(())
 }
 
@@ -129,6 +176,12 @@ pub fn write_message(alloc: Global, message: &Message) -> Result<Vec<u8>, NoMemo
     match message {
         Message::Department(department) => put_department(&mut out, department)?,
         Message::Issue(issue) => put_issue(&mut out, issue)?,
+        Message::Renew(renewal) => put_renewal(&mut out, renewal)?,
+        Message::Deliver(delivery) => put_delivery(&mut out, delivery)?,
+        Message::RevokeSerial(serial) => put_number(&mut out, b"revoke-serial ", *serial)?,
+        Message::RevokeRange(range) => put_range(&mut out, *range)?,
+        Message::RevokeKeyId(key_id) => put_line(&mut out, b"revoke-keyid ", key_id.as_slice())?,
+        Message::Rollover(key) => put_key(&mut out, b"rollover ", key)?,
     }
     Ok(out)
 }

@@ -8,53 +8,67 @@ use std::alloc::Global;
 use std::test::Fail;
 use text::{NoMemory, Pair, Text};
 
-fn texts(alloc: Global, elements: &[&str]) -> Result<Vec<Text>, NoMemory> {
+/// Whether these may be administrators, rules, principals, names of options, names of extensions, namespaces.
+fn lists_of(alloc: Global, elements: &[&str]) -> Result<[bool; 6], NoMemory> {
     let mut texts = Vec::new(alloc);
     for element in elements {
         texts.push(Text::from_slice(alloc, element.as_bytes())?)?;
     }
-    Ok(texts)
-}
-
-fn option(alloc: Global, name: &str, value: &str) -> Result<Pair, NoMemory> {
-    Ok(Pair {
-        name: Text::from_slice(alloc, name.as_bytes())?,
-        value: Text::from_slice(alloc, value.as_bytes())?,
-    })
+    let texts = texts.as_slice();
+    Ok([
+        are_administrators(texts),
+        are_rules(texts),
+        are_principals(texts),
+        are_option_names(texts),
+        are_extension_names(texts),
+        are_namespaces(texts),
+    ])
 }
 
 #[test]
 fn each_list_has_its_own_elements(rt: HostRuntime) -> Result<(), Fail> {
     let alloc = rt.alloc();
-    let none = texts(alloc, &[])?;
-    assert!(rt; are_administrators(none.as_slice()));
-    assert!(rt; !are_rules(none.as_slice()));
-    assert!(rt; !are_principals(none.as_slice()));
-    assert!(rt; are_namespaces(none.as_slice()));
-    let rules = texts(alloc, &["*@example.org", "bob"])?;
-    assert!(rt; !are_administrators(rules.as_slice()));
-    assert!(rt; are_rules(rules.as_slice()));
-    assert!(rt; !are_principals(rules.as_slice()));
-    let people = texts(alloc, &["x@example.org", "bob"])?;
-    assert!(rt; are_principals(people.as_slice()));
-    assert!(rt; are_namespaces(people.as_slice()));
-    let options = texts(alloc, &["verify-required", "force-command"])?;
-    assert!(rt; are_option_names(options.as_slice()));
-    assert!(rt; !are_extension_names(options.as_slice()));
-    let extensions = texts(alloc, &["permit-pty", "no-touch-required"])?;
-    assert!(rt; are_extension_names(extensions.as_slice()));
-    assert!(rt; !are_option_names(extensions.as_slice()));
+    let rows: [(&[&str], [bool; 6]); 5] = [
+        (&[], [true, false, false, true, true, true]),
+        (
+            &["*@example.org", "bob"],
+            [false, true, false, false, false, false],
+        ),
+        (
+            &["x@example.org", "bob"],
+            [false, true, true, false, false, true],
+        ),
+        (
+            &["verify-required", "force-command"],
+            [true, true, true, true, false, true],
+        ),
+        (
+            &["permit-pty", "no-touch-required"],
+            [true, true, true, false, true, true],
+        ),
+    ];
+    for (elements, want) in rows {
+        assert_eq!(rt; lists_of(alloc, elements)?, want);
+    }
     Ok(())
 }
 
 #[test]
 fn options_have_lawful_values(rt: HostRuntime) -> Result<(), Fail> {
     let alloc = rt.alloc();
-    assert!(rt; is_option(&option(alloc, "force-command", "/bin/true")?));
-    assert!(rt; is_option(&option(alloc, "source-address", "10.0.0.0/8")?));
-    assert!(rt; is_option(&option(alloc, "verify-required", "")?));
-    assert!(rt; !is_option(&option(alloc, "verify-required", "x")?));
-    assert!(rt; !is_option(&option(alloc, "force-command", "")?));
-    assert!(rt; !is_option(&option(alloc, "permit-pty", "")?));
+    for (name, value, want) in [
+        ("force-command", "/bin/true", true),
+        ("source-address", "10.0.0.0/8", true),
+        ("verify-required", "", true),
+        ("verify-required", "x", false),
+        ("force-command", "", false),
+        ("permit-pty", "", false),
+    ] {
+        let option = Pair {
+            name: Text::from_slice(alloc, name.as_bytes())?,
+            value: Text::from_slice(alloc, value.as_bytes())?,
+        };
+        assert_eq!(rt; is_option(&option), want, "{name} {value}");
+    }
     Ok(())
 }

@@ -1,23 +1,4 @@
-use Rattle.std.proofs.Common.{
-  ◌≡◌,
-  ◌+◌,
-  ◌<◌,
-  ◌≤◌,
-  ◌-◌,
-  ℕ,
-  List,
-  [],
-  ◌∷◌,
-  ◌++◌,
-  length,
-  Some,
-  None,
-  map,
-  sym,
-  ap,
-  ◌∙◌,
-  arith,
-}
+use Rattle.std.proofs.Common.{◌≡◌, ◌+◌, ◌<◌, ◌-◌, ℕ, List, [], ◌∷◌, ◌++◌, length, Some, None, map, sym, ap, ◌∙◌, arith}
 use Rattle.text.specs.declared.pair.Pair.{Pair}
 use Rattle.message.specs.Reading.{line_of, option_after, options_from}
 use Rattle.message.proofs.Steps.{all_options, few_options, no_option, one_option}

@@ -1,4 +1,4 @@
-use Rattle.std.proofs.Common.{◌≡◌, ap, not, sym, ◌∙◌, List, ℕ}
+use Rattle.std.proofs.Common.{ap, not, sym, ◌∙◌, List, ℕ}
 use Rattle.std.specs.List.{list_any}
 use Rattle.std.specs.Str.{bytes_eq}
 use Rattle.message.proofs.Steps.{and_second}

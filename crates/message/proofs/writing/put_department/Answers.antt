@@ -1,4 +1,4 @@
-use Rattle.std.proofs.Common.{◌≡◌, ◌++◌, [], ◌∷◌, ℕ, List, refl, ap, sym, append-nil, decimal}
+use Rattle.std.proofs.Common.{◌++◌, [], ◌∷◌, ℕ, List, refl, ap, sym, append-nil, decimal}
 use Rattle.std.specs.Prelude.{codes}
 use Rattle.message.specs.Texts.{kind_text, line, list_line}
 use Rattle.message.proofs.PutLines.{then_line}

@@ -1,4 +1,4 @@
-use Rattle.std.proofs.Common.{◌≡◌, ◌++◌, [], ◌∷◌, ℕ, List, map, refl, ap, sym, ◌∙◌, append-nil, decimal}
+use Rattle.std.proofs.Common.{◌++◌, [], ◌∷◌, ℕ, List, map, refl, ap, sym, ◌∙◌, append-nil, decimal}
 use Rattle.std.specs.Prelude.{codes}
 use Rattle.text.specs.declared.pair.Pair.{Pair}
 use Rattle.lines.specs.KeyLines.{key_line_text}

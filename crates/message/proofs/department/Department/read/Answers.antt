@@ -1,4 +1,4 @@
-use Rattle.std.proofs.Common.{◌≡◌, map, ◌&&◌, sym, ◌∙◌, true, false, rules}
+use Rattle.std.proofs.Common.{◌≡◌, ◌&&◌, sym, ◌∙◌, true, false, rules}
 use Rattle.std.specs.Prelude.{codes}
 use Rattle.std.proofs.lemmas.Bool.{cond-true, cond-false}
 use Rattle.message.specs.Reading.{department_in, kind_of, list_after, name_after, number_after}

@@ -1,4 +1,4 @@
-use Rattle.std.proofs.Common.{◌≡◌, map, ◌&&◌, sym, ◌∙◌, true, false, rules}
+use Rattle.std.proofs.Common.{◌≡◌, ◌∙◌, true, false, rules}
 use Rattle.std.specs.Prelude.{codes}
 use Rattle.std.proofs.lemmas.Bool.{cond-true, cond-false}
 use Rattle.message.specs.Reading.{issue_in, key_id_after, key_line_after, list_after, name_after, number_after}

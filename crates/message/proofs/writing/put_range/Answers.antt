@@ -1,0 +1,14 @@
+use Rattle.std.proofs.Common.{◌++◌, [], ◌∷◌, ℕ, List, ap, sym, ◌∙◌, append_assoc, decimal}
+use Rattle.std.specs.Prelude.{codes}
+use Rattle.message.specs.Texts.{lines_text}
+use Rattle.message.proofs.PutLines.{in_turn}
+use Rattle.message.proofs.writing.put_range.Goals as goal
+
+pub returns : goal.returns
+returns c =
+    let start : List ℕ = c.args.out.now.items in
+    let lo : List ℕ = decimal c.args.range.lo in
+    let hi : List ℕ = codes " " ++ decimal c.args.range.hi in
+    in_turn start _ _ _ (codes "revoke-range ") lo (lines_text (hi ∷ []))
+    c.in_ok-extend_from_slice.ensures.items c.in_ok-put_decimal.ensures.ok c.in_ok-put_number.ensures
+    ∙ ap (λ (t : List ℕ). start ++ (codes "revoke-range " ++ t)) (sym (append_assoc lo hi (10 ∷ [])))

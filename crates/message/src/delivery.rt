@@ -1,0 +1,45 @@
+//! A signature for a certificate.
+
+ghost use Rattle.std.specs.Prelude.{map};
+ghost use Rattle.message.specs.Reading.{Gives, delivery_in};
+
+use crate::fault::MessageFault;
+use crate::line::{ends_after, line};
+use crate::value::{digest_after, serial_after, signature_after};
+use lines::Signature;
+
+/// The signature of a certificate's body.
+#[derive(Clone, Copy, Debug, PartialEq, Eq)]
+pub struct Delivery {
+    /// The serial of the certificate, 1 to 9223372036854775806.
+    pub serial: u64,
+    /// The SHA-256 of the body that was signed, as 64 hexadecimal digits in lower case.
+    pub digest: [u8; 64],
+    pub signature: Signature,
+}
+
+impl Delivery {
+    /// The delivery whose lines these are.
+    #[tactic(auto, unfolding(crate::specs::Reading::delivery_in))]
+    pub(crate) fn read(pieces: &[&[u8]]) -> Result<Delivery, MessageFault>
+        ensures { Gives result (delivery_in (map (λ x. x.now) pieces.now)) }
+    {
+        let Some(serial) = serial_after(line(pieces, 1), b"deliver ") else {
+            return Err(MessageFault::BadLine(1));
+        };
+        let Some(digest) = digest_after(line(pieces, 2), b"digest ") else {
+            return Err(MessageFault::BadLine(2));
+        };
+        let Some(signature) = signature_after(line(pieces, 3), b"signature ") else {
+            return Err(MessageFault::BadLine(3));
+        };
+        if !ends_after(pieces, 3) {
+            return Err(MessageFault::BadLine(4));
+        }
+        Ok(Delivery {
+            serial,
+            digest,
+            signature,
+        })
+    }
+}

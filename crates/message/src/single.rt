@@ -1,0 +1,73 @@
+//! Messages of one line.
+
+ghost use Rattle.std.specs.Prelude.{codes, map};
+ghost use Rattle.message.specs.Reading.{
+  Gives,
+  key_id_after,
+  key_line_after,
+  number_after,
+  one_line_in,
+  range_after,
+};
+ghost use Rattle.message.specs.Values.{is_serial};
+
+use crate::fault::MessageFault;
+use crate::line::{ends_after, line};
+use crate::serial_range::SerialRange;
+use crate::value::{key_id_after, key_line_after, range_after, serial_after};
+use lines::KeyLine;
+use std::alloc::Global;
+use text::Text;
+
+#[tactic(auto, unfolding(crate::specs::Reading::one_line_in))]
+pub(crate) fn serial_in(pieces: &[&[u8]]) -> Result<u64, MessageFault>
+    ensures { Gives result
+        (one_line_in (number_after is_serial (codes "revoke-serial ")) (map (λ x. x.now) pieces.now)) }
+{
+    let Some(serial) = serial_after(line(pieces, 1), b"revoke-serial ") else {
+        return Err(MessageFault::BadLine(1));
+    };
+    if !ends_after(pieces, 1) {
+        return Err(MessageFault::BadLine(2));
+    }
+    Ok(serial)
+}
+
+#[tactic(auto, unfolding(crate::specs::Reading::one_line_in))]
+pub(crate) fn range_in(pieces: &[&[u8]]) -> Result<SerialRange, MessageFault>
+    ensures { Gives result (one_line_in (range_after (codes "revoke-range ")) (map (λ x. x.now) pieces.now)) }
+{
+    let Some(range) = range_after(line(pieces, 1), b"revoke-range ") else {
+        return Err(MessageFault::BadLine(1));
+    };
+    if !ends_after(pieces, 1) {
+        return Err(MessageFault::BadLine(2));
+    }
+    Ok(range)
+}
+
+#[tactic(auto, unfolding(crate::specs::Reading::one_line_in))]
+pub(crate) fn key_id_in(alloc: Global, pieces: &[&[u8]]) -> Result<Text, MessageFault>
+    ensures { Gives result (one_line_in (key_id_after (codes "revoke-keyid ")) (map (λ x. x.now) pieces.now)) }
+{
+    let Some(key_id) = key_id_after(alloc, line(pieces, 1), b"revoke-keyid ")? else {
+        return Err(MessageFault::BadLine(1));
+    };
+    if !ends_after(pieces, 1) {
+        return Err(MessageFault::BadLine(2));
+    }
+    Ok(key_id)
+}
+
+#[tactic(auto, unfolding(crate::specs::Reading::one_line_in))]
+pub(crate) fn key_in(alloc: Global, pieces: &[&[u8]]) -> Result<KeyLine, MessageFault>
+    ensures { Gives result (one_line_in (key_line_after (codes "rollover ")) (map (λ x. x.now) pieces.now)) }
+{
+    let Some(key) = key_line_after(alloc, line(pieces, 1), b"rollover ")? else {
+        return Err(MessageFault::BadLine(1));
+    };
+    if !ends_after(pieces, 1) {
+        return Err(MessageFault::BadLine(2));
+    }
+    Ok(key)
+}
