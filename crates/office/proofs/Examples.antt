@@ -1,20 +1,23 @@
 -- Worked examples of the plain machine and of histories, computed.
-use Rattle.std.proofs.Common.{◌≡◌, ℕ, List, [], ◌∷◌, ◌++◌, length, map, refl, Bool, true, false, Option, Some, None, Ok, Err}
+use Rattle.std.proofs.Common.{◌≡◌, [], ◌∷◌, map, refl, false, Some, None}
 use Rattle.std.specs.Prelude.{codes}
-use Rattle.text.specs.declared.pair.Pair.{Pair}
+use Rattle.std.specs.Option.{option_map}
 use Rattle.profile.specs.declared.kind.Kind.TheVariants.{User, Host}
-use Rattle.profile.specs.declared.refusal.Refusal.TheVariants.{BadMessage, NotAllowed, NoDepartment, KindFixed, BadKeyId, NotPermitted, AlreadyEnded, SerialsExhausted}
+use Rattle.profile.specs.declared.refusal.Refusal.TheVariants.{NotAllowed, NoDepartment, KindFixed, BadKeyId, NotPermitted, AlreadyEnded, KeyIdRevoked, UnknownSerial, Revoked, NotSigned, SerialsExhausted, CaInUse}
 use Rattle.message.specs.declared.department.Department.{Department}
 use Rattle.message.specs.declared.issue.Issue.{Issue}
+use Rattle.lines.specs.declared.key_line.KeyLine.{KeyLine}
+use Rattle.lines.specs.declared.signature.Signature.{Signature}
+use Rattle.message.specs.declared.renewal.Renewal.{Renewal}
 use Rattle.message.specs.declared.kinds.Message.TheVariants as message
 use Rattle.office.specs.declared.opening.Opening.{Opening}
-use Rattle.office.specs.declared.arrival.Arrival.{Arrival}
-use Rattle.office.specs.declared.arrival.Kept.{Kept}
-use Rattle.office.specs.declared.arrival.Outcome.TheVariants.{Repeated, Refused}
-use Rattle.office.specs.Replies.{department_reply}
-use Rattle.office.specs.Machine.{State, opened, after, refusals, first_holding, reply_to, next_serial, department_named, meet_rules, is_life_permitted}
-use Rattle.office.specs.History.{due_on, due}
-use Rattle.office.specs.Laws.{counted_from}
+use Rattle.office.specs.declared.arrival.Outcome.TheVariants.{Repeated}
+use Rattle.office.specs.Replies.{revocation_reply, rollover_reply}
+use Rattle.office.specs.Permissions.{meet_rules}
+use Rattle.office.specs.Machine.{State, opened, after, refusals, first_holding, reply_to, next_serial, certificate_of, department_named, with_signature}
+use Rattle.office.specs.Publication.{entries_of, published_parts}
+use Rattle.office.specs.declared.publication.Standing.TheVariants as standing
+use Rattle.office.specs.History.{due_on}
 
 abbrev office : Opening
 office = record { ca = []; root = codes "root"; station = codes "station"; first = 1; last = 2 }
@@ -49,7 +52,7 @@ asked = record {
 department_is_there : department_named begun (codes "web") ≡ Some web
 department_is_there = refl
 
-its_reply : reply_to (opened office) (message.Department web) [] ≡ codes "department web\n"
+its_reply : reply_to (opened office) (message.Department web) 0 [] ≡ codes "department web\n"
 its_reply = refl
 
 only_root_puts_departments : first_holding (refusals begun (codes "ana") (message.Department web) 0) ≡ Some NotAllowed
@@ -93,5 +96,125 @@ repeat_gets_the_kept_reply :
     (record { caller = codes "ana"; key = codes "i1"; bytes = codes "x"; moment = 253402300800; nonce = [] }) ≡ Repeated (codes "kept")
 repeat_gets_the_kept_reply = refl
 
-three_serials : counted_from 7 3 ≡ 7 ∷ 8 ∷ 9 ∷ []
-three_serials = refl
+-- ---- what comes after an issue
+
+abbrev roomy : Opening
+roomy = record office { last = 9 }
+
+-- serials 1 and 2
+abbrev two : State
+two = after (after (after (opened roomy) (message.Department web) 0 []) (message.Issue asked) 1000 []) (message.Issue (record asked { key_id = codes "web/bob" })) 1000 []
+
+abbrev signature : Signature
+signature = record { bytes = codes "s" }
+
+abbrev one_signed : State
+one_signed = with_signature two 1 signature
+
+abbrev once_more : Renewal
+once_more = record { serial = 1; after = 1500; before = 2500 }
+
+signature_is_kept : option_map (λ c. c.signature) (certificate_of one_signed 1) ≡ Some (Some signature)
+signature_is_kept = refl
+
+same_signature_again : with_signature one_signed 1 signature ≡ one_signed
+same_signature_again = refl
+
+other_certificate_stays_unsigned : option_map (λ c. c.signature) (certificate_of one_signed 2) ≡ Some None
+other_certificate_stays_unsigned = refl
+
+only_the_station_delivers : first_holding (refusals two (codes "root") (message.Deliver (record { serial = 1; digest = []; signature = signature })) 0) ≡ Some NotAllowed
+only_the_station_delivers = refl
+
+nothing_to_sign : first_holding (refusals two (codes "station") (message.Deliver (record { serial = 3; digest = []; signature = signature })) 0) ≡ Some UnknownSerial
+nothing_to_sign = refl
+
+renewal_of_an_unsigned_one : first_holding (refusals two (codes "ana") (message.Renew once_more) 1600) ≡ Some NotSigned
+renewal_of_an_unsigned_one = refl
+
+renewal_of_a_signed_one : first_holding (refusals one_signed (codes "ana") (message.Renew once_more) 1600) ≡ None
+renewal_of_a_signed_one = refl
+
+renewal_of_none : first_holding (refusals two (codes "root") (message.Renew (record once_more { serial = 3 })) 1600) ≡ Some UnknownSerial
+renewal_of_none = refl
+
+none_has_administrators : first_holding (refusals two (codes "ana") (message.Renew (record once_more { serial = 3 })) 1600) ≡ Some NotAllowed
+none_has_administrators = refl
+
+renewed_validity : option_map (λ c. c.fields.before) (certificate_of (after one_signed (message.Renew once_more) 1600 []) 3) ≡ Some 2500
+renewed_validity = refl
+
+-- ---- revocations
+
+abbrev one_revoked : State
+one_revoked = after two (message.RevokeSerial 1) 3000 []
+
+first_version : one_revoked.version ≡ 1
+first_version = refl
+
+its_date : one_revoked.date ≡ 3000
+its_date = refl
+
+same_serial_again : (after one_revoked (message.RevokeSerial 1) 4000 []).date ≡ 3000
+same_serial_again = refl
+
+its_version : reply_to two (message.RevokeSerial 1) 3000 [] ≡ revocation_reply 1
+its_version = refl
+
+one_more_serial : (after one_revoked (message.RevokeRange (record { lo = 1; hi = 2 })) 2000 []).version ≡ 2
+one_more_serial = refl
+
+no_serial_more : (after one_revoked (message.RevokeRange (record { lo = 1; hi = 1 })) 2000 []).version ≡ 1
+no_serial_more = refl
+
+range_past_the_last : first_holding (refusals two (codes "root") (message.RevokeRange (record { lo = 1; hi = 3 })) 0) ≡ Some UnknownSerial
+range_past_the_last = refl
+
+renewal_of_a_revoked_one : first_holding (refusals one_revoked (codes "ana") (message.Renew once_more) 1600) ≡ Some Revoked
+renewal_of_a_revoked_one = refl
+
+abbrev bob_revoked : State
+bob_revoked = after two (message.RevokeKeyId (codes "web/bob")) 3000 []
+
+key_ids_ascend : (after bob_revoked (message.RevokeKeyId (codes "web/alice")) 4000 []).revoked_key_ids ≡ codes "web/alice" ∷ codes "web/bob" ∷ []
+key_ids_ascend = refl
+
+key_id_of_no_department : first_holding (refusals two (codes "root") (message.RevokeKeyId (codes "db/bob")) 0) ≡ Some NoDepartment
+key_id_of_no_department = refl
+
+revoked_key_id : first_holding (refusals bob_revoked (codes "ana") (message.Issue (record asked { key_id = codes "web/bob" })) 1000) ≡ Some KeyIdRevoked
+revoked_key_id = refl
+
+-- ---- CAs
+
+abbrev second_key : KeyLine
+second_key = record { key = codes "2"; comment = None }
+
+abbrev rolled_over : State
+rolled_over = after two (message.Rollover second_key) 5000 []
+
+second_ca : rolled_over.cas ≡ record { key = []; since = 1 } ∷ record { key = codes "2"; since = 3 } ∷ []
+second_ca = refl
+
+its_number : reply_to two (message.Rollover second_key) 5000 [] ≡ rollover_reply 2 3
+its_number = refl
+
+ca_in_use : first_holding (refusals rolled_over (codes "root") (message.Rollover second_key) 0) ≡ Some CaInUse
+ca_in_use = refl
+
+newest_ca_signs : option_map (λ c. c.fields.ca) (certificate_of (after rolled_over (message.Issue asked) 1000 []) 3) ≡ Some (codes "2")
+newest_ca_signs = refl
+
+list_stays_without_key_ids : rolled_over.version ≡ 0
+list_stays_without_key_ids = refl
+
+list_gains_a_section : (after bob_revoked (message.Rollover second_key) 5000 []).version ≡ 2
+list_gains_a_section = refl
+
+-- a run across a rollover is cut in the list
+cut_at_a_rollover : published_parts (after (after rolled_over (message.Issue asked) 1000 []) (message.RevokeRange (record { lo = 2; hi = 3 })) 3000 [])
+    ≡ record { ca = []; runs = record { lo = 2; hi = 2 } ∷ [] } ∷ record { ca = codes "2"; runs = record { lo = 3; hi = 3 } ∷ [] } ∷ []
+cut_at_a_rollover = refl
+
+standings : map (λ e. e.standing) (entries_of (after one_signed (message.RevokeSerial 2) 3000 [])) ≡ standing.Signed ∷ standing.Revoked ∷ []
+standings = refl

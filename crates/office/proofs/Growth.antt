@@ -1,143 +1,123 @@
--- What one arrival more leaves and adds.
-use Rattle.std.proofs.Common.{◌≡◌, ℕ, zero, suc, ◌+◌, ◌-◌, List, [], ◌∷◌, ◌++◌, length, map, Bool, true, false, cond, ltb, Option, Some, None, Result, Ok, Err, refl, sym, ap, subst, ◌∙◌, arith, length-append, add-one}
-use Rattle.std.specs.Prelude.{nat_lt, slice_get}
-use Rattle.std.specs.List.{fold, filter}
-use Rattle.std.specs.Option.{option_map}
-use Rattle.std.proofs.lemmas.List.Sums.{fold_push, fold-append}
-use Rattle.std.proofs.lemmas.List.{append-nil, map-append}
-use Rattle.std.proofs.lemmas.List.Elements.{filter-append}
-use Rattle.profile.specs.declared.refusal.Refusal.{Refusal}
-use Rattle.cert.specs.Bodies.{body_text}
+-- What an accepted message keeps, and by how much it makes more.
+use Rattle.std.proofs.Common.{◌≡◌, ℕ, zero, suc, ◌+◌, ◌-◌, ◌≤◌, List, [], ◌∷◌, length, Bool, true, false, cond, ◌&&◌, leb, Option, Some, None, refl, ap, ◌∙◌, arith, length-append}
+use Rattle.std.specs.List.{fold}
+use Rattle.std.proofs.lemmas.Bool.{and_parts, leb-true, ltb-false}
+use Rattle.lines.specs.declared.signature.Signature.{Signature}
 use Rattle.message.specs.declared.kinds.Message.{Message}
 use Rattle.message.specs.declared.kinds.Message.TheVariants as message
 use Rattle.office.specs.declared.opening.Opening.{Opening}
-use Rattle.office.specs.declared.certificate.Certificate.{Certificate}
 use Rattle.office.specs.declared.arrival.Arrival.{Arrival}
-use Rattle.office.specs.Machine.{State, opened, after, reply_to, next_serial, certificate_of, body_of, issued, with_certificate}
-use Rattle.office.specs.History.{First, kept_by, judged, add_accepted, with_arrival, first_accepted, state, state_after, change}
-use Rattle.office.specs.Laws.{CountsUp, is_issuing, issue_replies, reply_of, counted_from}
-use Rattle.office.proofs.Judged.{IsFirst, judged_is_first}
+use Rattle.office.specs.declared.certificate.Certificate.{Certificate}
+use Rattle.office.specs.Openings.{IsOpening}
+use Rattle.office.specs.State.{State, opened, next_serial, is_range_revoked, is_key_id_revoked, has_any}
+use Rattle.office.specs.Refusals.{refusals}
+use Rattle.office.specs.Machine.{after, issued, renewed, signed_at, with_department, with_signature, with_one_more, with_range, with_key_id, with_ca, ca_from_now, republished}
+use Rattle.office.specs.History.{First, state, state_after, with_arrival}
+use Rattle.office.proofs.Judged.{none_holds}
+use Rattle.office.proofs.Histories.{IsKept, holds_after, kept_along}
 
--- ---- what is there stays
+-- ---- the opening, and the version
 
--- new has the opening and the certificates of old
-pub record Keeps (old new : State) : Type 0 where
+-- new has old's opening, and old's version or the one after it
+pub record Grows (old new : State) : Type 0 where
   pub opening : new.opening ≡ old.opening
-  pub certificates : (n : ℕ) (c : Certificate) → slice_get old.certificates n ≡ Some c → slice_get new.certificates n ≡ Some c
+  pub version : old.version ≤ new.version
+  pub by_one : new.version ≤ old.version + 1
 
-Keeps-same : (s : State) → Keeps s s
-Keeps-same s = record { opening = refl; certificates = λ n c e. e }
+Grows-same : (s t : State) → t.opening ≡ s.opening → t.version ≡ s.version → Grows s t
+Grows-same s t o v = record { opening = o; version = omega arith; by_one = omega arith }
 
-Keeps-then : (a b c : State) → Keeps a b → Keeps b c → Keeps a c
-Keeps-then a b c p q = record { opening = q.opening ∙ p.opening; certificates = λ n x e. q.certificates n x (p.certificates n x e) }
+Grows-more : (s t : State) → t.opening ≡ s.opening → t.version ≡ s.version + 1 → Grows s t
+Grows-more s t o v = record { opening = o; version = omega arith; by_one = omega arith }
 
-slice_get-front : {X : Type 0} (xs ys : List X) (n : ℕ) (x : X) → slice_get xs n ≡ Some x → slice_get (xs ++ ys) n ≡ Some x
-slice_get-front [] ys n x e = absurd cc
-slice_get-front (y ∷ xs) ys zero x e = e
-slice_get-front (y ∷ xs) ys (suc n) x e = slice_get-front xs ys n x e
+one_more_grows : (s : State) (c : Option Certificate) → Grows s (with_one_more s c)
+one_more_grows s (Some c) = Grows-same s (with_one_more s (Some c)) refl refl
+one_more_grows s None = Grows-same s s refl refl
 
-after_keeps : (s : State) (m : Message) (moment : ℕ) (nonce : List ℕ) → Keeps s (after s m moment nonce)
-after_keeps s (message.Department d) moment nonce = record { opening = refl; certificates = λ n c e. e }
-after_keeps s (message.Issue i) moment nonce = record { opening = refl; certificates = λ n c e. slice_get-front s.certificates _ n c e }
+changed_or_not : (s t : State) (b : Bool) → Grows s t → Grows s (cond b s t)
+changed_or_not s t true g = Grows-same s s refl refl
+changed_or_not s t false g = g
 
-added_keeps : (o : Opening) (fs : List First) (r : Result First Refusal) → Keeps (state_after o fs) (state_after o (add_accepted fs r))
-added_keeps o fs (Err r) = Keeps-same (state_after o fs)
-added_keeps o fs (Ok f) = rw (fold_push change (opened o) fs f) (after_keeps (state_after o fs) f.message f.arrival.moment f.arrival.nonce)
+republished_grows : (s t : State) (moment : ℕ) → t.opening ≡ s.opening → t.version ≡ s.version → Grows s (republished t moment)
+republished_grows s t moment o v = Grows-more s (republished t moment) o (ap (λ (n : ℕ). n + 1) v)
 
-later_keeps : (o : Opening) (fs : List First) (l : List Arrival) → Keeps (state_after o fs) (state_after o (fold (with_arrival o) fs l))
-later_keeps o fs [] = Keeps-same (state_after o fs)
-later_keeps o fs (a ∷ l) =
-    Keeps-then (state_after o fs) (state_after o (with_arrival o fs a)) _ (added_keeps o fs (judged (state_after o fs) (kept_by fs) a)) (later_keeps o (with_arrival o fs a) l)
-
--- whatever comes later
-pub history_keeps : (o : Opening) (l later : List Arrival) → Keeps (state o l) (state o (l ++ later))
-history_keeps o l later =
-    subst (λ (fs : List First). Keeps (state o l) (state_after o fs)) (sym (fold-append (with_arrival o) [] l later)) (later_keeps o (first_accepted o l) later)
-
-some_mapped : (o p : Option Certificate) (b : List ℕ) → ((c : Certificate) → o ≡ Some c → p ≡ Some c) → option_map (λ c. c.body) o ≡ Some b → option_map (λ c. c.body) p ≡ Some b
-some_mapped (Some c) p b h e = rw (h c refl) e
-some_mapped None p b h e = absurd cc
-
-certificate_stays : (s t : State) (serial : ℕ) → Keeps s t → (c : Certificate) → certificate_of s serial ≡ Some c → certificate_of t serial ≡ Some c
-certificate_stays s t serial k c e =
-    rw k.opening (elim (ltb serial s.opening.first) as (λ x. cond x None (slice_get s.certificates (serial - s.opening.first)) ≡ Some c → cond x None (slice_get t.certificates (serial - s.opening.first)) ≡ Some c)
-    [ true ↦ λ h. h | false ↦ k.certificates (serial - s.opening.first) c ] e)
-
--- a body that is there stays
-pub body_stays : (o : Opening) (l later : List Arrival) (serial : ℕ) (body : List ℕ) → body_of (state o l) serial ≡ Some body → body_of (state o (l ++ later)) serial ≡ Some body
-body_stays o l later serial body e =
-    some_mapped (certificate_of (state o l) serial) (certificate_of (state o (l ++ later)) serial) body (certificate_stays (state o l) (state o (l ++ later)) serial (history_keeps o l later)) e
-
--- ---- serials
-
--- what holds of the first acceptances so far
-pub record IsCounted (o : Opening) (fs : List First) : Type 0 where
-  pub opening : (state_after o fs).opening ≡ o
-  pub replies : issue_replies fs ≡ map reply_of (state_after o fs).certificates
-  pub serials : map (λ c. c.fields.serial) (state_after o fs).certificates ≡ counted_from o.first (length (state_after o fs).certificates)
-  pub bodies : map (λ c. c.body) (state_after o fs).certificates ≡ map (λ c. body_text c.fields) (state_after o fs).certificates
-
--- one more reply
-replies_push : (fs : List First) (f : First) → issue_replies (fs ++ f ∷ []) ≡ issue_replies fs ++ cond (is_issuing f.message) (f.reply ∷ []) []
-replies_push fs f =
-    ap (map (λ x. x.reply)) (filter-append (λ x. is_issuing x.message) fs (f ∷ []))
-    ∙ map-append (λ x. x.reply) (filter (λ x. is_issuing x.message) fs) (filter (λ x. is_issuing x.message) (f ∷ []))
-    ∙ ap (λ xs. issue_replies fs ++ xs) (elim (is_issuing f.message) as (λ b. map (λ x. x.reply) (cond b (f ∷ []) []) ≡ cond b (f.reply ∷ []) []) [ true ↦ refl | false ↦ refl ])
-
-counted_push : (first n m : ℕ) → m ≡ n + 1 → counted_from first m ≡ counted_from first n ++ (first + n) ∷ []
-counted_push first n m e = ap (counted_from first) (e ∙ add-one n)
-
--- the same of one message more
-record Adds (o : Opening) (s t : State) (given more : List (List ℕ)) : Type 0 where
-  pub replies : given ++ more ≡ map reply_of t.certificates
-  pub serials : map (λ c. c.fields.serial) t.certificates ≡ counted_from o.first (length t.certificates)
-  pub bodies : map (λ c. c.body) t.certificates ≡ map (λ c. body_text c.fields) t.certificates
-
-after_adds : (s : State) (m : Message) (moment : ℕ) (nonce : List ℕ) (given : List (List ℕ))
-    → given ≡ map reply_of s.certificates
-    → map (λ c. c.fields.serial) s.certificates ≡ counted_from s.opening.first (length s.certificates)
-    → map (λ c. c.body) s.certificates ≡ map (λ c. body_text c.fields) s.certificates
-    → Adds s.opening s (after s m moment nonce) given (cond (is_issuing m) (reply_to s m nonce ∷ []) [])
-after_adds s (message.Department d) moment nonce given r n b = record { replies = append-nil given ∙ r; serials = n; bodies = b }
-after_adds s (message.Issue i) moment nonce given r n b =
-    let c = issued s i nonce in record {
-      replies = ap (λ xs. xs ++ reply_of c ∷ []) r ∙ sym (map-append reply_of s.certificates (c ∷ []));
-      serials = map-append (λ x. x.fields.serial) s.certificates (c ∷ []) ∙ ap (λ xs. xs ++ next_serial s ∷ []) n
-          ∙ sym (counted_push s.opening.first (length s.certificates) _ (length-append s.certificates _));
-      bodies = map-append (λ x. x.body) s.certificates (c ∷ []) ∙ ap (λ xs. xs ++ c.body ∷ []) b ∙ sym (map-append (λ x. body_text x.fields) s.certificates (c ∷ []));
-    }
-
-counted_added : (o : Opening) (fs : List First) (a : Arrival) (r : Result First Refusal) → judged (state_after o fs) (kept_by fs) a ≡ r → IsCounted o fs → IsCounted o (add_accepted fs r)
-counted_added o fs a (Err r) e c = c
-counted_added o fs a (Ok f) e c =
-    let s = state_after o fs in
-    let is = judged_is_first s (kept_by fs) a f e in
-    let nonce = f.arrival.nonce in
-    let push : state_after o (fs ++ f ∷ []) ≡ change s f = fold_push change (opened o) fs f in
-    let reply : f.reply ≡ reply_to s f.message nonce = is.reply ∙ ap (λ (x : Arrival). reply_to s f.message x.nonce) (sym is.arrival) in
-    let more = cond (is_issuing f.message) (f.reply ∷ []) [] in
-    let adds = after_adds s f.message f.arrival.moment nonce (issue_replies fs) c.replies
-    (subst (λ (x : Opening). map (λ c. c.fields.serial) s.certificates ≡ counted_from x.first (length s.certificates)) (sym c.opening) c.serials) c.bodies in
-    record {
-      opening = ap (λ (x : State). x.opening) push ∙ (after_keeps s f.message f.arrival.moment nonce).opening ∙ c.opening;
-      replies = replies_push fs f ∙ ap (λ (x : List ℕ). issue_replies fs ++ cond (is_issuing f.message) (x ∷ []) []) reply ∙ adds.replies ∙ ap (λ (x : State). map reply_of x.certificates) (sym push);
-      serials = ap (λ (x : State). map (λ c. c.fields.serial) x.certificates) push ∙ adds.serials
-          ∙ ap (λ (x : Opening). counted_from x.first (length (change s f).certificates)) c.opening ∙ ap (λ (x : State). counted_from o.first (length x.certificates)) (sym push);
-      bodies = ap (λ (x : State). map (λ c. c.body) x.certificates) push ∙ adds.bodies ∙ ap (λ (x : State). map (λ c. body_text c.fields) x.certificates) (sym push);
-    }
-
-counted_along : (o : Opening) (fs : List First) (l : List Arrival) → IsCounted o fs → IsCounted o (fold (with_arrival o) fs l)
-counted_along o fs [] c = c
-counted_along o fs (a ∷ l) c = counted_along o (with_arrival o fs a) l (counted_added o fs a _ refl c)
-
-counted : (o : Opening) (l : List Arrival) → IsCounted o (first_accepted o l)
-counted o l = counted_along o [] l (record { opening = refl; replies = refl; serials = refl; bodies = refl })
+pub after_grows : (s : State) (m : Message) (moment : ℕ) (nonce : List ℕ) → Grows s (after s m moment nonce)
+after_grows s (message.Department d) moment nonce = Grows-same s (after s (message.Department d) moment nonce) refl refl
+after_grows s (message.Issue i) moment nonce = Grows-same s (after s (message.Issue i) moment nonce) refl refl
+after_grows s (message.Renew r) moment nonce = one_more_grows s (renewed s r nonce)
+after_grows s (message.Deliver d) moment nonce = Grows-same s (after s (message.Deliver d) moment nonce) refl refl
+after_grows s (message.RevokeSerial serial) moment nonce =
+    changed_or_not s _ (s.revoked serial) (republished_grows s (with_range s (record { lo = serial; hi = serial })) moment refl refl)
+after_grows s (message.RevokeRange r) moment nonce = changed_or_not s _ (is_range_revoked s r) (republished_grows s (with_range s r) moment refl refl)
+after_grows s (message.RevokeKeyId key_id) moment nonce =
+    changed_or_not s _ (is_key_id_revoked s key_id) (republished_grows s (with_key_id s key_id) moment refl refl)
+after_grows s (message.Rollover k) moment nonce =
+    let t = with_ca s (ca_from_now s k.key) in
+    elim (has_any s.revoked_key_ids) as (λ b. Grows s (cond b (republished t moment) t)) [
+      | true ↦ republished_grows s t moment refl refl
+      | false ↦ Grows-same s t refl refl
+    ]
 
 -- an office keeps its opening
 pub opening_stays : (o : Opening) (l : List Arrival) → (state o l).opening ≡ o
-opening_stays o l = (counted o l).opening
+opening_stays o l = holds_after (λ s. s.opening ≡ o) (λ s caller m moment nonce lawful allowed e. (after_grows s m moment nonce).opening ∙ e) o l refl
 
--- serials count up, and none names two bodies
-pub serials_counted : (o : Opening) (l : List Arrival) → CountsUp o l
-serials_counted o l =
-    let c = counted o l in record { replies = c.replies; serials = c.serials; bodies = c.bodies }
+-- ---- serials
+
+-- the serials that were handed out are in range
+abbrev pub IsInRange : State → Type 0
+IsInRange s = next_serial s ≤ s.opening.last + 1
+
+pub length-signed_at : (cs : List Certificate) (place : ℕ) (signature : Signature) → length (signed_at cs place signature) ≡ length cs
+length-signed_at [] place signature = refl
+length-signed_at (c ∷ cs) zero signature = refl
+length-signed_at (c ∷ cs) (suc place) signature = ap suc (length-signed_at cs place signature)
+
+opened_in_range : (o : Opening) → IsOpening o → IsInRange (opened o)
+opened_in_range o is =
+    let ends = and_parts (leb 1 o.first) (leb o.first o.last && leb o.last 9223372036854775806) is.serials in
+    omega (arith, leb-true _ _ (and_parts (leb o.first o.last) (leb o.last 9223372036854775806) ends.1).0)
+
+-- where a serial is left, one may be handed out
+one_more_in_range : (s : State) (c : Option Certificate) → next_serial s ≤ s.opening.last → IsInRange s → IsInRange (with_one_more s c)
+one_more_in_range s (Some c) left e = omega (arith, left, length-append s.certificates (c ∷ []))
+one_more_in_range s None left e = e
+
+same_in_range : (s t : State) → t.opening ≡ s.opening → length t.certificates ≡ length s.certificates → IsInRange s → IsInRange t
+same_in_range s t o n e = rw (o, n) e
+
+changed_in_range : (s t : State) (b : Bool) → IsInRange s → IsInRange t → IsInRange (cond b s t)
+changed_in_range s t true p q = p
+changed_in_range s t false p q = q
+
+keeps_range : IsKept IsInRange
+keeps_range s caller (message.Department d) moment nonce lawful allowed e = same_in_range s (with_department s d) refl refl e
+keeps_range s caller (message.Issue i) moment nonce lawful allowed e =
+    let tests = none_holds (refusals s caller (message.Issue i) moment) allowed in
+    one_more_in_range s (Some (issued s i nonce)) (ltb-false _ _ tests.1.1.1.1.1.1.0) e
+keeps_range s caller (message.Renew r) moment nonce lawful allowed e =
+    let tests = none_holds (refusals s caller (message.Renew r) moment) allowed in
+    one_more_in_range s (renewed s r nonce) (ltb-false _ _ tests.1.1.1.1.1.1.1.0) e
+keeps_range s caller (message.Deliver d) moment nonce lawful allowed e =
+    same_in_range s (with_signature s d.serial d.signature) refl (length-signed_at s.certificates (d.serial - s.opening.first) d.signature) e
+keeps_range s caller (message.RevokeSerial serial) moment nonce lawful allowed e =
+    let t = republished (with_range s (record { lo = serial; hi = serial })) moment in changed_in_range s t (s.revoked serial) e (same_in_range s t refl refl e)
+keeps_range s caller (message.RevokeRange r) moment nonce lawful allowed e =
+    let t = republished (with_range s r) moment in changed_in_range s t (is_range_revoked s r) e (same_in_range s t refl refl e)
+keeps_range s caller (message.RevokeKeyId key_id) moment nonce lawful allowed e =
+    let t = republished (with_key_id s key_id) moment in changed_in_range s t (is_key_id_revoked s key_id) e (same_in_range s t refl refl e)
+keeps_range s caller (message.Rollover k) moment nonce lawful allowed e =
+    let t = with_ca s (ca_from_now s k.key) in
+    elim (has_any s.revoked_key_ids) as (λ b. IsInRange (cond b (republished t moment) t)) [
+      | true ↦ same_in_range s (republished t moment) refl refl e
+      | false ↦ same_in_range s t refl refl e
+    ]
+
+pub holds_in_range : (o : Opening) (l : List Arrival) → IsOpening o → IsInRange (state o l)
+holds_in_range o l is = holds_after IsInRange keeps_range o l (opened_in_range o is)
+
+-- the version only grows
+pub version_grows : (o : Opening) (fs : List First) (l : List Arrival) → (state_after o fs).version ≤ (state_after o (fold (with_arrival o) fs l)).version
+version_grows o fs l =
+    let old = (state_after o fs).version in
+    kept_along (λ t. old ≤ t.version) (λ s caller m moment nonce lawful allowed e. omega (arith, e, (after_grows s m moment nonce).version)) o fs l (omega arith)

@@ -1,9 +1,8 @@
 -- What an allowed issue asks for makes a lawful certificate.
-use Rattle.std.proofs.Common.{◌≡◌, ℕ, ◌-◌, ◌≤◌, List, [], ◌∷◌, ◌++◌, length, map, Bool, true, false, not, ◌&&◌, ◌||◌, ◌⊎◌, leb, ltb, eqb, Option, Some, None, refl, sym, ap, subst, ◌∙◌, inl, inr, arith}
-use Rattle.std.specs.Prelude.{IsTrue}
+use Rattle.std.proofs.Common.{◌≡◌, ℕ, ◌-◌, ◌≤◌, List, [], ◌∷◌, ◌++◌, length, map, Bool, true, false, not, ◌&&◌, ◌||◌, leb, ltb, eqb, None, refl, sym, ap, subst, inl, inr, arith}
 use Rattle.std.specs.List.{list_any, list_all, AllByRecursion}
 use Rattle.std.specs.Str.{bytes_eq}
-use Rattle.std.proofs.lemmas.Bool.{and_parts, or_cases, leb-true, le-leb, ltb-true, eqb-true}
+use Rattle.std.proofs.lemmas.Bool.{and_parts, or_cases, leb-true, le-leb, lt-ltb, eqb-true}
 use Rattle.std.proofs.lemmas.Slice.Eq.{bytes_eq-Decides}
 use Rattle.std.proofs.lemmas.List.{nil_from_length}
 use Rattle.text.specs.declared.pair.Pair.{Pair}
@@ -18,14 +17,16 @@ use Rattle.cert.specs.Options.{is_option, are_for_kind}
 use Rattle.lines.specs.KeyLines.{is_key, is_key_line, is_comment_or_none}
 use Rattle.cert.specs.Bodies.{IsCertFields}
 use Rattle.cert.proofs.Listing.{is_options-listing}
-use Rattle.cert.specs.OptionFaults.{pair_fault, first_fault, options_fault}
+use Rattle.cert.specs.OptionFaults.{first_fault, options_fault}
 use Rattle.message.specs.declared.department.Department.{Department}
 use Rattle.message.specs.declared.issue.Issue.{Issue}
-use Rattle.message.specs.Values.{fits_kind, is_department, is_issue, are_principals, are_administrators, are_rules, are_option_names, are_extension_names, are_namespaces, is_longest_life, are_options, is_end}
+use Rattle.message.specs.declared.renewal.Renewal.{Renewal}
+use Rattle.message.specs.Values.{fits_kind, is_department, is_issue, are_principals, are_administrators, are_rules, are_option_names, are_extension_names, are_namespaces, is_longest_life, are_options, is_end, is_serial}
+use Rattle.office.specs.declared.certificate.Certificate.{Certificate}
 use Rattle.office.specs.declared.view.View.{View}
-use Rattle.office.specs.Openings.{IsOpening}
-use Rattle.office.specs.Views.{IsIssuable}
-use Rattle.office.specs.Machine.{flags, is_listed, is_permitted, is_life_permitted, meet_rules, fields_for}
+use Rattle.office.specs.Views.{HasSerial, IsIssuable, IsRenewable}
+use Rattle.office.specs.Permissions.{is_listed, is_permitted, is_life_permitted, meet_rules}
+use Rattle.office.specs.Certificates.{IsCertificate, certificate_for, certificate_with, renewed_fields, flags, fields_for}
 
 same_bytes : (xs ys : List ℕ) → bytes_eq xs ys ≡ true → xs ≡ ys
 same_bytes xs ys e = (bytes_eq-Decides xs ys).0 e
@@ -213,15 +214,20 @@ issuable_extensions v d i is =
     (for_kind d.kind d.extensions (flags i.extensions) p.extensions_fit (flags_listed d.extensions i.extensions p.extensions_listed))
     (flags_lawful i.extensions p.extensions) (rw (flags-names i.extensions) p.extensions_apart)
 
--- and its fields are a certificate's
-pub issuable_fields : (v : View) (d : Department) (i : Issue) (ca nonce : List ℕ) → IsIssuable v d i → length ca ≡ 32 → length nonce ≡ 32 → IsCertFields (fields_for i v.next d.kind ca nonce)
-issuable_fields v d i ca nonce is ca_size nonce_size =
-    let p = is_lawful v d i is in
+-- the next serial is one
+serial_left : (v : View) → HasSerial v → is_serial v.next ≡ true
+serial_left v is =
     let o = v.opening.now in
     let ends = and_parts (leb 1 o.first) (leb o.first o.last && leb o.last 9223372036854775806) is.opening.serials in
     let last = and_parts (leb o.first o.last) (leb o.last 9223372036854775806) ends.1 in
     let low : 1 ≤ v.next = omega (arith, leb-true _ _ ends.0, is.next) in
     let high : v.next ≤ 9223372036854775806 = omega (arith, leb-true _ _ last.1, is.left) in
+    both_and _ _ (le-leb _ _ low) (le-leb _ _ high)
+
+-- and its fields are a certificate's
+pub issuable_fields : (v : View) (d : Department) (i : Issue) (ca nonce : List ℕ) → IsIssuable v d i → length ca ≡ 32 → length nonce ≡ 32 → IsCertFields (fields_for i v.next d.kind ca nonce)
+issuable_fields v d i ca nonce is ca_size nonce_size =
+    let p = is_lawful v d i is in
     let few : Bool = leb 1 (length i.principals) && leb (length i.principals) 16 in
     let each : Bool = list_all is_principal i.principals in
     let ps = and_parts few (each && are_distinct i.principals) p.principals in
@@ -229,7 +235,7 @@ issuable_fields v d i ca nonce is ca_size nonce_size =
     record {
       nonce = nonce_size;
       key = eqb-true _ _ p.key;
-      serial = both_and _ _ (le-leb _ _ low) (le-leb _ _ high);
+      serial = serial_left v is.serial;
       key_id = p.key_id;
       principals = both_and (few && each) (are_distinct i.principals) (both_and few each ps.0 qs.0) qs.1;
       validity = both_and _ _ p.life p.before;
@@ -237,3 +243,33 @@ issuable_fields v d i ca nonce is ca_size nonce_size =
       extensions = is_options-listing Extensions d.kind (flags i.extensions) (issuable_extensions v d i is);
       ca = ca_size;
     }
+
+-- so it is a certificate
+pub issuable_certificate : (v : View) (d : Department) (i : Issue) (ca nonce : List ℕ) → IsIssuable v d i → length ca ≡ 32 → length nonce ≡ 32 → IsCertificate (certificate_for i v.next d.kind ca nonce)
+issuable_certificate v d i ca nonce is ca_size nonce_size =
+    record { department = (and_parts (is_name i.department) _ is.issue).0; fields = issuable_fields v d i ca nonce is ca_size nonce_size; body = refl }
+
+-- ---- a renewal
+
+-- the fields of a certificate for another validity are a certificate's
+pub renewable_fields : (v : View) (old : Certificate) (r : Renewal) (ca nonce : List ℕ) → IsRenewable v old r → length ca ≡ 32 → length nonce ≡ 32
+    → IsCertFields (renewed_fields old.fields r v.next ca nonce)
+renewable_fields v old r ca nonce is ca_size nonce_size =
+    let f = is.certificate.fields in
+    let ends = and_parts (is_end r.after) (is_end r.before) (and_parts (is_serial r.serial) (is_end r.after && is_end r.before) is.renewal).1 in
+    record {
+      nonce = nonce_size;
+      key = f.key;
+      serial = serial_left v is.serial;
+      key_id = f.key_id;
+      principals = f.principals;
+      validity = both_and _ _ (lt-ltb _ _ is.order) ends.1;
+      options = f.options;
+      extensions = f.extensions;
+      ca = ca_size;
+    }
+
+pub renewable_certificate : (v : View) (old : Certificate) (r : Renewal) (ca nonce : List ℕ) → IsRenewable v old r → length ca ≡ 32 → length nonce ≡ 32
+    → IsCertificate (certificate_with old.department (renewed_fields old.fields r v.next ca nonce))
+renewable_certificate v old r ca nonce is ca_size nonce_size =
+    record { department = is.certificate.department; fields = renewable_fields v old r ca nonce is ca_size nonce_size; body = refl }

@@ -1,5 +1,5 @@
 -- What is known of an arrival that is judged to be a first acceptance.
-use Rattle.std.proofs.Common.{◌≡◌, ℕ, List, [], ◌∷◌, Bool, true, false, cond, Option, Some, None, Result, Ok, Err, refl, sym, ap, ◌∙◌}
+use Rattle.std.proofs.Common.{◌≡◌, List, [], ◌∷◌, Bool, true, false, cond, Option, Some, None, Ok, refl, sym, ap, ◌∙◌}
 use Rattle.std.specs.Prelude.{nat_lt}
 use Rattle.std.specs.List.{list_any, AllByRecursion}
 use Rattle.profile.specs.declared.limits.TheConstants.{LATEST_MOMENT}
@@ -18,7 +18,7 @@ pub record IsFirst (s : State) (kept : List Kept) (a : Arrival) (f : First) : Ty
   pub in_time : nat_lt LATEST_MOMENT a.moment ≡ false
   pub new : list_any (has_key a) kept ≡ false
   pub allowed : first_holding (refusals s a.caller f.message a.moment) ≡ None
-  pub reply : f.reply ≡ reply_to s f.message a.nonce
+  pub reply : f.reply ≡ reply_to s f.message a.moment a.nonce
 
 -- what a step that isn't refused gives
 allowed_step : (a : Arrival) (m : Message) (r : Option Refusal) (x : Stepped) (f : First) → (refused_or r x >>= λ st. Ok (first_of_step a m st)) ≡ Ok f
@@ -35,7 +35,7 @@ found_through s kept a (Some m) true known f is-m is-late is-known e = absurd cc
 found_through s kept a (Some m) false true f is-m is-late is-known e = absurd cc
 found_through s kept a (Some m) false false f is-m is-late is-known e =
     let r = first_holding (refusals s a.caller m a.moment) in
-    let x : Stepped = record { state = after s m a.moment a.nonce; reply = reply_to s m a.nonce } in
+    let x : Stepped = record { state = after s m a.moment a.nonce; reply = reply_to s m a.moment a.nonce } in
     let g = allowed_step a m r x f e in
     let same : m ≡ f.message = ap (λ (f : First). f.message) g.1 in record {
       arrival = sym (ap (λ (f : First). f.arrival) g.1);
@@ -43,7 +43,7 @@ found_through s kept a (Some m) false false f is-m is-late is-known e =
       in_time = is-late;
       new = is-known;
       allowed = ap (λ (m : Message). first_holding (refusals s a.caller m a.moment)) (sym same) ∙ g.0;
-      reply = sym (ap (λ (f : First). f.reply) g.1) ∙ ap (λ (m : Message). reply_to s m a.nonce) same;
+      reply = sym (ap (λ (f : First). f.reply) g.1) ∙ ap (λ (m : Message). reply_to s m a.moment a.nonce) same;
     }
 
 -- a first acceptance is the arrival's message, allowed, with the machine's reply

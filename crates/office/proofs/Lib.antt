@@ -1,7 +1,9 @@
 pub mod Steps
 pub mod Judged
+pub mod Histories
 pub mod Growth
 pub mod Issuable
 pub mod Decisions
+pub mod Ranges
 pub mod Sizes
 pub mod Examples

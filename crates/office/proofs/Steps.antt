@@ -1,6 +1,6 @@
 -- One arrival more.
-use Rattle.std.proofs.Common.{◌≡◌, ℕ, List, [], ◌∷◌, ◌++◌, Bool, true, false, cond, ◌&&◌, ◌||◌, map, Option, Some, None, Result, Ok, Err, refl, sym, ap, subst, ◌∙◌}
-use Rattle.std.specs.Prelude.{nat_lt, IsErr, find}
+use Rattle.std.proofs.Common.{◌≡◌, ℕ, ◌<◌, List, [], ◌∷◌, ◌++◌, Bool, true, false, ◌||◌, Option, Some, None, Result, Ok, Err, refl, sym, ap, subst, ◌∙◌}
+use Rattle.std.specs.Prelude.{nat_lt, IsErr}
 use Rattle.std.specs.List.{list_any}
 use Rattle.std.proofs.lemmas.List.Sums.{fold_push}
 use Rattle.std.proofs.lemmas.List.{map-append}
@@ -13,9 +13,9 @@ use Rattle.office.specs.declared.opening.Opening.{Opening}
 use Rattle.office.specs.declared.arrival.Arrival.{Arrival}
 use Rattle.office.specs.declared.arrival.Kept.{Kept}
 use Rattle.office.specs.declared.arrival.Outcome.TheVariants as outcome
-use Rattle.office.specs.Machine.{State, Stepped, opened, step}
-use Rattle.office.specs.History.{◌>>=◌, First, has_key, is_repeat, reply_kept, kept_row, kept_by, judged, first_of_step, or_refuse, refuse_if, due_on, due, add_accepted, with_arrival, first_accepted, state, state_after, change}
-use Rattle.office.specs.Shows.{Shows}
+use Rattle.office.specs.Machine.{State, opened, step}
+use Rattle.office.specs.History.{◌>>=◌, First, has_key, reply_kept, kept_row, kept_by, judged, first_of_step, or_refuse, refuse_if, due_on, due, add_accepted, with_arrival, first_accepted, state, state_after, change}
+use Rattle.office.specs.Shows.{IsOffice, Shows}
 
 -- a message that is kept has its key kept
 has_key_kept : (kept : List Kept) (a : Arrival) (r : List ℕ) → reply_kept kept a ≡ Some r → list_any (has_key a) kept ≡ true
@@ -32,6 +32,10 @@ known_key_is_refused : (s : State) (a : Arrival) (m : Option Message) (late : Bo
 known_key_is_refused s a None late = refl
 known_key_is_refused s a (Some m) true = refl
 known_key_is_refused s a (Some m) false = refl
+
+-- what is shown is an office
+pub shows_office : (s : State) (kept : List Kept) (o : Opening) (l : List Arrival) → Shows s kept o l → IsOffice o l
+shows_office s kept o l m = record { opening = m.lawful; version = subst (λ (t : State). t.version < 9223372036854775807) m.is_state m.version }
 
 -- so it is judged to be no first acceptance
 repeat_is_refused : (s : State) (kept : List Kept) (a : Arrival) (r : List ℕ) → reply_kept kept a ≡ Some r → IsErr (judged s kept a)
@@ -53,7 +57,7 @@ stays : (s : State) (kept : List Kept) (o : Opening) (l : List Arrival) (a : Arr
 stays s kept o l a (Ok f) e err m = absurd cc
 stays s kept o l a (Err x) e err m =
     let step = accepted_step o l a (Err x) (judged_is s kept o l a m ∙ e) in
-    record { lawful = m.lawful; is_kept = m.is_kept ∙ ap kept_by (sym step); is_state = m.is_state ∙ ap (state_after o) (sym step) }
+    record { lawful = m.lawful; version = m.version; is_kept = m.is_kept ∙ ap kept_by (sym step); is_state = m.is_state ∙ ap (state_after o) (sym step) }
 
 -- a repeat is due the reply that is kept
 pub shows_repeated : (s : State) (kept : List Kept) (o : Opening) (l : List Arrival) (a : Arrival) (r : List ℕ) → reply_kept kept a ≡ Some r → Shows s kept o l
@@ -68,13 +72,14 @@ shows_refused s kept o l a r new e m =
     (sym (due_is s kept o l a m ∙ rw (new, e) refl), stays s kept o l a (Err r) e refl m)
 
 -- a first acceptance is due its reply, which is kept, and changes the state
-pub shows_accepted : (s : State) (kept : List Kept) (o : Opening) (l : List Arrival) (a : Arrival) (f : First) → reply_kept kept a ≡ None → judged s kept a ≡ Ok f → Shows s kept o l
+pub shows_accepted : (s : State) (kept : List Kept) (o : Opening) (l : List Arrival) (a : Arrival) (f : First) → reply_kept kept a ≡ None → judged s kept a ≡ Ok f → (change s f).version < 9223372036854775807 → Shows s kept o l
     → (outcome.Accepted f.reply ≡ due o l a) × Shows (change s f) (kept ++ kept_row f ∷ []) o (l ++ a ∷ [])
-shows_accepted s kept o l a f new e m =
+shows_accepted s kept o l a f new e room m =
     let step = accepted_step o l a (Ok f) (judged_is s kept o l a m ∙ e) in (
       sym (due_is s kept o l a m ∙ rw (new, e) refl),
       record {
         lawful = m.lawful;
+        version = room;
         is_kept = ap (λ ks. ks ++ kept_row f ∷ []) m.is_kept ∙ sym (map-append kept_row (first_accepted o l) (f ∷ [])) ∙ ap kept_by (sym step);
         is_state = ap (λ t. change t f) m.is_state ∙ sym (fold_push change (opened o) (first_accepted o l) f) ∙ ap (state_after o) (sym step);
       },

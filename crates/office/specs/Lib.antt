@@ -1,6 +1,11 @@
 pub mod Openings
 pub mod Replies
+pub mod State
+pub mod Permissions
+pub mod Refusals
+pub mod Certificates
 pub mod Machine
+pub mod Publication
 pub mod Concerns
 pub mod Messages
 pub mod History

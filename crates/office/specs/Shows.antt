@@ -1,5 +1,5 @@
 -- A register's state and what it keeps, after a history.
-use Rattle.std.specs.Prelude.{◌≡◌, List}
+use Rattle.std.specs.Prelude.{◌≡◌, ◌<◌, List}
 use Rattle.office.specs.declared.opening.Opening.{Opening}
 use Rattle.office.specs.declared.arrival.Arrival.{Arrival}
 use Rattle.office.specs.declared.arrival.Kept.{Kept}
@@ -7,8 +7,14 @@ use Rattle.office.specs.Openings.{IsOpening}
 use Rattle.office.specs.Machine.{State}
 use Rattle.office.specs.History.{first_accepted, kept_by, state}
 
+-- a lawful opening, and a version of the published list that has another one after it
+pub record IsOffice (o : Opening) (l : List Arrival) : Type 0 where
+  pub opening : IsOpening o
+  pub version : (state o l).version < 9223372036854775807
+
 -- the office of a lawful opening after a history: the plain machine's state, and a row for each first acceptance
 pub record Shows (s : State) (kept : List Kept) (o : Opening) (l : List Arrival) : Type 0 where
   pub lawful : IsOpening o
+  pub version : s.version < 9223372036854775807
   pub is_state : s ≡ state o l
   pub is_kept : kept ≡ kept_by (first_accepted o l)

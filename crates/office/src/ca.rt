@@ -1,5 +1,8 @@
 //! The CAs of an office.
 
+/// The most CAs that an office may have. It has at least one.
+pub const MOST_CAS: usize = 8;
+
 /// A CA of an office. They are numbered from 1, in the order in which they came.
 #[derive(Clone, Copy, Debug, PartialEq, Eq)]
 pub struct Ca {

@@ -1,6 +1,7 @@
 //! What the office keeps of each certificate.
 
 use cert::CertFields;
+use lines::Signature;
 use text::Text;
 
 /// A certificate that was issued. It is kept for good.
@@ -12,4 +13,6 @@ pub struct Certificate {
     pub fields: CertFields,
     /// The body's bytes, over which the signature is made.
     pub body: Text,
+    /// The signature, once it was delivered.
+    pub signature: Option<Signature>,
 }

@@ -1,21 +1,27 @@
 //! What a message is answered, and what it changes.
 
-ghost use Rattle.std.specs.Prelude.{◌≡◌, ℕ, List, IfOk, IsTrue};
-ghost use Rattle.message.specs.Values.{is_message, is_department, is_issue};
+ghost use Rattle.std.specs.Prelude.{◌≡◌, ◌+◌, ◌≤◌, ℕ, List, IfOk, IsTrue};
+ghost use Rattle.message.specs.Values.{is_department, is_issue, is_message};
 ghost use Rattle.message.specs.declared.kinds.Message.TheVariants as message;
-ghost use Rattle.office.specs.Machine.{State};
+ghost use Rattle.office.specs.State.{State};
 ghost use Rattle.office.specs.Views.{IsView};
 ghost use Rattle.office.specs.Decided.{Agrees, Decided, HasRoom, IsLawfulChange};
 
 use crate::copying::copied;
+use crate::decision::unpublished;
+use crate::delivering::decide_delivery;
 use crate::issuing::issued;
 use crate::refusing::{refusal_of_department, refusal_of_issue};
+use crate::renewing::decide_renewal;
 use crate::replies::{to_department, to_issue};
+use crate::revoking::{decide_key_id, decide_range, decide_serial};
+use crate::rolling::decide_rollover;
 use crate::view::{Change, Decision, Stop, View};
 use message::{Department, Issue, Message};
 use profile::Refusal;
 use std::alloc::Global;
 
+/// A department, new or with another profile.
 fn decide_department(
     alloc: Global,
     view: &View,
@@ -25,21 +31,19 @@ fn decide_department(
     requires lawful { IsTrue (is_department department.now) }
     ensures decided { (s : State) → Agrees view.now s (message.Department department.now) → (moment : ℕ) (nonce : List ℕ)
         → Decided result s caller.now (message.Department department.now) moment nonce }
-    ensures room { IfOk result (λ d. HasRoom d.change view.now.next view.now.opening.now.last) }
+    ensures room { (s : State) → IfOk result (λ d. HasRoom d.change s) }
     ensures change { IfOk result (λ d. IsLawfulChange d.change) }
+    ensures version { IfOk result (λ d. d.version ≡ view.now.version) }
 {
     if let Some(refusal) = refusal_of_department(view, caller, department) {
         return Err(Stop::Refused(refusal));
     }
-    Ok(Decision {
-        reply: to_department(alloc, department.name.as_slice())?,
-        next: view.next,
-        version: view.version,
-        date: view.date,
-        change: Change::Department(copied(alloc, department)?),
-    })
+    let reply = to_department(alloc, department.name.as_slice())?;
+    let change = Change::Department(copied(alloc, department)?);
+    Ok(unpublished(view, reply, change))
 }
 
+/// A certificate.
 fn decide_issue(
     alloc: Global,
     view: &View,
@@ -51,8 +55,9 @@ fn decide_issue(
     requires viewed { IsView view.now }
     requires lawful { IsTrue (is_issue issue.now) }
     ensures decided { (s : State) → Agrees view.now s (message.Issue issue.now) → Decided result s caller.now (message.Issue issue.now) moment nonce.now }
-    ensures room { IfOk result (λ d. HasRoom d.change view.now.next view.now.opening.now.last) }
+    ensures room { (s : State) → Agrees view.now s (message.Issue issue.now) → IfOk result (λ d. HasRoom d.change s) }
     ensures change { IfOk result (λ d. IsLawfulChange d.change) }
+    ensures version { IfOk result (λ d. d.version ≡ view.now.version) }
 {
     if let Some(refusal) = refusal_of_issue(view, caller, issue, moment) {
         return Err(Stop::Refused(refusal));
@@ -73,8 +78,8 @@ fn decide_issue(
 /// What the office answers and does: the refusal with the least number, or the reply and what is to be written.
 ///
 /// It reads the view's rows alone, and answers what the plain machine's step gives of every state with which the view
-/// agrees. The message is one that was read, the view's opening is lawful, its next serial is at least the first, and its
-/// department is one that was accepted.
+/// agrees. The message is one that was read, the view's rows are of the form that an office writes, and its version is
+/// below 9223372036854775807.
 pub fn decide(
     alloc: Global,
     view: &View,
@@ -89,12 +94,24 @@ pub fn decide(
     // The step of the plain machine, for each state that the view shows.
     ensures decided { (s : State) → Agrees view.now s message.now → Decided result s caller.now message.now moment nonce.now }
 
-    // A certificate is made only where a serial is left, and a department only as it may be.
-    ensures room { IfOk result (λ d. HasRoom d.change view.now.next view.now.opening.now.last) }
+    // A certificate is made only where a serial is left, only certificates that are there are signed, only serials that
+    // were handed out are revoked, and a CA comes only where there are fewer than eight.
+    ensures room { (s : State) → Agrees view.now s message.now → IfOk result (λ d. HasRoom d.change s) }
+
+    // What is written is as it may be.
     ensures change { IfOk result (λ d. IsLawfulChange d.change) }
+
+    // The version grows by one at most.
+    ensures version { IfOk result (λ d. d.version ≤ view.now.version + 1) }
 {
     match message {
         Message::Department(department) => decide_department(alloc, view, caller, department),
         Message::Issue(issue) => decide_issue(alloc, view, caller, issue, moment, nonce),
+        Message::Renew(renewal) => decide_renewal(alloc, view, caller, renewal, moment, nonce),
+        Message::Deliver(delivery) => decide_delivery(alloc, view, caller, delivery),
+        Message::RevokeSerial(serial) => decide_serial(alloc, view, caller, *serial, moment),
+        Message::RevokeRange(range) => decide_range(alloc, view, caller, *range, moment),
+        Message::RevokeKeyId(key_id) => decide_key_id(alloc, view, caller, key_id, moment),
+        Message::Rollover(line) => decide_rollover(alloc, view, caller, line, moment),
     }
 }

@@ -3,7 +3,8 @@
 ghost use Rattle.std.specs.Prelude.{◌≡◌, None, IsTrue, IfOk, take};
 ghost use Rattle.cert.specs.Options.{listing, is_options};
 ghost use Rattle.cert.specs.OptionFaults.{options_fault};
-ghost use Rattle.office.specs.Machine.{flags, newest_key, certificate_for};
+ghost use Rattle.office.specs.State.{newest_key};
+ghost use Rattle.office.specs.Certificates.{IsCertificate, certificate_for, flags};
 ghost use Rattle.office.specs.Views.{IsIssuable};
 
 use crate::certificate::Certificate;
@@ -45,7 +46,8 @@ fn flags_of(alloc: Global, names: &[Text]) -> Result<Vec<Pair>, NoMemory>
     Ok(flags)
 }
 
-fn newest_key(view: &View) -> [u8; 32]
+/// The key of the CA with the greatest number.
+pub(crate) fn newest_key(view: &View) -> [u8; 32]
     ensures { result ≡ newest_key view.now.opening.now view.now.cas.now }
 {
     match view.cas.last() {
@@ -63,7 +65,8 @@ pub(crate) fn issued(
     nonce: &[u8; 32],
 ) -> Result<Certificate, NoMemory>
     requires { IsIssuable view.now department.now issue.now }
-    ensures { IfOk result (λ c. c ≡ certificate_for issue.now view.now.next department.now.kind (newest_key view.now.opening.now view.now.cas.now) nonce.now) }
+    ensures made { IfOk result (λ c. c ≡ certificate_for issue.now view.now.next department.now.kind (newest_key view.now.opening.now view.now.cas.now) nonce.now) }
+    ensures lawful { IfOk result (λ c. IsCertificate c) }
 {
     let kind = department.kind;
     let flags = flags_of(alloc, issue.extensions.as_slice())?;
@@ -90,5 +93,6 @@ pub(crate) fn issued(
         department: issue.department.copied(alloc)?,
         fields,
         body: Text::from_vec(body),
+        signature: None,
     })
 }

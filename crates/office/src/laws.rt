@@ -1,26 +1,22 @@
-//! Laws of every history.
+//! Laws of every state and every history.
 
-ghost use Rattle.std.specs.Prelude.{◌≡◌, ◌++◌, List, ℕ, Some};
+ghost use Rattle.std.specs.Prelude.{◌≡◌, ℕ, List, true};
+ghost use Rattle.message.specs.declared.kinds.Message.{Message};
 ghost use Rattle.office.specs.declared.opening.Opening.{Opening};
 ghost use Rattle.office.specs.declared.arrival.Arrival.{Arrival};
-ghost use Rattle.office.specs.Openings.{IsOpening};
-ghost use Rattle.office.specs.Machine.{body_of};
-ghost use Rattle.office.specs.History.{state, due};
-ghost use Rattle.office.specs.Laws.{CountsUp, ReplyFits};
+ghost use Rattle.office.specs.State.{State};
+ghost use Rattle.office.specs.Refusals.{refusals};
+ghost use Rattle.office.specs.History.{due};
+ghost use Rattle.office.specs.Shows.{IsOffice};
+ghost use Rattle.office.specs.Laws.{ReplyFits, ascend_from};
 
-/// The kth message that makes a certificate gets the serial `first + k - 1` and the digest of the kth body, which carries
-/// that serial: so no serial names two bodies.
-pub fn serials_count_up()
-    ensures { (o : Opening) (l : List Arrival) → CountsUp o l }
-{}
-
-/// A body that is there is the same in every longer history.
-pub fn a_body_stays()
-    ensures { (o : Opening) (l later : List Arrival) (serial : ℕ) (body : List ℕ) →
-        body_of (state o l) serial ≡ Some body → body_of (state o (l ++ later)) serial ≡ Some body }
+/// Whatever the message, its refusals stand in the order of their numbers, from 10 on: so the first that applies is the
+/// one with the least number.
+pub fn refusals_ascend()
+    ensures { (s : State) (caller : List ℕ) (m : Message) (moment : ℕ) → ascend_from 10 (refusals s caller m moment) ≡ true }
 {}
 
 /// Each reply that is due, a kept one too, has at most 99 bytes.
 pub fn replies_are_short()
-    ensures { (o : Opening) (l : List Arrival) (a : Arrival) → IsOpening o → ReplyFits 99 (due o l a) }
+    ensures { (o : Opening) (l : List Arrival) (a : Arrival) → IsOffice o l → ReplyFits 99 (due o l a) }
 {}

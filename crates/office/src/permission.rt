@@ -4,11 +4,22 @@ ghost use Rattle.std.specs.Prelude.{◌≡◌};
 ghost use Rattle.std.specs.List.{list_any, list_all};
 ghost use Rattle.std.specs.Option.{option_copied};
 ghost use Rattle.profile.specs.Names.{meets};
-ghost use Rattle.office.specs.Machine.{is_listed, administers, may_administer, meet_rules, is_life_permitted, is_permitted};
+ghost use Rattle.office.specs.Permissions.{
+  administers,
+  are_listed,
+  is_life_permitted,
+  is_listed,
+  is_permitted,
+  is_renewal_permitted,
+  may_administer,
+  meet_rules,
+};
 
+use crate::certificate::Certificate;
 use crate::opening::Opening;
-use message::{Department, Issue};
+use message::{Department, Issue, Renewal};
 use profile::meets;
+use text::{Pair, Text, Texts};
 
 fn administers(caller: &[u8], department: Option<&Department>) -> bool
     ensures { result ≡ administers caller.now (option_copied department.entry) }
@@ -40,12 +51,10 @@ fn meets_a_rule(department: &Department, principal: &[u8]) -> bool
         .any(|rule| meets(principal, rule.as_slice()))
 }
 
-fn meet_rules(department: &Department, issue: &Issue) -> bool
-    ensures { result ≡ meet_rules department.now issue.now.principals }
+fn meet_rules(department: &Department, principals: &[Text]) -> bool
+    ensures { result ≡ meet_rules department.now principals.now }
 {
-    issue
-        .principals
-        .as_slice()
+    principals
         .iter()
         .all(|principal| meets_a_rule(department, principal.as_slice()))
 }
@@ -56,12 +65,12 @@ fn is_life_permitted(department: &Department, after: u64, before: u64) -> bool
     after < before && before - after <= department.longest_life
 }
 
-fn are_options_permitted(department: &Department, issue: &Issue) -> bool
-    ensures { result ≡ list_all (λ o. is_listed department.now.options o.name) issue.now.options }
+fn are_listed(names: &Texts, pairs: &[Pair]) -> bool
+    ensures { result ≡ are_listed names.now pairs.now }
 {
-    issue.options.as_slice().iter().all(|option| department
-        .options
-        .contains(option.name.as_slice()))
+    pairs
+        .iter()
+        .all(|pair| names.contains(pair.name.as_slice()))
 }
 
 fn are_extensions_permitted(department: &Department, issue: &Issue) -> bool
@@ -78,8 +87,23 @@ fn are_extensions_permitted(department: &Department, issue: &Issue) -> bool
 pub(crate) fn is_permitted(department: &Department, issue: &Issue) -> bool
     ensures { result ≡ is_permitted department.now issue.now }
 {
-    meet_rules(department, issue)
-        && are_options_permitted(department, issue)
+    meet_rules(department, issue.principals.as_slice())
+        && are_listed(&department.options, issue.options.as_slice())
         && are_extensions_permitted(department, issue)
         && is_life_permitted(department, issue.after, issue.before)
+}
+
+/// Whether the department's profile permits what the certificate has, for the validity asked for.
+pub(crate) fn is_renewal_permitted(
+    department: &Department,
+    certificate: &Certificate,
+    renewal: &Renewal,
+) -> bool
+    ensures { result ≡ is_renewal_permitted department.now certificate.now renewal.now }
+{
+    let fields = &certificate.fields;
+    meet_rules(department, fields.principals.as_slice())
+        && are_listed(&department.options, fields.options.pairs())
+        && are_listed(&department.extensions, fields.extensions.pairs())
+        && is_life_permitted(department, renewal.after, renewal.before)
 }

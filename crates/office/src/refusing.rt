@@ -1,9 +1,11 @@
-//! What is refused.
+//! What is refused of departments and issues.
 
 ghost use Rattle.std.specs.Prelude.{◌≡◌, ◌≤◌, ℕ, None, IfSome, IsSome, IsTrue, option_copied};
 ghost use Rattle.profile.specs.declared.kind.Kind.{Kind};
 ghost use Rattle.message.specs.declared.kinds.Message.TheVariants as message;
-ghost use Rattle.office.specs.Machine.{State, refusals, first_holding, same_kind, is_permitted};
+ghost use Rattle.office.specs.State.{State};
+ghost use Rattle.office.specs.Permissions.{is_permitted};
+ghost use Rattle.office.specs.Refusals.{department_refusals, first_holding, issue_refusals, same_kind};
 ghost use Rattle.office.specs.Decided.{Agrees};
 
 use crate::permission::{is_permitted, may_administer};
@@ -28,8 +30,8 @@ pub(crate) fn refusal_of_department(
     caller: &[u8],
     department: &Department,
 ) -> Option<Refusal>
-    ensures { (s : State) → Agrees view.now s (message.Department department.now) → (moment : ℕ)
-        → result ≡ first_holding (refusals s caller.now (message.Department department.now) moment) }
+    ensures { (s : State) → Agrees view.now s (message.Department department.now)
+        → result ≡ first_holding (department_refusals s caller.now department.now) }
 {
     if !view.opening.root.is(caller) {
         return Some(Refusal::NotAllowed);
@@ -51,7 +53,7 @@ pub(crate) fn refusal_of_issue(
     moment: u64,
 ) -> Option<Refusal>
     ensures least { (s : State) → Agrees view.now s (message.Issue issue.now)
-        → result ≡ first_holding (refusals s caller.now (message.Issue issue.now) moment) }
+        → result ≡ first_holding (issue_refusals s caller.now issue.now moment) }
     ensures left { result ≡ None → view.now.next ≤ view.now.opening.now.last }
     ensures permitted { result ≡ None → IfSome (option_copied view.now.department) (λ d. IsTrue (is_permitted d issue.now)) }
     ensures there { result ≡ None → IsSome view.now.department }

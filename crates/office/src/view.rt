@@ -6,7 +6,8 @@ ghost use Rattle.office.specs.declared.view.Stop.TheVariants.{NoMemory};
 use crate::ca::Ca;
 use crate::certificate::Certificate;
 use crate::opening::Opening;
-use message::Department;
+use lines::Signature;
+use message::{Department, SerialRange};
 use profile::Refusal;
 use text::Text;
 
@@ -36,10 +37,20 @@ pub struct View<'a> {
 /// What is to be written.
 #[derive(Debug, Drop)]
 pub enum Change {
+    /// Nothing: all is as the message asks.
+    Nothing,
     /// A department, put in the place of the one of its name if there is one.
     Department(Department),
     /// A certificate, under the next serial.
     Certificate(Certificate),
+    /// A signature, which the certificate of the serial keeps.
+    Signature { serial: u64, signature: Signature },
+    /// Serials that are to be revoked, of which some may be already.
+    Range(SerialRange),
+    /// A key id that is to be revoked.
+    KeyId(Text),
+    /// A CA, with the next number.
+    Ca(Ca),
 }
 
 /// What an accepted message is answered, and what it changes.

@@ -1,5 +1,5 @@
 -- Departments put in their places.
-use Rattle.std.proofs.Common.{◌≡◌, ℕ, zero, suc, ◌+◌, ◌<◌, ◌≤◌, List, [], ◌∷◌, ◌++◌, length, take, drop, map, Bool, true, false, cond, ◌&&◌, ltb, Option, Some, None, refl, sym, ap, subst, ◌∙◌, arith}
+use Rattle.std.proofs.Common.{◌≡◌, ℕ, suc, ◌≤◌, List, [], ◌∷◌, length, map, Bool, true, false, cond, ◌&&◌, refl, sym, ap, ◌∙◌, arith}
 use Rattle.std.specs.Prelude.{slice_set, slice_get}
 use Rattle.std.specs.List.{take_while, insert, list_all}
 use Rattle.std.specs.declared.cmp.Ordering.{Ordering}
@@ -28,13 +28,13 @@ place-le (d ∷ ds) name =
     rw (place-cons d ds name) (elim (is_before d name) as (λ b. cond b (suc (place_of ds name)) 0 ≤ suc (length ds)) [ true ↦ omega arith | false ↦ omega arith ])
 
 -- equal names tie, and names that tie are equal
-tie_is : (xs ys : List ℕ) (o : Ordering) → slice_cmp nat_cmp xs ys ≡ o → bytes_eq xs ys ≡ is_eq o
+pub tie_is : (xs ys : List ℕ) (o : Ordering) → slice_cmp nat_cmp xs ys ≡ o → bytes_eq xs ys ≡ is_eq o
 tie_is xs ys o e = sym (is_eq-slice_cmp xs ys) ∙ ap is_eq e
 
 same_bytes : (xs ys : List ℕ) → bytes_eq xs ys ≡ true → xs ≡ ys
 same_bytes xs ys e = (bytes_eq-Decides xs ys).0 e
 
-bytes_eq-swap : (xs ys : List ℕ) → bytes_eq xs ys ≡ true → bytes_eq ys xs ≡ true
+pub bytes_eq-swap : (xs ys : List ℕ) → bytes_eq xs ys ≡ true → bytes_eq ys xs ≡ true
 bytes_eq-swap xs ys e = (bytes_eq-Decides ys xs).1 (sym (same_bytes xs ys e))
 
 -- where the place has one of the name, it gives way
@@ -87,7 +87,7 @@ both_and a b p q = rw (p, q) refl
 abbrev values : List (List ℕ × Department) → List Department
 values es = map (λ e. e.1) es
 
-values-entries : (ds : List Department) → values (entries ds) ≡ ds
+pub values-entries : (ds : List Department) → values (entries ds) ≡ ds
 values-entries [] = refl
 values-entries (d ∷ ds) = ap (λ (xs : List Department). d ∷ xs) (values-entries ds)
 

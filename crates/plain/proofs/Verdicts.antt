@@ -1,34 +1,24 @@
 -- From what decides to what judges, and from rows to the state.
-use Rattle.std.proofs.Common.{◌≡◌, ℕ, List, [], ◌∷◌, Bool, true, false, cond, ◌&&◌, ltb, Option, Some, None, Result, Ok, Err, refl, sym, ap, subst, ◌∙◌}
-use Rattle.std.specs.Prelude.{nat_lt, find, IsTrue, IfSome, option_and_then}
-use Rattle.std.specs.List.{list_any, list_all}
+use Rattle.std.proofs.Common.{◌≡◌, ℕ, List, true, false, Option, Some, None, Result, Ok, Err, refl, sym, ap}
+use Rattle.std.specs.Prelude.{nat_lt}
+use Rattle.std.specs.List.{list_any}
 use Rattle.std.specs.Str.{bytes_eq}
-use Rattle.std.specs.FinMap.Entries as entry
-use Rattle.std.specs.Cmp.Lexicographic.{slice_cmp}
-use Rattle.std.specs.Ordering.{nat_cmp, is_eq}
-use Rattle.std.proofs.lemmas.Bool.{and_parts}
-use Rattle.std.proofs.lemmas.Map.Text.{is_eq-slice_cmp}
 use Rattle.std.proofs.lemmas.Slice.Eq.{bytes_eq-Decides}
 use Rattle.profile.specs.declared.limits.TheConstants.{LATEST_MOMENT}
 use Rattle.profile.specs.declared.refusal.Refusal.{Refusal}
 use Rattle.profile.specs.declared.refusal.Refusal.TheVariants.{BadMessage, BadMoment, KeyReused}
-use Rattle.message.specs.declared.department.Department.{Department}
 use Rattle.message.specs.declared.kinds.Message.{Message}
-use Rattle.message.specs.declared.kinds.Message.TheVariants as message
-use Rattle.message.specs.declared.fault.MessageFault.{MessageFault}
-use Rattle.message.specs.Values.{is_message, is_department}
+use Rattle.message.specs.Values.{is_message}
 use Rattle.message.specs.Texts.{message_text}
-use Rattle.message.specs.Reading.{message_at, message_of}
+use Rattle.message.specs.Reading.{message_at}
 use Rattle.office.specs.declared.arrival.Arrival.{Arrival}
 use Rattle.office.specs.declared.view.Decision.{Decision}
 use Rattle.office.specs.declared.view.Stop.{Stop}
 use Rattle.office.specs.declared.view.Stop.TheVariants.{Refused, NoMemory}
-use Rattle.office.specs.Messages.{message_with_text, if_text_of, is_text_of}
-use Rattle.office.specs.Machine.{department_named, Stepped, refused_or, first_holding, refusals, after, reply_to}
+use Rattle.office.specs.Messages.{message_with_text}
+use Rattle.office.specs.Machine.{Stepped, refused_or, first_holding, refusals, after, reply_to}
 use Rattle.office.specs.History.{has_key, judged}
-use Rattle.office.specs.Concerns.{named_department}
-use Rattle.office.specs.Decided.{Decided, department_concerned, stepped_by}
-use Rattle.plain.specs.Departments.{entries, has_name}
+use Rattle.office.specs.Decided.{Decided, stepped_by}
 use Rattle.plain.specs.Contents.{Contents, state_of, Judges}
 
 -- ---- the message
@@ -66,38 +56,8 @@ pub judges_by_decide : (r : Result Decision Stop) (t : Contents) (a : Arrival) (
     → Decided r (state_of t) a.caller m a.moment a.nonce → Judges r t a
 judges_by_decide (Ok d) t a m is in_time new decided =
     let s = state_of t in
-    let stepped : Stepped = record { state = after s m a.moment a.nonce; reply = reply_to s m a.nonce } in
+    let stepped : Stepped = record { state = after s m a.moment a.nonce; reply = reply_to s m a.moment a.nonce } in
     let same = step_gives (first_holding (refusals s a.caller m a.moment)) stepped (stepped_by d s) decided.0 in
     rw (is, in_time, new, decided.0) (refl, refl, sym (ap (λ (x : Stepped). x.state) same))
 judges_by_decide (Err (Refused x)) t a m is in_time new decided = rw (is, in_time, new, decided) refl
 judges_by_decide (Err NoMemory) t a m is in_time new decided = tt
-
--- ---- rows
-
-bytes_eq-turned : (xs ys : List ℕ) → bytes_eq xs ys ≡ bytes_eq ys xs
-bytes_eq-turned xs ys = both (bytes_eq xs ys) (bytes_eq ys xs) refl refl
-  where
-    both : (a b : Bool) → bytes_eq xs ys ≡ a → bytes_eq ys xs ≡ b → a ≡ b
-    both true true p q = refl
-    both false false p q = refl
-    both true false p q = let back : bytes_eq ys xs ≡ true = (bytes_eq-Decides ys xs).1 (sym ((bytes_eq-Decides xs ys).0 p)) in cc
-    both false true p q = let back : bytes_eq xs ys ≡ true = (bytes_eq-Decides xs ys).1 (sym ((bytes_eq-Decides ys xs).0 q)) in cc
-
--- the department of a name is found among the rows
-pub find-entries : (name : List ℕ) (ds : List Department) → entry.find (slice_cmp nat_cmp) name (entries ds) ≡ find (λ d. has_name d name) ds
-find-entries name [] = refl
-find-entries name (d ∷ ds) =
-    let here : is_eq (slice_cmp nat_cmp name d.name) ≡ bytes_eq d.name name = is_eq-slice_cmp name d.name ∙ bytes_eq-turned name d.name in
-    rw (here, find-entries name ds) refl
-
--- the department that a message concerns is the one that it names
-pub concerned_is_named : (t : Contents) (m : Message) → department_concerned (state_of t) m ≡ option_and_then (λ name. find (λ d. has_name d name) t.departments) (named_department m)
-concerned_is_named t (message.Department d) = find-entries d.name t.departments
-concerned_is_named t (message.Issue i) = find-entries i.department t.departments
-
--- what is found among lawful departments is lawful
-pub found_lawful : (p : Department → Bool) (ds : List Department) → list_all is_department ds ≡ true → IfSome (find p ds) (λ d. IsTrue (is_department d))
-found_lawful p [] all = tt
-found_lawful p (d ∷ ds) all =
-    let parts = and_parts (is_department d) (list_all is_department ds) all in
-    elim (p d) as (λ b. IfSome (cond b (Some d) (find p ds)) (λ d. IsTrue (is_department d))) [ true ↦ parts.0 | false ↦ found_lawful p ds parts.1 ]

@@ -1,8 +1,13 @@
 -- What the plain store holds.
-use Rattle.std.specs.Prelude.{◌≡◌, ℕ, ◌+◌, ◌≤◌, List, [], ◌∷◌, ◌++◌, length, Bool, true, false, IsTrue, IsOkAnd, Result, Ok, Err}
+use Rattle.std.specs.Prelude.{◌≡◌, ℕ, ◌+◌, ◌≤◌, List, [], ◌∷◌, ◌++◌, length, map, All, IsTrue, IsOkAnd, Result, Ok, Err}
 use Rattle.std.specs.List.{list_all}
+use Rattle.std.specs.List.Sorted.{IsNonDecreasing}
 use Rattle.message.specs.declared.department.Department.{Department}
 use Rattle.message.specs.Values.{is_department}
+use Rattle.krl.specs.declared.run.Run.{Run}
+use Rattle.krl.specs.Sets.{contains}
+use Rattle.office.specs.Openings.{IsOpening}
+use Rattle.office.specs.Certificates.{IsCertificate}
 use Rattle.office.specs.declared.opening.Opening.{Opening}
 use Rattle.office.specs.declared.ca.Ca.{Ca}
 use Rattle.office.specs.declared.certificate.Certificate.{Certificate}
@@ -13,7 +18,7 @@ use Rattle.office.specs.declared.view.Stop.{Stop}
 use Rattle.office.specs.declared.view.Stop.TheVariants as stop
 use Rattle.office.specs.Machine.{State}
 use Rattle.office.specs.Decided.{written}
-use Rattle.office.specs.History.{First, judged, change}
+use Rattle.office.specs.History.{judged, change}
 use Rattle.plain.specs.Departments.{entries}
 
 pub record Contents : Type 0 where
@@ -24,6 +29,10 @@ pub record Contents : Type 0 where
   pub departments : List Department
   -- by serial
   pub certificates : List Certificate
+  -- the runs of the serials that are revoked
+  pub runs : List Run
+  -- the key ids that are revoked, ascending
+  pub key_ids : List (List ℕ)
   -- a row for each first acceptance
   pub kept : List Kept
   pub version : ℕ
@@ -36,8 +45,8 @@ state_of t = record {
   cas = t.cas;
   departments = entries t.departments;
   certificates = t.certificates;
-  revoked = λ _. false;
-  revoked_key_ids = [];
+  revoked = contains t.runs;
+  revoked_key_ids = t.key_ids;
   version = t.version;
   date = t.date;
 }
@@ -56,7 +65,15 @@ pub record Writes (old : Contents) (a : Arrival) (d : Decision) (new : Contents)
   pub kept : new.kept ≡ old.kept ++ row_of a d.reply ∷ []
   pub state : state_of new ≡ written d (state_of old)
 
--- what the lists keep: serials in range, and departments as they may be
-pub record AreKept (o : Opening) (ds : List Department) (cs : List Certificate) : Type 0 where
-  pub serials : o.first + length cs ≤ o.last + 1
-  pub departments : IsTrue (list_all is_department ds)
+-- each CA serves from its number on, and none from an earlier one than the CA before it
+abbrev pub numbers : List Ca → List ℕ
+numbers cas = map (λ ca. ca.since) cas
+
+-- what the lists keep: serials in range, rows as they may be, and CAs in order that serve from handed out serials on
+pub record AreKept (t : Contents) : Type 0 where
+  pub opening : IsOpening t.opening
+  pub serials : t.opening.first + length t.certificates ≤ t.opening.last + 1
+  pub departments : IsTrue (list_all is_department t.departments)
+  pub certificates : All IsCertificate t.certificates
+  pub ascending : IsNonDecreasing (numbers t.cas)
+  pub served : All (λ n. n ≤ t.opening.first + length t.certificates) (numbers t.cas)

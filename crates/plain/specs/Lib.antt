@@ -1,2 +1,4 @@
 pub mod Departments
+pub mod KeyIds
 pub mod Contents
+pub mod Parts

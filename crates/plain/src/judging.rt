@@ -1,21 +1,22 @@
 //! What an arrival is answered.
 
-ghost use Rattle.std.specs.Prelude.{◌≡◌, ◌+◌, IfOk, IfSome, IsTrue, length};
+ghost use Rattle.std.specs.Prelude.{◌≡◌, ◌<◌, IfOk, IsTrue, OnOk};
 ghost use Rattle.std.specs.List.{list_any};
 ghost use Rattle.std.specs.Option.{option_copied};
-ghost use Rattle.message.specs.Values.{is_department};
+ghost use Rattle.message.specs.Values.{is_message};
 ghost use Rattle.office.specs.History.{has_key, is_repeat, reply_kept};
-ghost use Rattle.office.specs.Decided.{Agrees, HasRoom, IsLawfulChange, department_concerned};
-ghost use Rattle.office.specs.Views.{IsView};
+ghost use Rattle.office.specs.Decided.{Decided, HasRoom, IsLawfulChange};
 ghost use Rattle.plain.specs.Contents.{Judges, state_of};
 
-use crate::departments::named;
 use crate::store::PlainStore;
-use message::{Department, Message, MessageFault, read_message};
-use office::{Arrival, Decision, Kept, Stop, View, concerned, decide};
+use message::{Message, MessageFault, read_message};
+use office::{Arrival, Decision, Kept, Stop, decide};
 use profile::{LATEST_MOMENT, Refusal};
 use std::alloc::Global;
 use text::Text;
+
+/// The last version of the published list.
+const LAST_VERSION: u64 = 9223372036854775806;
 
 fn is_for(a: &Arrival, k: &Kept) -> bool
     ensures { result ≡ has_key a.now k.now }
@@ -46,42 +47,12 @@ fn is_known(kept: &[Kept], a: &Arrival) -> bool
 }
 
 impl PlainStore {
-    /// The department that a message concerns.
-    fn department(&self, message: &Message) -> Option<&Department>
-        ensures is { option_copied result ≡ department_concerned (state_of self.now) message.now }
-        ensures lawful { IfSome (option_copied result) (λ d. IsTrue (is_department d)) }
-    {
-        match concerned(message).department {
-            Some(name) => named(self.departments.as_slice(), name),
-            None => None,
-        }
-    }
-
-    /// The rows that a message concerns.
-    fn view(&self, message: &Message) -> View<'_>
-        ensures agrees { Agrees result (state_of self.now) message.now }
-        ensures lawful { IsView result }
-    {
-        let department = self.department(message);
-        View {
-            opening: &self.opening,
-            next: self.opening.first + self.certificates.len() as u64,
-            version: self.version,
-            date: self.date,
-            cas: self.cas.as_slice(),
-            department,
-            certificate: None,
-            is_revoked: false,
-            is_key_id_revoked: false,
-            has_revoked_key_ids: false,
-        }
-    }
-
     /// What an arrival that is no repeat gives.
     pub(crate) fn judge(&self, alloc: Global, a: &Arrival) -> Result<Decision, Stop>
         ensures judges { Judges result self.now a.now }
-        ensures room { IfOk result (λ d. HasRoom d.change (self.now.opening.first + length self.now.certificates) self.now.opening.last) }
+        ensures room { IfOk result (λ d. HasRoom d.change (state_of self.now)) }
         ensures change { IfOk result (λ d. IsLawfulChange d.change) }
+        ensures version { OnOk result (self.now.version < LAST_VERSION) }
     {
         let message = match read_message(alloc, a.bytes.as_slice()) {
             Ok(message) => message,
@@ -94,12 +65,27 @@ impl PlainStore {
         if is_known(self.kept.as_slice(), a) {
             return Err(Stop::Refused(Refusal::KeyReused));
         }
-        let view = self.view(&message);
+        self.decided(alloc, a, &message)
+    }
+
+    /// What a message gives.
+    fn decided(&self, alloc: Global, a: &Arrival, message: &Message) -> Result<Decision, Stop>
+        requires { IsTrue (is_message message.now) }
+        ensures decided { Decided result (state_of self.now) a.now.caller message.now a.now.moment a.now.nonce }
+        ensures room { IfOk result (λ d. HasRoom d.change (state_of self.now)) }
+        ensures change { IfOk result (λ d. IsLawfulChange d.change) }
+        ensures version { OnOk result (self.now.version < LAST_VERSION) }
+    {
+        // A version that can't grow any more counts as a refused growth.
+        if LAST_VERSION <= self.version {
+            return Err(Stop::NoMemory);
+        }
+        let view = self.view(message);
         decide(
             alloc,
             &view,
             a.caller.as_slice(),
-            &message,
+            message,
             a.moment,
             &a.nonce,
         )

@@ -1,69 +1,19 @@
 //! The plain store is a register.
 
-ghost use Rattle.std.specs.Prelude.{◌≡◌, ◌+◌, length, OnOk, OnErr};
-ghost use Rattle.std.specs.Option.{option_copied};
-ghost use Rattle.office.specs.Machine.{certificate_of};
+ghost use Rattle.std.specs.Prelude.{◌≡◌, IfOk};
 ghost use Rattle.office.specs.Shows.{Shows};
-ghost use Rattle.office.specs.Decided.{HasRoom, IsLawfulChange};
-ghost use Rattle.plain.specs.Contents.{Writes, state_of};
+ghost use Rattle.office.proofs.Steps.{shows_office};
+ghost use Rattle.office.specs.Publication.{departments_of};
+ghost use Rattle.plain.specs.Contents.{state_of};
 
-use crate::departments::put_department;
 use crate::judging::kept_reply;
+use crate::reading::issued_row;
 use crate::store::PlainStore;
-use office::{Arrival, Certificate, Change, Decision, Kept, Outcome, Registry, Stop, StoreFault};
+use krl::KrlHead;
+use message::Department;
+use office::{Arrival, Ca, Entry, Issued, Outcome, Pending, Registry, Revoked, Stop, StoreFault};
 use std::alloc::Global;
-use text::{NoMemory, Text};
-
-impl PlainStore {
-    /// Writes what was decided, and a row for the arrival. A refusal changes nothing.
-    fn write(&mut self, arrival: Arrival, decision: Decision) -> Result<(), NoMemory>
-        requires room { HasRoom decision.change (self.old.opening.first + length self.old.certificates) self.old.opening.last }
-        requires lawful { IsLawfulChange decision.change }
-        ensures ok { OnOk result (Writes self.old arrival decision self.new) }
-        ensures err { OnErr result (self.new ≡ self.old) }
-    {
-        // Room for the rows first, so that a refusal changes nothing.
-        self.kept.reserve(1)?;
-        let Arrival {
-            caller,
-            key,
-            bytes,
-            ..
-        } = arrival;
-        let Decision {
-            reply,
-            change,
-            version,
-            date,
-            ..
-        } = decision;
-        match change {
-            Change::Department(department) => put_department(&mut self.departments, department)?,
-            Change::Certificate(certificate) => self.certificates.push(certificate)?,
-        }
-        let row = Kept {
-            caller,
-            key,
-            bytes,
-            reply,
-        };
-        self.kept.push(row).unwrap();
-        self.version = version;
-        self.date = date;
-        Ok(())
-    }
-
-    /// The certificate of a serial.
-    fn certificate(&self, serial: u64) -> Option<&Certificate>
-        ensures { option_copied result ≡ certificate_of (state_of self.now) serial }
-    {
-        if serial < self.opening.first {
-            return None;
-        }
-        self.certificates
-            .get((serial - self.opening.first) as usize)
-    }
-}
+use text::{Text, Texts};
 
 impl Registry for PlainStore {
     ghost is_honest = { λ _. Unit {0} };
@@ -79,7 +29,7 @@ impl Registry for PlainStore {
         match self.judge(alloc, &arrival) {
             Ok(decision) => {
                 let reply = decision.reply.copied(alloc)?;
-                self.write(arrival, decision)?;
+                self.write(alloc, arrival, decision)?;
                 Ok(Outcome::Accepted(reply))
             }
             Err(Stop::Refused(refusal)) => Ok(Outcome::Refused(refusal)),
@@ -87,12 +37,46 @@ impl Registry for PlainStore {
         }
     }
 
+    fn cas(&mut self, alloc: Global) -> Result<Vec<Ca>, StoreFault> {
+        Ok(self.ca_rows(alloc)?)
+    }
+
+    fn pending(&mut self, alloc: Global) -> Result<Vec<Pending>, StoreFault> {
+        Ok(self.pending_rows(alloc)?)
+    }
+
     fn body(&mut self, alloc: Global, serial: u64) -> Result<Option<Text>, StoreFault> {
-        match self.certificate(serial) {
+        match self.issued(serial) {
             Some(certificate) => Ok(Some(certificate.body.copied(alloc)?)),
             None => Ok(None),
         }
     }
 
-    ghost lawful = { λ s o l m. m.lawful };
+    fn certificate(&mut self, alloc: Global, serial: u64) -> Result<Option<Issued>, StoreFault> {
+        match self.issued(serial) {
+            Some(certificate) => Ok(Some(issued_row(alloc, certificate)?)),
+            None => Ok(None),
+        }
+    }
+
+    fn revoked(&mut self, alloc: Global) -> Result<Revoked, StoreFault> {
+        Ok(Revoked {
+            head: KrlHead {
+                version: self.version,
+                date: self.date,
+            },
+            parts: self.parts(alloc)?,
+            key_ids: self.key_ids(alloc)?,
+        })
+    }
+
+    fn departments(&mut self, alloc: Global) -> Result<Vec<Department>, StoreFault> {
+        Ok(self.department_rows(alloc)?)
+    }
+
+    fn certificates(&mut self, alloc: Global) -> Result<Vec<Entry>, StoreFault> {
+        Ok(self.entries(alloc)?)
+    }
+
+    ghost lawful = { λ s o l m. shows_office (state_of s) s.kept o l m };
 }

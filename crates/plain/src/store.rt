@@ -6,11 +6,12 @@ ghost use Rattle.office.specs.Openings.{IsOpening};
 ghost use Rattle.office.specs.Shows.{Shows};
 ghost use Rattle.plain.specs.Contents.{state_of};
 
+use krl::{Runs, runs_of};
 use message::Department;
 use office::{Ca, Certificate, Kept, Opening};
 use std::alloc::Global;
 use std::marker::Model;
-use text::NoMemory;
+use text::{NoMemory, Text};
 
 /// An office's register as lists in memory. Contracts see it as the plain machine's state and the rows that are kept.
 #[derive(Debug, Drop)]
@@ -22,20 +23,23 @@ pub struct PlainStore {
     pub(crate) departments: Vec<Department>,
     // by serial
     pub(crate) certificates: Vec<Certificate>,
+    // the serials
+    pub(crate) revoked: Runs,
+    // ascending
+    pub(crate) revoked_key_ids: Vec<Text>,
     pub(crate) kept: Vec<Kept>,
     pub(crate) version: u64,
     pub(crate) date: u64,
 }
 
 impl Model for PlainStore {
-    ghost use Rattle.office.specs.Openings.{IsOpening};
     ghost use Rattle.plain.specs.Contents.{Contents, AreKept};
 
     ghost Value = { Contents };
 
-    ghost view = { λ s. record { opening = s.opening; cas = s.cas.items; departments = s.departments.items; certificates = s.certificates.items; kept = s.kept.items; version = s.version; date = s.date } };
+    ghost view = { λ s. record { opening = s.opening; cas = s.cas.items; departments = s.departments.items; certificates = s.certificates.items; runs = s.revoked; key_ids = s.revoked_key_ids.items; kept = s.kept.items; version = s.version; date = s.date } };
 
-    ghost invariant = { λ s. IsOpening s.opening × AreKept s.opening s.departments.items s.certificates.items };
+    ghost invariant = { λ s. AreKept (record { opening = s.opening; cas = s.cas.items; departments = s.departments.items; certificates = s.certificates.items; runs = s.revoked; key_ids = s.revoked_key_ids.items; kept = s.kept.items; version = s.version; date = s.date }) };
 }
 
 impl PlainStore {
@@ -53,6 +57,8 @@ impl PlainStore {
             cas,
             departments: Vec::new(alloc),
             certificates: Vec::new(alloc),
+            revoked: runs_of(alloc, &[])?,
+            revoked_key_ids: Vec::new(alloc),
             kept: Vec::new(alloc),
             version: 0,
             date: 0,

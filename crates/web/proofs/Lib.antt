@@ -1,2 +1,3 @@
 pub mod Underway
 pub mod Replies
+pub mod Lists

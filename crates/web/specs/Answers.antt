@@ -1,8 +1,9 @@
 -- What is answered to a request.
 use Rattle.std.specs.Prelude.{◌≡◌, ℕ, List, [], ◌∷◌, ◌++◌, Option, Some, None}
-use Rattle.profile.specs.declared.refusal.Refusal.TheVariants.{UnknownSerial}
+use Rattle.profile.specs.declared.refusal.Refusal.TheVariants.{UnknownSerial, NotSigned}
+use Rattle.lines.specs.CertLines.{certificate_line_text}
 use Rattle.requests.specs.declared.resource.Resource.{Resource}
-use Rattle.requests.specs.declared.resource.Resource.TheVariants.{Body}
+use Rattle.requests.specs.declared.resource.Resource.TheVariants.{Pending, Certificate, Body, RevocationList, Signers, Table, Cas}
 use Rattle.requests.specs.declared.response.MediaType.TheVariants.{PlainText, Bytes}
 use Rattle.requests.specs.Asks.{Ask, Asks, refused, get, post}
 use Rattle.requests.specs.Responses.{response_text, refusal_response}
@@ -10,8 +11,11 @@ use Rattle.office.specs.declared.opening.Opening.{Opening}
 use Rattle.office.specs.declared.arrival.Arrival.{Arrival}
 use Rattle.office.specs.declared.arrival.Outcome.{Outcome}
 use Rattle.office.specs.declared.arrival.Outcome.TheVariants as outcome
-use Rattle.office.specs.Machine.{State, body_of}
+use Rattle.office.specs.declared.publication.Issued.{Issued}
+use Rattle.office.specs.State.{State, body_of}
+use Rattle.office.specs.Publication.{issued_of, published_list}
 use Rattle.office.specs.History.{state, due}
+use Rattle.web.specs.Reports.{pending_report, ca_report, signers_report, table_report}
 
 -- the response to an arrival
 abbrev pub outcome_response : Outcome → List ℕ
@@ -24,9 +28,27 @@ abbrev pub body_response : Option (List ℕ) → List ℕ
 body_response (Some body) = response_text 200 Bytes body
 body_response None = refusal_response UnknownSerial
 
+-- the line of a certificate, with its key id as comment, where it is signed
+abbrev pub signed_response : (key_id : List ℕ) → Option (List ℕ) → List ℕ
+signed_response key_id (Some certificate) = response_text 200 PlainText (certificate_line_text certificate key_id ++ 10 ∷ [])
+signed_response key_id None = refusal_response NotSigned
+
+abbrev pub issued_response : Issued → List ℕ
+issued_response issued = signed_response issued.key_id issued.certificate
+
+abbrev pub certificate_response : Option Issued → List ℕ
+certificate_response (Some issued) = issued_response issued
+certificate_response None = refusal_response UnknownSerial
+
 -- the response to a GET
 abbrev pub resource_response : State → Resource → List ℕ
+resource_response s Pending = response_text 200 PlainText (pending_report s)
+resource_response s (Certificate serial) = certificate_response (issued_of s serial)
 resource_response s (Body serial) = body_response (body_of s serial)
+resource_response s RevocationList = response_text 200 Bytes (published_list s)
+resource_response s Signers = response_text 200 PlainText (signers_report s)
+resource_response s Table = response_text 200 PlainText (table_report s)
+resource_response s Cas = response_text 200 PlainText (ca_report s)
 
 abbrev pub arrival_by : (caller key message : List ℕ) → ℕ → List ℕ → Arrival
 arrival_by caller key message moment nonce = record { caller = caller; key = key; bytes = message; moment = moment; nonce = nonce }

@@ -1,2 +1,4 @@
+pub mod Reports
 pub mod Answers
+pub mod Causes
 pub mod Runs

@@ -1,11 +1,21 @@
-//! From request bytes to response bytes.
+//! From the bytes of a request to the bytes of its response.
+//!
+//! `answer` gives to any bytes the one response that is due to what they ask, after the arrivals so far, over any
+//! register of an office, and `run` does so for exchanges one after the other. The text of each GET is a function of
+//! the plain office's state. Room for a response is reserved before anything is applied, so after a fault the register
+//! means what it meant.
 #![tactic(auto)]
 
 mod answering;
+mod certificates;
 mod exchange;
+mod pieces;
+mod publishing;
+mod report;
 mod request;
+mod room;
 mod running;
 
 pub use exchange::{Exchange, Given};
-pub use request::answer;
+pub use request::{answer, answer_by};
 pub use running::run;

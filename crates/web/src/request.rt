@@ -3,10 +3,16 @@
 ghost use Rattle.std.specs.Prelude.{◌≡◌, List, IfOk, OnErr, IfErr};
 ghost use Rattle.office.specs.declared.opening.Opening.{Opening};
 ghost use Rattle.office.specs.declared.arrival.Arrival.{Arrival};
-ghost use Rattle.office.specs.Faults.{IsOfARegister};
-ghost use Rattle.web.specs.Answers.{Answers, arrival_by};
+ghost use Rattle.office.specs.Faults.{HasCause, IsOfARegister};
+ghost use Rattle.office.specs.History.{state};
+ghost use Rattle.web.specs.Answers.{Answers, arrival_by, resource_response};
+ghost use Rattle.web.specs.Causes.{FailsWithin};
 
-use crate::answering::{to_arrival, to_body, to_refusal};
+use crate::answering::to_arrival;
+use crate::certificates::{to_certificate, to_pending, to_serial_body};
+use crate::publishing::{to_cas, to_list, to_signers};
+use crate::report::to_table;
+use crate::room::to_refusal;
 use office::{Arrival, Registry, StoreFault};
 use requests::{Asked, Resource, Routes, asks};
 use std::alloc::Global;
@@ -31,8 +37,31 @@ fn arrival_of(
     })
 }
 
-/// The response to a request, by routes that were made before.
-pub(crate) fn answer_by<R: Registry>(
+/// The response with a resource.
+fn to_resource<R: Registry>(
+    registry: &mut R,
+    alloc: Global,
+    resource: Resource,
+) -> Result<Vec<u8>, StoreFault>
+    ensures honest { R.is_honest registry.new → R.is_honest registry.old }
+    ensures row { R.is_honest registry.new → IfOk result (λ v. (o : Opening) (l : List Arrival) → R.means registry.old o l → v.items ≡ resource_response (state o l) resource) }
+    ensures same { R.is_honest registry.new → (o : Opening) (l : List Arrival) → R.means registry.old o l → R.means registry.new o l }
+    ensures cause { R.is_honest registry.new → IfErr result (λ e. HasCause e (FailsWithin R.means R.fails registry.old registry.new)) }
+    ensures only { R.is_honest registry.new → IfErr result (λ e. (o : Opening) (l : List Arrival) → R.means registry.old o l → IsOfARegister e) }
+{
+    match resource {
+        Resource::Pending => to_pending(registry, alloc),
+        Resource::Certificate(serial) => to_certificate(registry, alloc, serial),
+        Resource::Body(serial) => to_serial_body(registry, alloc, serial),
+        Resource::RevocationList => to_list(registry, alloc),
+        Resource::Signers => to_signers(registry, alloc),
+        Resource::Table => to_table(registry, alloc),
+        Resource::Cas => to_cas(registry, alloc),
+    }
+}
+
+/// As `answer`, by routes that were made before.
+pub fn answer_by<R: Registry>(
     routes: &Routes,
     registry: &mut R,
     alloc: Global,
@@ -43,11 +72,12 @@ pub(crate) fn answer_by<R: Registry>(
     ensures honest { R.is_honest registry.new → R.is_honest registry.old }
     ensures answered { R.is_honest registry.new → IfOk result (λ v. (o : Opening) (l : List Arrival) → R.means registry.old o l → Answers o l request.now moment nonce.now v.items (R.means registry.new o)) }
     ensures fault { R.is_honest registry.new → OnErr result ((o : Opening) (l : List Arrival) → R.means registry.old o l → R.means registry.new o l) }
+    ensures cause { R.is_honest registry.new → IfErr result (λ e. HasCause e (FailsWithin R.means R.fails registry.old registry.new)) }
     ensures only { R.is_honest registry.new → IfErr result (λ e. (o : Opening) (l : List Arrival) → R.means registry.old o l → IsOfARegister e) }
 {
     match asks(routes, request) {
         Asked::Refused(refusal) => to_refusal(alloc, refusal),
-        Asked::Get(Resource::Body(serial)) => to_body(registry, alloc, serial),
+        Asked::Get(resource) => to_resource(registry, alloc, resource),
         Asked::Post {
             caller,
             key,
@@ -73,6 +103,7 @@ pub fn answer<R: Registry>(
     ensures honest { R.is_honest registry.new → R.is_honest registry.old }
     ensures answered { R.is_honest registry.new → IfOk result (λ v. (o : Opening) (l : List Arrival) → R.means registry.old o l → Answers o l request.now moment nonce.now v.items (R.means registry.new o)) }
     ensures fault { R.is_honest registry.new → OnErr result ((o : Opening) (l : List Arrival) → R.means registry.old o l → R.means registry.new o l) }
+    ensures cause { R.is_honest registry.new → IfErr result (λ e. HasCause e (FailsWithin R.means R.fails registry.old registry.new)) }
     ensures only { R.is_honest registry.new → IfErr result (λ e. (o : Opening) (l : List Arrival) → R.means registry.old o l → IsOfARegister e) }
 {
     let routes = Routes::new(alloc)?;

@@ -1,9 +1,11 @@
 //! Faults and their names.
 
+use super::messages::ISSUE;
 use super::*;
 use crate::applying::apply_exchanges;
 use crate::fault::JobFault;
-use office::{Arrival, Outcome, StoreFault};
+use message::Department;
+use office::{Arrival, Ca, Entry, Issued, Outcome, Pending, Revoked, StoreFault};
 
 // A register that never answers.
 #[derive(Drop)]
@@ -20,7 +22,31 @@ impl Registry for Shut {
         Err(StoreFault::Device)
     }
 
+    fn cas(&mut self, _alloc: Global) -> Result<Vec<Ca>, StoreFault> {
+        Err(StoreFault::Device)
+    }
+
+    fn pending(&mut self, _alloc: Global) -> Result<Vec<Pending>, StoreFault> {
+        Err(StoreFault::Device)
+    }
+
     fn body(&mut self, _alloc: Global, _serial: u64) -> Result<Option<Text>, StoreFault> {
+        Err(StoreFault::Device)
+    }
+
+    fn certificate(&mut self, _alloc: Global, _serial: u64) -> Result<Option<Issued>, StoreFault> {
+        Err(StoreFault::Device)
+    }
+
+    fn revoked(&mut self, _alloc: Global) -> Result<Revoked, StoreFault> {
+        Err(StoreFault::Device)
+    }
+
+    fn departments(&mut self, _alloc: Global) -> Result<Vec<Department>, StoreFault> {
+        Err(StoreFault::Device)
+    }
+
+    fn certificates(&mut self, _alloc: Global) -> Result<Vec<Entry>, StoreFault> {
         Err(StoreFault::Device)
     }
 
@@ -41,7 +67,7 @@ fn all_is_printed_with_a_fault_among_it(rt: HostRuntime) -> Result<(), Fail> {
     let mut out = Vec::new(alloc);
     let done = apply_exchanges(&mut Shut, alloc, exchanges.as_slice(), &mut out);
     assert!(rt; done.err() == Some(JobFault::Fault));
-    let refusal = response(alloc, BAD_REQUEST, "text/plain", b"refused 1 BadHead\n")?;
+    let refusal = response(alloc, BAD_REQUEST, TEXT, b"refused 1 BadHead\n")?;
     let mut wanted = Vec::new(alloc);
     write!(wanted, "fault\nanswer {}\n", refusal.len())?;
     wanted.write_all(refusal.as_slice())?;

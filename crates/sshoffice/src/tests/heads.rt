@@ -1,59 +1,65 @@
-//! Requests that are cut or have another length.
+//! Requests that are cut, or ask for nothing that is there.
 
+use super::messages::ISSUE;
+use super::replies::UNKNOWN_SERIAL;
+use super::script::{Row, Script, run};
 use super::*;
-
-const SHORT_HEAD: &[u8] = b"refused 1 BadHead\n";
-
-const SHORT_BODY: &[u8] = b"refused 6 ShortBody\n";
-
-// The first bytes of a request are given this refusal.
-fn is_refused<R: Registry>(
-    registry: &mut R,
-    alloc: Global,
-    request: &[u8],
-    status: &str,
-    reply: &[u8],
-) -> Result<bool, Fail> {
-    let wanted = response(alloc, status, "text/plain", reply)?;
-    let answer = given(registry, alloc, request, 1000, [0x33; 32])?;
-    Ok(answer.is_some_and(|text| text.is(wanted.as_slice())))
-}
 
 #[test]
 fn a_cut_request_is_refused(rt: HostRuntime) -> Result<(), Fail> {
     let alloc = rt.alloc();
-    let mut office = trial_office(alloc)?;
+    let mut script = Script::new(alloc);
     let request = post(alloc, "ana", "i1", ISSUE.as_bytes())?;
     assert_eq!(rt; request.len(), 228);
+    let head = response(alloc, BAD_REQUEST, TEXT, b"refused 1 BadHead\n")?;
+    let body = response(alloc, BAD_REQUEST, TEXT, b"refused 6 ShortBody\n")?;
     for n in 0..request.len() {
-        let reply = if n < 66 { SHORT_HEAD } else { SHORT_BODY };
-        let is_wanted = is_refused(&mut office, alloc, &request[..n], BAD_REQUEST, reply)?;
-        assert!(rt; is_wanted, "the first {n} bytes");
+        let wanted = if n < 66 { &head } else { &body };
+        script.send(&request[..n], 1000, 0x33, wanted.as_slice())?;
     }
-    Ok(())
+    script.run(&rt, "cuts.exchange")
 }
 
+const LONG: &str = "POST /v1/callers/ana/requests/i1 HTTP/1.1\r\ncontent-length: 16385\r\n\r\n";
+
+const NO_LENGTH: &str = "POST /v1/callers/ana/requests/i1 HTTP/1.1\r\n\r\n";
+
+const LIST: &str = "POST /v1/krl HTTP/1.1\r\n\r\n";
+
+const EMPTY: &str = "POST /v1/callers/ana/requests/i1 HTTP/1.1\r\ncontent-length: 0\r\n\r\n";
+
 #[test]
-fn a_length_is_wanted_and_limited(rt: HostRuntime) -> Result<(), Fail> {
+fn a_head_is_judged_before_its_body(rt: HostRuntime) -> Result<(), Fail> {
     let alloc = rt.alloc();
-    let mut office = trial_office(alloc)?;
-    let long = b"POST /v1/callers/ana/requests/i1 HTTP/1.1\r\ncontent-length: 16385\r\n\r\n";
-    let is_long = is_refused(
-        &mut office,
-        alloc,
-        long,
-        "413 Payload Too Large",
-        b"refused 5 TooLong\n",
-    )?;
-    assert!(rt; is_long, "a length of 16385");
-    let none = b"POST /v1/callers/ana/requests/i1 HTTP/1.1\r\n\r\n";
-    let is_none = is_refused(
-        &mut office,
-        alloc,
-        none,
-        "411 Length Required",
-        b"refused 4 LengthRequired\n",
-    )?;
-    assert!(rt; is_none, "no length");
-    Ok(())
+    let mut script = Script::new(alloc);
+    let heads = [
+        (LONG, "413 Payload Too Large", "refused 5 TooLong\n"),
+        (
+            NO_LENGTH,
+            "411 Length Required",
+            "refused 4 LengthRequired\n",
+        ),
+        (LIST, "405 Method Not Allowed", "refused 3 WrongMethod\n"),
+        (EMPTY, BAD_REQUEST, "refused 7 BadMessage\n"),
+    ];
+    for (head, status, reply) in heads {
+        let wanted = response(alloc, status, TEXT, reply.as_bytes())?;
+        script.send(head.as_bytes(), 1000, 0x33, wanted.as_slice())?;
+    }
+    script.run(&rt, "lengths.exchange")
+}
+
+const NO_ROUTE: &str = "refused 2 NoRoute\n";
+
+const ROUTES: [Row; 5] = [
+    ("/v1/certs/01", 1000, 0x33, "", NOT_FOUND, NO_ROUTE),
+    ("/v1/certs/01/body", 1000, 0x33, "", NOT_FOUND, NO_ROUTE),
+    ("/v1/certs/1/body?x", 1000, 0x33, "", NOT_FOUND, NO_ROUTE),
+    ("/v1/krl?x", 1000, 0x33, "", NOT_FOUND, NO_ROUTE),
+    ("/v1/certs/9", 1000, 0x33, "", NOT_FOUND, UNKNOWN_SERIAL),
+];
+
+#[test]
+fn a_target_is_spelled_one_way(rt: HostRuntime) -> Result<(), Fail> {
+    run(&rt, "routes.exchange", ROUTES.as_slice())
 }

@@ -65,7 +65,7 @@ fn an_answer_is_printed_behind_its_length(rt: HostRuntime) -> Result<(), Fail> {
     };
     let (mut out, mut err) = (Vec::new(alloc), Vec::new(alloc));
     assert_eq!(rt; do_job(&rt, &job, &mut out, &mut err), 0);
-    let response = response(alloc, BAD_REQUEST, "text/plain", b"refused 1 BadHead\n")?;
+    let response = response(alloc, BAD_REQUEST, TEXT, b"refused 1 BadHead\n")?;
     let mut wanted = Vec::new(alloc);
     write!(wanted, "answer {}\n", response.len())?;
     wanted.write_all(response.as_slice())?;
@@ -80,22 +80,50 @@ fn an_answer_is_printed_behind_its_length(rt: HostRuntime) -> Result<(), Fail> {
     Ok(())
 }
 
+// What clap 4 writes for the same command.
+const HELP: &str =
+    "An SSH certificate office\n\nUsage: sshoffice <COMMAND>\n\nCommands:\n  apply  Runs the exchanges of a file over a trial office\n  help   Print this message or the help of the given subcommand(s)\n\nOptions:\n  -h, --help  Print help\n";
+
+const HELP_OF_APPLY: &str =
+    "Runs the exchanges of a file over a trial office\n\nUsage: sshoffice apply <FILE>\n\nArguments:\n  <FILE>  The exchange file, or /dev/stdin\n\nOptions:\n  -h, --help  Print help\n";
+
+const NO_COMMAND: &str =
+    "error: 'sshoffice' requires a subcommand but one was not provided\n  [subcommands: apply, help]\n\nUsage: sshoffice <COMMAND>\n\nFor more information, try '--help'.\n";
+
+const UNKNOWN_COMMAND: &str =
+    "error: unrecognized subcommand 'sign'\n\nUsage: sshoffice <COMMAND>\n\nFor more information, try '--help'.\n";
+
+const NO_FILE: &str =
+    "error: the following required arguments were not provided:\n  <FILE>\n\nUsage: sshoffice apply <FILE>\n\nFor more information, try '--help'.\n";
+
+const SECOND_FILE: &str =
+    "error: unexpected argument 'b' found\n\nUsage: sshoffice apply <FILE>\n\nFor more information, try '--help'.\n";
+
+const UNKNOWN_OPTION: &str =
+    "error: unexpected argument '--version' found\n\nUsage: sshoffice <COMMAND>\n\nFor more information, try '--help'.\n";
+
 #[test]
-fn bad_words_have_status_2(rt: HostRuntime) -> Result<(), Fail> {
+fn help_is_printed_and_bad_words_are_errors(rt: HostRuntime) -> Result<(), Fail> {
     let alloc = rt.alloc();
-    for (text, status, is_error) in [("--help", 0, false), ("serve", 2, true)] {
+    let rows = [
+        ("--help", 0, HELP, ""),
+        ("-h", 0, HELP, ""),
+        ("help", 0, HELP, ""),
+        ("apply --help", 0, HELP_OF_APPLY, ""),
+        ("help apply", 0, HELP_OF_APPLY, ""),
+        ("", 2, "", NO_COMMAND),
+        ("sign", 2, "", UNKNOWN_COMMAND),
+        ("apply", 2, "", NO_FILE),
+        ("apply a b", 2, "", SECOND_FILE),
+        ("--version", 2, "", UNKNOWN_OPTION),
+    ];
+    for (text, status, printed, named) in rows {
         let (mut out, mut err) = (Vec::new(alloc), Vec::new(alloc));
         let words = words(alloc, text)?;
-        assert_eq!(rt;
-            do_words(&rt, words.as_slice(), &mut out, &mut err),
-            status,
-            "{text}"
-        );
-        assert_eq!(rt;
-            (out.is_empty(), err.is_empty()),
-            (is_error, !is_error),
-            "{text}"
-        );
+        let answered = do_words(&rt, words.as_slice(), &mut out, &mut err);
+        assert_eq!(rt; answered, status, "{text}");
+        assert!(rt; out.as_slice() == printed.as_bytes(), "{text}");
+        assert!(rt; err.as_slice() == named.as_bytes(), "{text}");
     }
     Ok(())
 }

@@ -1,5 +1,5 @@
 use Rattle.std.proofs.Common.{◌≡◌, take}
-use Rattle.office.specs.Machine.{flags}
+use Rattle.office.specs.Certificates.{flags}
 use Rattle.office.proofs.issuing.flags_of.Given as goal
 
 abbrev pub invariant-loop-name : goal.invariant-loop-name

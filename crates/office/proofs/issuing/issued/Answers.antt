@@ -1,5 +1,5 @@
-use Rattle.std.proofs.Common.{rules, ◌≡◌, ℕ, List, length, refl, sym, ap, ◌∙◌}
-use Rattle.office.proofs.Issuable.{issuable_options, issuable_extensions, issuable_fields}
+use Rattle.std.proofs.Common.{rules, refl}
+use Rattle.office.proofs.Issuable.{issuable_options, issuable_extensions, issuable_fields, issuable_certificate}
 use Rattle.office.proofs.issuing.issued.Goals as goal
 
 pub options_of-requires : goal.options_of-requires
@@ -23,8 +23,8 @@ write_body-requires c =
     )
     (issuable_fields c.args.view.now c.args.department.now c.args.issue.now c.newest_key.result c.args.nonce.now c.requires (search rules) (search rules))
 
-pub returns : goal.returns
-returns c =
+pub returns-clause-made : goal.returns-clause-made
+returns-clause-made c =
     rw (
       c.from_vec.ensures,
       c.in_ok-body.ensures.text,
@@ -39,3 +39,20 @@ returns c =
       c.as_slice.ensures,
       c.newest_key.ensures,
     ) refl
+
+pub returns-clause-lawful : goal.returns-clause-lawful
+returns-clause-lawful c =
+    rw (
+      c.from_vec.ensures,
+      c.in_ok-body.ensures.text,
+      c.in_ok-copied-3.ensures,
+      c.in_ok-copied.ensures,
+      c.in_ok-copied-2.ensures,
+      c.in_ok-options_of.ensures.ok,
+      c.as_slice-2.ensures,
+      c.in_ok-options_of-2.ensures.ok,
+      c.as_slice-3.ensures.value,
+      c.in_ok-flags.ensures,
+      c.as_slice.ensures,
+    )
+    (issuable_certificate c.args.view.now c.args.department.now c.args.issue.now c.newest_key.result c.args.nonce.now c.requires (search rules) (search rules))

@@ -1,4 +1,4 @@
-use Rattle.std.proofs.Common.{◌≡◌, true, false, sym, ap, ◌∙◌}
+use Rattle.std.proofs.Common.{◌≡◌, true, false, sym, ◌∙◌}
 use Rattle.std.specs.Prelude.{slice_get}
 use Rattle.plain.specs.Departments.{place_of, is_named}
 use Rattle.plain.proofs.Places.{put_replaced, put_inserted}

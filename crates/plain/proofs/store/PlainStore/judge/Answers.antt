@@ -4,7 +4,7 @@ use Rattle.std.proofs.lemmas.Bool.{le-ltb, lt-ltb}
 use Rattle.office.specs.declared.arrival.Kept.{Kept}
 use Rattle.office.specs.Messages.{message_with_text}
 use Rattle.office.specs.History.{has_key}
-use Rattle.plain.specs.Contents.{Contents, state_of}
+use Rattle.plain.specs.Contents.{Contents}
 use Rattle.plain.proofs.Verdicts.{read_is, bad_moment, judges_by_decide}
 use Rattle.plain.proofs.store.PlainStore.judge.Goals as goal
 
@@ -25,5 +25,4 @@ returns-clause-judges c =
     let kept : c.as_slice-2.result.now ≡ t.kept = c.as_slice-2.ensures.value ∙ ap (λ (x : Contents). x.kept) c.self.view_is in
     let new : list_any (has_key a) t.kept ≡ false =
     ap (λ (ks : List Kept). list_any (has_key a) ks) (sym kept) ∙ sym c.is_known.ensures ∙ c.if-is_known.false in
-    judges_by_decide c.decide.result t a m is (le-ltb _ _ c.if-a-gt-LATEST_MOMENT.false) new
-    (rw c.as_slice-3.ensures at (c.decide.ensures.decided (state_of t) c.view-view.ensures.agrees))
+    judges_by_decide c.decided.result t a m is (le-ltb _ _ c.if-a-gt-LATEST_MOMENT.false) new c.decided.ensures.decided

@@ -1,0 +1,20 @@
+use Rattle.std.proofs.Common.{◌≡◌, ℕ, List, true, refl}
+use Rattle.message.specs.declared.kinds.Message.{Message}
+use Rattle.message.specs.declared.kinds.Message.TheVariants as message
+use Rattle.office.specs.State.{State}
+use Rattle.office.specs.Refusals.{refusals}
+use Rattle.office.specs.Laws.{ascend_from}
+use Rattle.office.proofs.laws.refusals_ascend.Goals as goal
+
+in_order : (s : State) (caller : List ℕ) (m : Message) (moment : ℕ) → ascend_from 10 (refusals s caller m moment) ≡ true
+in_order s caller (message.Department d) moment = refl
+in_order s caller (message.Issue i) moment = refl
+in_order s caller (message.Renew r) moment = refl
+in_order s caller (message.Deliver d) moment = refl
+in_order s caller (message.RevokeSerial serial) moment = refl
+in_order s caller (message.RevokeRange r) moment = refl
+in_order s caller (message.RevokeKeyId key_id) moment = refl
+in_order s caller (message.Rollover k) moment = refl
+
+pub returns : goal.returns
+returns c = in_order

@@ -1,0 +1,141 @@
+-- What is refused: for each kind of message the refusals by their numbers, each with the test whether it applies.
+use Rattle.std.specs.Prelude.{ℕ, List, [], ◌∷◌, length, Bool, true, false, not, ◌||◌, nat_lt, nat_le, if◌then◌else◌, Option, Some, None, is_none}
+use Rattle.std.specs.Option.{option_map_or}
+use Rattle.std.specs.Str.{bytes_eq}
+use Rattle.lines.specs.declared.signature.Signature.{Signature}
+use Rattle.lines.specs.Digests.{digest_text}
+use Rattle.profile.specs.Names.{department_of}
+use Rattle.profile.specs.declared.kind.Kind.{Kind}
+use Rattle.profile.specs.declared.kind.Kind.TheVariants.{User, Host}
+use Rattle.profile.specs.declared.refusal.Refusal.{Refusal}
+use Rattle.profile.specs.declared.refusal.Refusal.TheVariants.{
+  NotAllowed,
+  NoDepartment,
+  KindFixed,
+  BadKeyId,
+  NotPermitted,
+  AlreadyEnded,
+  KeyIdRevoked,
+  UnknownSerial,
+  WrongDigest,
+  Revoked,
+  AlreadySigned,
+  NotSigned,
+  SerialsExhausted,
+  CaInUse,
+  TooManyCas,
+}
+use Rattle.message.specs.declared.department.Department.{Department}
+use Rattle.message.specs.declared.issue.Issue.{Issue}
+use Rattle.message.specs.declared.renewal.Renewal.{Renewal}
+use Rattle.message.specs.declared.delivery.Delivery.{Delivery}
+use Rattle.message.specs.declared.serial_range.SerialRange.{SerialRange}
+use Rattle.message.specs.declared.kinds.Message.{Message}
+use Rattle.message.specs.declared.kinds.Message.TheVariants as message
+use Rattle.office.specs.declared.ca.TheConstants.{MOST_CAS}
+use Rattle.office.specs.declared.certificate.Certificate.{Certificate}
+use Rattle.office.specs.Permissions.{may_administer, is_permitted_by, is_renewal_permitted_by}
+use Rattle.office.specs.State.{State, next_serial, certificate_of, department_named, department_of_serial, is_ca, is_key_id_revoked, is_key_id_of_revoked, is_revoked}
+
+abbrev pub same_kind : Kind → Kind → Bool
+same_kind User User = true
+same_kind Host Host = true
+same_kind _ _ = false
+
+-- the department is there with the other kind
+abbrev pub has_other_kind : Option Department → Kind → Bool
+has_other_kind (Some d) kind = not (same_kind d.kind kind)
+has_other_kind None kind = false
+
+abbrev pub is_missing : Option Department → Bool
+is_missing (Some d) = false
+is_missing None = true
+
+-- the certificate is there, and the test holds of it
+abbrev pub is_one_that : (Certificate → Bool) → Option Certificate → Bool
+is_one_that test c = option_map_or test c false
+
+-- a signature is kept, and it is another one
+abbrev pub is_other : Signature → Option Signature → Bool
+is_other signature (Some kept) = not (bytes_eq kept.bytes signature.bytes)
+is_other signature None = false
+
+abbrev pub department_refusals : State → List ℕ → Department → List (Refusal × Bool)
+department_refusals s caller d =
+    (NotAllowed, not (bytes_eq caller s.opening.root))
+    ∷ (KindFixed, has_other_kind (department_named s d.name) d.kind)
+    ∷ []
+
+abbrev pub issue_refusals : State → List ℕ → Issue → ℕ → List (Refusal × Bool)
+issue_refusals s caller i moment =
+    (NotAllowed, not (may_administer s.opening caller (department_named s i.department)))
+    ∷ (NoDepartment, is_missing (department_named s i.department))
+    ∷ (BadKeyId, not (bytes_eq i.department (department_of i.key_id)))
+    ∷ (NotPermitted, not (is_permitted_by (department_named s i.department) i))
+    ∷ (AlreadyEnded, nat_le i.before moment)
+    ∷ (KeyIdRevoked, is_key_id_revoked s i.key_id)
+    ∷ (SerialsExhausted, nat_lt s.opening.last (next_serial s))
+    ∷ []
+
+-- of a serial that wasn't issued nothing is asked before that
+abbrev pub renewal_refusals : State → List ℕ → Renewal → ℕ → List (Refusal × Bool)
+renewal_refusals s caller r moment =
+    (NotAllowed, not (may_administer s.opening caller (department_of_serial s r.serial)))
+    ∷ (NotPermitted, is_one_that (λ c. not (is_renewal_permitted_by (department_of_serial s r.serial) c r)) (certificate_of s r.serial))
+    ∷ (AlreadyEnded, is_one_that (λ c. nat_le r.before moment) (certificate_of s r.serial))
+    ∷ (KeyIdRevoked, is_key_id_of_revoked s r.serial)
+    ∷ (UnknownSerial, is_none (certificate_of s r.serial))
+    ∷ (Revoked, is_revoked s r.serial)
+    ∷ (NotSigned, is_one_that (λ c. is_none c.signature) (certificate_of s r.serial))
+    ∷ (SerialsExhausted, nat_lt s.opening.last (next_serial s))
+    ∷ []
+
+abbrev pub delivery_refusals : State → List ℕ → Delivery → List (Refusal × Bool)
+delivery_refusals s caller d =
+    (NotAllowed, not (bytes_eq caller s.opening.station))
+    ∷ (UnknownSerial, is_none (certificate_of s d.serial))
+    ∷ (WrongDigest, is_one_that (λ c. not (bytes_eq (digest_text c.body) d.digest)) (certificate_of s d.serial))
+    ∷ (Revoked, is_revoked s d.serial)
+    ∷ (AlreadySigned, is_one_that (λ c. is_other d.signature c.signature) (certificate_of s d.serial))
+    ∷ []
+
+abbrev pub serial_refusals : State → List ℕ → ℕ → List (Refusal × Bool)
+serial_refusals s caller serial =
+    (NotAllowed, not (may_administer s.opening caller (department_of_serial s serial)))
+    ∷ (UnknownSerial, is_none (certificate_of s serial))
+    ∷ []
+
+-- each serial of the range has to be issued
+abbrev pub range_refusals : State → List ℕ → SerialRange → List (Refusal × Bool)
+range_refusals s caller r =
+    (NotAllowed, not (bytes_eq caller s.opening.root))
+    ∷ (UnknownSerial, nat_lt r.lo s.opening.first || nat_le (next_serial s) r.hi)
+    ∷ []
+
+abbrev pub key_id_refusals : State → List ℕ → List ℕ → List (Refusal × Bool)
+key_id_refusals s caller key_id =
+    (NotAllowed, not (may_administer s.opening caller (department_named s (department_of key_id))))
+    ∷ (NoDepartment, is_missing (department_named s (department_of key_id)))
+    ∷ []
+
+abbrev pub rollover_refusals : State → List ℕ → List ℕ → List (Refusal × Bool)
+rollover_refusals s caller key =
+    (NotAllowed, not (bytes_eq caller s.opening.root))
+    ∷ (CaInUse, is_ca s.cas key)
+    ∷ (TooManyCas, nat_le MOST_CAS (length s.cas))
+    ∷ []
+
+abbrev pub refusals : State → List ℕ → Message → ℕ → List (Refusal × Bool)
+refusals s caller (message.Department d) moment = department_refusals s caller d
+refusals s caller (message.Issue i) moment = issue_refusals s caller i moment
+refusals s caller (message.Renew r) moment = renewal_refusals s caller r moment
+refusals s caller (message.Deliver d) moment = delivery_refusals s caller d
+refusals s caller (message.RevokeSerial serial) moment = serial_refusals s caller serial
+refusals s caller (message.RevokeRange r) moment = range_refusals s caller r
+refusals s caller (message.RevokeKeyId key_id) moment = key_id_refusals s caller key_id
+refusals s caller (message.Rollover k) moment = rollover_refusals s caller k.key
+
+-- the first that applies
+abbrev pub first_holding : List (Refusal × Bool) → Option Refusal
+first_holding [] = None
+first_holding (r ∷ rs) = if r.1 then Some r.0 else first_holding rs

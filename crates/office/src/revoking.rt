@@ -1,0 +1,157 @@
+//! Revocations.
+
+ghost use Rattle.std.specs.Prelude.{◌≡◌, ◌<◌, ◌≤◌, ◌+◌, ℕ, List, None, IfOk, IsSome, IsTrue, option_copied};
+ghost use Rattle.profile.specs.Names.{is_key_id};
+ghost use Rattle.message.specs.Values.{is_range, is_serial};
+ghost use Rattle.message.specs.declared.kinds.Message.TheVariants as message;
+ghost use Rattle.office.specs.State.{State};
+ghost use Rattle.office.specs.Replies.{revocation_reply};
+ghost use Rattle.office.specs.Refusals.{first_holding, key_id_refusals, range_refusals, serial_refusals};
+ghost use Rattle.office.specs.Views.{IsView};
+ghost use Rattle.office.specs.Decided.{Agrees, Decided, HasRoom, IsLawfulChange};
+ghost use Rattle.office.specs.declared.view.Change.TheVariants as change;
+
+use crate::decision::{published, unpublished};
+use crate::permission::may_administer;
+use crate::replies::to_revocation;
+use crate::view::{Change, Decision, Stop, View};
+use message::SerialRange;
+use profile::Refusal;
+use std::alloc::Global;
+use text::{NoMemory, Text};
+
+fn refusal_of_serial(view: &View, caller: &[u8], serial: u64) -> Option<Refusal>
+    ensures least { (s : State) → Agrees view.now s (message.RevokeSerial serial) → result ≡ first_holding (serial_refusals s caller.now serial) }
+    ensures there { result ≡ None → IsSome (option_copied view.now.certificate) }
+{
+    if !may_administer(view.opening, caller, view.department) {
+        return Some(Refusal::NotAllowed);
+    }
+    match view.certificate {
+        Some(_) => None,
+        None => Some(Refusal::UnknownSerial),
+    }
+}
+
+fn refusal_of_range(view: &View, caller: &[u8], range: SerialRange) -> Option<Refusal>
+    ensures least { (s : State) → Agrees view.now s (message.RevokeRange range) → result ≡ first_holding (range_refusals s caller.now range) }
+    ensures first { result ≡ None → view.now.opening.now.first ≤ range.lo }
+    ensures issued { result ≡ None → range.hi < view.now.next }
+{
+    if !view.opening.root.is(caller) {
+        return Some(Refusal::NotAllowed);
+    }
+    if range.lo < view.opening.first || view.next <= range.hi {
+        return Some(Refusal::UnknownSerial);
+    }
+    None
+}
+
+fn refusal_of_key_id(view: &View, caller: &[u8], key_id: &Text) -> Option<Refusal>
+    ensures { (s : State) → Agrees view.now s (message.RevokeKeyId key_id.now) → result ≡ first_holding (key_id_refusals s caller.now key_id.now) }
+{
+    if !may_administer(view.opening, caller, view.department) {
+        return Some(Refusal::NotAllowed);
+    }
+    match view.department {
+        Some(_) => None,
+        None => Some(Refusal::NoDepartment),
+    }
+}
+
+/// All that is to be revoked is.
+fn unchanged(alloc: Global, view: &View) -> Result<Decision, NoMemory>
+    ensures { IfOk result (λ d. d ≡ record { reply = revocation_reply view.now.version; next = view.now.next; version = view.now.version; date = view.now.date; change = change.Nothing }) }
+{
+    let reply = to_revocation(alloc, view.version)?;
+    Ok(unpublished(view, reply, Change::Nothing))
+}
+
+/// More is revoked.
+fn changed(alloc: Global, view: &View, change: Change, moment: u64) -> Result<Decision, NoMemory>
+    requires { view.now.version < 9223372036854775807 }
+    ensures { IfOk result (λ d. d ≡ record { reply = revocation_reply (view.now.version + 1); next = view.now.next; version = view.now.version + 1; date = moment; change = change }) }
+{
+    let reply = to_revocation(alloc, view.version + 1)?;
+    Ok(published(view, reply, change, moment))
+}
+
+/// The revocation of a serial.
+pub(crate) fn decide_serial(
+    alloc: Global,
+    view: &View,
+    caller: &[u8],
+    serial: u64,
+    moment: u64,
+) -> Result<Decision, Stop>
+    requires viewed { IsView view.now }
+    requires lawful { IsTrue (is_serial serial) }
+    ensures decided { (s : State) → Agrees view.now s (message.RevokeSerial serial) → (nonce : List ℕ)
+        → Decided result s caller.now (message.RevokeSerial serial) moment nonce }
+    ensures room { (s : State) → Agrees view.now s (message.RevokeSerial serial) → IfOk result (λ d. HasRoom d.change s) }
+    ensures change { IfOk result (λ d. IsLawfulChange d.change) }
+    ensures version { IfOk result (λ d. d.version ≤ view.now.version + 1) }
+{
+    if let Some(refusal) = refusal_of_serial(view, caller, serial) {
+        return Err(Stop::Refused(refusal));
+    }
+    if view.is_revoked {
+        return Ok(unchanged(alloc, view)?);
+    }
+    let range = SerialRange {
+        lo: serial,
+        hi: serial,
+    };
+    Ok(changed(alloc, view, Change::Range(range), moment)?)
+}
+
+/// The revocation of the serials of a range.
+pub(crate) fn decide_range(
+    alloc: Global,
+    view: &View,
+    caller: &[u8],
+    range: SerialRange,
+    moment: u64,
+) -> Result<Decision, Stop>
+    requires viewed { IsView view.now }
+    requires lawful { IsTrue (is_range range) }
+    ensures decided { (s : State) → Agrees view.now s (message.RevokeRange range) → (nonce : List ℕ)
+        → Decided result s caller.now (message.RevokeRange range) moment nonce }
+    ensures room { (s : State) → Agrees view.now s (message.RevokeRange range) → IfOk result (λ d. HasRoom d.change s) }
+    ensures change { IfOk result (λ d. IsLawfulChange d.change) }
+    ensures version { IfOk result (λ d. d.version ≤ view.now.version + 1) }
+{
+    if let Some(refusal) = refusal_of_range(view, caller, range) {
+        return Err(Stop::Refused(refusal));
+    }
+    if view.is_revoked {
+        return Ok(unchanged(alloc, view)?);
+    }
+    Ok(changed(alloc, view, Change::Range(range), moment)?)
+}
+
+/// The revocation of a key id.
+pub(crate) fn decide_key_id(
+    alloc: Global,
+    view: &View,
+    caller: &[u8],
+    key_id: &Text,
+    moment: u64,
+) -> Result<Decision, Stop>
+    requires viewed { IsView view.now }
+    requires lawful { IsTrue (is_key_id key_id.now) }
+    ensures decided { (s : State) → Agrees view.now s (message.RevokeKeyId key_id.now) → (nonce : List ℕ)
+        → Decided result s caller.now (message.RevokeKeyId key_id.now) moment nonce }
+    ensures room { (s : State) → Agrees view.now s (message.RevokeKeyId key_id.now) → IfOk result (λ d. HasRoom d.change s) }
+    ensures change { IfOk result (λ d. IsLawfulChange d.change) }
+    ensures version { IfOk result (λ d. d.version ≤ view.now.version + 1) }
+{
+    if let Some(refusal) = refusal_of_key_id(view, caller, key_id) {
+        return Err(Stop::Refused(refusal));
+    }
+    if view.is_key_id_revoked {
+        return Ok(unchanged(alloc, view)?);
+    }
+    let change = Change::KeyId(key_id.copied(alloc)?);
+    Ok(changed(alloc, view, change, moment)?)
+}

@@ -1,0 +1,17 @@
+-- Why an answer fails.
+use Rattle.std.specs.Prelude.{◌≡◌, ◌⊎◌, ◌<◌, ℕ, List}
+use Rattle.office.specs.declared.opening.Opening.{Opening}
+use Rattle.office.specs.declared.arrival.Arrival.{Arrival}
+use Rattle.office.specs.declared.ca.TheConstants.{MOST_CAS}
+use Rattle.office.specs.declared.fault.StoreFault.{StoreFault}
+use Rattle.office.specs.declared.fault.StoreFault.TheVariants.{Damaged, NoMemory}
+
+-- the database failed in a call on a register that meant what it had meant before
+pub record FailsWithin {S : Type 0} (means : S → Opening → List Arrival → Type 0) (fails : S → S → Type 0) (old new : S) : Type 0 where
+  pub before : S
+  pub same : (o : Opening) (l : List Arrival) → means old o l → means before o l
+  pub failed : fails before new
+
+-- want of memory, or more parts of a list than an office has CAs
+abbrev pub IsOfAList : (parts : ℕ) → StoreFault → Type 0
+IsOfAList parts e = (e ≡ NoMemory) ⊎ ((e ≡ Damaged) × (MOST_CAS < parts))

@@ -1,0 +1,106 @@
+//! Certificates given.
+
+ghost use Rattle.std.specs.Prelude.{◌≡◌, ◌++◌, List, IfOk, OnOk, IfErr};
+ghost use Rattle.requests.specs.declared.response.MediaType.TheVariants.{PlainText};
+ghost use Rattle.requests.specs.Responses.{response_text};
+ghost use Rattle.office.specs.declared.opening.Opening.{Opening};
+ghost use Rattle.office.specs.declared.arrival.Arrival.{Arrival};
+ghost use Rattle.office.specs.State.{body_of};
+ghost use Rattle.office.specs.Publication.{issued_of};
+ghost use Rattle.office.specs.History.{state};
+ghost use Rattle.office.specs.Faults.{HasCause, IsOfARegister};
+ghost use Rattle.web.specs.Answers.{body_response, certificate_response, issued_response};
+ghost use Rattle.web.specs.Reports.{pending_line, pending_lines, pending_report};
+
+use crate::pieces::put_pieces;
+use crate::room::{to_body, to_refusal};
+use lines::write_cert_line;
+use office::{Issued, Pending, Registry, StoreFault};
+use profile::{Refusal, put_decimal};
+use requests::MediaType;
+use std::alloc::Global;
+use text::NoMemory;
+
+/// The response with the body of a serial.
+pub(crate) fn to_serial_body<R: Registry>(
+    registry: &mut R,
+    alloc: Global,
+    serial: u64,
+) -> Result<Vec<u8>, StoreFault>
+    ensures honest { R.is_honest registry.new → R.is_honest registry.old }
+    ensures row { R.is_honest registry.new → IfOk result (λ v. (o : Opening) (l : List Arrival) → R.means registry.old o l → v.items ≡ body_response (body_of (state o l) serial)) }
+    ensures same { R.is_honest registry.new → (o : Opening) (l : List Arrival) → R.means registry.old o l → R.means registry.new o l }
+    ensures cause { IfErr result (λ e. HasCause e (R.fails registry.old registry.new)) }
+    ensures only { R.is_honest registry.new → IfErr result (λ e. (o : Opening) (l : List Arrival) → R.means registry.old o l → IsOfARegister e) }
+{
+    match registry.body(alloc, serial)? {
+        Some(body) => to_body(alloc, MediaType::Bytes, body.as_slice()),
+        None => to_refusal(alloc, Refusal::UnknownSerial),
+    }
+}
+
+/// The response with the line of a certificate, whose comment is the key id.
+fn to_line(alloc: Global, issued: &Issued) -> Result<Vec<u8>, StoreFault>
+    ensures ok { IfOk result (λ v. v.items ≡ issued_response issued.now) }
+    ensures err { IfErr result (λ e. e ≡ StoreFault.NoMemory) }
+{
+    let Some(certificate) = &issued.certificate else {
+        return to_refusal(alloc, Refusal::NotSigned);
+    };
+    let mut line = write_cert_line(alloc, certificate.as_slice(), issued.key_id.as_slice())?;
+    let Ok(()) = line.push(b'\n') else {
+        return Err(StoreFault::NoMemory);
+    };
+    to_body(alloc, MediaType::PlainText, &line)
+}
+
+/// The response with the certificate of a serial.
+pub(crate) fn to_certificate<R: Registry>(
+    registry: &mut R,
+    alloc: Global,
+    serial: u64,
+) -> Result<Vec<u8>, StoreFault>
+    ensures honest { R.is_honest registry.new → R.is_honest registry.old }
+    ensures row { R.is_honest registry.new → IfOk result (λ v. (o : Opening) (l : List Arrival) → R.means registry.old o l → v.items ≡ certificate_response (issued_of (state o l) serial)) }
+    ensures same { R.is_honest registry.new → (o : Opening) (l : List Arrival) → R.means registry.old o l → R.means registry.new o l }
+    ensures cause { IfErr result (λ e. HasCause e (R.fails registry.old registry.new)) }
+    ensures only { R.is_honest registry.new → IfErr result (λ e. (o : Opening) (l : List Arrival) → R.means registry.old o l → IsOfARegister e) }
+{
+    match registry.certificate(alloc, serial)? {
+        Some(issued) => to_line(alloc, &issued),
+        None => to_refusal(alloc, Refusal::UnknownSerial),
+    }
+}
+
+fn put_pending(out: &mut Vec<u8>, row: &Pending) -> Result<(), NoMemory>
+    ensures { OnOk result (out.new.items ≡ out.old.items ++ pending_line row.now) }
+{
+    put_decimal(out, row.serial)?;
+    put_pieces(out, &[b" ".as_slice(), row.digest.as_slice(), b"\n"])
+}
+
+fn pending_lines(alloc: Global, rows: &[Pending]) -> Result<Vec<u8>, NoMemory>
+    ensures { IfOk result (λ v. v.items ≡ pending_lines rows.now) }
+{
+    let mut out = Vec::new(alloc);
+    for row in rows {
+        put_pending(&mut out, row)?;
+    }
+    Ok(out)
+}
+
+/// The response with the certificates that wait for their signatures.
+pub(crate) fn to_pending<R: Registry>(
+    registry: &mut R,
+    alloc: Global,
+) -> Result<Vec<u8>, StoreFault>
+    ensures honest { R.is_honest registry.new → R.is_honest registry.old }
+    ensures row { R.is_honest registry.new → IfOk result (λ v. (o : Opening) (l : List Arrival) → R.means registry.old o l → v.items ≡ response_text 200 PlainText (pending_report (state o l))) }
+    ensures same { R.is_honest registry.new → (o : Opening) (l : List Arrival) → R.means registry.old o l → R.means registry.new o l }
+    ensures cause { IfErr result (λ e. HasCause e (R.fails registry.old registry.new)) }
+    ensures only { R.is_honest registry.new → IfErr result (λ e. (o : Opening) (l : List Arrival) → R.means registry.old o l → IsOfARegister e) }
+{
+    let rows = registry.pending(alloc)?;
+    let report = pending_lines(alloc, &rows)?;
+    to_body(alloc, MediaType::PlainText, &report)
+}

@@ -1,0 +1,39 @@
+//! Pieces of a text, put at its end.
+
+ghost use Rattle.std.specs.Prelude.{◌≡◌, ◌++◌, length, drop, decimal, OnOk};
+ghost use Rattle.std.specs.List.{flat_map};
+ghost use Rattle.web.specs.Reports.{right_in};
+
+use itoa::Buffer;
+use text::NoMemory;
+
+/// Puts the pieces, one after the other.
+pub(crate) fn put_pieces(out: &mut Vec<u8>, pieces: &[&[u8]]) -> Result<(), NoMemory>
+    ensures { OnOk result (out.new.items ≡ out.old.items ++ flat_map (λ p. p.now) pieces.now) }
+{
+    for piece in pieces {
+        out.extend_from_slice(piece)?;
+    }
+    Ok(())
+}
+
+/// What is left of the places before a text at their right end.
+fn places_before<'a>(places: &'a [u8], text: &[u8]) -> &'a [u8]
+    ensures { result.now ≡ drop (length text.now) places.now }
+{
+    if places.len() < text.len() {
+        return &[];
+    }
+    &places[text.len()..]
+}
+
+/// Puts a number in decimal, at the right end of these places where it is shorter.
+pub(crate) fn put_right(out: &mut Vec<u8>, places: &[u8], number: u64) -> Result<(), NoMemory>
+    ensures { OnOk result (out.new.items ≡ out.old.items ++ right_in places.now (decimal number)) }
+{
+    let mut buffer = Buffer::new();
+    let digits = buffer.format(number).as_bytes();
+    out.extend_from_slice(places_before(places, digits))?;
+    out.extend_from_slice(digits)?;
+    Ok(())
+}

@@ -1,0 +1,186 @@
+//! What is published: the key revocation list, the allowed signers and the CAs.
+
+ghost use Rattle.std.specs.Prelude.{◌≡◌, ◌++◌, List, length, IfOk, OnOk, IfErr};
+ghost use Rattle.krl.specs.Published.{published_text};
+ghost use Rattle.requests.specs.declared.response.MediaType.TheVariants.{PlainText, Bytes};
+ghost use Rattle.requests.specs.Responses.{response_text};
+ghost use Rattle.office.specs.declared.opening.Opening.{Opening};
+ghost use Rattle.office.specs.declared.arrival.Arrival.{Arrival};
+ghost use Rattle.office.specs.Publication.{published_list};
+ghost use Rattle.office.specs.History.{state};
+ghost use Rattle.office.specs.Faults.{HasCause, IsOfARegister};
+ghost use Rattle.lines.specs.Digests.{fingerprint_text};
+ghost use Rattle.lines.specs.Signers.{signers_text};
+ghost use Rattle.web.specs.Causes.{FailsWithin, IsOfAList};
+ghost use Rattle.web.specs.Reports.{ca_line, ca_lines, ca_report, is_signing, signer_row, signer_rows, signer_rows_of, signers_report};
+
+use crate::pieces::put_pieces;
+use crate::room::{room, to_body};
+use krl::{krl_len, write_krl};
+use lines::{KeyLine, SignerRow, fingerprint, write_signers};
+use message::Department;
+use office::{Ca, MOST_CAS, Registry, Revoked, StoreFault};
+use profile::{Kind, put_decimal};
+use requests::{MAX_RESPONSE_HEAD, MediaType, begin_response};
+use std::alloc::Global;
+use text::NoMemory;
+use wire::VecSink;
+
+/// The response with a list, written from front to back into the room for it. A section too long for its length of 32
+/// bits counts as want of memory, and more parts than an office has CAs are damage.
+fn list_response(alloc: Global, revoked: &Revoked) -> Result<Vec<u8>, StoreFault>
+    ensures ok { IfOk result (λ v. v.items ≡ response_text 200 Bytes (published_text revoked.now.head revoked.now.parts.items revoked.now.key_ids)) }
+    ensures err { IfErr result (IsOfAList (length revoked.now.parts.items)) }
+{
+    let parts = revoked.parts.as_slice();
+    if MOST_CAS < parts.len() {
+        return Err(StoreFault::Damaged);
+    }
+    let Some(size) = krl_len(parts, &revoked.key_ids) else {
+        return Err(StoreFault::NoMemory);
+    };
+    let size = size as usize;
+    let mut out = room(alloc, size.saturating_add(MAX_RESPONSE_HEAD))?;
+    begin_response(&mut out, MediaType::Bytes, size);
+    let mut sink = VecSink::new(out);
+    match write_krl(&revoked.head, parts, &revoked.key_ids, &mut sink) {
+        Ok(()) => Ok(sink.into_vec()),
+        Err(_) => Err(StoreFault::NoMemory),
+    }
+}
+
+/// The response with the key revocation list.
+pub(crate) fn to_list<R: Registry>(registry: &mut R, alloc: Global) -> Result<Vec<u8>, StoreFault>
+    ensures honest { R.is_honest registry.new → R.is_honest registry.old }
+    ensures row { R.is_honest registry.new → IfOk result (λ v. (o : Opening) (l : List Arrival) → R.means registry.old o l → v.items ≡ response_text 200 Bytes (published_list (state o l))) }
+    ensures same { R.is_honest registry.new → (o : Opening) (l : List Arrival) → R.means registry.old o l → R.means registry.new o l }
+    ensures cause { IfErr result (λ e. HasCause e (R.fails registry.old registry.new)) }
+    ensures only { R.is_honest registry.new → IfErr result (λ e. (o : Opening) (l : List Arrival) → R.means registry.old o l → IsOfARegister e) }
+{
+    let revoked = registry.revoked(alloc)?;
+    list_response(alloc, &revoked)
+}
+
+fn is_signing(department: &Department) -> bool
+    ensures { result ≡ is_signing department.now }
+{
+    match department.kind {
+        Kind::User => !department.namespaces.is_empty(),
+        Kind::Host => false,
+    }
+}
+
+fn signer_row(alloc: Global, department: &Department, ca: &Ca) -> Result<SignerRow, NoMemory>
+    ensures { IfOk result (λ row. row ≡ signer_row department.now ca.now) }
+{
+    Ok(SignerRow {
+        rules: department.rules.copied(alloc)?,
+        namespaces: department.namespaces.copied(alloc)?,
+        ca: ca.key,
+    })
+}
+
+fn push_rows(
+    rows: &mut Vec<SignerRow>,
+    alloc: Global,
+    department: &Department,
+    cas: &[Ca],
+) -> Result<(), NoMemory>
+    ensures { OnOk result (rows.new.items ≡ rows.old.items ++ signer_rows_of cas.now department.now) }
+{
+    if !is_signing(department) {
+        return Ok(());
+    }
+    for ca in cas {
+        rows.push(signer_row(alloc, department, ca)?)?;
+    }
+    Ok(())
+}
+
+fn signer_rows(
+    alloc: Global,
+    departments: &[Department],
+    cas: &[Ca],
+) -> Result<Vec<SignerRow>, NoMemory>
+    ensures { IfOk result (λ rows. rows.items ≡ signer_rows departments.now cas.now) }
+{
+    let mut rows = Vec::new(alloc);
+    for department in departments {
+        push_rows(&mut rows, alloc, department, cas)?;
+    }
+    Ok(rows)
+}
+
+fn signers_text(alloc: Global, rows: &[SignerRow]) -> Result<Vec<u8>, NoMemory>
+    ensures { IfOk result (λ v. v.items ≡ signers_text rows.now) }
+{
+    let mut sink = VecSink::new(Vec::new(alloc));
+    match write_signers(rows, &mut sink) {
+        Ok(()) => Ok(sink.into_vec()),
+        Err(_) => Err(NoMemory),
+    }
+}
+
+/// The response with the allowed signers.
+pub(crate) fn to_signers<R: Registry>(
+    registry: &mut R,
+    alloc: Global,
+) -> Result<Vec<u8>, StoreFault>
+    ensures honest { R.is_honest registry.new → R.is_honest registry.old }
+    ensures row { R.is_honest registry.new → IfOk result (λ v. (o : Opening) (l : List Arrival) → R.means registry.old o l → v.items ≡ response_text 200 PlainText (signers_report (state o l))) }
+    ensures same { R.is_honest registry.new → (o : Opening) (l : List Arrival) → R.means registry.old o l → R.means registry.new o l }
+    ensures cause { R.is_honest registry.new → IfErr result (λ e. HasCause e (FailsWithin R.means R.fails registry.old registry.new)) }
+    ensures only { R.is_honest registry.new → IfErr result (λ e. (o : Opening) (l : List Arrival) → R.means registry.old o l → IsOfARegister e) }
+{
+    let departments = registry.departments(alloc)?;
+    let cas = registry.cas(alloc)?;
+    let rows = signer_rows(alloc, &departments, &cas)?;
+    let report = signers_text(alloc, &rows)?;
+    to_body(alloc, MediaType::PlainText, &report)
+}
+
+fn fingerprint_of(ca: &Ca) -> [u8; 50]
+    ensures { result ≡ fingerprint_text ca.now.key }
+{
+    fingerprint(&KeyLine {
+        key: ca.key,
+        comment: None,
+    })
+}
+
+fn put_ca(out: &mut Vec<u8>, number: u64, ca: &Ca) -> Result<(), NoMemory>
+    ensures { OnOk result (out.new.items ≡ out.old.items ++ ca_line number ca.now) }
+{
+    put_decimal(out, number)?;
+    put_pieces(out, &[b" "])?;
+    put_decimal(out, ca.since)?;
+    put_pieces(
+        out,
+        &[b" ".as_slice(), fingerprint_of(ca).as_slice(), b"\n"],
+    )
+}
+
+fn ca_lines(alloc: Global, cas: &[Ca]) -> Result<Vec<u8>, NoMemory>
+    ensures { IfOk result (λ v. v.items ≡ ca_lines cas.now) }
+{
+    let mut out = Vec::new(alloc);
+    let mut number = 0;
+    for ca in cas {
+        number += 1;
+        put_ca(&mut out, number, ca)?;
+    }
+    Ok(out)
+}
+
+/// The response with the CAs.
+pub(crate) fn to_cas<R: Registry>(registry: &mut R, alloc: Global) -> Result<Vec<u8>, StoreFault>
+    ensures honest { R.is_honest registry.new → R.is_honest registry.old }
+    ensures row { R.is_honest registry.new → IfOk result (λ v. (o : Opening) (l : List Arrival) → R.means registry.old o l → v.items ≡ response_text 200 PlainText (ca_report (state o l))) }
+    ensures same { R.is_honest registry.new → (o : Opening) (l : List Arrival) → R.means registry.old o l → R.means registry.new o l }
+    ensures cause { IfErr result (λ e. HasCause e (R.fails registry.old registry.new)) }
+    ensures only { R.is_honest registry.new → IfErr result (λ e. (o : Opening) (l : List Arrival) → R.means registry.old o l → IsOfARegister e) }
+{
+    let cas = registry.cas(alloc)?;
+    let report = ca_lines(alloc, &cas)?;
+    to_body(alloc, MediaType::PlainText, &report)
+}

@@ -1,0 +1,103 @@
+//! The table of certificates.
+
+ghost use Rattle.std.specs.Prelude.{◌≡◌, ◌++◌, List, IfOk, OnOk, IfErr};
+ghost use Rattle.requests.specs.declared.response.MediaType.TheVariants.{PlainText};
+ghost use Rattle.requests.specs.Responses.{response_text};
+ghost use Rattle.office.specs.declared.opening.Opening.{Opening};
+ghost use Rattle.office.specs.declared.arrival.Arrival.{Arrival};
+ghost use Rattle.office.specs.History.{state};
+ghost use Rattle.office.specs.Faults.{HasCause, IsOfARegister};
+ghost use Rattle.web.specs.Causes.{FailsWithin};
+ghost use Rattle.web.specs.Reports.{entry_line, kind_word, moment_places, serial_places, standing_word, table_lines, table_report, total_line};
+
+use crate::pieces::{put_pieces, put_right};
+use crate::room::to_body;
+use office::{Entry, Registry, Standing, StoreFault};
+use profile::{Kind, put_decimal};
+use requests::MediaType;
+use std::alloc::Global;
+use text::NoMemory;
+
+fn serial_places() -> &'static [u8]
+    ensures { result.now ≡ serial_places }
+{
+    b"                   "
+}
+
+fn moment_places() -> &'static [u8]
+    ensures { result.now ≡ moment_places }
+{
+    b"            "
+}
+
+fn kind_word(kind: Kind) -> &'static [u8]
+    ensures { result.now ≡ kind_word kind }
+{
+    match kind {
+        Kind::User => b"user",
+        Kind::Host => b"host",
+    }
+}
+
+fn standing_word(standing: Standing) -> &'static [u8]
+    ensures { result.now ≡ standing_word standing }
+{
+    match standing {
+        Standing::Pending => b"pending",
+        Standing::Signed => b"signed ",
+        Standing::Revoked => b"revoked",
+    }
+}
+
+fn put_entry(out: &mut Vec<u8>, entry: &Entry) -> Result<(), NoMemory>
+    ensures { OnOk result (out.new.items ≡ out.old.items ++ entry_line entry.now) }
+{
+    put_right(out, serial_places(), entry.serial)?;
+    let words = [
+        b"  ".as_slice(),
+        kind_word(entry.kind),
+        b"  ",
+        standing_word(entry.standing),
+        b"  ",
+    ];
+    put_pieces(out, &words)?;
+    put_right(out, moment_places(), entry.after)?;
+    put_pieces(out, &[b"  "])?;
+    put_right(out, moment_places(), entry.before)?;
+    put_pieces(out, &[b"  ".as_slice(), entry.key_id.as_slice(), b"\n"])
+}
+
+fn put_total(out: &mut Vec<u8>, count: u64, version: u64) -> Result<(), NoMemory>
+    ensures { OnOk result (out.new.items ≡ out.old.items ++ total_line count version) }
+{
+    put_pieces(out, &[b"total "])?;
+    put_decimal(out, count)?;
+    put_pieces(out, &[b" version "])?;
+    put_decimal(out, version)?;
+    put_pieces(out, &[b"\n"])
+}
+
+fn table_lines(alloc: Global, entries: &[Entry], version: u64) -> Result<Vec<u8>, NoMemory>
+    ensures { IfOk result (λ v. v.items ≡ table_lines entries.now version) }
+{
+    let mut out = Vec::new(alloc);
+    for entry in entries {
+        put_entry(&mut out, entry)?;
+    }
+    put_total(&mut out, entries.len() as u64, version)?;
+    Ok(out)
+}
+
+/// The response with the table.
+pub(crate) fn to_table<R: Registry>(registry: &mut R, alloc: Global) -> Result<Vec<u8>, StoreFault>
+    ensures honest { R.is_honest registry.new → R.is_honest registry.old }
+    ensures row { R.is_honest registry.new → IfOk result (λ v. (o : Opening) (l : List Arrival) → R.means registry.old o l → v.items ≡ response_text 200 PlainText (table_report (state o l))) }
+    ensures same { R.is_honest registry.new → (o : Opening) (l : List Arrival) → R.means registry.old o l → R.means registry.new o l }
+    ensures cause { R.is_honest registry.new → IfErr result (λ e. HasCause e (FailsWithin R.means R.fails registry.old registry.new)) }
+    ensures only { R.is_honest registry.new → IfErr result (λ e. (o : Opening) (l : List Arrival) → R.means registry.old o l → IsOfARegister e) }
+{
+    let entries = registry.certificates(alloc)?;
+    let version = registry.revoked(alloc)?.head.version;
+    let report = table_lines(alloc, &entries, version)?;
+    to_body(alloc, MediaType::PlainText, &report)
+}

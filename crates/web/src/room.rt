@@ -1,0 +1,40 @@
+//! Room for responses.
+
+ghost use Rattle.std.specs.Prelude.{◌≡◌, ◌≤◌, [], IfOk, IfErr, vec_capacity};
+ghost use Rattle.requests.specs.Responses.{response_text, refusal_response};
+
+use office::StoreFault;
+use profile::Refusal;
+use requests::{MAX_RESPONSE_HEAD, MediaType, refuse, respond};
+use std::alloc::Global;
+
+/// The room that is reserved for a response before anything is applied: it takes the longest reply and each refusal.
+pub(crate) const ROOM: usize = 512;
+
+/// Room for so many bytes.
+pub(crate) fn room(alloc: Global, size: usize) -> Result<Vec<u8>, StoreFault>
+    ensures ok { IfOk result (λ v. (v.items ≡ []) × (size ≤ vec_capacity v)) }
+    ensures err { IfErr result (λ e. e ≡ StoreFault.NoMemory) }
+{
+    match Vec::with_capacity(alloc, size) {
+        Ok(room) => Ok(room),
+        Err(_) => Err(StoreFault::NoMemory),
+    }
+}
+
+/// The response with a body.
+pub(crate) fn to_body(alloc: Global, media: MediaType, body: &[u8]) -> Result<Vec<u8>, StoreFault>
+    ensures ok { IfOk result (λ v. v.items ≡ response_text 200 media body.now) }
+    ensures err { IfErr result (λ e. e ≡ StoreFault.NoMemory) }
+{
+    let room = room(alloc, body.len().saturating_add(MAX_RESPONSE_HEAD))?;
+    Ok(respond(room, media, body))
+}
+
+/// The response that says a refusal.
+pub(crate) fn to_refusal(alloc: Global, refusal: Refusal) -> Result<Vec<u8>, StoreFault>
+    ensures ok { IfOk result (λ v. v.items ≡ refusal_response refusal) }
+    ensures err { IfErr result (λ e. e ≡ StoreFault.NoMemory) }
+{
+    Ok(refuse(room(alloc, ROOM)?, refusal))
+}
