@@ -1,0 +1,9 @@
+pub mod Inductions
+pub mod Named
+pub mod Changes
+pub mod Shape
+pub mod Signers
+pub mod Lists
+pub mod Bodies
+pub mod Counting
+pub mod Later

@@ -1,0 +1,5 @@
+pub mod Named
+pub mod Signers
+pub mod Lists
+pub mod Bodies
+pub mod Counting

@@ -1,0 +1,10 @@
+//! What holds of the office after every history: functions without a body, whose contracts are the laws.
+#![tactic(auto)]
+
+mod certificates;
+mod publication;
+mod revocations;
+
+pub use certificates::{a_body_names_its_signer, a_body_stays, serials_count_up};
+pub use publication::{a_later_list_revokes_as_much, the_list_is_exact};
+pub use revocations::{nothing_is_forgotten, revoked_is_what_was_named};
