@@ -1,0 +1,43 @@
+use Rattle.std.proofs.Common.{ℕ, List, subst}
+use Rattle.std.specs.Io.KnownBytes.{Appends}
+use Rattle.wire.specs.Streams.{AppendsBeginning}
+use Rattle.web.specs.Answers.{Answers}
+use Rattle.serving.proofs.serve.serve_by.Goals as goal
+
+pub returns-in-Ok-clause-ok : goal.returns-in-Ok-clause-ok
+returns-in-Ok-clause-ok g c =
+    let sent = subst (Appends (g.W.Sink.taken c.args.writer.now) (g.W.Sink.taken c.write_all.new.sink)) c.deref-2.ensures.value
+    c.in-Ok.ensures.ok in (
+      record {
+        request = c.in_ok-request.request.items;
+        nonce = c.in_ok-nonce.nonce;
+        response = c.in_ok-response.response.items;
+        taken = c.in_ok-request.ensures.consumed;
+        one = c.in_ok-request.ensures.one;
+        nonce_taken = c.in_ok-nonce.ensures.consumed;
+        nonce_size = c.in_ok-nonce.ensures.size;
+        answered = λ honest o l means. subst (λ (t : List ℕ). Answers o l t c.args.moment c.in_ok-nonce.nonce
+            c.in_ok-response.response.items (g.S.Registry.means c.answer_by.new.registry o)) c.deref.ensures.value
+            (c.in_ok-response.ensures.answered honest o l means);
+      },
+      sent,
+    )
+
+pub returns-clause-write : goal.returns-clause-write
+returns-clause-write g c _ =
+    let sent = subst (AppendsBeginning (g.W.Sink.taken c.args.writer.now) (g.W.Sink.taken c.write_all.new.sink))
+    c.deref-2.ensures.value c.in-Err.ensures.err in (
+      record {
+        request = c.in_ok-request.request.items;
+        nonce = c.in_ok-nonce.nonce;
+        response = c.in_ok-response.response.items;
+        taken = c.in_ok-request.ensures.consumed;
+        one = c.in_ok-request.ensures.one;
+        nonce_taken = c.in_ok-nonce.ensures.consumed;
+        nonce_size = c.in_ok-nonce.ensures.size;
+        answered = λ honest o l means. subst (λ (t : List ℕ). Answers o l t c.args.moment c.in_ok-nonce.nonce
+            c.in_ok-response.response.items (g.S.Registry.means c.answer_by.new.registry o)) c.deref.ensures.value
+            (c.in_ok-response.ensures.answered honest o l means);
+      },
+      sent,
+    )

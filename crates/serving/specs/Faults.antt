@@ -1,0 +1,50 @@
+-- What a fault of serving says.
+use Rattle.std.specs.Prelude.{Bool, true, false, Result, Ok, Err}
+use Rattle.office.specs.declared.fault.StoreFault.{StoreFault}
+use Rattle.office.specs.declared.fault.StoreFault.TheVariants as store
+use Rattle.serving.specs.declared.fault.ServeFault.{ServeFault}
+use Rattle.serving.specs.declared.fault.ServeFault.TheVariants.{Read, Nonces, Store, NoMemory, Write}
+
+-- the fault that a fault of the register is
+abbrev pub fault_of : StoreFault → ServeFault
+fault_of store.NoMemory = NoMemory
+fault_of store.AlreadyAnOffice = Store
+fault_of store.NotAnOffice = Store
+fault_of store.WrongSchema = Store
+fault_of store.Damaged = Store
+fault_of store.Device = Store
+
+-- a reader failed
+abbrev pub is_read : {A : Type 0} → Result A ServeFault → Bool
+is_read (Ok a) = false
+is_read (Err Read) = true
+is_read (Err Nonces) = false
+is_read (Err Store) = false
+is_read (Err NoMemory) = false
+is_read (Err Write) = false
+
+-- a writer failed
+abbrev pub is_write : {A : Type 0} → Result A ServeFault → Bool
+is_write (Ok a) = false
+is_write (Err Read) = false
+is_write (Err Nonces) = false
+is_write (Err Store) = false
+is_write (Err NoMemory) = false
+is_write (Err Write) = true
+
+-- a fact of a call that wrote nothing
+abbrev pub IfUnserved : {A : Type 0} → Result A ServeFault → Type 0 → Type 0
+IfUnserved (Ok a) P = Unit {0}
+IfUnserved (Err Read) P = P
+IfUnserved (Err Nonces) P = P
+IfUnserved (Err Store) P = P
+IfUnserved (Err NoMemory) P = P
+IfUnserved (Err Write) P = Unit {0}
+
+-- a call that takes bytes fails by its reader, or by want of memory
+abbrev pub IsOfTaking : ServeFault → Type 0
+IsOfTaking Read = Unit {0}
+IsOfTaking NoMemory = Unit {0}
+IsOfTaking Nonces = ⊥
+IsOfTaking Store = ⊥
+IsOfTaking Write = ⊥

@@ -1,0 +1,21 @@
+-- What taking a nonce does to its source.
+use Rattle.std.specs.Prelude.{◌≡◌, ◌⊎◌, ◌<◌, ◌+◌, ℕ, List, length, Option, Result, Ok, Err}
+use Rattle.std.specs.Io.KnownBytes.{Consumes, IsAtEnd}
+use Rattle.serving.specs.declared.fault.ServeFault.{ServeFault}
+use Rattle.serving.specs.declared.fault.ServeFault.TheVariants.{Read, Nonces, Store, NoMemory, Write}
+
+-- the source had fewer bytes than a nonce has
+pub record Ends (old new : Option (List ℕ)) : Type 0 where
+  pub bytes : List ℕ
+  pub consumed : Consumes old new bytes
+  pub short : length bytes < 32
+  pub ended : IsAtEnd new
+
+-- the source fails or ends where that is the fault, and fails nowhere else
+abbrev pub FailsBy : {A : Type 0} → Result A ServeFault → (failed failed' : ℕ) → (old new : Option (List ℕ)) → Type 0
+FailsBy (Err Nonces) failed failed' old new = (failed' ≡ failed + 1) ⊎ ((failed' ≡ failed) × Ends old new)
+FailsBy (Ok a) failed failed' old new = failed' ≡ failed
+FailsBy (Err Read) failed failed' old new = failed' ≡ failed
+FailsBy (Err Store) failed failed' old new = failed' ≡ failed
+FailsBy (Err NoMemory) failed failed' old new = failed' ≡ failed
+FailsBy (Err Write) failed failed' old new = failed' ≡ failed

@@ -1,0 +1,15 @@
+//! One request, from a reader to a writer.
+//!
+//! `serve_one` takes from a reader the bytes of one request and no more, takes a nonce, has a register answer, and
+//! writes the response. Its contract says exactly which bytes were taken and written, and what each fault leaves.
+#![tactic(auto)]
+
+mod fault;
+mod filling;
+mod serve;
+mod taking;
+#[cfg(test)]
+mod tests;
+
+pub use fault::ServeFault;
+pub use serve::{serve_by, serve_one};

@@ -1,0 +1,98 @@
+//! One request served.
+
+ghost use Rattle.std.specs.Prelude.{◌≡◌, ◌<◌, ◌+◌, List, Err, OnOk, if◌then◌else◌};
+ghost use Rattle.std.specs.Io.KnownBytes.{Appends};
+ghost use Rattle.wire.specs.Streams.{AppendsBeginning};
+ghost use Rattle.office.specs.declared.opening.Opening.{Opening};
+ghost use Rattle.office.specs.declared.arrival.Arrival.{Arrival};
+ghost use Rattle.web.specs.Causes.{FailsWithin};
+ghost use Rattle.serving.specs.Faults.{is_read, is_write, IfUnserved};
+ghost use Rattle.serving.specs.Nonces.{FailsBy};
+ghost use Rattle.serving.specs.Served.{Served};
+
+use crate::fault::ServeFault;
+use crate::taking::{take_nonce, take_request};
+use office::Registry;
+use requests::Routes;
+use std::alloc::Global;
+use web::answer_by;
+use wire::{Failed, Sink, Source, write_all};
+
+/// Serves one request: takes its bytes from the reader and no byte more, takes a nonce of 32 bytes, has the register
+/// answer by them and the moment, and writes the response (RFC 9112).
+///
+/// The head is taken byte by byte, up to the shortest beginning that is a whole head or can't become one, or
+/// `MAX_HEAD` bytes, or the end; then just the body that it asks for, and nothing of it where the head is refused. Each
+/// of the three is lent with fewer than 18446744073709551615 failures.
+pub fn serve_one<R: Source, W: Sink, S: Registry, N: Source>(
+    reader: &mut R,
+    writer: &mut W,
+    registry: &mut S,
+    alloc: Global,
+    moment: u64,
+    nonces: &mut N,
+) -> Result<(), ServeFault>
+    requires reads { R.failed reader.old < u64.MAX }
+    requires writes { W.failed writer.old < u64.MAX }
+    requires draws { N.failed nonces.old < u64.MAX }
+    ensures honest { S.is_honest registry.new → S.is_honest registry.old }
+
+    // One request and one nonce were taken, and the response that is due to them was written.
+    ensures ok { OnOk result ((x : Served (R.remaining reader.old) (R.remaining reader.new) (N.remaining nonces.old) (N.remaining nonces.new) moment (S.is_honest registry.new) (S.means registry.old) (S.means registry.new)) × Appends (W.taken writer.old) (W.taken writer.new) x.response) }
+
+    // The same, but the writer failed after a beginning of the response.
+    ensures write { result ≡ Err ServeFault.Write → (x : Served (R.remaining reader.old) (R.remaining reader.new) (N.remaining nonces.old) (N.remaining nonces.new) moment (S.is_honest registry.new) (S.means registry.old) (S.means registry.new)) × AppendsBeginning (W.taken writer.old) (W.taken writer.new) x.response }
+
+    // After any other fault nothing was written, and the register means what it meant.
+    ensures unwritten { IfUnserved result (writer.new ≡ writer.old) }
+    ensures unchanged { S.is_honest registry.new → IfUnserved result ((o : Opening) (l : List Arrival) → S.means registry.old o l → S.means registry.new o l) }
+
+    // Each fault is answered only where what it names failed, `Nonces` also where the source ended.
+    ensures store { S.is_honest registry.new → result ≡ Err ServeFault.Store → (o : Opening) (l : List Arrival) → S.means registry.old o l → FailsWithin S.means S.fails registry.old registry.new }
+    ensures reader { R.failed reader.new ≡ (if is_read result then R.failed reader.old + 1 else R.failed reader.old) }
+    ensures writer { W.failed writer.new ≡ (if is_write result then W.failed writer.old + 1 else W.failed writer.old) }
+    ensures nonces { FailsBy result (N.failed nonces.old) (N.failed nonces.new) (N.remaining nonces.old) (N.remaining nonces.new) }
+{
+    let routes = Routes::new(alloc)?;
+    serve_by(&routes, reader, writer, registry, alloc, moment, nonces)
+}
+
+/// As `serve_one`, by routes that were made before.
+pub fn serve_by<R: Source, W: Sink, S: Registry, N: Source>(
+    routes: &Routes,
+    reader: &mut R,
+    writer: &mut W,
+    registry: &mut S,
+    alloc: Global,
+    moment: u64,
+    nonces: &mut N,
+) -> Result<(), ServeFault>
+    requires reads { R.failed reader.old < u64.MAX }
+    requires writes { W.failed writer.old < u64.MAX }
+    requires draws { N.failed nonces.old < u64.MAX }
+    ensures honest { S.is_honest registry.new → S.is_honest registry.old }
+
+    // One request and one nonce were taken, and the response that is due to them was written.
+    ensures ok { OnOk result ((x : Served (R.remaining reader.old) (R.remaining reader.new) (N.remaining nonces.old) (N.remaining nonces.new) moment (S.is_honest registry.new) (S.means registry.old) (S.means registry.new)) × Appends (W.taken writer.old) (W.taken writer.new) x.response) }
+
+    // The same, but the writer failed after a beginning of the response.
+    ensures write { result ≡ Err ServeFault.Write → (x : Served (R.remaining reader.old) (R.remaining reader.new) (N.remaining nonces.old) (N.remaining nonces.new) moment (S.is_honest registry.new) (S.means registry.old) (S.means registry.new)) × AppendsBeginning (W.taken writer.old) (W.taken writer.new) x.response }
+
+    // After any other fault nothing was written, and the register means what it meant.
+    ensures unwritten { IfUnserved result (writer.new ≡ writer.old) }
+    ensures unchanged { S.is_honest registry.new → IfUnserved result ((o : Opening) (l : List Arrival) → S.means registry.old o l → S.means registry.new o l) }
+
+    // Each fault is answered only where what it names failed, `Nonces` also where the source ended.
+    ensures store { S.is_honest registry.new → result ≡ Err ServeFault.Store → (o : Opening) (l : List Arrival) → S.means registry.old o l → FailsWithin S.means S.fails registry.old registry.new }
+    ensures reader { R.failed reader.new ≡ (if is_read result then R.failed reader.old + 1 else R.failed reader.old) }
+    ensures writer { W.failed writer.new ≡ (if is_write result then W.failed writer.old + 1 else W.failed writer.old) }
+    ensures nonces { FailsBy result (N.failed nonces.old) (N.failed nonces.new) (N.remaining nonces.old) (N.remaining nonces.new) }
+{
+    let request = take_request(routes, reader, alloc)?;
+    let nonce = take_nonce(nonces)?;
+    let response = answer_by(routes, registry, alloc, &request, moment, &nonce)?;
+    match write_all(writer, &response) {
+        Ok(()) => Ok(()),
+        Err(Failed) => Err(ServeFault::Write),
+    }
+}

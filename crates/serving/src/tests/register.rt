@@ -1,0 +1,75 @@
+//! A register that stands for none.
+
+ghost use Rattle.std.specs.Prelude.{◌≡◌};
+
+use krl::KrlHead;
+use message::Department;
+use office::{Arrival, Ca, Entry, Issued, Outcome, Pending, Registry, Revoked, StoreFault};
+use std::alloc::Global;
+use text::{Text, Texts};
+
+/// It accepts each arrival with one reply, and counts them. It means no history.
+#[derive(Debug, Drop)]
+pub(crate) struct Register {
+    pub(crate) applied: u64,
+}
+
+impl Register {
+    pub(crate) fn new() -> Register {
+        Register { applied: 0 }
+    }
+}
+
+impl Registry for Register {
+    ghost is_honest = { λ _. Unit {0} };
+
+    ghost fails = { λ _ _. ⊥ };
+
+    ghost means = { λ _ _ _. ⊥ };
+
+    fn apply(&mut self, alloc: Global, _arrival: Arrival) -> Result<Outcome, StoreFault> {
+        let reply = Text::from_slice(
+            alloc,
+            b"issued 1\ndigest 6a1f0c55f2a1e0d3d1b2c3d4e5f60718293a4b5c6d7e8f90a1b2c3d4e5f60718\n",
+        )?;
+        self.applied = self.applied.saturating_add(1);
+        Ok(Outcome::Accepted(reply))
+    }
+
+    fn cas(&mut self, alloc: Global) -> Result<Vec<Ca>, StoreFault> {
+        Ok(Vec::new(alloc))
+    }
+
+    fn pending(&mut self, alloc: Global) -> Result<Vec<Pending>, StoreFault> {
+        Ok(Vec::new(alloc))
+    }
+
+    fn body(&mut self, _alloc: Global, _serial: u64) -> Result<Option<Text>, StoreFault> {
+        Ok(None)
+    }
+
+    fn certificate(&mut self, _alloc: Global, _serial: u64) -> Result<Option<Issued>, StoreFault> {
+        Ok(None)
+    }
+
+    fn revoked(&mut self, alloc: Global) -> Result<Revoked, StoreFault> {
+        Ok(Revoked {
+            head: KrlHead {
+                version: 0,
+                date: 0,
+            },
+            parts: Vec::new(alloc),
+            key_ids: Texts::new(alloc),
+        })
+    }
+
+    fn departments(&mut self, alloc: Global) -> Result<Vec<Department>, StoreFault> {
+        Ok(Vec::new(alloc))
+    }
+
+    fn certificates(&mut self, alloc: Global) -> Result<Vec<Entry>, StoreFault> {
+        Ok(Vec::new(alloc))
+    }
+
+    ghost lawful = { λ s o l m. absurd m };
+}
