@@ -1,6 +1,6 @@
 -- What the calls do, from what their texts mean.
-use Rattle.std.proofs.Common.{◌≡◌, ◌⊎◌, inl, inr, ℕ, List, [], length, true, false, None, Option, Ok, Result, refl, subst, IfOk, IfErr, IsTrue}
-use Rattle.std.specs.Prelude.{Vec, OnOk, ◌||◌}
+use Rattle.std.proofs.Common.{◌≡◌, ◌⊎◌, inl, inr, ℕ, List, [], length, true, false, None, Option, Ok, Result, refl, subst, IfOk, IfErr}
+use Rattle.std.specs.Prelude.{Vec, ◌||◌}
 use Rattle.std.specs.declared.alloc.Global.{Global}
 use Rattle.std.specs.List.Sorted.{IsPermutation}
 use Rattle.std.proofs.Common.{map}
@@ -22,7 +22,7 @@ use Rattle.sqlite.proofs.Callers.{IsPlain, command_of, statement_of}
 use Rattle.tables.specs.declared.fault.Fault.{Fault}
 use Rattle.tables.specs.Schema.{whole}
 use Rattle.tables.specs.Contents.{Contents, Holds, Means}
-use Rattle.tables.specs.Calls.{Changes, Finds, FindsOne, FailsBy, Leaves, Never}
+use Rattle.tables.specs.Calls.{Changes, Finds, FindsOne, FailsBy, Leaves, Never, WasOpen}
 use Rattle.tables.specs.Done.{IsDone, IsRead, IsFirstRead}
 use Rattle.tables.specs.Faults.{fault_of, HasCause, HasWriteCause}
 use Rattle.tables.proofs.Statements.{mode, survives_as}
@@ -139,25 +139,17 @@ module _ {X : Type 0} {sql : List ℕ} {params : Row} {cells : X → Row} {of : 
   pub find_all_fails : (r : Result (Vec X Global) Fault) → IsRead cells answer r → FailsBy HasCause old new r
   find_all_fails r read = causes_read cells of f.apart old new answer r read shown causes
 
+  pub find_all_open : (r : Result (Vec X Global) Fault) → IsRead cells answer r → WasOpen old new r
+  find_all_open r read = open_read cells of old new answer r read (answers_open sql params old new answer ok) shown
+
+  pub find_one_open : (r : Result (Option X) Fault) → IsFirstRead cells answer r → WasOpen old new r
+  find_one_open r read = open_first cells of old new answer r read (answers_open sql params old new answer ok) shown
+
   pub find_one : (r : Result (Option X) Fault) → IsFirstRead cells answer r → FindsOne of old new r
   find_one r read = finds_first cells of f.apart old new answer r read shown
 
   pub find_one_fails : (r : Result (Option X) Fault) → IsFirstRead cells answer r → FailsBy HasCause old new r
   find_one_fails r read = causes_first cells of f.apart old new answer r read shown causes
-
--- what is found is found in an open connection
-pub find_all_open : {X : Type 0} (cells : X → Row) (sql : List ℕ) (params : Row) (old new : State)
-    (answer : Result (Vec Row Global) Error) (r : Result (Vec X Global) Fault)
-    → IfOk answer (λ rows. Shown sql params old new rows.items) → IsRead cells answer r → OnOk r (IsTrue old.is_open)
-find_all_open cells sql params old new answer r ok read = open_read cells _ answer r read
-    (answers_open sql params old new answer ok)
-
-pub find_one_open : {X : Type 0} (cells : X → Row) (sql : List ℕ) (params : Row) (old new : State)
-    (answer : Result (Vec Row Global) Error) (r : Result (Option X) Fault)
-    → IfOk answer (λ rows. Shown sql params old new rows.items) → IsFirstRead cells answer r
-    → OnOk r (IsTrue old.is_open)
-find_one_open cells sql params old new answer r ok read = open_first cells _ answer r read
-    (answers_open sql params old new answer ok)
 
 pub find_survives : {X : Type 0} {sql : List ℕ} {params : Row} {cells : X → Row} {of : Contents → List X}
     (f : Find sql params cells of) (old new : State)

@@ -1,6 +1,6 @@
 -- From what a query shows to what a call finds.
-use Rattle.std.proofs.Common.{◌≡◌, ◌≢◌, inl, arith, List, [], ◌∷◌, map, Option, None, Some, Ok, Err, Result, refl, sym, ap, subst, ◌∙◌, IfErr}
-use Rattle.std.specs.Prelude.{Vec, OnOk}
+use Rattle.std.proofs.Common.{◌≡◌, ◌≢◌, inl, inr, IsTrue, arith, List, [], ◌∷◌, map, Option, None, Some, Ok, Err, Result, refl, sym, ap, subst, ◌∙◌, IfErr}
+use Rattle.std.specs.Prelude.{true, false, if◌then◌else◌, Vec, OnOk}
 use Rattle.std.specs.declared.alloc.Global.{Global}
 use Rattle.std.specs.List.Sorted.{IsPermutation}
 use Rattle.std.proofs.lemmas.List.Sorted.{length_permutation}
@@ -9,10 +9,10 @@ use Rattle.sqlite.specs.declared.error.Error.{Error}
 use Rattle.sqlite.specs.State.{State}
 use Rattle.tables.specs.declared.fault.Fault.{Fault}
 use Rattle.tables.specs.declared.fault.Fault.TheVariants.{Device, Damaged, NoMemory}
-use Rattle.tables.specs.Faults.{fault_of, HasCause, Misread}
+use Rattle.tables.specs.Faults.{fault_of, is_out_of_memory, HasCause, Misread}
 use Rattle.tables.specs.Done.{IsFirst, IsRead, IsFirstRead}
 use Rattle.tables.specs.Contents.{Contents, Means}
-use Rattle.tables.specs.Calls.{Finds, FindsOne, IsOneOf}
+use Rattle.tables.specs.Calls.{Fails, Finds, FindsOne, IsOneOf, WasOpen}
 use Rattle.tables.proofs.Texts.{Shows}
 use Rattle.tables.proofs.Unmapped.{unmapped}
 
@@ -91,17 +91,30 @@ module _ {X : Type 0} (cells : X → Row) (of : Contents → List X) (apart : (x
   causes_first (Err e) (Ok xs) read shows causes = absurd read
   causes_first (Err e) (Err f) read shows causes = λ c means. subst (HasCause old new) (sym read) (causes c means)
 
--- an answer that was had was asked of an open connection
-pub open_read : {X : Type 0} (cells : X → Row) (P : Type 0) (answer : Result (Vec Row Global) Error)
-    (r : Result (Vec X Global) Fault) → IsRead cells answer r → OnOk answer P → OnOk r P
-open_read cells P (Ok rows) (Ok xs) read h = h
-open_read cells P (Ok rows) (Err f) read h = tt
-open_read cells P (Err e) (Ok xs) read h = absurd read
-open_read cells P (Err e) (Err f) read h = tt
+-- no error of the database is told as damage
+undamaged : (e : Error) → fault_of e ≡ Damaged → ⊥
+undamaged e is = elim (is_out_of_memory e) as (λ b. (if b then NoMemory else Device) ≡ Damaged → ⊥)
+    [ true ↦ λ h. cc | false ↦ λ h. cc ] is
 
-pub open_first : {X : Type 0} (cells : X → Row) (P : Type 0) (answer : Result (Vec Row Global) Error)
-    (r : Result (Option X) Fault) → IsFirstRead cells answer r → OnOk answer P → OnOk r P
-open_first cells P (Ok rows) (Ok xs) read h = h
-open_first cells P (Ok rows) (Err f) read h = tt
-open_first cells P (Err e) (Ok xs) read h = absurd read
-open_first cells P (Err e) (Err f) read h = tt
+was_open : (old new : State) → Fails old new → IsTrue new.is_open → IsTrue old.is_open
+was_open old new (inl same) still = same.0.was_open
+was_open old new (inr back) still = back.was_open still
+
+-- an answer that was had was asked of an open connection
+pub open_read : {X : Type 0} (cells : X → Row) (of : Contents → List X) (old new : State)
+    (answer : Result (Vec Row Global) Error) (r : Result (Vec X Global) Fault) → IsRead cells answer r
+    → OnOk answer (IsTrue old.is_open) → Shows cells of old new answer → WasOpen old new r
+open_read cells of old new (Ok rows) (Ok xs) read was shows = was
+open_read cells of old new (Ok rows) (Err f) read was shows = (λ _. was, λ _. was)
+open_read cells of old new (Err e) (Ok xs) read was shows = absurd read
+open_read cells of old new (Err e) (Err f) read was shows =
+    (was_open old new shows, λ damaged. absurd (undamaged e (sym read ∙ damaged)))
+
+pub open_first : {X : Type 0} (cells : X → Row) (of : Contents → List X) (old new : State)
+    (answer : Result (Vec Row Global) Error) (r : Result (Option X) Fault) → IsFirstRead cells answer r
+    → OnOk answer (IsTrue old.is_open) → Shows cells of old new answer → WasOpen old new r
+open_first cells of old new (Ok rows) (Ok xs) read was shows = was
+open_first cells of old new (Ok rows) (Err f) read was shows = (λ _. was, λ _. was)
+open_first cells of old new (Err e) (Ok xs) read was shows = absurd read
+open_first cells of old new (Err e) (Err f) read was shows =
+    (was_open old new shows, λ damaged. absurd (undamaged e (sym read ∙ damaged)))

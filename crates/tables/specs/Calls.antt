@@ -10,6 +10,7 @@ use Rattle.sqlite.specs.Table.{Table}
 use Rattle.sqlite.specs.Change.{created, next_tree, KeepsRows}
 use Rattle.sqlite.specs.State.{State, IsUnchanged, IsRolledBack, KeepsCommit, Shows}
 use Rattle.tables.specs.declared.fault.Fault.{Fault}
+use Rattle.tables.specs.declared.fault.Fault.TheVariants.{Damaged}
 use Rattle.tables.specs.Contents.{Contents, Means, MeansWithoutCa, Kept, no_contents}
 
 -- the connection shows these contents; a transaction goes on, and outside one they are committed
@@ -49,6 +50,11 @@ FindsOne of old new (Err e) = (c : Contents) → Means old.now c → Fails old n
 abbrev pub Rises : {X K E : Type 0} → (X → K) → (K → K → Ordering) → State → Result (Vec X Global) E → Type 0
 Rises key cmp old (Ok found) = (c : Contents) → Means old.now c → IsSortedByKey key cmp found.items
 Rises key cmp old (Err e) = Unit {0}
+
+-- what is answered was asked of an open connection, and so was what is told damaged; one that is open was so before
+abbrev pub WasOpen : {X : Type 0} → State → State → Result X Fault → Type 0
+WasOpen old new (Ok x) = IsTrue old.is_open
+WasOpen old new (Err f) = (IsTrue new.is_open → IsTrue old.is_open) × (f ≡ Damaged → IsTrue old.is_open)
 
 -- what a call that a crash cuts off may have committed
 abbrev pub Leaves : (Contents → Contents) → State → Trees → Type 0

@@ -47,3 +47,9 @@ abbrev pub Misread : Type 0 → Fault → Type 0
 Misread P NoMemory = Unit {0}
 Misread P Damaged = P
 Misread P Device = ⊥
+
+-- a statement that shows no rows tells of none that are damaged
+abbrev pub IsOfStatement : Fault → Type 0
+IsOfStatement NoMemory = Unit {0}
+IsOfStatement Device = Unit {0}
+IsOfStatement Damaged = ⊥

@@ -1,13 +1,13 @@
 //! The table of certificates.
 
-ghost use Rattle.std.specs.Prelude.{◌≡◌, ◌∷◌, [], IsTrue, OnOk, pos};
+ghost use Rattle.std.specs.Prelude.{◌≡◌, ◌∷◌, [], pos};
 ghost use Rattle.std.specs.Ordering.{nat_cmp};
 ghost use Rattle.sqlite.specs.Held.{state};
 ghost use Rattle.sqlite.specs.State.{HasCleanDisk, Survives};
 ghost use Rattle.sqlite.specs.declared.types.Value.TheVariants.{Int, Blob};
 ghost use Rattle.tables.specs.Cells.{cert_cells};
 ghost use Rattle.tables.specs.Changes.{certs_numbered, with_cert, with_signature};
-ghost use Rattle.tables.specs.Calls.{Changes, FailsBy, Finds, FindsOne, Leaves, Never, Rises};
+ghost use Rattle.tables.specs.Calls.{Changes, FailsBy, Finds, FindsOne, Leaves, Never, Rises, WasOpen};
 ghost use Rattle.tables.specs.Faults.{HasCause, HasWriteCause};
 
 use crate::columns::{Columns, found, found_first};
@@ -107,7 +107,8 @@ pub fn find_cert<S: Alter>(
 ) -> Result<Option<CertRow>, Fault>
     ensures finds { HasCleanDisk (state S.Store conn.new) →
         FindsOne (certs_numbered serial) (state S.Store conn.old) (state S.Store conn.new) result }
-    ensures was_open { HasCleanDisk (state S.Store conn.new) → OnOk result (IsTrue (state S.Store conn.old).is_open) }
+    ensures was_open { HasCleanDisk (state S.Store conn.new)
+        → WasOpen (state S.Store conn.old) (state S.Store conn.new) result }
     ensures fault { HasCleanDisk (state S.Store conn.new) →
         FailsBy HasCause (state S.Store conn.old) (state S.Store conn.new) result }
     ensures survives { Survives (state S.Store conn.old) (state S.Store conn.new) (Never (state S.Store conn.old)) }
@@ -121,7 +122,8 @@ pub fn every_cert<S: Alter>(alloc: Global, conn: &mut Connection<S>) -> Result<V
         Finds (λ c. c.certs) (state S.Store conn.old) (state S.Store conn.new) result }
     ensures sorted { HasCleanDisk (state S.Store conn.new)
         → Rises (λ c. c.serial) (nat_cmp) (state S.Store conn.old) result }
-    ensures was_open { HasCleanDisk (state S.Store conn.new) → OnOk result (IsTrue (state S.Store conn.old).is_open) }
+    ensures was_open { HasCleanDisk (state S.Store conn.new)
+        → WasOpen (state S.Store conn.old) (state S.Store conn.new) result }
     ensures fault { HasCleanDisk (state S.Store conn.new) →
         FailsBy HasCause (state S.Store conn.old) (state S.Store conn.new) result }
     ensures survives { Survives (state S.Store conn.old) (state S.Store conn.new) (Never (state S.Store conn.old)) }

@@ -1,8 +1,10 @@
 //! The tables themselves.
 
+ghost use Rattle.std.specs.Prelude.{IfErr};
 ghost use Rattle.sqlite.specs.Held.{state};
 ghost use Rattle.sqlite.specs.State.{HasCleanDisk, Survives};
 ghost use Rattle.tables.specs.Schema.{no_schema, with_office, with_department, with_cert, with_request, with_run, without_ca, office, department, cert, request, run, revoked_keyid, ca};
+ghost use Rattle.tables.specs.Faults.{IsOfStatement};
 ghost use Rattle.tables.specs.Calls.{AddsCa, Completes, Creates, Waits};
 
 use crate::fault::{Fault, done};
@@ -15,6 +17,7 @@ use sqlite::{Alter, Connection};
 fn create_office<S: Alter>(conn: &mut Connection<S>) -> Result<(), Fault>
     ensures creates { HasCleanDisk (state S.Store conn.new) →
         Creates no_schema office (state S.Store conn.old) (state S.Store conn.new) result }
+    ensures undamaged { IfErr result IsOfStatement }
     ensures survives { Survives (state S.Store conn.old) (state S.Store conn.new)
         (Waits no_schema (state S.Store conn.old)) }
 {
@@ -24,6 +27,7 @@ fn create_office<S: Alter>(conn: &mut Connection<S>) -> Result<(), Fault>
 fn create_department<S: Alter>(conn: &mut Connection<S>) -> Result<(), Fault>
     ensures creates { HasCleanDisk (state S.Store conn.new) →
         Creates with_office department (state S.Store conn.old) (state S.Store conn.new) result }
+    ensures undamaged { IfErr result IsOfStatement }
     ensures survives { Survives (state S.Store conn.old) (state S.Store conn.new)
         (Waits with_office (state S.Store conn.old)) }
 {
@@ -33,6 +37,7 @@ fn create_department<S: Alter>(conn: &mut Connection<S>) -> Result<(), Fault>
 fn create_cert<S: Alter>(conn: &mut Connection<S>) -> Result<(), Fault>
     ensures creates { HasCleanDisk (state S.Store conn.new) →
         Creates with_department cert (state S.Store conn.old) (state S.Store conn.new) result }
+    ensures undamaged { IfErr result IsOfStatement }
     ensures survives { Survives (state S.Store conn.old) (state S.Store conn.new)
         (Waits with_department (state S.Store conn.old)) }
 {
@@ -42,6 +47,7 @@ fn create_cert<S: Alter>(conn: &mut Connection<S>) -> Result<(), Fault>
 fn create_request<S: Alter>(conn: &mut Connection<S>) -> Result<(), Fault>
     ensures creates { HasCleanDisk (state S.Store conn.new) →
         Creates with_cert request (state S.Store conn.old) (state S.Store conn.new) result }
+    ensures undamaged { IfErr result IsOfStatement }
     ensures survives { Survives (state S.Store conn.old) (state S.Store conn.new)
         (Waits with_cert (state S.Store conn.old)) }
 {
@@ -51,6 +57,7 @@ fn create_request<S: Alter>(conn: &mut Connection<S>) -> Result<(), Fault>
 fn create_run<S: Alter>(conn: &mut Connection<S>) -> Result<(), Fault>
     ensures creates { HasCleanDisk (state S.Store conn.new) →
         Creates with_request run (state S.Store conn.old) (state S.Store conn.new) result }
+    ensures undamaged { IfErr result IsOfStatement }
     ensures survives { Survives (state S.Store conn.old) (state S.Store conn.new)
         (Waits with_request (state S.Store conn.old)) }
 {
@@ -60,6 +67,7 @@ fn create_run<S: Alter>(conn: &mut Connection<S>) -> Result<(), Fault>
 fn create_revoked<S: Alter>(conn: &mut Connection<S>) -> Result<(), Fault>
     ensures creates { HasCleanDisk (state S.Store conn.new) →
         Creates with_run revoked_keyid (state S.Store conn.old) (state S.Store conn.new) result }
+    ensures undamaged { IfErr result IsOfStatement }
     ensures survives { Survives (state S.Store conn.old) (state S.Store conn.new)
         (Waits with_run (state S.Store conn.old)) }
 {
@@ -72,6 +80,7 @@ pub fn create_ca<S: Alter>(conn: &mut Connection<S>) -> Result<(), Fault>
         Creates without_ca ca (state S.Store conn.old) (state S.Store conn.new) result }
     ensures adds { HasCleanDisk (state S.Store conn.new)
         → AddsCa (state S.Store conn.old) (state S.Store conn.new) result }
+    ensures undamaged { IfErr result IsOfStatement }
     ensures survives { Survives (state S.Store conn.old) (state S.Store conn.new)
         (Waits without_ca (state S.Store conn.old)) }
 {
@@ -81,6 +90,7 @@ pub fn create_ca<S: Alter>(conn: &mut Connection<S>) -> Result<(), Fault>
 fn complete_revoked<S: Alter>(conn: &mut Connection<S>) -> Result<(), Fault>
     ensures completes { HasCleanDisk (state S.Store conn.new) →
         Completes with_run (state S.Store conn.old) (state S.Store conn.new) result }
+    ensures undamaged { IfErr result IsOfStatement }
     ensures survives { Survives (state S.Store conn.old) (state S.Store conn.new)
         (Waits with_run (state S.Store conn.old)) }
 {
@@ -91,6 +101,7 @@ fn complete_revoked<S: Alter>(conn: &mut Connection<S>) -> Result<(), Fault>
 fn complete_run<S: Alter>(conn: &mut Connection<S>) -> Result<(), Fault>
     ensures completes { HasCleanDisk (state S.Store conn.new) →
         Completes with_request (state S.Store conn.old) (state S.Store conn.new) result }
+    ensures undamaged { IfErr result IsOfStatement }
     ensures survives { Survives (state S.Store conn.old) (state S.Store conn.new)
         (Waits with_request (state S.Store conn.old)) }
 {
@@ -101,6 +112,7 @@ fn complete_run<S: Alter>(conn: &mut Connection<S>) -> Result<(), Fault>
 fn complete_request<S: Alter>(conn: &mut Connection<S>) -> Result<(), Fault>
     ensures completes { HasCleanDisk (state S.Store conn.new) →
         Completes with_cert (state S.Store conn.old) (state S.Store conn.new) result }
+    ensures undamaged { IfErr result IsOfStatement }
     ensures survives { Survives (state S.Store conn.old) (state S.Store conn.new)
         (Waits with_cert (state S.Store conn.old)) }
 {
@@ -111,6 +123,7 @@ fn complete_request<S: Alter>(conn: &mut Connection<S>) -> Result<(), Fault>
 fn complete_cert<S: Alter>(conn: &mut Connection<S>) -> Result<(), Fault>
     ensures completes { HasCleanDisk (state S.Store conn.new) →
         Completes with_department (state S.Store conn.old) (state S.Store conn.new) result }
+    ensures undamaged { IfErr result IsOfStatement }
     ensures survives { Survives (state S.Store conn.old) (state S.Store conn.new)
         (Waits with_department (state S.Store conn.old)) }
 {
@@ -121,6 +134,7 @@ fn complete_cert<S: Alter>(conn: &mut Connection<S>) -> Result<(), Fault>
 fn complete_department<S: Alter>(conn: &mut Connection<S>) -> Result<(), Fault>
     ensures completes { HasCleanDisk (state S.Store conn.new) →
         Completes with_office (state S.Store conn.old) (state S.Store conn.new) result }
+    ensures undamaged { IfErr result IsOfStatement }
     ensures survives { Survives (state S.Store conn.old) (state S.Store conn.new)
         (Waits with_office (state S.Store conn.old)) }
 {
@@ -132,6 +146,7 @@ fn complete_department<S: Alter>(conn: &mut Connection<S>) -> Result<(), Fault>
 pub fn create_tables<S: Alter>(conn: &mut Connection<S>) -> Result<(), Fault>
     ensures completes { HasCleanDisk (state S.Store conn.new) →
         Completes no_schema (state S.Store conn.old) (state S.Store conn.new) result }
+    ensures undamaged { IfErr result IsOfStatement }
     ensures survives { Survives (state S.Store conn.old) (state S.Store conn.new)
         (Waits no_schema (state S.Store conn.old)) }
 {

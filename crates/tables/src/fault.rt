@@ -1,6 +1,8 @@
 //! Why a call on the tables fails.
 
+ghost use Rattle.std.specs.Prelude.{IfErr};
 ghost use Rattle.tables.specs.Done.{IsDone};
+ghost use Rattle.tables.specs.Faults.{IsOfStatement};
 
 use sqlite::{Error, ErrorCode};
 
@@ -42,7 +44,8 @@ impl From<text::NoMemory> for Fault {
 
 /// What a statement that shows no rows answers.
 pub(crate) fn done(answer: Result<usize, Error>) -> Result<(), Fault>
-    ensures { IsDone answer result }
+    ensures is { IsDone answer result }
+    ensures undamaged { IfErr result IsOfStatement }
 {
     match answer {
         Ok(_) => Ok(()),

@@ -1,11 +1,11 @@
 //! The table of requests.
 
-ghost use Rattle.std.specs.Prelude.{◌≡◌, ◌∷◌, [], IsTrue, OnOk};
+ghost use Rattle.std.specs.Prelude.{◌≡◌, ◌∷◌, []};
 ghost use Rattle.sqlite.specs.Held.{state};
 ghost use Rattle.sqlite.specs.State.{HasCleanDisk, Survives};
 ghost use Rattle.tables.specs.Cells.{request_cells};
 ghost use Rattle.tables.specs.Changes.{requests_for, with_request};
-ghost use Rattle.tables.specs.Calls.{Changes, FailsBy, FindsOne, Leaves, Never};
+ghost use Rattle.tables.specs.Calls.{Changes, FailsBy, FindsOne, Leaves, Never, WasOpen};
 ghost use Rattle.tables.specs.Faults.{HasCause, HasWriteCause};
 
 use crate::columns::{Columns, found_first};
@@ -90,7 +90,8 @@ pub fn find_request<S: Alter>(
 ) -> Result<Option<RequestRow>, Fault>
     ensures finds { HasCleanDisk (state S.Store conn.new) →
         FindsOne (requests_for caller.now key.now) (state S.Store conn.old) (state S.Store conn.new) result }
-    ensures was_open { HasCleanDisk (state S.Store conn.new) → OnOk result (IsTrue (state S.Store conn.old).is_open) }
+    ensures was_open { HasCleanDisk (state S.Store conn.new)
+        → WasOpen (state S.Store conn.old) (state S.Store conn.new) result }
     ensures fault { HasCleanDisk (state S.Store conn.new) →
         FailsBy HasCause (state S.Store conn.old) (state S.Store conn.new) result }
     ensures survives { Survives (state S.Store conn.old) (state S.Store conn.new) (Never (state S.Store conn.old)) }

@@ -1,5 +1,4 @@
 use Rattle.sqlite.specs.Held.{state}
-use Rattle.tables.specs.Cells.{cert_cells}
 use Rattle.tables.proofs.CallLemmas.{find_one, find_one_fails, find_one_open, find_survives}
 use Rattle.tables.proofs.CertTable.{find}
 use Rattle.tables.proofs.certs.find_cert.Goals as goal
@@ -13,8 +12,8 @@ returns g c =
     record {
       finds = λ clean. find_one query old new c.query_all.result (rw c.value.ensures at (q.ok clean))
           (rw c.value.ensures at (q.err clean)) c.found_first.result c.found_first.ensures;
-      was_open = λ clean. find_one_open cert_cells _ _ old new c.query_all.result c.found_first.result (q.ok clean)
-          c.found_first.ensures;
+      was_open = λ clean. find_one_open query old new c.query_all.result (rw c.value.ensures at (q.ok clean))
+          (rw c.value.ensures at (q.err clean)) c.found_first.result c.found_first.ensures;
       fault = λ clean. find_one_fails query old new c.query_all.result (rw c.value.ensures at (q.ok clean))
           (rw c.value.ensures at (q.err clean)) c.found_first.result c.found_first.ensures;
       survives = find_survives query old new (rw c.value.ensures at q.survives);

@@ -11,10 +11,11 @@ returns g c =
     let old = state g.S.Store c.args.conn.now in
     let new = state g.S.Store c.execute.new.self in
     record {
-      creates = λ clean. creates_done old new without_ca ca c.execute.result c.done.result c.done.ensures
+      creates = λ clean. creates_done old new without_ca ca c.execute.result c.done.result c.done.ensures.is
           (creates ca_text old new c.execute.result (c.execute.ensures.runs clean));
       adds = λ clean. adds_ca old new c.done.result
-          (creates_done old new without_ca ca c.execute.result c.done.result c.done.ensures
+          (creates_done old new without_ca ca c.execute.result c.done.result c.done.ensures.is
           (creates ca_text old new c.execute.result (c.execute.ensures.runs clean)));
+      undamaged = c.done.ensures.undamaged;
       survives = survives_as old new _ _ (creates_left ca_text old) c.execute.ensures.survives;
     }

@@ -10,7 +10,8 @@ returns g c =
     let old = state g.S.Store c.args.conn.now in
     let new = state g.S.Store c.execute.new.self in
     record {
-      creates = λ clean. creates_done old new with_cert request c.execute.result c.done.result c.done.ensures
+      creates = λ clean. creates_done old new with_cert request c.execute.result c.done.result c.done.ensures.is
           (creates request_text old new c.execute.result (c.execute.ensures.runs clean));
+      undamaged = c.done.ensures.undamaged;
       survives = survives_as old new _ _ (creates_left request_text old) c.execute.ensures.survives;
     }

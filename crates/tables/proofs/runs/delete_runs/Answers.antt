@@ -9,9 +9,9 @@ returns g c =
     let new = state g.S.Store c.execute.new.self in
     let write = delete c.args.ends.now in
     record {
-      changes = λ clean. write_changes write old new c.execute.result c.done.result c.done.ensures
+      changes = λ clean. write_changes write old new c.execute.result c.done.result c.done.ensures.is
           (rw c.values.ensures at (c.execute.ensures.runs clean));
-      fault = λ clean. write_fails write old new c.execute.result c.done.result c.done.ensures
+      fault = λ clean. write_fails write old new c.execute.result c.done.result c.done.ensures.is
           (rw c.values.ensures at (c.execute.ensures.runs clean));
       survives = write_survives write old new (rw c.values.ensures at c.execute.ensures.survives);
     }

@@ -11,9 +11,9 @@ returns g c =
     let new = state g.S.Store c.execute.new.self in
     let answer = c.execute.result in
     record {
-      begins = λ clean. begins_done old new answer c.done.result c.done.ensures
+      begins = λ clean. begins_done old new answer c.done.result c.done.ensures.is
           (begins old new answer (c.execute.ensures.runs clean));
-      fault = λ clean outside. fault_done (HasCause old new) answer c.done.result c.done.ensures
+      fault = λ clean outside. fault_done (HasCause old new) answer c.done.result c.done.ensures.is
           (begin_faults old new answer outside (c.execute.ensures.runs clean));
       survives = survives_as old new _ _ (begin_never old) c.execute.ensures.survives;
     }

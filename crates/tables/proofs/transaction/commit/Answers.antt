@@ -11,9 +11,9 @@ returns g c =
     let new = state g.S.Store c.execute.new.self in
     let answer = c.execute.result in
     record {
-      commits = λ clean. commits_done old new answer c.done.result c.done.ensures
+      commits = λ clean. commits_done old new answer c.done.result c.done.ensures.is
           (commits old new answer (c.execute.ensures.runs clean));
-      fault = λ clean inside. fault_done (HasCause old new) answer c.done.result c.done.ensures
+      fault = λ clean inside. fault_done (HasCause old new) answer c.done.result c.done.ensures.is
           (commit_faults old new answer inside (c.execute.ensures.runs clean));
       survives = survives_as old new _ _ (commit_leaves old) c.execute.ensures.survives;
     }
