@@ -1,0 +1,12 @@
+pub mod Answering
+pub mod Bare
+pub mod CaRows
+pub mod CertRows
+pub mod DepartmentRows
+pub mod Each
+pub mod OfficeRows
+pub mod OneOffice
+pub mod Same
+pub mod Sorting
+pub mod Steps
+pub mod Telling

@@ -1,0 +1,72 @@
+-- A look at the tables of an office.
+use Rattle.std.proofs.Common.{◌≡◌, Bool, true, false, List, [], ◌∷◌, refl, sym, ◌∙◌, arith}
+use Rattle.std.specs.Prelude.{◌==◌, if◌then◌else◌, Result, Ok, Err, IsPermutation, All}
+use Rattle.std.specs.List.{list_any}
+use Rattle.std.proofs.lemmas.List.Sorted.{length_permutation, All-permutation}
+use Rattle.std.proofs.lemmas.List.Elements.{All-cons, All-nil}
+use Rattle.sqlite.specs.Schema.{Schema}
+use Rattle.tables.specs.Schema.{whole}
+use Rattle.tables.specs.Look.{is_office_table, whole_is_office}
+use Rattle.tables.specs.Contents.{Contents}
+use Rattle.tables.specs.declared.offices.OfficeRow.{OfficeRow}
+use Rattle.office.specs.declared.fault.StoreFault.{StoreFault}
+use Rattle.office.specs.declared.fault.StoreFault.TheVariants.{AlreadyAnOffice, NotAnOffice, WrongSchema, Damaged, Device, NoMemory}
+use Rattle.office.specs.Faults.{IsOfARegister}
+use Rattle.store.specs.Meaning.{Looks, opened_by}
+
+-- the office's tables are seen
+pub unseen : (b : Bool) (s : Schema) → b ≡ list_any is_office_table s.tables → b ≡ false → s ≡ whole → ⊥
+unseen b s is off same =
+    let seen : list_any is_office_table s.tables ≡ true = rw same whole_is_office in
+    let found : true ≡ false = sym (is ∙ seen) ∙ off in
+    cc
+
+-- the order of the rows is nothing
+opened_same : (xs ys : List OfficeRow) → IsPermutation xs ys → opened_by xs ≡ opened_by ys
+opened_same [] [] p = refl
+opened_same [] (y ∷ ys) p = absurd (let many = length_permutation [] (y ∷ ys) p in omega arith)
+opened_same (x ∷ []) [] p = absurd (let many = length_permutation (x ∷ []) [] p in omega arith)
+opened_same (x ∷ []) (y ∷ []) p =
+    let one : All (λ z. z ≡ x) (x ∷ []) = All-cons (λ z. z ≡ x) x [] refl (All-nil (λ z. z ≡ x)) in
+    let same : y ≡ x = All-permutation (λ z. z ≡ x) (x ∷ []) (y ∷ []) p one 0 y (omega arith) in
+    rw same refl
+opened_same (x ∷ []) (y ∷ z ∷ ys) p = absurd (let many = length_permutation (x ∷ []) (y ∷ z ∷ ys) p in omega arith)
+opened_same (x ∷ w ∷ xs) [] p = absurd (let many = length_permutation (x ∷ w ∷ xs) [] p in omega arith)
+opened_same (x ∷ w ∷ xs) (y ∷ []) p = absurd (let many = length_permutation (x ∷ w ∷ xs) (y ∷ []) p in omega arith)
+opened_same (x ∷ w ∷ xs) (y ∷ z ∷ ys) p = refl
+
+abbrev if_current : Bool → Result (Unit {0}) StoreFault
+if_current b = if b then Ok tt else Err WrongSchema
+
+not_device : (b : Bool) → if_current b ≡ Err Device → ⊥
+not_device true e = cc
+not_device false e = cc
+
+never_device : (rows : List OfficeRow) → opened_by rows ≡ Err Device → ⊥
+never_device [] e = cc
+never_device (row ∷ []) e = not_device (row.schema == 2) e
+never_device (row ∷ other ∷ rows) e = cc
+
+-- what the rows say
+pub looked : (c : Contents) (failed : Type 0) (rows : List OfficeRow) (r : Result (Unit {0}) StoreFault)
+    → IsPermutation c.offices rows → r ≡ opened_by rows → Looks c failed r
+looked c failed rows r p is = go r (opened_same c.offices rows p ∙ sym is)
+  where
+    go : (r : Result (Unit {0}) StoreFault) → opened_by c.offices ≡ r → Looks c failed r
+    go (Ok x) e = e
+    go (Err NoMemory) e = tt
+    go (Err Device) e = absurd (never_device c.offices e)
+    go (Err NotAnOffice) e = e
+    go (Err WrongSchema) e = e
+    go (Err Damaged) e = e
+    go (Err AlreadyAnOffice) e = e
+
+-- an office is not missed
+pub not_missed : (c : Contents) (failed : Type 0) (e : StoreFault) → opened_by c.offices ≡ Ok tt → Looks c failed (Err e)
+    → IsOfARegister e
+not_missed c failed NoMemory is h = tt
+not_missed c failed Device is h = tt
+not_missed c failed NotAnOffice is h = absurd cc
+not_missed c failed WrongSchema is h = absurd cc
+not_missed c failed Damaged is h = absurd cc
+not_missed c failed AlreadyAnOffice is h = absurd cc

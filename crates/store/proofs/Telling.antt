@@ -1,0 +1,34 @@
+-- What a call leaves of what the tables tell.
+use Rattle.std.proofs.Common.{inl, inr, IsTrue, sym, subst, ◌∙◌}
+use Rattle.std.specs.Prelude.{List}
+use Rattle.sqlite.specs.State.{State}
+use Rattle.tables.specs.Contents.{Contents, Means}
+use Rattle.tables.specs.Calls.{Fails}
+use Rattle.office.specs.declared.opening.Opening.{Opening}
+use Rattle.office.specs.declared.arrival.Arrival.{Arrival}
+use Rattle.store.specs.Transactions.{Rests, Has}
+use Rattle.store.specs.Rows.{office_contents}
+use Rattle.store.specs.Meaning.{Tells}
+
+-- nothing changed, or a transaction was undone that was not there
+pub rests_still : (old new : State) (c : Contents) → Fails old new → IsTrue new.is_open → Rests (Has c) old → Rests (Has c) new
+rests_still old new c (inl same) still r = record {
+  autocommit = same.0.mode ∙ r.autocommit;
+  now = subst (Has c) (sym same.0.now_is) r.now;
+  committed = subst (Has c) (sym same.0.committed_is) r.committed;
+}
+rests_still old new c (inr back) still r = record {
+  autocommit = back.autocommit;
+  now = subst (Has c) (sym (back.undone still).0) r.committed;
+  committed = subst (Has c) (sym (back.undone still).1) r.committed;
+}
+
+-- a call that was asked of an open connection, and leaves tables with contents as they are
+pub tells_still : (old new : State) → (IsTrue new.is_open → IsTrue old.is_open)
+    → ((c : Contents) → Means old.now c → Fails old new)
+    → (o : Opening) (l : List Arrival) → Tells old o l → Tells new o l
+tells_still old new was fails o l tells = record {
+  history = tells.history;
+  rows = λ still.
+      let r = tells.rows (was still) in rests_still old new (office_contents o l) (fails (office_contents o l) r.now) still r;
+}

@@ -1,0 +1,28 @@
+use Rattle.std.proofs.Common.{inl}
+use Rattle.sqlite.specs.Held.{state}
+use Rattle.tables.specs.Faults.{HasFailed}
+use Rattle.store.proofs.OfficeRows.{looked, unseen}
+use Rattle.store.proofs.Telling.{tells_still}
+use Rattle.store.proofs.looking.look.Goals as goal
+
+pub returns-then-not-has_office-clause-looks : goal.returns-then-not-has_office-clause-looks
+returns-then-not-has_office-clause-looks g c clean con means =
+    absurd (unseen c.has_office.result (state g.S.Store c.args.conn.now).now.schema c.has_office.ensures
+    c.if-not-has_office.true means.schema)
+
+pub returns-in-Ok-clause-looks : goal.returns-in-Ok-clause-looks
+returns-in-Ok-clause-looks g c clean con means =
+    let old = state g.S.Store c.args.conn.now in
+    let new = state g.S.Store c.every_office.new.conn in
+    looked con (HasFailed old new) c.in-Ok.rows.items c.opened_by.result (c.in-Ok.ensures.finds clean con means).1
+    (rw c.as_slice.ensures.value at c.opened_by.ensures)
+
+pub returns-in-Ok-clause-same : goal.returns-in-Ok-clause-same
+returns-in-Ok-clause-same g c clean =
+    tells_still (state g.S.Store c.args.conn.now) (state g.S.Store c.every_office.new.conn)
+    (λ _. c.in-Ok.ensures.was_open clean) (λ con means. inl (c.in-Ok.ensures.finds clean con means).0)
+
+pub returns-in-Err-clause-same : goal.returns-in-Err-clause-same
+returns-in-Err-clause-same g c clean =
+    tells_still (state g.S.Store c.args.conn.now) (state g.S.Store c.every_office.new.conn)
+    (c.in-Err.ensures.was_open clean).0 (c.in-Err.ensures.finds clean)

@@ -1,0 +1,43 @@
+-- What the tables mean.
+use Rattle.std.specs.Prelude.{◌≡◌, List, [], ◌∷◌, length, ◌==◌, if◌then◌else◌, IsTrue, Result, Ok, Err}
+use Rattle.std.specs.List.{AllByRecursion}
+use Rattle.sqlite.specs.State.{State}
+use Rattle.office.specs.declared.opening.Opening.{Opening}
+use Rattle.office.specs.declared.arrival.Arrival.{Arrival}
+use Rattle.office.specs.declared.fault.StoreFault.{StoreFault}
+use Rattle.office.specs.declared.fault.StoreFault.TheVariants.{Device, NoMemory, NotAnOffice, WrongSchema}
+use Rattle.office.specs.Shows.{IsOffice}
+use Rattle.tables.specs.declared.offices.OfficeRow.{OfficeRow}
+use Rattle.tables.specs.Contents.{Contents}
+use Rattle.tables.specs.Schema.{no_schema}
+use Rattle.tables.specs.Calls.{IsBare}
+use Rattle.store.specs.Rows.{office_contents}
+use Rattle.store.specs.Transactions.{Rests, Has}
+
+-- no transaction is open, and the database has no table
+abbrev pub IsBlank : State → Type 0
+IsBlank s = Rests (IsBare no_schema) s
+
+-- an office's history: a lawful opening, and arrivals with nonces of 32 bytes
+pub record IsHistory (o : Opening) (l : List Arrival) : Type 0 where
+  pub office : IsOffice o l
+  pub nonces : AllByRecursion (λ a. length a.nonce ≡ 32) l
+
+-- No transaction is open, and the tables hold the rows of the office of this opening after this history. Of a connection
+-- that a failed disk has shut nothing is said.
+pub record Tells (s : State) (o : Opening) (l : List Arrival) : Type 0 where
+  pub history : IsHistory o l
+  pub rows : IsTrue s.is_open → Rests (Has (office_contents o l)) s
+
+-- what an open answers to the rows of the table of the office: there is one, of the schema that this store has
+abbrev pub opened_by : List OfficeRow → Result (Unit {0}) StoreFault
+opened_by [] = Err NotAnOffice
+opened_by (row ∷ []) = if row.schema == 2 then Ok tt else Err WrongSchema
+opened_by (row ∷ other ∷ rows) = Err NotAnOffice
+
+-- of tables with these contents a look finds what their office's row says, or memory is refused or the database failed
+abbrev pub Looks : Contents → Type 0 → Result (Unit {0}) StoreFault → Type 0
+Looks c failed (Ok x) = opened_by c.offices ≡ Ok x
+Looks c failed (Err NoMemory) = Unit {0}
+Looks c failed (Err Device) = failed
+Looks c failed (Err e) = opened_by c.offices ≡ Err e

@@ -1,0 +1,82 @@
+//! The register, from its connection and back.
+
+ghost use Rattle.std.specs.Prelude.{◌≡◌, false, [], List, IfErr, IfOk, IsTrue};
+ghost use Rattle.std.specs.List.{list_any};
+ghost use Rattle.sqlite.specs.Held.{state};
+ghost use Rattle.sqlite.specs.State.{HasCleanDisk};
+ghost use Rattle.tables.specs.Look.{is_office_name, is_office_table};
+ghost use Rattle.office.specs.declared.opening.Opening.{Opening};
+ghost use Rattle.office.specs.declared.arrival.Arrival.{Arrival};
+ghost use Rattle.office.specs.Openings.{IsOpening};
+ghost use Rattle.office.specs.Faults.{IsOfARegister};
+ghost use Rattle.store.specs.Meaning.{IsBlank, Tells};
+
+use crate::creating::create;
+use crate::fault::fault_of;
+use crate::looking::look;
+use office::{Opening, StoreFault};
+use sqlite::{Alter, Connection};
+use std::alloc::Global;
+use tables::has_any_table;
+
+/// An office's register in the tables of a database.
+pub struct Store<S: Alter> {
+    pub(crate) conn: Connection<S>,
+}
+
+impl<S: Alter> Store<S> {
+    /// An office in which nothing has happened yet, in a database without tables. `AlreadyAnOffice` where the database has
+    /// a table of a name that an office needs. All tables are made or, with a fault, which gives the connection back,
+    /// none.
+    pub fn init(
+        alloc: Global,
+        conn: Connection<S>,
+        opening: &Opening,
+    ) -> Result<Store<S>, (StoreFault, Connection<S>)>
+        requires outside { (state S.Store conn).in_transaction ≡ false }
+        requires lawful { IsOpening opening.now }
+        ensures made { IfOk result (λ s. HasCleanDisk (state S.Store s.conn) → IsBlank (state S.Store conn)
+            → Tells (state S.Store s.conn) opening.now []) }
+        ensures already { IsTrue (list_any is_office_name (state S.Store conn).now.schema.tables)
+            → result ≡ Err (record { 0 = StoreFault.AlreadyAnOffice; 1 = conn }) }
+        ensures blank { IfErr result (λ e. HasCleanDisk (state S.Store e.1) → IsBlank (state S.Store conn)
+            → IsTrue (state S.Store e.1).is_open → IsBlank (state S.Store e.1)) }
+    {
+        let mut conn = conn;
+        if has_any_table(&conn) {
+            return Err((StoreFault::AlreadyAnOffice, conn));
+        }
+        match create(alloc, &mut conn, opening) {
+            Ok(()) => Ok(Store { conn }),
+            Err(fault) => Err((fault_of(fault), conn)),
+        }
+    }
+
+    /// The office that a database has. `NotAnOffice` where the table of the office is missing or has not just one row,
+    /// `WrongSchema` where its tables are those of another version. A fault gives the connection back.
+    pub fn open(alloc: Global, conn: Connection<S>) -> Result<Store<S>, (StoreFault, Connection<S>)>
+        requires { (state S.Store conn).in_transaction ≡ false }
+        ensures same { IfOk result (λ s. HasCleanDisk (state S.Store s.conn) → (o : Opening) (l : List Arrival)
+            → Tells (state S.Store conn) o l → Tells (state S.Store s.conn) o l) }
+        ensures back { IfErr result (λ e. HasCleanDisk (state S.Store e.1) → (o : Opening) (l : List Arrival)
+            → Tells (state S.Store conn) o l → Tells (state S.Store e.1) o l) }
+        ensures only { IfErr result (λ e. HasCleanDisk (state S.Store e.1) → IsTrue (state S.Store conn).is_open
+            → (o : Opening) (l : List Arrival) → Tells (state S.Store conn) o l → IsOfARegister e.0) }
+        ensures none { list_any is_office_table (state S.Store conn).now.schema.tables ≡ false
+            → result ≡ Err (record { 0 = StoreFault.NotAnOffice; 1 = conn }) }
+    {
+        let mut conn = conn;
+        match look(alloc, &mut conn) {
+            Ok(()) => Ok(Store { conn }),
+            Err(fault) => Err((fault, conn)),
+        }
+    }
+
+    /// The connection, with the tables as they are.
+    pub fn into_connection(self) -> Connection<S>
+        ensures { result ≡ self.conn }
+    {
+        let Store { conn } = self;
+        conn
+    }
+}
