@@ -7,3 +7,5 @@ pub mod Lists
 pub mod Bodies
 pub mod Counting
 pub mod Later
+pub mod Parts
+pub mod Versions

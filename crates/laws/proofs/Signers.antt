@@ -77,7 +77,7 @@ other_there x (c ∷ cas) zero ca all e =
     let same : c ≡ ca = cc in λ f. all.0 (ap (λ (y : Ca). y.key) same ∙ sym f)
 other_there x (c ∷ cas) (suc place) ca all e = other_there x cas place ca all.1 e
 
-last_behind : (first : ℕ) (since : List ℕ) (place n : ℕ) → is_last_reached (first ∷ since) (suc place) n ≡ is_last_reached since place n
+pub last_behind : (first : ℕ) (since : List ℕ) (place n : ℕ) → is_last_reached (first ∷ since) (suc place) n ≡ is_last_reached since place n
 last_behind first since place n =
     ap (λ k. leb (slice_index since place) n && list_all (λ later. ltb n later) (drop k (first ∷ since))) (add-one (suc place))
     ∙ ap (λ k. leb (slice_index since place) n && list_all (λ later. ltb n later) (drop k since)) (sym (add-one place))

@@ -6,5 +6,7 @@ mod publication;
 mod revocations;
 
 pub use certificates::{a_body_names_its_signer, a_body_stays, serials_count_up};
-pub use publication::{a_later_list_revokes_as_much, the_list_is_exact};
+pub use publication::{
+    a_later_list_revokes_as_much, equal_versions_are_equal_lists, the_list_is_exact,
+};
 pub use revocations::{nothing_is_forgotten, revoked_is_what_was_named};

@@ -25,3 +25,9 @@ pub fn a_later_list_revokes_as_much()
         (place : ℕ) (ca : Ca) → slice_get (state o l).cas place ≡ Some ca → (serial : ℕ) (key_id : List ℕ) →
         revokes (key_blob ca.key) serial key_id old ≡ true → revokes (key_blob ca.key) serial key_id new ≡ true }
 {}
+
+/// While the version stays, the published list stays, byte for byte, whatever comes in between.
+pub fn equal_versions_are_equal_lists()
+    ensures { (o : Opening) (l later : List Arrival) → (state o l).version ≡ (state o (l ++ later)).version →
+        published_list (state o l) ≡ published_list (state o (l ++ later)) }
+{}
