@@ -5,8 +5,9 @@ mod messages;
 mod paths;
 mod replies;
 
-use crate::Asked;
+use crate::{Asked, Routes, asks};
 use profile::Refusal;
+use std::alloc::{AllocError, Global};
 
 /// An issue message of 162 bytes.
 const MESSAGE: &[u8] = b"issue web\nkeyid web/alice\nkey ssh-ed25519 \
@@ -21,9 +22,26 @@ principals alice\nafter 1000\nbefore 2000\nextensions\n";
 
 const BODY: &[u8] = b"GET /v1/certs/1/body HTTP/1.1\r\n\r\n";
 
-fn refusal_of(asked: Asked<'_>) -> Option<Refusal> {
-    match asked {
+/// The pieces, one after the other.
+fn joined(alloc: Global, pieces: &[&[u8]]) -> Result<Vec<u8>, AllocError> {
+    let mut bytes = Vec::new(alloc);
+    for piece in pieces {
+        bytes.extend_from_slice(piece)?;
+    }
+    Ok(bytes)
+}
+
+fn refusal_of(routes: &Routes, bytes: &[u8]) -> Option<Refusal> {
+    match asks(routes, bytes) {
         Asked::Refused(refusal) => Some(refusal),
         _ => None,
+    }
+}
+
+/// Whether the pieces, one after the other, have this refusal, or none.
+fn have_refusal(alloc: Global, routes: &Routes, pieces: &[&[u8]], wanted: Option<Refusal>) -> bool {
+    match joined(alloc, pieces) {
+        Ok(bytes) => refusal_of(routes, bytes.as_slice()) == wanted,
+        Err(AllocError) => false,
     }
 }

@@ -2,8 +2,7 @@ mod register;
 
 use crate::{ServeFault, serve_one};
 use register::Register;
-use std::alloc::Global;
-use std::test::Fail;
+use std::alloc::{AllocError, Global};
 use wire::{Ending, Pace, ScriptedNonces, ScriptedReader, ScriptedWriter};
 
 /// A request of 228 bytes that posts an issue message of 162.
@@ -17,6 +16,13 @@ const LIST: &[u8] = b"GET /v1/krl HTTP/1.1\r\n\r\n";
 const BAD_HEAD: &[u8] = b"HTTP/1.1 400 Bad Request\r\ncontent-type: text/plain\r\n\
 content-length: 18\r\nconnection: close\r\n\r\nrefused 1 BadHead\n";
 
+/// `POST` and `LIST`.
+const BOTH: &[u8] = b"POST /v1/callers/ana/requests/i1 HTTP/1.1\r\ncontent-length: 162\r\n\r\n\
+issue web\nkeyid web/alice\nkey ssh-ed25519 \
+AAAAC3NzaC1lZDI1NTE5AAAAICIiIiIiIiIiIiIiIiIiIiIiIiIiIiIiIiIiIiIiIiIi\n\
+principals alice\nafter 1000\nbefore 2000\nextensions\n\
+GET /v1/krl HTTP/1.1\r\n\r\n";
+
 /// What came of one request.
 #[derive(Drop)]
 struct Served {
@@ -26,6 +32,8 @@ struct Served {
     left: usize,
     /// How many nonce bytes are left.
     nonces: usize,
+    /// How many arrivals the register has taken.
+    applied: u64,
 }
 
 /// One request served, with a writer that takes so many bytes.
@@ -46,120 +54,159 @@ fn serve(
         written: taken,
         left: reader.rest.len(),
         nonces: source.left,
+        applied: register.applied,
     }
 }
 
-/// A GET of the list with so many header lines.
-fn with_lines(alloc: Global, lines: u32) -> Result<Vec<u8>, Fail> {
+/// One request served by a new register, from these bytes.
+fn serve_bytes(alloc: Global, bytes: &[u8], ending: Ending, nonces: usize, room: usize) -> Served {
+    let mut register = Register::new();
+    let mut reader = ScriptedReader::new(bytes, Pace::Whole, ending);
+    serve(alloc, &mut register, &mut reader, nonces, room)
+}
+
+fn is_post_served(served: &Served) -> bool {
+    served.result == Ok(())
+        && served.left == LIST.len()
+        && served.nonces == 8
+        && served.written.len() == 165
+        && served.applied == 1
+}
+
+fn is_list_served(served: &Served) -> bool {
+    served.result == Ok(())
+        && served.left == 0
+        && served.written.len() == 142
+        && served.applied == 1
+}
+
+fn are_both_served(alloc: Global) -> bool {
+    let mut register = Register::new();
+    let mut reader = ScriptedReader::new(BOTH, Pace::Whole, Ending::Ends);
+    let first = serve(alloc, &mut register, &mut reader, 40, 1000);
+    let second = serve(alloc, &mut register, &mut reader, 32, 1000);
+    is_post_served(&first) && is_list_served(&second)
+}
+
+#[test]
+fn each_call_takes_one_request(rt: HostRuntime) {
+    assert!(rt; are_both_served(rt.alloc()));
+}
+
+fn is_bad_head(served: &Served) -> bool {
+    served.result == Ok(()) && served.written.as_slice() == BAD_HEAD
+}
+
+/// Whether the head of these bytes is bad once so many of them were taken.
+fn is_bad_after(alloc: Global, bytes: &[u8], taken: usize) -> bool {
+    let served = serve_bytes(alloc, bytes, Ending::Ends, 32, 1000);
+    is_bad_head(&served) && served.left == bytes.len().saturating_sub(taken)
+}
+
+#[test]
+fn no_more_is_taken_than_tells(rt: HostRuntime) -> Result<(), AllocError> {
+    let long = vec![in rt.alloc(); b'a'; 9000]?;
+    assert!(rt; is_bad_after(rt.alloc(), long.as_slice(), 8192));
+    assert!(rt; is_bad_after(rt.alloc(), b"\0GET /v1/krl HTTP/1.1\r\n\r\n", 1));
+    assert!(rt; is_bad_after(rt.alloc(), b"GET /v1/krl HTTP/1.1\r\n\x01", 23));
+    Ok(())
+}
+
+/// A GET of the list with so many header lines, served.
+fn serve_lines(alloc: Global, lines: u32) -> Result<Served, AllocError> {
     let mut bytes = Vec::from_slice(alloc, b"GET /v1/krl HTTP/1.1\r\n")?;
     for _ in 0..lines {
         bytes.extend_from_slice(b"a: b\r\n")?;
     }
     bytes.extend_from_slice(b"\r\n")?;
-    Ok(bytes)
+    Ok(serve_bytes(alloc, bytes.as_slice(), Ending::Ends, 32, 1000))
 }
 
-#[test]
-fn each_call_takes_one_request(rt: HostRuntime) -> Result<(), Fail> {
-    let mut register = Register::new();
-    let mut both = Vec::from_slice(rt.alloc(), POST)?;
-    both.extend_from_slice(LIST)?;
-    let mut reader = ScriptedReader::new(&both, Pace::Whole, Ending::Ends);
-    let first = serve(rt.alloc(), &mut register, &mut reader, 40, 1000);
-    assert_eq!(rt; first.result, Ok(()));
-    assert_eq!(rt; first.left, LIST.len());
-    assert_eq!(rt; first.nonces, 8);
-    assert_eq!(rt; first.written.len(), 165);
-    assert_eq!(rt; register.applied, 1);
-    let second = serve(rt.alloc(), &mut register, &mut reader, 32, 1000);
-    assert_eq!(rt; second.result, Ok(()));
-    assert_eq!(rt; second.left, 0);
-    assert_eq!(rt; second.written.len(), 142);
-    assert_eq!(rt; register.applied, 1);
-    Ok(())
-}
-
-#[test]
-fn no_more_is_taken_than_tells(rt: HostRuntime) -> Result<(), Fail> {
-    let long = vec![in rt.alloc(); b'a'; 9000]?;
-    let cases: [(&[u8], usize); 3] = [
-        (&long, 8192),
-        (b"\0GET /v1/krl HTTP/1.1\r\n\r\n", 1),
-        (b"GET /v1/krl HTTP/1.1\r\n\x01", 23),
-    ];
-    for (bytes, taken) in cases {
-        let mut register = Register::new();
-        let mut reader = ScriptedReader::new(bytes, Pace::Whole, Ending::Ends);
-        let served = serve(rt.alloc(), &mut register, &mut reader, 32, 1000);
-        assert_eq!(rt; served.result, Ok(()));
-        assert_eq!(rt; served.left, bytes.len().saturating_sub(taken));
-        assert_eq!(rt; served.written.as_slice(), BAD_HEAD);
+fn are_most_lines_served(alloc: Global) -> bool {
+    match serve_lines(alloc, 32) {
+        Ok(served) => served.left == 0 && served.written.len() == 142,
+        Err(AllocError) => false,
     }
-    Ok(())
+}
+
+fn are_more_lines_refused(alloc: Global) -> bool {
+    match serve_lines(alloc, 33) {
+        Ok(served) => is_bad_head(&served),
+        Err(AllocError) => false,
+    }
 }
 
 #[test]
-fn header_lines_are_counted(rt: HostRuntime) -> Result<(), Fail> {
-    let mut register = Register::new();
-    let most = with_lines(rt.alloc(), 32)?;
-    let mut reader = ScriptedReader::new(&most, Pace::Whole, Ending::Ends);
-    let served = serve(rt.alloc(), &mut register, &mut reader, 32, 1000);
-    assert_eq!(rt; served.left, 0);
-    assert_eq!(rt; served.written.len(), 142);
-    let many = with_lines(rt.alloc(), 33)?;
-    let mut reader = ScriptedReader::new(&many, Pace::Whole, Ending::Ends);
-    let served = serve(rt.alloc(), &mut register, &mut reader, 32, 1000);
-    assert_eq!(rt; served.result, Ok(()));
-    assert_eq!(rt; served.written.as_slice(), BAD_HEAD);
-    Ok(())
+fn header_lines_are_counted(rt: HostRuntime) {
+    assert!(rt; are_most_lines_served(rt.alloc()));
+    assert!(rt; are_more_lines_refused(rt.alloc()));
 }
 
-#[test]
-fn bytes_may_come_one_by_one(rt: HostRuntime) -> Result<(), Fail> {
+fn is_slow_post_served(alloc: Global) -> bool {
     let mut register = Register::new();
     let mut reader = ScriptedReader::new(POST, Pace::OneByte, Ending::Ends);
-    let served = serve(rt.alloc(), &mut register, &mut reader, 32, 1000);
-    assert_eq!(rt; served.result, Ok(()));
-    assert_eq!(rt; served.written.len(), 165);
-    Ok(())
+    let served = serve(alloc, &mut register, &mut reader, 32, 1000);
+    served.result == Ok(()) && served.written.len() == 165
 }
 
 #[test]
-fn a_failed_reader_leaves_all_as_it_was(rt: HostRuntime) -> Result<(), Fail> {
+fn bytes_may_come_one_by_one(rt: HostRuntime) {
+    assert!(rt; is_slow_post_served(rt.alloc()));
+}
+
+/// Whether a reader that fails in these bytes of a request changed nothing.
+fn is_unread(alloc: Global, bytes: &[u8]) -> bool {
+    let served = serve_bytes(alloc, bytes, Ending::Fails, 32, 1000);
+    served.result == Err(ServeFault::Read)
+        && served.written.is_empty()
+        && served.nonces == 32
+        && served.applied == 0
+}
+
+/// The length of the first beginning of `POST`, short of the whole, after which a failure changes something.
+fn first_read(alloc: Global) -> Option<usize> {
     for n in 0..POST.len() {
-        let mut register = Register::new();
-        let mut reader = ScriptedReader::new(&POST[..n], Pace::Whole, Ending::Fails);
-        let served = serve(rt.alloc(), &mut register, &mut reader, 32, 1000);
-        assert_eq!(rt; served.result, Err(ServeFault::Read), "{n} bytes");
-        assert_eq!(rt; served.written.len(), 0);
-        assert_eq!(rt; served.nonces, 32);
-        assert_eq!(rt; register.applied, 0);
+        if !is_unread(alloc, &POST[..n]) {
+            return Some(n);
+        }
     }
-    Ok(())
+    None
 }
 
 #[test]
-fn a_failed_writer_leaves_the_arrival(rt: HostRuntime) -> Result<(), Fail> {
+fn a_failed_reader_leaves_all_as_it_was(rt: HostRuntime) {
+    assert_eq!(rt; first_read(rt.alloc()), None);
+}
+
+/// Whether a writer that takes so many bytes took them, and the message was accepted.
+fn is_unwritten(alloc: Global, room: usize) -> bool {
+    let served = serve_bytes(alloc, POST, Ending::Ends, 32, room);
+    served.result == Err(ServeFault::Write) && served.written.len() == room && served.applied == 1
+}
+
+/// The first room, short of the whole answer, that is wrong.
+fn first_wrong_room(alloc: Global) -> Option<usize> {
     for room in 0..165 {
-        let mut register = Register::new();
-        let mut reader = ScriptedReader::new(POST, Pace::Whole, Ending::Ends);
-        let served = serve(rt.alloc(), &mut register, &mut reader, 32, room);
-        assert_eq!(rt; served.result, Err(ServeFault::Write), "{room} bytes");
-        assert_eq!(rt; served.written.len(), room);
-        assert_eq!(rt; register.applied, 1);
+        if !is_unwritten(alloc, room) {
+            return Some(room);
+        }
     }
-    Ok(())
+    None
 }
 
 #[test]
-fn a_short_nonce_leaves_all_as_it_was(rt: HostRuntime) -> Result<(), Fail> {
-    for bytes in [POST, LIST] {
-        let mut register = Register::new();
-        let mut reader = ScriptedReader::new(bytes, Pace::Whole, Ending::Ends);
-        let served = serve(rt.alloc(), &mut register, &mut reader, 31, 1000);
-        assert_eq!(rt; served.result, Err(ServeFault::Nonces));
-        assert_eq!(rt; served.written.len(), 0);
-        assert_eq!(rt; register.applied, 0);
-    }
-    Ok(())
+fn a_failed_writer_leaves_the_arrival(rt: HostRuntime) {
+    assert_eq!(rt; first_wrong_room(rt.alloc()), None);
+}
+
+/// Whether a request with a nonce that is a byte short changes nothing.
+fn is_short(alloc: Global, bytes: &[u8]) -> bool {
+    let served = serve_bytes(alloc, bytes, Ending::Ends, 31, 1000);
+    served.result == Err(ServeFault::Nonces) && served.written.is_empty() && served.applied == 0
+}
+
+#[test]
+fn a_short_nonce_leaves_all_as_it_was(rt: HostRuntime) {
+    assert!(rt; is_short(rt.alloc(), POST));
+    assert!(rt; is_short(rt.alloc(), LIST));
 }

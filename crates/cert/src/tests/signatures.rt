@@ -2,45 +2,56 @@
 
 use super::vectors::{HOST_SIGNATURE, MADE_HOST, MADE_USER, PLAIN, USER_SIGNATURE};
 use crate::{Signature, join_signature, read_signature};
-use std::test::Fail;
+use std::alloc::Global;
+use text::NoMemory;
 
 /// What stands before the 64 bytes of a signature in its blob.
 const HEAD: &[u8; 19] = b"\x00\x00\x00\x0bssh-ed25519\x00\x00\x00\x40";
 
-#[test]
-fn a_signature_is_found_in_its_blob_alone(rt: HostRuntime) -> Result<(), Fail> {
-    let mut blob = Vec::from_slice(rt.alloc(), HEAD)?;
-    blob.extend_from_slice(&[0x44; 64])?;
-    assert_eq!(rt;
-        read_signature(blob.as_slice()),
-        Some(Signature { bytes: [0x44; 64] })
-    );
+fn has_signature(blob: &[u8], bytes: [u8; 64]) -> bool {
+    read_signature(blob) == Some(Signature { bytes })
+}
+
+/// The length of the first beginning, short of the whole, in which a signature is found.
+fn first_found(blob: &[u8]) -> Option<usize> {
     for n in 0..blob.len() {
-        assert_eq!(rt; read_signature(&blob.as_slice()[..n]), None, "{n} bytes");
+        if read_signature(&blob[..n]).is_some() {
+            return Some(n);
+        }
     }
-    blob.push(0x44)?;
-    assert_eq!(rt; read_signature(blob.as_slice()), None);
-    Ok(())
+    None
 }
 
 #[test]
-fn a_certificate_is_the_body_and_the_signature(rt: HostRuntime) -> Result<(), Fail> {
-    for (body, bytes, len) in [
-        (PLAIN.as_slice(), [0x44; 64], 316),
-        (MADE_USER.as_slice(), USER_SIGNATURE, 610),
-        (MADE_HOST.as_slice(), HOST_SIGNATURE, 329),
-    ] {
-        let certificate = join_signature(rt.alloc(), body, &Signature { bytes })?;
-        assert_eq!(rt; certificate.len(), len);
-        let (front, blob) = certificate
-            .as_slice()
-            .split_at_checked(len - 83)
-            .ok_or("short")?;
-        assert_eq!(rt; read_signature(blob), Some(Signature { bytes }));
-        assert_eq!(rt;
-            front.strip_suffix(b"\x00\x00\x00\x53".as_slice()),
-            Some(body)
-        );
+fn a_signature_is_found_in_its_blob_alone(rt: HostRuntime) {
+    let mut longer = [0x44; 84];
+    longer[..19].copy_from_slice(HEAD);
+    assert!(rt; has_signature(&longer[..83], [0x44; 64]));
+    assert_eq!(rt; first_found(&longer[..83]), None);
+    assert!(rt; read_signature(&longer).is_none());
+}
+
+/// Whether a certificate is the body, the length of a blob of 83 bytes, and a blob of the signature.
+fn are_joined(certificate: &[u8], body: &[u8], signature: [u8; 64]) -> bool {
+    let Some(string) = certificate.strip_prefix(body) else {
+        return false;
+    };
+    match string.strip_prefix(b"\x00\x00\x00\x53".as_slice()) {
+        Some(blob) => has_signature(blob, signature),
+        None => false,
     }
-    Ok(())
+}
+
+fn makes(alloc: Global, body: &[u8], bytes: [u8; 64], len: usize) -> bool {
+    match join_signature(alloc, body, &Signature { bytes }) {
+        Ok(made) => made.len() == len && are_joined(made.as_slice(), body, bytes),
+        Err(NoMemory) => false,
+    }
+}
+
+#[test]
+fn a_certificate_is_the_body_and_the_signature(rt: HostRuntime) {
+    assert!(rt; makes(rt.alloc(), PLAIN, [0x44; 64], 316));
+    assert!(rt; makes(rt.alloc(), MADE_USER, USER_SIGNATURE, 610));
+    assert!(rt; makes(rt.alloc(), MADE_HOST, HOST_SIGNATURE, 329));
 }

@@ -3,7 +3,6 @@
 use crate::{KeyLine, LineFault, fingerprint, read_key_line, write_cert_line, write_key_line};
 use base64::engine::general_purpose::STANDARD;
 use std::alloc::Global;
-use std::test::Fail;
 use text::NoMemory;
 
 /// The line of the key of 32 bytes 0x11, in base64.
@@ -48,101 +47,182 @@ fn fault_of(alloc: Global, line: &[u8]) -> Option<LineFault> {
     read_key_line(alloc, line).err()
 }
 
-#[test]
-fn lines_of_ssh_keygen_are_read_and_written(rt: HostRuntime) -> Result<(), Fail> {
-    for (line, comment, shown) in MADE {
-        let key = read_key_line(rt.alloc(), line)?;
-        assert_eq!(rt; key.comment.as_ref().map(|c| c.as_slice()), Some(comment));
-        assert_eq!(rt; fingerprint(&key), *shown);
-        assert_eq!(rt; write_key_line(rt.alloc(), &key)?.as_slice(), line);
-        assert_eq!(rt;
-            write_key_line(rt.alloc(), &key.copied(rt.alloc())?)?.as_slice(),
-            line
-        );
+fn is_written(alloc: Global, key: &KeyLine, line: &[u8]) -> bool {
+    match write_key_line(alloc, key) {
+        Ok(written) => written.as_slice() == line,
+        Err(NoMemory) => false,
     }
-    Ok(())
+}
+
+fn is_copied(alloc: Global, key: &KeyLine, line: &[u8]) -> bool {
+    match key.copied(alloc) {
+        Ok(copy) => is_written(alloc, &copy, line),
+        Err(NoMemory) => false,
+    }
+}
+
+fn has_comment(key: &KeyLine, comment: &[u8]) -> bool {
+    match &key.comment {
+        Some(given) => given.is(comment),
+        None => false,
+    }
+}
+
+/// Whether a line is read with this comment and fingerprint, and is written again, also of a copy.
+fn is_made(alloc: Global, line: &[u8], comment: &[u8], shown: &[u8; 50]) -> bool {
+    match read_key_line(alloc, line) {
+        Ok(key) => {
+            has_comment(&key, comment)
+                && fingerprint(&key) == *shown
+                && is_written(alloc, &key, line)
+                && is_copied(alloc, &key, line)
+        }
+        Err(_) => false,
+    }
+}
+
+/// The index of the first line that isn't read and written so.
+fn first_wrong_made(alloc: Global) -> Option<usize> {
+    for (index, (line, comment, shown)) in MADE.iter().enumerate() {
+        if !is_made(alloc, line, comment, shown) {
+            return Some(index);
+        }
+    }
+    None
 }
 
 #[test]
-fn no_comment_is_not_an_empty_comment(rt: HostRuntime) -> Result<(), Fail> {
-    let bare = line_of(rt.alloc(), ONES, b"")?;
-    let empty = line_of(rt.alloc(), ONES, b" ")?;
-    let without = read_key_line(rt.alloc(), bare.as_slice())?;
-    let with = read_key_line(rt.alloc(), empty.as_slice())?;
-    assert_eq!(rt; without.key, [0x11; 32]);
-    assert_eq!(rt; with.key, [0x11; 32]);
-    assert!(rt; without.comment.is_none());
-    assert_eq!(rt; with.comment.as_ref().map(|c| c.is_empty()), Some(true));
-    assert_eq!(rt;
-        write_key_line(rt.alloc(), &without)?.as_slice(),
-        bare.as_slice()
-    );
-    assert_eq!(rt;
-        write_key_line(rt.alloc(), &with)?.as_slice(),
-        empty.as_slice()
-    );
-    Ok(())
+fn lines_of_ssh_keygen_are_read_and_written(rt: HostRuntime) {
+    assert_eq!(rt; first_wrong_made(rt.alloc()), None);
+}
+
+/// Whether the line of the first key with this behind it is read with an empty comment, or with none, and written again.
+fn is_right_behind(alloc: Global, rest: &[u8], has_empty_comment: bool) -> bool {
+    let Ok(line) = line_of(alloc, ONES, rest) else {
+        return false;
+    };
+    match read_key_line(alloc, line.as_slice()) {
+        Ok(key) => {
+            key.key == [0x11; 32]
+                && key.comment.is_some() == has_empty_comment
+                && has_comment(&key, b"") == has_empty_comment
+                && is_written(alloc, &key, line.as_slice())
+        }
+        Err(_) => false,
+    }
 }
 
 #[test]
-fn the_first_fault_is_named(rt: HostRuntime) -> Result<(), Fail> {
-    for (line, fault) in [
-        (b"".as_slice(), LineFault::WrongType),
-        (b"ssh-rsa AAAA", LineFault::WrongType),
-        (b"ssh-ed25519", LineFault::WrongType),
-        (b"ssh-ed25519\tAAAA", LineFault::WrongType),
-        (b"ssh-ed25519 ", LineFault::BadBase64),
-        (b"ssh-ed25519  AAAA", LineFault::BadBase64),
-    ] {
-        assert_eq!(rt; fault_of(rt.alloc(), line), Some(fault));
+fn no_comment_is_not_an_empty_comment(rt: HostRuntime) {
+    assert!(rt; is_right_behind(rt.alloc(), b"", false));
+    assert!(rt; is_right_behind(rt.alloc(), b" ", true));
+}
+
+const TYPES: [(&[u8], LineFault); 6] = [
+    (b"", LineFault::WrongType),
+    (b"ssh-rsa AAAA", LineFault::WrongType),
+    (b"ssh-ed25519", LineFault::WrongType),
+    (b"ssh-ed25519\tAAAA", LineFault::WrongType),
+    (b"ssh-ed25519 ", LineFault::BadBase64),
+    (b"ssh-ed25519  AAAA", LineFault::BadBase64),
+];
+
+/// The index of the first line with another fault.
+fn first_wrong_type(alloc: Global) -> Option<usize> {
+    for (index, (line, fault)) in TYPES.iter().enumerate() {
+        if fault_of(alloc, line) != Some(*fault) {
+            return Some(index);
+        }
     }
-    let mut other = ONES.to_vec(rt.alloc())?;
-    other.as_mut_slice()[0] = b'B';
-    let mut padded = ONES.to_vec(rt.alloc())?;
-    padded.as_mut_slice()[67] = b'=';
-    for (base64, rest, fault) in [
-        (&ONES[..67], b"".as_slice(), LineFault::BadBase64),
-        (&ONES[..67], b" \x01", LineFault::BadBase64),
-        (&ONES[..64], b"", LineFault::BadBase64),
-        (ONES, b"A", LineFault::BadBase64),
-        (ONES, b"\tx", LineFault::BadBase64),
-        (padded.as_slice(), b"", LineFault::BadBase64),
-        (other.as_slice(), b"", LineFault::BadBlob),
-        (other.as_slice(), b" \x01", LineFault::BadBlob),
-        (ONES, b" \x01", LineFault::BadComment),
-        (ONES, b" x\x7f", LineFault::BadComment),
-        (ONES, b" x\n", LineFault::BadComment),
-    ] {
-        let line = line_of(rt.alloc(), base64, rest)?;
-        assert_eq!(rt; fault_of(rt.alloc(), line.as_slice()), Some(fault));
+    None
+}
+
+/// `ONES` with another byte at its front, which changes a byte of the blob.
+const OTHER: &[u8] = b"BAAAC3NzaC1lZDI1NTE5AAAAIBERERERERERERERERERERERERERERERERERERERERER";
+
+/// `ONES` with `=` for its last byte.
+const PADDED: &[u8] = b"AAAAC3NzaC1lZDI1NTE5AAAAIBERERERERERERERERERERERERERERERERERERERERE=";
+
+/// `ONES` without its last byte, and without its last four.
+const SHORT: &[u8] = b"AAAAC3NzaC1lZDI1NTE5AAAAIBERERERERERERERERERERERERERERERERERERERERE";
+
+const SHORTER: &[u8] = b"AAAAC3NzaC1lZDI1NTE5AAAAIBERERERERERERERERERERERERERERERERERERER";
+
+/// The base64 of a line, what stands behind it, and the fault.
+const FAULTS: [(&[u8], &[u8], LineFault); 11] = [
+    (SHORT, b"", LineFault::BadBase64),
+    (SHORT, b" \x01", LineFault::BadBase64),
+    (SHORTER, b"", LineFault::BadBase64),
+    (ONES, b"A", LineFault::BadBase64),
+    (ONES, b"\tx", LineFault::BadBase64),
+    (PADDED, b"", LineFault::BadBase64),
+    (OTHER, b"", LineFault::BadBlob),
+    (OTHER, b" \x01", LineFault::BadBlob),
+    (ONES, b" \x01", LineFault::BadComment),
+    (ONES, b" x\x7f", LineFault::BadComment),
+    (ONES, b" x\n", LineFault::BadComment),
+];
+
+/// Whether the line has this fault, or none.
+fn has_fault(alloc: Global, base64: &[u8], rest: &[u8], wanted: Option<LineFault>) -> bool {
+    match line_of(alloc, base64, rest) {
+        Ok(line) => fault_of(alloc, line.as_slice()) == wanted,
+        Err(NoMemory) => false,
     }
-    Ok(())
+}
+
+/// The index of the first line with another fault.
+fn first_wrong_fault(alloc: Global) -> Option<usize> {
+    for (index, (base64, rest, fault)) in FAULTS.iter().enumerate() {
+        if !has_fault(alloc, base64, rest, Some(*fault)) {
+            return Some(index);
+        }
+    }
+    None
 }
 
 #[test]
-fn comments_have_their_bytes_and_limit(rt: HostRuntime) -> Result<(), Fail> {
-    let bytes = line_of(rt.alloc(), ONES, b" \t ~\x80\xff")?;
-    assert_eq!(rt; fault_of(rt.alloc(), bytes.as_slice()), None);
-    let mut line = line_of(rt.alloc(), ONES, b" ")?;
-    for _ in 0..1024 {
-        line.push(b'x')?;
+fn the_first_fault_is_named(rt: HostRuntime) {
+    assert_eq!(rt; first_wrong_type(rt.alloc()), None);
+    assert_eq!(rt; first_wrong_fault(rt.alloc()), None);
+}
+
+/// Whether a comment of so many letters has this fault, or none.
+fn is_judged(alloc: Global, letters: usize, wanted: Option<LineFault>) -> bool {
+    let mut comment = [b'x'; 1026];
+    comment[0] = b' ';
+    match comment.get(..=letters) {
+        Some(rest) => has_fault(alloc, ONES, rest, wanted),
+        None => false,
     }
-    assert_eq!(rt; fault_of(rt.alloc(), line.as_slice()), None);
-    line.push(b'x')?;
-    assert_eq!(rt;
-        fault_of(rt.alloc(), line.as_slice()),
-        Some(LineFault::BadComment)
-    );
-    Ok(())
 }
 
 #[test]
-fn a_certificate_line_is_that_of_ssh_keygen(rt: HostRuntime) -> Result<(), Fail> {
-    let certificate = STANDARD.decode(rt.alloc(), CERTIFICATE)?;
-    let line = write_cert_line(rt.alloc(), certificate.as_slice(), b"alice@example.org")?;
-    let mut made = b"ssh-ed25519-cert-v01@openssh.com ".to_vec(rt.alloc())?;
-    made.extend_from_slice(CERTIFICATE)?;
-    made.extend_from_slice(b" alice@example.org")?;
-    assert_eq!(rt; line.as_slice(), made.as_slice());
-    Ok(())
+fn comments_have_their_bytes_and_limit(rt: HostRuntime) {
+    assert!(rt; has_fault(rt.alloc(), ONES, b" \t ~\x80\xff", None));
+    assert!(rt; is_judged(rt.alloc(), 1024, None));
+    assert!(rt; is_judged(rt.alloc(), 1025, Some(LineFault::BadComment)));
+}
+
+/// Whether the line is of the type, the base64 of a certificate, and the comment.
+fn is_cert_line(line: &[u8]) -> bool {
+    match line.strip_prefix(b"ssh-ed25519-cert-v01@openssh.com ".as_slice()) {
+        Some(rest) => rest.strip_suffix(b" alice@example.org".as_slice()) == Some(CERTIFICATE),
+        None => false,
+    }
+}
+
+fn makes_cert_line(alloc: Global) -> bool {
+    let Ok(certificate) = STANDARD.decode(alloc, CERTIFICATE) else {
+        return false;
+    };
+    match write_cert_line(alloc, certificate.as_slice(), b"alice@example.org") {
+        Ok(line) => is_cert_line(line.as_slice()),
+        Err(NoMemory) => false,
+    }
+}
+
+#[test]
+fn a_certificate_line_is_that_of_ssh_keygen(rt: HostRuntime) {
+    assert!(rt; makes_cert_line(rt.alloc()));
 }

@@ -1,62 +1,78 @@
 //! Heads, and reading them byte by byte.
 
-use crate::tests::{BODY, refusal_of};
-use crate::{Progress, Routes, asks, progress_of};
+use crate::tests::{BODY, joined, refusal_of};
+use crate::{Progress, Routes, progress_of};
 use profile::Refusal;
-use std::alloc::Global;
-use std::test::Fail;
+use std::alloc::{AllocError, Global};
+use text::NoMemory;
 
-/// A GET with so many header lines.
-fn with_lines(alloc: Global, lines: u32) -> Result<Vec<u8>, Fail> {
-    let mut bytes = Vec::from_slice(alloc, b"GET /v1/certs/1/body HTTP/1.1\r\n")?;
-    for _ in 0..lines {
-        bytes.extend_from_slice(b"a: b\r\n")?;
-    }
-    bytes.extend_from_slice(b"\r\n")?;
-    Ok(bytes)
+/// A GET with so many header lines, of at most 40.
+fn with_lines(alloc: Global, lines: usize) -> Result<Vec<u8>, AllocError> {
+    let all: [&[u8]; 40] = [b"a: b\r\n"; 40];
+    let lines = joined(alloc, all.get(..lines).unwrap_or(&[]))?;
+    joined(
+        alloc,
+        &[
+            b"GET /v1/certs/1/body HTTP/1.1\r\n",
+            lines.as_slice(),
+            b"\r\n",
+        ],
+    )
 }
 
-/// A GET with a head of so many bytes.
-fn with_head(alloc: Global, size: usize) -> Result<Vec<u8>, Fail> {
-    let mut bytes = Vec::from_slice(alloc, b"GET /v1/certs/1/body HTTP/1.1\r\nx: ")?;
-    for _ in 0..size {
-        if bytes.len() + 4 < size {
-            bytes.push(b'a')?;
-        }
+/// A GET with a head of so many bytes, of at least 38.
+fn with_head(alloc: Global, size: usize) -> Result<Vec<u8>, AllocError> {
+    let letters = vec![in alloc; b'a'; size.saturating_sub(38)]?;
+    joined(
+        alloc,
+        &[
+            b"GET /v1/certs/1/body HTTP/1.1\r\nx: ",
+            letters.as_slice(),
+            b"\r\n\r\n",
+        ],
+    )
+}
+
+/// Whether a head of so many lines has this refusal, or none.
+fn have_lines(alloc: Global, routes: &Routes, lines: usize, wanted: Option<Refusal>) -> bool {
+    match with_lines(alloc, lines) {
+        Ok(bytes) => refusal_of(routes, bytes.as_slice()) == wanted,
+        Err(AllocError) => false,
     }
-    bytes.extend_from_slice(b"\r\n\r\n")?;
-    Ok(bytes)
+}
+
+/// Whether a head of so many bytes has this refusal, or none.
+fn has_size(alloc: Global, routes: &Routes, size: usize, wanted: Option<Refusal>) -> bool {
+    match with_head(alloc, size) {
+        Ok(bytes) => bytes.len() == size && refusal_of(routes, bytes.as_slice()) == wanted,
+        Err(AllocError) => false,
+    }
 }
 
 #[test]
-fn heads_have_limits(rt: HostRuntime) -> Result<(), Fail> {
+fn heads_have_limits(rt: HostRuntime) -> Result<(), NoMemory> {
     let routes = Routes::new(rt.alloc())?;
-    for (lines, wanted) in [(32, None), (33, Some(Refusal::BadHead))] {
-        let bytes = with_lines(rt.alloc(), lines)?;
-        assert_eq!(rt;
-            refusal_of(asks(&routes, bytes.as_slice())),
-            wanted,
-            "{lines} lines"
-        );
-    }
-    for (size, wanted) in [(8192, None), (8193, Some(Refusal::BadHead))] {
-        let bytes = with_head(rt.alloc(), size)?;
-        assert_eq!(rt; bytes.len(), size);
-        assert_eq!(rt;
-            refusal_of(asks(&routes, bytes.as_slice())),
-            wanted,
-            "{size} bytes"
-        );
-    }
+    assert!(rt; have_lines(rt.alloc(), &routes, 32, None));
+    assert!(rt; have_lines(rt.alloc(), &routes, 33, Some(Refusal::BadHead)));
+    assert!(rt; has_size(rt.alloc(), &routes, 8192, None));
+    assert!(rt; has_size(rt.alloc(), &routes, 8193, Some(Refusal::BadHead)));
     Ok(())
 }
 
-#[test]
-fn reading_stops_as_early_as_it_can(rt: HostRuntime) -> Result<(), Fail> {
-    assert_eq!(rt; progress_of(b"\0"), Progress::Hopeless);
-    for n in 0..BODY.len() {
-        assert_eq!(rt; progress_of(&BODY[..n]), Progress::Waits, "{n} bytes");
+/// The shortest beginning of a request, short of the whole, that isn't waited on.
+fn first_not_waited_on(request: &[u8]) -> Option<usize> {
+    for n in 0..request.len() {
+        if progress_of(&request[..n]) != Progress::Waits {
+            return Some(n);
+        }
     }
+    None
+}
+
+#[test]
+fn reading_stops_as_early_as_it_can(rt: HostRuntime) -> Result<(), AllocError> {
+    assert_eq!(rt; progress_of(b"\0"), Progress::Hopeless);
+    assert_eq!(rt; first_not_waited_on(BODY), None);
     assert_eq!(rt; progress_of(BODY), Progress::Whole);
     let letters = vec![in rt.alloc(); b'a'; 9000]?;
     assert_eq!(rt; progress_of(letters.as_slice()), Progress::Waits);

@@ -1,147 +1,170 @@
 //! Readers and writers that end, fail and go step by step.
 
-ghost use Rattle.std.specs.Prelude.{◌<◌, ◌≡◌, ◌+◌, ◌≤◌, IfOk};
+ghost use Rattle.std.specs.Prelude.{◌<◌, ◌+◌, ◌≤◌, IfOk};
 
 use crate::{
     Ending, Failed, FromRead, FromWrite, Pace, ScriptedNonces, ScriptedReader, ScriptedWriter,
     Sink, Source, VecSink, read_full, write_all,
 };
-use std::alloc::{AllocError, Global};
+use std::alloc::Global;
 use std::io;
 use std::io::{ErrorKind, Read, Write};
-use std::test::Fail;
 
 const TEXT: &[u8] = b"testing";
 
-/// Appends what one read into three bytes gives, or `!` where it fails, and a bar.
-fn tell_read<S: Source>(source: &mut S, told: &mut Vec<u8>) -> Result<(), AllocError>
+/// Whether a read into three bytes gives these, or fails where none are given.
+fn gives<S: Source>(source: &mut S, wanted: Option<&[u8]>) -> bool
     requires { S.failed source.old < 100 }
     ensures { S.failed source.new ≤ S.failed source.old + 1 }
 {
     let mut buf = [0; 3];
-    match source.read(&mut buf) {
-        Ok(n) => told.extend_from_slice(&buf[..n])?,
-        Err(Failed) => told.push(b'!')?,
+    match (source.read(&mut buf), wanted) {
+        (Ok(n), Some(bytes)) => &buf[..n] == bytes,
+        (Err(Failed), None) => true,
+        _ => false,
     }
-    told.push(b'|')?;
-    Ok(())
 }
 
-/// What four reads give.
-fn four_reads<S: Source>(alloc: Global, source: &mut S) -> Result<Vec<u8>, AllocError>
+/// Whether four reads into three bytes give these.
+fn gives_all<S: Source>(source: &mut S, wanted: [Option<&[u8]>; 4]) -> bool
     requires { S.failed source.old < 9 }
 {
-    let mut told = Vec::new(alloc);
-    tell_read(source, &mut told)?;
-    tell_read(source, &mut told)?;
-    tell_read(source, &mut told)?;
-    tell_read(source, &mut told)?;
-    Ok(told)
+    let [first, second, third, fourth] = wanted;
+    gives(source, first) && gives(source, second) && gives(source, third) && gives(source, fourth)
+}
+
+fn is_whole_reader_read() -> bool {
+    let mut reader = ScriptedReader::new(TEXT, Pace::Whole, Ending::Ends);
+    gives_all(
+        &mut reader,
+        [Some(b"tes"), Some(b"tin"), Some(b"g"), Some(b"")],
+    ) && reader.failures() == 0
+}
+
+fn is_slow_reader_read() -> bool {
+    let mut reader = ScriptedReader::new(TEXT, Pace::OneByte, Ending::Ends);
+    gives_all(
+        &mut reader,
+        [Some(b"t"), Some(b"e"), Some(b"s"), Some(b"t")],
+    ) && reader.rest == b"ing".as_slice()
 }
 
 #[test]
-fn a_reader_goes_at_its_pace_and_ends(rt: HostRuntime) -> Result<(), Fail> {
-    let mut whole = ScriptedReader::new(TEXT, Pace::Whole, Ending::Ends);
-    assert_eq!(rt;
-        four_reads(rt.alloc(), &mut whole)?.as_slice(),
-        b"tes|tin|g||".as_slice()
-    );
-    assert_eq!(rt; whole.failures(), 0);
-    let mut slow = ScriptedReader::new(TEXT, Pace::OneByte, Ending::Ends);
-    assert_eq!(rt;
-        four_reads(rt.alloc(), &mut slow)?.as_slice(),
-        b"t|e|s|t|".as_slice()
-    );
-    assert_eq!(rt; slow.rest, b"ing".as_slice());
-    Ok(())
+fn a_reader_goes_at_its_pace_and_ends(rt: HostRuntime) {
+    assert!(rt; is_whole_reader_read());
+    assert!(rt; is_slow_reader_read());
 }
 
-#[test]
-fn a_reader_fails_after_its_bytes(rt: HostRuntime) -> Result<(), Fail> {
+fn is_failing_reader_read() -> bool {
     let mut reader = ScriptedReader::new(b"test", Pace::Whole, Ending::Fails);
-    assert_eq!(rt;
-        four_reads(rt.alloc(), &mut reader)?.as_slice(),
-        b"tes|t|!|!|".as_slice()
-    );
-    assert_eq!(rt; reader.failures(), 2);
-    Ok(())
+    gives_all(&mut reader, [Some(b"tes"), Some(b"t"), None, None]) && reader.failures() == 2
+}
+
+#[test]
+fn a_reader_fails_after_its_bytes(rt: HostRuntime) {
+    assert!(rt; is_failing_reader_read());
+}
+
+/// Whether the buffer is filled with these bytes, or to its beginning where nothing more is left.
+fn fills<S: Source>(source: &mut S, buf: &mut [u8], wanted: &[u8]) -> bool
+    requires { S.failed source.old < 100 }
+    ensures { S.failed source.new ≤ S.failed source.old + 1 }
+{
+    match read_full(source, buf) {
+        Ok(n) => &buf[..n] == wanted,
+        Err(Failed) => false,
+    }
+}
+
+fn is_filled_and_ends(pace: Pace) -> bool {
+    let mut reader = ScriptedReader::new(TEXT, pace, Ending::Ends);
+    let mut buf = [b'-'; 5];
+    fills(&mut reader, &mut buf, b"testi")
+        && reader.rest == b"ng".as_slice()
+        && fills(&mut reader, &mut buf, b"ng")
+        && fills(&mut reader, &mut buf, b"")
+        && reader.failures() == 0
 }
 
 #[test]
 fn a_buffer_is_filled_or_the_reader_is_at_its_end(rt: HostRuntime) {
-    for pace in [Pace::Whole, Pace::OneByte] {
-        let mut reader = ScriptedReader::new(TEXT, pace, Ending::Ends);
-        let mut buf = [b'-'; 5];
-        assert_eq!(rt; read_full(&mut reader, &mut buf), Ok(5));
-        assert_eq!(rt; buf, *b"testi");
-        assert_eq!(rt; reader.rest, b"ng".as_slice());
-        assert_eq!(rt; read_full(&mut reader, &mut buf), Ok(2));
-        assert_eq!(rt; buf[..2], b"ng"[..]);
-        assert_eq!(rt; read_full(&mut reader, &mut buf), Ok(0));
-        assert_eq!(rt; reader.failures(), 0);
-    }
+    assert!(rt; is_filled_and_ends(Pace::Whole));
+    assert!(rt; is_filled_and_ends(Pace::OneByte));
+}
+
+fn is_filled_and_fails(pace: Pace) -> bool {
+    let mut reader = ScriptedReader::new(TEXT, pace, Ending::Fails);
+    let mut buf = [b'-'; 9];
+    read_full(&mut reader, &mut buf).is_err()
+        && reader.failures() == 1
+        && &buf[..7] == TEXT
+        && reader.rest.is_empty()
 }
 
 #[test]
 fn a_reader_that_fails_has_given_what_it_had(rt: HostRuntime) {
-    for pace in [Pace::Whole, Pace::OneByte] {
-        let mut reader = ScriptedReader::new(TEXT, pace, Ending::Fails);
-        let mut buf = [b'-'; 9];
-        assert_eq!(rt; read_full(&mut reader, &mut buf), Err(Failed));
-        assert_eq!(rt; reader.failures(), 1);
-        assert_eq!(rt; buf[..7], TEXT[..]);
-        assert_eq!(rt; reader.rest, b"".as_slice());
-    }
+    assert!(rt; is_filled_and_fails(Pace::Whole));
+    assert!(rt; is_filled_and_fails(Pace::OneByte));
+}
+
+fn are_nonces_given(ending: Ending, wanted: [Option<&[u8]>; 4], failures: u64) -> bool {
+    let mut nonces = ScriptedNonces::new(b'3', 4, ending);
+    gives_all(&mut nonces, wanted) && nonces.failures() == failures
 }
 
 #[test]
-fn nonces_end_or_fail_after_their_count(rt: HostRuntime) -> Result<(), Fail> {
-    let mut ending = ScriptedNonces::new(b'3', 4, Ending::Ends);
-    assert_eq!(rt;
-        four_reads(rt.alloc(), &mut ending)?.as_slice(),
-        b"333|3|||".as_slice()
+fn nonces_end_or_fail_after_their_count(rt: HostRuntime) {
+    assert!(rt;
+        are_nonces_given(
+            Ending::Ends,
+            [Some(b"333"), Some(b"3"), Some(b""), Some(b"")],
+            0
+        )
     );
-    assert_eq!(rt; ending.failures(), 0);
-    let mut failing = ScriptedNonces::new(b'3', 4, Ending::Fails);
-    assert_eq!(rt;
-        four_reads(rt.alloc(), &mut failing)?.as_slice(),
-        b"333|3|!|!|".as_slice()
-    );
-    assert_eq!(rt; failing.failures(), 2);
-    Ok(())
+    assert!(rt; are_nonces_given(Ending::Fails, [Some(b"333"), Some(b"3"), None, None], 2));
+}
+
+/// Whether a writer of this limit takes the text up to it, and fails where it is shorter.
+fn takes(alloc: Global, pace: Pace, limit: usize) -> bool {
+    let mut writer = ScriptedWriter::new(alloc, pace, limit);
+    let is_written = write_all(&mut writer, TEXT).is_ok();
+    is_written == (limit >= TEXT.len())
+        && writer.failures() == if is_written { 0 } else { 1 }
+        && writer.taken.as_slice() == TEXT.get(..limit).unwrap_or(TEXT)
+}
+
+/// The first limit up to 8 at which a writer takes something else.
+fn first_wrong_limit(alloc: Global, pace: Pace) -> Option<usize> {
+    for limit in 0..9 {
+        if !takes(alloc, pace, limit) {
+            return Some(limit);
+        }
+    }
+    None
 }
 
 #[test]
 fn a_writer_takes_exactly_its_limit(rt: HostRuntime) {
-    for pace in [Pace::Whole, Pace::OneByte] {
-        for limit in 0..9 {
-            let mut writer = ScriptedWriter::new(rt.alloc(), pace, limit);
-            let is_enough = limit >= TEXT.len();
-            assert_eq!(rt;
-                write_all(&mut writer, TEXT).is_ok(),
-                is_enough,
-                "of {limit}"
-            );
-            assert_eq!(rt;
-                writer.failures(),
-                if is_enough { 0 } else { 1 },
-                "of {limit}"
-            );
-            let taken = TEXT.get(..limit).unwrap_or(TEXT);
-            assert_eq!(rt; writer.taken.as_slice(), taken, "of {limit}");
-        }
-    }
+    assert_eq!(rt; first_wrong_limit(rt.alloc(), Pace::Whole), None);
+    assert_eq!(rt; first_wrong_limit(rt.alloc(), Pace::OneByte), None);
+}
+
+fn is_appended(old: Vec<u8>) -> bool {
+    let mut sink = VecSink::new(old);
+    let is_written = write_all(&mut sink, TEXT).is_ok()
+        && write_all(&mut sink, b"").is_ok()
+        && sink.failures() == 0
+        && sink.as_slice() == b"old testing".as_slice();
+    let bytes = sink.into_vec();
+    is_written && bytes.as_slice() == b"old testing".as_slice()
 }
 
 #[test]
-fn a_vector_takes_all_after_what_it_holds(rt: HostRuntime) -> Result<(), Fail> {
-    let mut sink = VecSink::new(b"old ".to_vec(rt.alloc())?);
-    assert_eq!(rt; write_all(&mut sink, TEXT), Ok(()));
-    assert_eq!(rt; write_all(&mut sink, b""), Ok(()));
-    assert_eq!(rt; sink.failures(), 0);
-    assert_eq!(rt; sink.as_slice(), b"old testing".as_slice());
-    assert_eq!(rt; sink.into_vec().as_slice(), b"old testing".as_slice());
-    Ok(())
+fn a_vector_takes_all_after_what_it_holds(rt: HostRuntime) {
+    match b"old ".to_vec(rt.alloc()) {
+        Ok(old) => assert!(rt; is_appended(old)),
+        Err(_) => panic!(rt; "no memory"),
+    }
 }
 
 /// A stream of std that is interrupted some times, and then gives and takes so many bytes, or fails.
@@ -182,60 +205,77 @@ impl Write for Troubled {
     }
 }
 
-#[test]
-fn interrupted_calls_are_made_again(rt: HostRuntime) {
+/// Whether a read of such a stream answers this, with so many failures.
+fn is_read(interruptions: u8, bytes: Option<usize>, wanted: Option<usize>, failures: u64) -> bool {
     let mut source = FromRead::new(Troubled {
-        interruptions: 3,
-        bytes: Some(2),
+        interruptions,
+        bytes,
     });
-    assert_eq!(rt; source.read(&mut [0; 5]), Ok(2));
-    assert_eq!(rt; source.failures(), 0);
+    source.read(&mut [0; 5]).ok() == wanted && source.failures() == failures
+}
+
+fn is_written_after_interruptions() -> bool {
     let mut sink = FromWrite::new(Troubled {
         interruptions: 3,
         bytes: Some(2),
     });
-    assert_eq!(rt; sink.write(TEXT), Ok(2));
-    assert_eq!(rt; sink.failures(), 0);
+    sink.write(TEXT) == Ok(2) && sink.failures() == 0
+}
+
+#[test]
+fn interrupted_calls_are_made_again(rt: HostRuntime) {
+    assert!(rt; is_read(3, Some(2), Some(2), 0));
+    assert!(rt; is_written_after_interruptions());
+}
+
+fn is_broken_pipe_a_failure() -> bool {
+    let mut sink = FromWrite::new(Troubled {
+        interruptions: 1,
+        bytes: None,
+    });
+    write_all(&mut sink, TEXT).is_err() && sink.failures() == 1
 }
 
 #[test]
 fn other_errors_are_failures(rt: HostRuntime) {
-    let mut source = FromRead::new(Troubled {
-        interruptions: 1,
-        bytes: None,
-    });
-    assert_eq!(rt; source.read(&mut [0; 5]), Err(Failed));
-    assert_eq!(rt; source.failures(), 1);
-    let mut sink = FromWrite::new(Troubled {
-        interruptions: 1,
-        bytes: None,
-    });
-    assert_eq!(rt; write_all(&mut sink, TEXT), Err(Failed));
-    assert_eq!(rt; sink.failures(), 1);
+    assert!(rt; is_read(1, None, None, 1));
+    assert!(rt; is_broken_pipe_a_failure());
 }
 
-#[test]
-fn a_write_that_takes_nothing_is_a_failure(rt: HostRuntime) {
+fn is_nothing_taken() -> bool {
     let mut sink = FromWrite::new(Troubled {
         interruptions: 0,
         bytes: Some(0),
     });
-    assert_eq!(rt; sink.write(b""), Ok(0));
-    assert_eq!(rt; sink.failures(), 0);
-    assert_eq!(rt; sink.write(TEXT), Err(Failed));
-    assert_eq!(rt; sink.failures(), 1);
+    sink.write(b"").ok() == Some(0)
+        && sink.failures() == 0
+        && sink.write(TEXT).is_err()
+        && sink.failures() == 1
 }
 
 #[test]
-fn streams_of_std_are_read_and_written(rt: HostRuntime) -> Result<(), Fail> {
+fn a_write_that_takes_nothing_is_a_failure(rt: HostRuntime) {
+    assert!(rt; is_nothing_taken());
+}
+
+fn is_slice_read() -> bool {
     let mut source = FromRead::new(TEXT);
-    assert_eq!(rt;
-        four_reads(rt.alloc(), &mut source)?.as_slice(),
-        b"tes|tin|g||".as_slice()
+    let are_given = gives_all(
+        &mut source,
+        [Some(b"tes"), Some(b"tin"), Some(b"g"), Some(b"")],
     );
-    assert_eq!(rt; source.into_inner(), b"".as_slice());
-    let mut sink = FromWrite::new(Vec::new(rt.alloc()));
-    assert_eq!(rt; write_all(&mut sink, TEXT), Ok(()));
-    assert_eq!(rt; sink.into_inner().as_slice(), TEXT);
-    Ok(())
+    are_given && source.into_inner().is_empty()
+}
+
+fn is_vector_written(alloc: Global) -> bool {
+    let mut sink = FromWrite::new(Vec::new(alloc));
+    let is_written = write_all(&mut sink, TEXT).is_ok();
+    let bytes = sink.into_inner();
+    is_written && bytes.as_slice() == TEXT
+}
+
+#[test]
+fn streams_of_std_are_read_and_written(rt: HostRuntime) {
+    assert!(rt; is_slice_read());
+    assert!(rt; is_vector_written(rt.alloc()));
 }
