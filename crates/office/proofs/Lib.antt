@@ -7,3 +7,4 @@ pub mod Decisions
 pub mod Ranges
 pub mod Sizes
 pub mod Examples
+pub mod Agreeing

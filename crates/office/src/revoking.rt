@@ -24,10 +24,8 @@ fn refusal_of_serial(view: &View, caller: &[u8], serial: u64) -> Option<Refusal>
     ensures least { (s : State) → Agrees view.now s (message.RevokeSerial serial) → result ≡ first_holding (serial_refusals s caller.now serial) }
     ensures there { result ≡ None → IsSome (option_copied view.now.certificate) }
 {
-    if !may_administer(view.opening, caller, view.department) {
-        return Some(Refusal::NotAllowed);
-    }
     match view.certificate {
+        _ if !may_administer(view.opening, caller, view.department) => Some(Refusal::NotAllowed),
         Some(_) => None,
         None => Some(Refusal::UnknownSerial),
     }

@@ -3,7 +3,6 @@ pub mod KeyIdPlaces
 pub mod Signing
 pub mod Found
 pub mod Keeping
-pub mod Concerned
 pub mod Parts
 pub mod Verdicts
 pub mod Accepted

@@ -5,7 +5,7 @@ use Rattle.office.specs.Concerns.{named_department}
 use Rattle.office.specs.Machine.{department_named}
 use Rattle.plain.specs.Departments.{has_name}
 use Rattle.plain.specs.Contents.{Contents, state_of}
-use Rattle.plain.proofs.Concerned.{department_of_concerned, department_of_named}
+use Rattle.office.proofs.Agreeing.{department_of_concerned, department_of_named}
 use Rattle.plain.proofs.Found.{find-entries, found_lawful}
 use Rattle.plain.proofs.store.PlainStore.department_of.Goals as goal
 

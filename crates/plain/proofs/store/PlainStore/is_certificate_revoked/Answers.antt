@@ -4,7 +4,7 @@ use Rattle.std.specs.List.{list_any}
 use Rattle.std.specs.Str.{bytes_eq}
 use Rattle.krl.specs.Sets.{HasAll, contains}
 use Rattle.plain.specs.Contents.{Contents}
-use Rattle.plain.proofs.Concerned.{says_of_one}
+use Rattle.office.proofs.Agreeing.{says_of_one}
 use Rattle.plain.proofs.store.PlainStore.is_certificate_revoked.Goals as goal
 
 pub returns-else-has_all : goal.returns-else-has_all

@@ -3,7 +3,7 @@ use Rattle.std.specs.Prelude.{IsTrue, ◌↔◌}
 use Rattle.krl.specs.Sets.{HasAll, contains}
 use Rattle.plain.specs.Contents.{Contents, state_of}
 use Rattle.office.proofs.Ranges.{range_flag}
-use Rattle.plain.proofs.Concerned.{range_order, range_says}
+use Rattle.office.proofs.Agreeing.{range_order, range_says}
 use Rattle.plain.proofs.store.PlainStore.is_revoked.Goals as goal
 
 pub returns-in-None-Some : goal.returns-in-None-Some

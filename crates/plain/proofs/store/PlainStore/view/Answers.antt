@@ -1,7 +1,7 @@
 use Rattle.std.proofs.Common.{ℕ, ◌+◌, length, sym, ap, ap₂, ◌∙◌}
 use Rattle.office.specs.Machine.{has_any}
 use Rattle.plain.specs.Contents.{Contents, state_of}
-use Rattle.plain.proofs.Concerned.{any_is, any_says}
+use Rattle.office.proofs.Agreeing.{any_is, any_says}
 use Rattle.plain.proofs.store.PlainStore.view.Goals as goal
 
 pub returns-clause-agrees : goal.returns-clause-agrees
