@@ -2,6 +2,7 @@ pub mod Again
 pub mod Apart
 pub mod CallLemmas
 pub mod CaTable
+pub mod CreateFaults
 pub mod CertTable
 pub mod ColumnNames
 pub mod DepartmentTable
@@ -18,6 +19,7 @@ pub mod Makes
 pub mod Numbers
 pub mod OfficeTable
 pub mod Queries
+pub mod Refused
 pub mod Reading
 pub mod RequestTable
 pub mod RevokedTable

@@ -7,3 +7,4 @@ pub mod Changes
 pub mod Calls
 pub mod Done
 pub mod Look
+pub mod Refusals

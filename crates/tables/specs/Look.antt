@@ -3,7 +3,7 @@ use Rattle.std.specs.Prelude.{◌≡◌, refl, true, false, ℕ, Bool, ◌&&◌,
 use Rattle.std.specs.List.{list_all, list_any, zip}
 use Rattle.sqlite_schema.specs.Names.{same_name}
 use Rattle.sqlite.specs.Table.{Table}
-use Rattle.tables.specs.Schema.{whole, no_schema}
+use Rattle.tables.specs.Schema.{whole, without_ca, no_schema}
 
 -- whether a table has the name of one of the office's, in any case
 abbrev pub is_office_name : Table → Bool
@@ -26,6 +26,10 @@ has_columns t = (length t.columns == 10) && list_all (λ p. bytes_eq p.0.name p.
 abbrev pub is_office_table : Table → Bool
 is_office_table t = same_name t.name (codes "office") && has_columns t
 
+-- whether a table has the name of that of the CAs, in any case
+abbrev pub is_ca_name : Table → Bool
+is_ca_name t = same_name t.name (codes "ca")
+
 -- an office is seen
 pub whole_is_office : list_any is_office_table whole.tables ≡ true
 unfolding same_name
@@ -38,3 +42,16 @@ whole_has_tables = refl
 -- a database with no table is none
 pub none_is_office : list_any is_office_table no_schema.tables ≡ false
 none_is_office = refl
+
+-- an office of schema 1 is seen, and its table of CAs is missed
+pub former_is_office : list_any is_office_table without_ca.tables ≡ true
+unfolding same_name
+former_is_office = refl
+
+pub former_has_no_ca : list_any is_ca_name without_ca.tables ≡ false
+unfolding same_name
+former_has_no_ca = refl
+
+pub whole_has_ca : list_any is_ca_name whole.tables ≡ true
+unfolding same_name
+whole_has_ca = refl

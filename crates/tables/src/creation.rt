@@ -1,10 +1,10 @@
 //! The tables themselves.
 
-ghost use Rattle.std.specs.Prelude.{IfErr};
+ghost use Rattle.std.specs.Prelude.{◌≡◌, IfErr};
 ghost use Rattle.sqlite.specs.Held.{state};
 ghost use Rattle.sqlite.specs.State.{HasCleanDisk, Survives};
 ghost use Rattle.tables.specs.Schema.{no_schema, with_office, with_department, with_cert, with_request, with_run, without_ca, office, department, cert, request, run, revoked_keyid, ca};
-ghost use Rattle.tables.specs.Faults.{IsOfStatement};
+ghost use Rattle.tables.specs.Faults.{HasCause, IsOfStatement};
 ghost use Rattle.tables.specs.Calls.{AddsCa, Completes, Creates, Waits};
 
 use crate::fault::{Fault, done};
@@ -80,6 +80,8 @@ pub fn create_ca<S: Alter>(conn: &mut Connection<S>) -> Result<(), Fault>
         Creates without_ca ca (state S.Store conn.old) (state S.Store conn.new) result }
     ensures adds { HasCleanDisk (state S.Store conn.new)
         → AddsCa (state S.Store conn.old) (state S.Store conn.new) result }
+    ensures fault { HasCleanDisk (state S.Store conn.new) → (state S.Store conn.old).now.schema ≡ without_ca
+        → IfErr result (HasCause (state S.Store conn.old) (state S.Store conn.new)) }
     ensures undamaged { IfErr result IsOfStatement }
     ensures survives { Survives (state S.Store conn.old) (state S.Store conn.new)
         (Waits without_ca (state S.Store conn.old)) }

@@ -26,7 +26,7 @@ pub use certs::{CertRow, every_cert, find_cert, insert_cert, update_signature};
 pub use creation::{create_ca, create_tables};
 pub use departments::{DepartmentRow, every_department, find_department, put_department};
 pub use fault::Fault;
-pub use look::{has_any_table, has_office};
+pub use look::{has_any_table, has_ca_table, has_office};
 pub use number::Number;
 pub use offices::{Counters, OfficeRow, every_office, insert_office, update_office, update_schema};
 pub use requests::{RequestRow, find_request, insert_request};

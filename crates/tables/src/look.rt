@@ -4,7 +4,7 @@ ghost use Rattle.std.specs.Prelude.{◌≡◌};
 ghost use Rattle.std.specs.Str.{bytes_eq};
 ghost use Rattle.std.specs.List.{list_any, list_all, zip};
 ghost use Rattle.sqlite.specs.Held.{state};
-ghost use Rattle.tables.specs.Look.{has_columns, is_office_name, is_office_table};
+ghost use Rattle.tables.specs.Look.{has_columns, is_ca_name, is_office_name, is_office_table};
 
 use sqlite::{Alter, Connection};
 use sqlite_schema::names::same_name;
@@ -70,4 +70,21 @@ pub fn has_office<S: Alter>(conn: &Connection<S>) -> bool
         .as_slice()
         .iter()
         .any(|table| is_office(table))
+}
+
+fn has_ca_name(table: &Table) -> bool
+    ensures { result ≡ is_ca_name table.now }
+{
+    same_name(table.name.as_slice(), b"ca")
+}
+
+/// Whether the database has a table of the name of that of the CAs.
+pub fn has_ca_table<S: Alter>(conn: &Connection<S>) -> bool
+    ensures { result ≡ list_any is_ca_name (state S.Store conn.now).now.schema.tables }
+{
+    conn.schema()
+        .tables
+        .as_slice()
+        .iter()
+        .any(|table| has_ca_name(table))
 }
