@@ -1,0 +1,36 @@
+-- Departments of rows.
+use Rattle.std.specs.Prelude.{ℕ, ◌==◌, List, [], ◌∷◌, if◌then◌else◌, Option, Some, None}
+use Rattle.std.specs.List.{slice_split}
+use Rattle.std.specs.Option.{option_and_then}
+use Rattle.profile.specs.declared.kind.Kind.{Kind}
+use Rattle.profile.specs.declared.kind.Kind.TheVariants.{User, Host}
+use Rattle.message.specs.declared.department.Department.{Department}
+use Rattle.message.specs.Values.{is_department}
+use Rattle.tables.specs.declared.departments.DepartmentRow.{DepartmentRow}
+
+-- the texts between commas; of no bytes none
+abbrev pub parted : List ℕ → List (List ℕ)
+parted [] = []
+parted (b ∷ text) = slice_split (λ c. c == 44) (b ∷ text)
+
+abbrev pub kind_of : ℕ → Option Kind
+kind_of number = if number == 1 then Some User else if number == 2 then Some Host else None
+
+abbrev pub parts_of : DepartmentRow → Kind → Department
+parts_of row kind = record {
+  name = row.name;
+  kind = kind;
+  administrators = parted row.admins;
+  rules = parted row.rules;
+  options = parted row.options;
+  extensions = parted row.extensions;
+  longest_life = row.max_life;
+  namespaces = parted row.namespaces;
+}
+
+abbrev pub if_lawful : Department → Option Department
+if_lawful d = if is_department d then Some d else None
+
+-- the lawful department of a row, if there is one
+abbrev pub department_in : DepartmentRow → Option Department
+department_in row = option_and_then (λ kind. if_lawful (parts_of row kind)) (kind_of row.kind)

@@ -1,0 +1,11 @@
+-- Why a call on the register fails.
+use Rattle.tables.specs.declared.fault.Fault.{Fault}
+use Rattle.tables.specs.declared.fault.Fault.TheVariants as table
+use Rattle.office.specs.declared.fault.StoreFault.{StoreFault}
+use Rattle.office.specs.declared.fault.StoreFault.TheVariants.{Damaged, Device, NoMemory}
+
+-- the register's fault of a fault of the tables
+abbrev pub fault_of : Fault → StoreFault
+fault_of table.Device = Device
+fault_of table.Damaged = Damaged
+fault_of table.NoMemory = NoMemory

@@ -1,0 +1,19 @@
+-- What a reading call shows of the tables of an office.
+use Rattle.std.specs.Prelude.{List, Result, Ok, Err}
+use Rattle.sqlite.specs.State.{State as Connection, IsUnchanged}
+use Rattle.tables.specs.Contents.{Means}
+use Rattle.tables.specs.Calls.{Fails}
+use Rattle.tables.specs.Faults.{HasCause}
+use Rattle.tables.specs.declared.fault.Fault.{Fault}
+use Rattle.office.specs.declared.arrival.Kept.{Kept}
+use Rattle.office.specs.State.{State}
+use Rattle.rows.specs.Lawful.{IsLawful}
+use Rattle.rows.specs.Rows.{contents_of}
+
+-- Of tables with the rows of a lawful state and of what is kept with it: this is shown, and nothing has changed; or the
+-- call fails, for want of memory or because the database failed.
+abbrev pub Shows : {X : Type 0} → (State → List Kept → X → Type 0) → Connection → Connection → Result X Fault → Type 0
+Shows Shown old new (Ok x) =
+    (s : State) (kept : List Kept) → IsLawful s → Means old.now (contents_of s kept) → Shown s kept x × IsUnchanged old new
+Shows Shown old new (Err f) =
+    (s : State) (kept : List Kept) → IsLawful s → Means old.now (contents_of s kept) → Fails old new × HasCause old new f

@@ -1,0 +1,44 @@
+//! The CAs of the tables.
+
+ghost use Rattle.std.specs.Prelude.{◌≡◌};
+ghost use Rattle.sqlite.specs.Held.{state};
+ghost use Rattle.sqlite.specs.State.{HasCleanDisk, Survives};
+ghost use Rattle.tables.specs.Calls.{Never, WasOpen};
+ghost use Rattle.rows.specs.Showing.{Shows};
+
+use crate::reading::{OfRow, read_each};
+use lines::read_key_blob;
+use office::Ca;
+use sqlite::{Alter, Connection};
+use std::alloc::Global;
+use tables::{CaRow, Fault, every_ca};
+
+impl OfRow<CaRow> for Ca {
+    ghost use Rattle.rows.specs.Reading.{ca_in};
+
+    ghost value = { ca_in };
+
+    fn of_row(_alloc: Global, row: &CaRow) -> Result<Ca, Fault> {
+        match read_key_blob(row.ca.as_slice()) {
+            Some(key) => Ok(Ca {
+                key,
+                since: row.since.get(),
+            }),
+            None => Err(Fault::Damaged),
+        }
+    }
+}
+
+/// The CAs by number.
+pub fn read_cas<S: Alter>(alloc: Global, conn: &mut Connection<S>) -> Result<Vec<Ca>, Fault>
+    ensures shows { HasCleanDisk (state S.Store conn.new) → Shows (λ s kept cas. cas.items ≡ s.cas)
+        (state S.Store conn.old) (state S.Store conn.new) result }
+    ensures was_open { HasCleanDisk (state S.Store conn.new)
+        → WasOpen (state S.Store conn.old) (state S.Store conn.new) result }
+    ensures survives { Survives (state S.Store conn.old) (state S.Store conn.new) (Never (state S.Store conn.old)) }
+{
+    match every_ca(alloc, conn) {
+        Ok(rows) => read_each(alloc, rows.as_slice()),
+        Err(fault) => Err(fault),
+    }
+}
