@@ -1,0 +1,10 @@
+pub mod Showing
+pub mod OneRow
+pub mod Numbered
+pub mod Rising
+pub mod RunsShown
+pub mod Named
+pub mod KeyIds
+pub mod Keeping
+pub mod OfHistory
+pub mod Gathered

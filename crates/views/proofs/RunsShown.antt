@@ -1,0 +1,116 @@
+-- The runs of the revoked serials, as rows show them.
+use Rattle.std.proofs.Common.{◌≡◌, ℕ, ◌+◌, ◌<◌, ◌≤◌, inl, List, length, map, Bool, true, false, ◌&&◌, leb, Ok, Err, Result, refl, sym, ap, subst, ◌∙◌, arith, IsPermutation, IsTrue}
+use Rattle.std.specs.Prelude.{◌↔◌, IsSortedByKey}
+use Rattle.std.specs.Ordering.{nat_cmp}
+use Rattle.std.proofs.lemmas.Bool.{and_parts, leb-true}
+use Rattle.std.proofs.lemmas.Bool.Decides.{nat_tests}
+use Rattle.std.proofs.lemmas.Cmp.{nat_cmp_total, on_total}
+use Rattle.sqlite_keyed.proofs.SortLemmas.{sorted_unique}
+use Rattle.sqlite_trees.proofs.ListLemmas.{filter-map}
+use Rattle.sqlite.specs.State.{State as Connection, IsUnchanged}
+use Rattle.krl.specs.declared.run.Run.{Run}
+use Rattle.krl.specs.Sets.{HasAll, contains, is_counted}
+use Rattle.krl.proofs.Counting.{contains_runs_in}
+use Rattle.profile.specs.declared.limits.TheConstants.{LAST_SERIAL}
+use Rattle.office.specs.declared.arrival.Kept.{Kept}
+use Rattle.office.specs.State.{State}
+use Rattle.tables.specs.declared.runs.RunRow.{RunRow}
+use Rattle.tables.specs.Changes.{meets, runs_meeting}
+use Rattle.tables.specs.Contents.{Contents, Means}
+use Rattle.tables.specs.declared.fault.Fault.{Fault}
+use Rattle.tables.specs.declared.fault.Fault.TheVariants.{Damaged, Device, NoMemory}
+use Rattle.rows.specs.Lawful.{IsLawful}
+use Rattle.rows.specs.Rows.{contents_of, revoked_runs, run_row}
+use Rattle.rows.specs.Showing.{Shows}
+use Rattle.views.specs.Histories.{IsOfHistory}
+use Rattle.views.specs.RunRows.{AreRead, AreRevokedRuns, RiseFrom, meeting, runs_of}
+use Rattle.views.proofs.Rising.{back_again, contains_meeting, meeting_rise, rise_lower, rows_rise, runs_rise}
+
+revoked_rise : (s : State) → RiseFrom 0 (revoked_runs s)
+revoked_rise s =
+    rise_lower 0 s.opening.first (revoked_runs s) (omega arith)
+    (runs_rise s.revoked s.opening.first (length s.certificates))
+
+module _ (of : Contents → List RunRow) (runs : State → List Run)
+    (are : (s : State) (kept : List Kept) → of (contents_of s kept) ≡ map run_row (runs s))
+    (rise : (s : State) → RiseFrom 0 (runs s)) where
+  found_runs : (s : State) (kept : List Kept) (rows : List RunRow) → IsPermutation (of (contents_of s kept)) rows
+      → IsSortedByKey (λ r. r.lo) nat_cmp rows → runs_of rows ≡ runs s
+  found_runs s kept rows same sorted =
+      ap runs_of (sorted_unique (λ (x y : RunRow). nat_cmp x.lo y.lo) (on_total (λ (r : RunRow). r.lo) nat_cmp_total)
+      (map run_row (runs s)) rows (rows_rise 0 (runs s) (rise s))
+      (subst (λ (l : List RunRow). IsPermutation l rows) (are s kept) same) sorted) ∙ back_again (runs s)
+
+  shows_runs : (old new : Connection) (rows : List RunRow) (r : Result (List Run) Fault)
+      → ((c : Contents) → Means old.now c → IsUnchanged old new × IsPermutation (of c) rows)
+      → ((c : Contents) → Means old.now c → IsSortedByKey (λ r. r.lo) nat_cmp rows) → AreRead rows r
+      → Shows (λ s kept x. x ≡ runs s) old new r
+  shows_runs old new rows (Ok x) finds sorted read = λ s kept lawful means.
+      let f = finds (contents_of s kept) means in
+      (read ∙ found_runs s kept rows f.1 (sorted (contents_of s kept) means), f.0)
+  shows_runs old new rows (Err NoMemory) finds sorted read = λ s kept lawful means.
+      (inl (finds (contents_of s kept) means).0, tt)
+  shows_runs old new rows (Err Damaged) finds sorted read = λ s kept lawful means.
+      let f = finds (contents_of s kept) means in
+      absurd (read (subst (RiseFrom 0) (sym (found_runs s kept rows f.1 (sorted (contents_of s kept) means))) (rise s)))
+  shows_runs old new rows (Err Device) finds sorted read = absurd read
+
+-- every run
+pub shows_every : (old new : Connection) (rows : List RunRow) (r : Result (List Run) Fault)
+    → ((c : Contents) → Means old.now c → IsUnchanged old new × IsPermutation c.runs rows)
+    → ((c : Contents) → Means old.now c → IsSortedByKey (λ r. r.lo) nat_cmp rows) → AreRead rows r
+    → Shows (λ s kept x. x ≡ revoked_runs s) old new r
+shows_every = shows_runs (λ c. c.runs) revoked_runs (λ s kept. refl) revoked_rise
+
+-- the runs that meet an interval
+pub shows_meeting : (ends : RunRow) (old new : Connection) (rows : List RunRow) (r : Result (List Run) Fault)
+    → ((c : Contents) → Means old.now c → IsUnchanged old new × IsPermutation (runs_meeting ends c) rows)
+    → ((c : Contents) → Means old.now c → IsSortedByKey (λ r. r.lo) nat_cmp rows) → AreRead rows r
+    → Shows (λ s kept x. x ≡ meeting ends (revoked_runs s)) old new r
+shows_meeting ends =
+    shows_runs (runs_meeting ends) (λ s. meeting ends (revoked_runs s))
+    (λ s kept. filter-map (meets ends) run_row (revoked_runs s))
+    (λ s. meeting_rise ends 0 (revoked_runs s) (revoked_rise s))
+
+-- ---- the serials in them
+
+within : (first count n : ℕ) → first ≤ n → n < first + count → is_counted first count n ≡ true
+within first count n low high = grind (arith, nat_tests)
+
+counted : (first count n : ℕ) (b : Bool) → (b ≡ true → (first ≤ n) × (n < first + count))
+    → (is_counted first count n && b) ≡ b
+counted first count n true is = let p = is refl in rw (within first count n p.0 p.1) refl
+counted first count n false is = by_test (is_counted first count n)
+  where
+    by_test : (a : Bool) → (a && false) ≡ false
+    by_test true = refl
+    by_test false = refl
+
+-- just the revoked serials, where only issued ones are revoked
+pub revoked_in : (s : State) (kept : List Kept) → IsLawful s → IsOfHistory s kept → (n : ℕ)
+    → contains (revoked_runs s) n ≡ s.revoked n
+revoked_in s kept lawful history n =
+    let tests = and_parts (leb 1 s.opening.first) (leb s.opening.first s.opening.last && leb s.opening.last LAST_SERIAL) lawful.opening.serials in
+    let last : s.opening.last ≤ LAST_SERIAL = leb-true _ _ (and_parts (leb s.opening.first s.opening.last) (leb s.opening.last LAST_SERIAL) tests.1).1 in
+    contains_runs_in s.revoked s.opening.first (length s.certificates) n (omega (arith, last, history.range))
+    ∙ counted s.opening.first (length s.certificates) n (s.revoked n) (history.revoked n)
+
+pub are_revoked_runs : (s : State) (kept : List Kept) (runs : List Run) → IsLawful s → runs ≡ revoked_runs s
+    → AreRevokedRuns runs s kept
+are_revoked_runs s kept runs lawful is = record {
+  maximal = is;
+  serials = λ history n. ap (λ (l : List Run). contains l n) is ∙ revoked_in s kept lawful history n;
+}
+
+-- each serial of an interval is in the runs that meet it where it is revoked
+pub all_meeting : (s : State) (kept : List Kept) (ends : RunRow) (flag : Bool) (runs : List Run) → IsLawful s
+    → IsOfHistory s kept → runs ≡ meeting ends (revoked_runs s)
+    → (IsTrue flag ↔ HasAll (contains runs) ends.lo ends.hi)
+    → (IsTrue flag ↔ HasAll s.revoked ends.lo ends.hi)
+all_meeting s kept ends flag runs lawful history are says = (
+  λ is n low high. sym (same n low high) ∙ says.0 is n low high,
+  λ all. says.1 (λ n low high. same n low high ∙ all n low high),
+)
+  where
+    same : (n : ℕ) → ends.lo ≤ n → n ≤ ends.hi → contains runs n ≡ s.revoked n
+    same n low high = ap (λ (l : List Run). contains l n) are ∙ contains_meeting n ends (revoked_runs s) low high ∙ revoked_in s kept lawful history n

@@ -1,0 +1,155 @@
+-- Reading calls, one after the other.
+use Rattle.std.proofs.Common.{◌≡◌, inl, inr, Bool, true, false, List, Ok, Err, Result, IsTrue, refl, sym, subst, ◌∙◌, arith}
+use Rattle.std.specs.Prelude.{IsSome, Option}
+use Rattle.std.proofs.lemmas.Bool.{both_ways}
+use Rattle.sqlite.specs.Effect.{Database}
+use Rattle.sqlite.specs.Tree.{Trees}
+use Rattle.sqlite.specs.State.{State as Connection, HasCleanDisk, Survives, IsUnchanged}
+use Rattle.sqlite.proofs.StateLemmas.{survives_then, survives_weaker, unchanged}
+use Rattle.tables.specs.Contents.{Means}
+use Rattle.tables.specs.Calls.{Fails, Never}
+use Rattle.tables.specs.Faults.{HasCause}
+use Rattle.tables.specs.declared.fault.Fault.{Fault}
+use Rattle.tables.specs.declared.fault.Fault.TheVariants.{Damaged, Device, NoMemory}
+use Rattle.office.specs.declared.arrival.Kept.{Kept}
+use Rattle.office.specs.State.{State}
+use Rattle.rows.specs.Lawful.{IsLawful}
+use Rattle.rows.specs.Rows.{contents_of}
+use Rattle.rows.specs.Showing.{Shows}
+use Rattle.views.specs.Finding.{NeverOfOffice, NeverWhereOpen}
+
+-- what is shown says less
+pub shows_weaker : {X : Type 0} (P Q : State → List Kept → X → Type 0) (old new : Connection) (r : Result X Fault)
+    → ((s : State) (kept : List Kept) (x : X) → IsLawful s → P s kept x → Q s kept x) → Shows P old new r
+    → Shows Q old new r
+shows_weaker P Q old new (Ok x) less shows = λ s kept lawful means.
+    let p = shows s kept lawful means in (less s kept x lawful p.0, p.1)
+shows_weaker P Q old new (Err f) less shows = shows
+
+-- an answer that is made of an answer
+pub shows_of : {X Y : Type 0} (P : State → List Kept → X → Type 0) (Q : State → List Kept → Y → Type 0)
+    (old new : Connection) (x : X) (y : Y)
+    → ((s : State) (kept : List Kept) → IsLawful s → P s kept x → Q s kept y) → Shows P old new (Ok x)
+    → Shows Q old new (Ok y)
+shows_of P Q old new x y less shows = λ s kept lawful means.
+    let p = shows s kept lawful means in (less s kept lawful p.0, p.1)
+
+-- ---- two calls
+
+unchanged_then : (a b c : Connection) → IsUnchanged a b → IsUnchanged b c → IsUnchanged a c
+unchanged_then a b c p q = (
+  record {
+    was_open = p.0.was_open;
+    is_open = q.0.is_open;
+    now_is = q.0.now_is ∙ p.0.now_is;
+    committed_is = q.0.committed_is ∙ p.0.committed_is;
+    mode = q.0.mode ∙ p.0.mode;
+  },
+  record { changes = q.1.changes ∙ p.1.changes; last_rowid = q.1.last_rowid ∙ p.1.last_rowid },
+  q.2 ∙ p.2,
+)
+
+fails_then : (a b c : Connection) → IsUnchanged a b → Fails b c → Fails a c
+fails_then a b c p (inl q) = inl (unchanged_then a b c p q)
+fails_then a b c p (inr back) = inr (record {
+  was_open = λ _. p.0.was_open;
+  undone = λ still. let u = back.undone still in (u.0 ∙ p.0.committed_is, u.1 ∙ p.0.committed_is);
+  autocommit = back.autocommit;
+  unmarked = back.unmarked;
+  counts = record {
+    changes = back.counts.changes ∙ p.1.changes;
+    last_rowid = back.counts.last_rowid ∙ p.1.last_rowid;
+  };
+})
+
+cause_then : (a b c : Connection) (f : Fault) (P : Trees → Type 0) → Survives a b P → IsUnchanged a b
+    → HasCause b c f → HasCause a c f
+cause_then a b c NoMemory P one same cause = tt
+cause_then a b c Damaged P one same cause = cause
+cause_then a b c Device P one same (inl more) = inl (omega (arith, one.counts, more))
+cause_then a b c Device P one same (inr (inl shut)) = absurd (both_ways b.is_open shut same.0.is_open)
+cause_then a b c Device P one same (inr (inr limit)) =
+    inr (inr (subst (λ (o : Option _). IsSome o) one.limit limit))
+
+still_means : (a b : Connection) (s : State) (kept : List Kept) → IsUnchanged a b → Means a.now (contents_of s kept)
+    → Means b.now (contents_of s kept)
+still_means a b s kept same means = subst (λ (d : Database). Means d (contents_of s kept)) (sym same.0.now_is) means
+
+-- what is shown first, and what is shown then of the same tables, which are open
+pub shows_both : {X Y Z : Type 0} (First : State → List Kept → X → Type 0) (Second : State → List Kept → Y → Type 0)
+    (Whole : State → List Kept → Z → Type 0) (a b c : Connection) (x : X) (y : Y) (z : Z)
+    → ((s : State) (kept : List Kept) → IsLawful s → First s kept x → Second s kept y → Whole s kept z)
+    → Shows First a b (Ok x) → (IsTrue b.is_open → Shows Second b c (Ok y)) → Shows Whole a c (Ok z)
+shows_both First Second Whole a b c x y z both first second = λ s kept lawful means.
+    let p = first s kept lawful means in
+    let q = second p.1.0.is_open s kept lawful (still_means a b s kept p.1 means) in
+    (both s kept lawful p.0 q.0, unchanged_then a b c p.1 q.1)
+
+-- the same where the second call fails
+pub fails_second : {X Y Z : Type 0} (First : State → List Kept → X → Type 0) (Second : State → List Kept → Y → Type 0)
+    (Whole : State → List Kept → Z → Type 0) (a b c : Connection) (x : X) (f : Fault) (P : Trees → Type 0)
+    → Survives a b P → Shows First a b (Ok x) → (IsTrue b.is_open → Shows Second b c (Err f)) → Shows Whole a c (Err f)
+fails_second First Second Whole a b c x f P one first second = λ s kept lawful means.
+    let p = first s kept lawful means in
+    let q = second p.1.0.is_open s kept lawful (still_means a b s kept p.1 means) in
+    (fails_then a b c p.1 q.0, cause_then a b c f P one p.1 q.1)
+
+-- the same where the second call gives the whole
+pub shows_then : {X Y : Type 0} (First : State → List Kept → X → Type 0) (Rest Whole : State → List Kept → Y → Type 0)
+    (a b c : Connection) (x : X) (r : Result Y Fault) (P : Trees → Type 0) → Survives a b P
+    → ((s : State) (kept : List Kept) (y : Y) → IsLawful s → First s kept x → Rest s kept y → Whole s kept y)
+    → Shows First a b (Ok x) → (IsTrue b.is_open → Shows Rest b c r) → Shows Whole a c r
+shows_then First Rest Whole a b c x (Ok y) P one both first rest =
+    shows_both First Rest Whole a b c x y y (λ s kept. both s kept y) first rest
+shows_then First Rest Whole a b c x (Err f) P one both first rest =
+    fails_second First Rest Whole a b c x f P one first rest
+
+-- no call at all
+pub shows_still : {X : Type 0} (P : State → List Kept → X → Type 0) (a : Connection) (x : X) → IsTrue a.is_open
+    → ((s : State) (kept : List Kept) → IsLawful s → P s kept x) → Shows P a a (Ok x)
+shows_still P a x is_open holds = λ s kept lawful means. (holds s kept lawful, unchanged a is_open)
+
+-- ---- crashes
+
+pub survives_still : (a : Connection) (P : Trees → Type 0) → Survives a a P
+survives_still a P = record {
+  clean = omega arith;
+  shield = λ h. h;
+  counts = omega arith;
+  limit = refl;
+  closes = λ clean is_open. inl is_open;
+  crash = λ clean trees h. inl h;
+}
+
+pub never_of_office : (a b : Connection) → Survives a b (Never a) → Survives a b (NeverOfOffice a)
+never_of_office a b one =
+    survives_weaker a b (Never a) (NeverOfOffice a) (λ clean trees h s kept lawful. h (contents_of s kept)) one
+
+pub never_where_open : (a b : Connection) → Survives a b (Never a) → Survives a b (NeverWhereOpen a)
+never_where_open a b one =
+    survives_weaker a b (Never a) (NeverWhereOpen a) (λ clean trees h is_open s kept lawful. h (contents_of s kept)) one
+
+-- a call, and then one on what is open, which commit nothing
+pub reads_then : {X : Type 0} (First : State → List Kept → X → Type 0) (a b c : Connection) (x : X)
+    → (HasCleanDisk b → Shows First a b (Ok x)) → Survives a b (Never a) → Survives b c (NeverWhereOpen b)
+    → Survives a c (NeverOfOffice a)
+reads_then First a b c x first one two =
+    survives_then a b c (Never a) (NeverWhereOpen b) (NeverOfOffice a)
+    (λ clean trees h s kept lawful. h (contents_of s kept))
+    (λ clean trees h s kept lawful means.
+    let p = first (omega (arith, two.clean)) s kept lawful means in
+    h p.1.0.is_open s kept lawful (still_means a b s kept p.1 means)) one two
+
+-- the same where the first call is on what is open too
+pub reads_then_where_open : {X : Type 0} (First : State → List Kept → X → Type 0) (a b c : Connection) (x : X)
+    → (HasCleanDisk b → IsTrue a.is_open → Shows First a b (Ok x)) → Survives a b (NeverWhereOpen a)
+    → Survives b c (NeverWhereOpen b) → Survives a c (NeverWhereOpen a)
+reads_then_where_open First a b c x first one two =
+    survives_then a b c (NeverWhereOpen a) (NeverWhereOpen b) (NeverWhereOpen a) (λ clean trees h. h)
+    (λ clean trees h is_open s kept lawful means.
+    let p = first (omega (arith, two.clean)) is_open s kept lawful means in
+    h p.1.0.is_open s kept lawful (still_means a b s kept p.1 means)) one two
+
+pub where_open : (a b : Connection) → Survives a b (NeverOfOffice a) → Survives a b (NeverWhereOpen a)
+where_open a b one =
+    survives_weaker a b (NeverOfOffice a) (NeverWhereOpen a) (λ clean trees h is_open. h) one

@@ -1,0 +1,31 @@
+use Rattle.std.proofs.Common.{◌≡◌, arith}
+use Rattle.sqlite.specs.Held.{state}
+use Rattle.sqlite.specs.State.{HasCleanDisk}
+use Rattle.rows.specs.Offices.{IsOfficeOf}
+use Rattle.views.specs.Concerning.{AreConcerned, IsSubject}
+use Rattle.views.specs.Finding.{NeverWhereOpen}
+use Rattle.views.specs.Histories.{IsOfHistory}
+use Rattle.views.proofs.Showing.{reads_then_where_open, shows_then}
+use Rattle.views.proofs.concerning.with_cas.Goals as goal
+
+pub returns-in-Ok-clause-shows : goal.returns-in-Ok-clause-shows
+returns-in-Ok-clause-shows g c clean is_open =
+    let m = c.args.message.now in
+    let old = state g.S.Store c.args.conn.now in
+    let mid = state g.S.Store c.subject_of.new.conn in
+    let new = state g.S.Store c.with_subject.new.conn in
+    let still : HasCleanDisk mid = omega (arith, c.with_subject.ensures.survives.clean) in
+    shows_then (λ s kept subject. IsOfHistory s kept → IsSubject subject s m)
+    (λ s kept rows. IsOfHistory s kept → IsOfficeOf c.args.office s → c.args.cas.items ≡ s.cas
+    → IsSubject c.in-Ok.subject s m → AreConcerned rows s m)
+    (λ s kept rows. IsOfHistory s kept → IsOfficeOf c.args.office s → c.args.cas.items ≡ s.cas → AreConcerned rows s m)
+    old mid new c.in-Ok.subject c.with_subject.result (NeverWhereOpen old) c.subject_of.ensures.survives
+    (λ s kept y lawful first rest history office cas. rest history office cas (first history))
+    (c.in-Ok.ensures.shows still is_open) (c.with_subject.ensures.shows clean)
+
+pub returns-in-Ok-clause-survives : goal.returns-in-Ok-clause-survives
+returns-in-Ok-clause-survives g c =
+    let m = c.args.message.now in
+    reads_then_where_open (λ s kept subject. IsOfHistory s kept → IsSubject subject s m)
+    (state g.S.Store c.args.conn.now) (state g.S.Store c.subject_of.new.conn) (state g.S.Store c.with_subject.new.conn)
+    c.in-Ok.subject c.in-Ok.ensures.shows c.subject_of.ensures.survives c.with_subject.ensures.survives

@@ -1,0 +1,20 @@
+use Rattle.sqlite.specs.Held.{state}
+use Rattle.rows.specs.Rows.{contents_of}
+use Rattle.rows.proofs.Sorting.{asked}
+use Rattle.views.proofs.RunsShown.{shows_meeting}
+use Rattle.views.proofs.runs.runs_meeting.Goals as goal
+
+pub returns-in-Ok-clause-shows : goal.returns-in-Ok-clause-shows
+returns-in-Ok-clause-shows g c clean =
+    shows_meeting c.args.ends.now (state g.S.Store c.args.conn.now) (state g.S.Store c.find_runs.new.conn)
+    c.in-Ok.rows.items c.read_runs.result (c.in-Ok.ensures.finds clean) (c.in-Ok.ensures.sorted clean)
+    (rw c.as_slice.ensures.value at c.read_runs.ensures)
+
+pub returns-in-Ok-clause-was_open : goal.returns-in-Ok-clause-was_open
+returns-in-Ok-clause-was_open g c clean =
+    asked (state g.S.Store c.args.conn.now) (state g.S.Store c.find_runs.new.conn)
+    (c.in-Ok.ensures.was_open clean) c.read_runs.result
+
+pub returns-in-Err-clause-shows : goal.returns-in-Err-clause-shows
+returns-in-Err-clause-shows g c clean s kept lawful means =
+    (c.in-Err.ensures.finds clean (contents_of s kept) means, c.in-Err.ensures.fault clean (contents_of s kept) means)

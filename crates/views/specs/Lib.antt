@@ -1,0 +1,4 @@
+pub mod Histories
+pub mod Finding
+pub mod RunRows
+pub mod Concerning

@@ -1,0 +1,77 @@
+//! The certificate of a serial.
+
+ghost use Rattle.std.specs.Prelude.{◌≡◌, IfOk, IfSome};
+ghost use Rattle.sqlite.specs.Held.{state};
+ghost use Rattle.sqlite.specs.State.{HasCleanDisk, Survives};
+ghost use Rattle.tables.specs.Calls.{Never, WasOpen};
+ghost use Rattle.office.specs.Certificates.{IsCertificate};
+ghost use Rattle.office.specs.State.{certificate_of};
+ghost use Rattle.rows.specs.Certificates.{certificate_in};
+ghost use Rattle.rows.specs.Reading.{IsRead};
+ghost use Rattle.rows.specs.Showing.{Shows};
+ghost use Rattle.views.specs.Finding.{asked_serial, value_in};
+ghost use Rattle.views.specs.Histories.{IsOfHistory};
+
+use office::Certificate;
+use rows::read_certificate;
+use sqlite::{Alter, Connection};
+use std::alloc::Global;
+use tables::{CertRow, Fault, Number, find_cert};
+
+/// The serial as a column can hold it. No office issues 0.
+fn asked_serial(serial: u64) -> Number
+    ensures { result ≡ asked_serial serial }
+{
+    match Number::new(serial) {
+        Some(number) => number,
+        None => Number::ZERO,
+    }
+}
+
+fn read_found(alloc: Global, found: Option<CertRow>) -> Result<Option<Certificate>, Fault>
+    ensures exact { IsRead (value_in certificate_in found) result }
+    ensures lawful { IfOk result (λ found. IfSome found IsCertificate) }
+{
+    let Some(row) = found else {
+        return Ok(None);
+    };
+    match read_certificate(alloc, &row) {
+        Ok(certificate) => Ok(Some(certificate)),
+        Err(fault) => Err(fault),
+    }
+}
+
+fn find_numbered<S: Alter>(
+    alloc: Global,
+    conn: &mut Connection<S>,
+    serial: Number,
+) -> Result<Option<Certificate>, Fault>
+    ensures shows { HasCleanDisk (state S.Store conn.new) → Shows (λ s kept found. found ≡ certificate_of s serial)
+        (state S.Store conn.old) (state S.Store conn.new) result }
+    ensures lawful { IfOk result (λ found. IfSome found IsCertificate) }
+    ensures was_open { HasCleanDisk (state S.Store conn.new)
+        → WasOpen (state S.Store conn.old) (state S.Store conn.new) result }
+    ensures survives { Survives (state S.Store conn.old) (state S.Store conn.new) (Never (state S.Store conn.old)) }
+{
+    match find_cert(alloc, conn, serial) {
+        Ok(found) => read_found(alloc, found),
+        Err(fault) => Err(fault),
+    }
+}
+
+/// The certificate of this serial, or `None` where it wasn't issued. What is read is lawful, or told damaged.
+pub fn find_certificate<S: Alter>(
+    alloc: Global,
+    conn: &mut Connection<S>,
+    serial: u64,
+) -> Result<Option<Certificate>, Fault>
+    ensures shows { HasCleanDisk (state S.Store conn.new)
+        → Shows (λ s kept found. IsOfHistory s kept → found ≡ certificate_of s serial)
+        (state S.Store conn.old) (state S.Store conn.new) result }
+    ensures lawful { IfOk result (λ found. IfSome found IsCertificate) }
+    ensures was_open { HasCleanDisk (state S.Store conn.new)
+        → WasOpen (state S.Store conn.old) (state S.Store conn.new) result }
+    ensures survives { Survives (state S.Store conn.old) (state S.Store conn.new) (Never (state S.Store conn.old)) }
+{
+    find_numbered(alloc, conn, asked_serial(serial))
+}

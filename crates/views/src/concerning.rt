@@ -1,0 +1,178 @@
+//! The rows that a message concerns, read together.
+
+ghost use Rattle.std.specs.Prelude.{◌≡◌, ◌<◌, ◌≤◌, IfOk, IsTrue};
+ghost use Rattle.sqlite.specs.Held.{state};
+ghost use Rattle.sqlite.specs.State.{HasCleanDisk, Survives};
+ghost use Rattle.message.specs.declared.kinds.Message.{Message};
+ghost use Rattle.message.specs.Values.{is_message};
+ghost use Rattle.office.specs.Decided.{Agrees};
+ghost use Rattle.office.specs.Openings.{IsOpening};
+ghost use Rattle.office.specs.State.{State};
+ghost use Rattle.office.specs.Views.{IsView};
+ghost use Rattle.tables.specs.Calls.{Never, WasOpen};
+ghost use Rattle.rows.specs.Offices.{IsOfficeOf, if_office};
+ghost use Rattle.rows.specs.Reading.{IsRead};
+ghost use Rattle.rows.specs.Showing.{Shows};
+ghost use Rattle.views.specs.Concerning.{AreConcerned, AreLawful, IsLawfulOffice, IsLawfulSubject, IsSubject};
+ghost use Rattle.views.specs.Finding.{NeverOfOffice, NeverWhereOpen};
+ghost use Rattle.views.specs.Histories.{IsOfHistory};
+
+use crate::marks::{Marks, marks_of};
+use crate::subject::{Subject, subject_of};
+use message::Message;
+use office::{Ca, View};
+use rows::{Office, is_opening, read_cas, read_office};
+use sqlite::{Alter, Connection};
+use std::alloc::Global;
+use tables::Fault;
+
+/// The rows that a message concerns, and the office's own row.
+#[derive(Debug, Drop)]
+pub struct Concerned {
+    office: Office,
+    cas: Vec<Ca>,
+    subject: Subject,
+    marks: Marks,
+}
+
+impl Concerned {
+    /// What a decision reads of them.
+    pub fn view(&self) -> View<'_>
+        ensures agrees { (s : State) (m : Message) → AreConcerned self.now s m → Agrees result s m }
+        ensures lawful { AreLawful self.now → result.version < 9223372036854775807 → IsView result }
+    {
+        View {
+            opening: &self.office.opening,
+            next: self.office.next,
+            version: self.office.version,
+            date: self.office.date,
+            cas: self.cas.as_slice(),
+            department: self.subject.department.as_ref(),
+            certificate: self.subject.certificate.as_ref(),
+            is_revoked: self.marks.is_revoked,
+            is_key_id_revoked: self.marks.is_key_id_revoked,
+            has_revoked_key_ids: self.marks.has_revoked_key_ids,
+        }
+    }
+}
+
+fn if_lawful(office: Office) -> Result<Office, Fault>
+    ensures exact { IsRead (if_office office) result }
+    ensures lawful { IfOk result IsLawfulOffice }
+{
+    if is_opening(&office.opening) && office.opening.first <= office.next {
+        Ok(office)
+    } else {
+        Err(Fault::Damaged)
+    }
+}
+
+fn lawful_office<S: Alter>(alloc: Global, conn: &mut Connection<S>) -> Result<Office, Fault>
+    ensures shows { HasCleanDisk (state S.Store conn.new) → Shows (λ s kept office. IsOfficeOf office s)
+        (state S.Store conn.old) (state S.Store conn.new) result }
+    ensures lawful { IfOk result IsLawfulOffice }
+    ensures was_open { HasCleanDisk (state S.Store conn.new)
+        → WasOpen (state S.Store conn.old) (state S.Store conn.new) result }
+    ensures survives { Survives (state S.Store conn.old) (state S.Store conn.new) (Never (state S.Store conn.old)) }
+{
+    match read_office(alloc, conn) {
+        Ok(office) => if_lawful(office),
+        Err(fault) => Err(fault),
+    }
+}
+
+fn with_subject<S: Alter>(
+    alloc: Global,
+    conn: &mut Connection<S>,
+    message: &Message,
+    office: Office,
+    cas: Vec<Ca>,
+    subject: Subject,
+) -> Result<Concerned, Fault>
+    requires message { IsTrue (is_message message.now) }
+    requires office { IsLawfulOffice office }
+    requires subject { IsLawfulSubject subject }
+    ensures shows { HasCleanDisk (state S.Store conn.new) → IsTrue (state S.Store conn.old).is_open
+        → Shows (λ s kept rows. IsOfHistory s kept → IsOfficeOf office s → cas.items ≡ s.cas
+        → IsSubject subject s message.now → AreConcerned rows s message.now)
+        (state S.Store conn.old) (state S.Store conn.new) result }
+    ensures lawful { IfOk result AreLawful }
+    ensures survives { Survives (state S.Store conn.old) (state S.Store conn.new)
+        (NeverWhereOpen (state S.Store conn.old)) }
+{
+    match marks_of(alloc, conn, message, subject.certificate.as_ref()) {
+        Ok(marks) => Ok(Concerned {
+            office,
+            cas,
+            subject,
+            marks,
+        }),
+        Err(fault) => Err(fault),
+    }
+}
+
+fn with_cas<S: Alter>(
+    alloc: Global,
+    conn: &mut Connection<S>,
+    message: &Message,
+    office: Office,
+    cas: Vec<Ca>,
+) -> Result<Concerned, Fault>
+    requires message { IsTrue (is_message message.now) }
+    requires office { IsLawfulOffice office }
+    ensures shows { HasCleanDisk (state S.Store conn.new) → IsTrue (state S.Store conn.old).is_open
+        → Shows (λ s kept rows. IsOfHistory s kept → IsOfficeOf office s → cas.items ≡ s.cas
+        → AreConcerned rows s message.now) (state S.Store conn.old) (state S.Store conn.new) result }
+    ensures lawful { IfOk result AreLawful }
+    ensures survives { Survives (state S.Store conn.old) (state S.Store conn.new)
+        (NeverWhereOpen (state S.Store conn.old)) }
+{
+    match subject_of(alloc, conn, message) {
+        Ok(subject) => with_subject(alloc, conn, message, office, cas, subject),
+        Err(fault) => Err(fault),
+    }
+}
+
+fn with_office<S: Alter>(
+    alloc: Global,
+    conn: &mut Connection<S>,
+    message: &Message,
+    office: Office,
+) -> Result<Concerned, Fault>
+    requires message { IsTrue (is_message message.now) }
+    requires office { IsLawfulOffice office }
+    ensures shows { HasCleanDisk (state S.Store conn.new)
+        → Shows (λ s kept rows. IsOfHistory s kept → IsOfficeOf office s → AreConcerned rows s message.now)
+        (state S.Store conn.old) (state S.Store conn.new) result }
+    ensures lawful { IfOk result AreLawful }
+    ensures survives { Survives (state S.Store conn.old) (state S.Store conn.new)
+        (NeverOfOffice (state S.Store conn.old)) }
+{
+    match read_cas(alloc, conn) {
+        Ok(cas) => with_cas(alloc, conn, message, office, cas),
+        Err(fault) => Err(fault),
+    }
+}
+
+/// The rows that a lawful message concerns: the office's own row, the CAs, the certificate and the department, and what
+/// is revoked of them. What is read is lawful, or told damaged.
+pub fn concerned_rows<S: Alter>(
+    alloc: Global,
+    conn: &mut Connection<S>,
+    message: &Message,
+) -> Result<Concerned, Fault>
+    requires { IsTrue (is_message message.now) }
+    ensures shows { HasCleanDisk (state S.Store conn.new)
+        → Shows (λ s kept rows. IsOfHistory s kept → AreConcerned rows s message.now)
+        (state S.Store conn.old) (state S.Store conn.new) result }
+    ensures lawful { IfOk result AreLawful }
+    ensures was_open { HasCleanDisk (state S.Store conn.new)
+        → WasOpen (state S.Store conn.old) (state S.Store conn.new) result }
+    ensures survives { Survives (state S.Store conn.old) (state S.Store conn.new)
+        (NeverOfOffice (state S.Store conn.old)) }
+{
+    match lawful_office(alloc, conn) {
+        Ok(office) => with_office(alloc, conn, message, office),
+        Err(fault) => Err(fault),
+    }
+}

@@ -1,0 +1,49 @@
+//! The kept request of a caller and a key.
+
+ghost use Rattle.std.specs.Prelude.{◌≡◌, find};
+ghost use Rattle.std.specs.Option.{option_map};
+ghost use Rattle.sqlite.specs.Held.{state};
+ghost use Rattle.sqlite.specs.State.{HasCleanDisk, Survives};
+ghost use Rattle.tables.specs.Calls.{Never, WasOpen};
+ghost use Rattle.rows.specs.Showing.{Shows};
+ghost use Rattle.views.specs.Finding.{kept_in};
+ghost use Rattle.views.specs.Histories.{IsOfHistory, is_for};
+
+use office::Kept;
+use sqlite::{Alter, Connection};
+use std::alloc::Global;
+use tables::{Fault, RequestRow, find_request};
+
+fn kept_of(found: Option<RequestRow>) -> Option<Kept>
+    ensures { result ≡ option_map kept_in found }
+{
+    match found {
+        Some(row) => Some(Kept {
+            caller: row.caller,
+            key: row.key,
+            bytes: row.message,
+            reply: row.reply,
+        }),
+        None => None,
+    }
+}
+
+/// The kept request of this caller and key, if there is one.
+pub fn kept_for<S: Alter>(
+    alloc: Global,
+    conn: &mut Connection<S>,
+    caller: &[u8],
+    key: &[u8],
+) -> Result<Option<Kept>, Fault>
+    ensures shows { HasCleanDisk (state S.Store conn.new)
+        → Shows (λ s kept found. IsOfHistory s kept → found ≡ find (is_for caller.now key.now) kept)
+        (state S.Store conn.old) (state S.Store conn.new) result }
+    ensures was_open { HasCleanDisk (state S.Store conn.new)
+        → WasOpen (state S.Store conn.old) (state S.Store conn.new) result }
+    ensures survives { Survives (state S.Store conn.old) (state S.Store conn.new) (Never (state S.Store conn.old)) }
+{
+    match find_request(alloc, conn, caller, key) {
+        Ok(found) => Ok(kept_of(found)),
+        Err(fault) => Err(fault),
+    }
+}

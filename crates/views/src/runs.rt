@@ -1,0 +1,119 @@
+//! The runs of revoked serials.
+
+ghost use Rattle.std.specs.Prelude.{◌≡◌, ◌↔◌, ◌<◌, ◌≤◌, ◌^◌, All, IfOk, IsTrue};
+ghost use Rattle.sqlite.specs.Held.{state};
+ghost use Rattle.sqlite.specs.State.{HasCleanDisk, Survives};
+ghost use Rattle.krl.specs.Sets.{HasAll};
+ghost use Rattle.tables.specs.Calls.{Never, WasOpen};
+ghost use Rattle.rows.specs.Rows.{revoked_runs};
+ghost use Rattle.rows.specs.Showing.{Shows};
+ghost use Rattle.views.specs.Histories.{IsOfHistory};
+ghost use Rattle.views.specs.RunRows.{AreRead, AreRevokedRuns, meeting, run_of, runs_of};
+
+use krl::{Run, Runs};
+use rows::number;
+use sqlite::{Alter, Connection};
+use std::alloc::Global;
+use tables::{Fault, RunRow, every_run, find_runs};
+use text::NoMemory;
+
+fn run_of(row: &RunRow) -> Run
+    ensures value { result ≡ run_of row.now }
+    ensures small { result.hi < 2 ^ 63 }
+{
+    Run {
+        lo: row.lo.get(),
+        hi: row.hi.get(),
+    }
+}
+
+fn runs_of(alloc: Global, rows: &[RunRow]) -> Result<Vec<Run>, NoMemory>
+    ensures runs { IfOk result (λ runs. runs.items ≡ runs_of rows.now) }
+    ensures small { IfOk result (λ runs. All (λ r. r.hi < 2 ^ 63) runs.items) }
+{
+    let mut runs = Vec::with_capacity(alloc, rows.len())?;
+    for row in rows {
+        runs.push(run_of(row))?;
+    }
+    Ok(runs)
+}
+
+fn read_runs(alloc: Global, rows: &[RunRow]) -> Result<Runs, Fault>
+    ensures { AreRead rows.now result }
+{
+    let Ok(runs) = runs_of(alloc, rows) else {
+        return Err(Fault::NoMemory);
+    };
+    match Runs::from_runs(runs) {
+        Some(runs) => Ok(runs),
+        None => Err(Fault::Damaged),
+    }
+}
+
+fn every_revoked_run<S: Alter>(alloc: Global, conn: &mut Connection<S>) -> Result<Runs, Fault>
+    ensures shows { HasCleanDisk (state S.Store conn.new) → Shows (λ s kept runs. runs ≡ revoked_runs s)
+        (state S.Store conn.old) (state S.Store conn.new) result }
+    ensures was_open { HasCleanDisk (state S.Store conn.new)
+        → WasOpen (state S.Store conn.old) (state S.Store conn.new) result }
+    ensures survives { Survives (state S.Store conn.old) (state S.Store conn.new) (Never (state S.Store conn.old)) }
+{
+    match every_run(alloc, conn) {
+        Ok(rows) => read_runs(alloc, rows.as_slice()),
+        Err(fault) => Err(fault),
+    }
+}
+
+/// The maximal runs of the revoked serials.
+pub fn revoked_runs<S: Alter>(alloc: Global, conn: &mut Connection<S>) -> Result<Runs, Fault>
+    ensures shows { HasCleanDisk (state S.Store conn.new) → Shows (λ s kept runs. AreRevokedRuns runs s kept)
+        (state S.Store conn.old) (state S.Store conn.new) result }
+    ensures was_open { HasCleanDisk (state S.Store conn.new)
+        → WasOpen (state S.Store conn.old) (state S.Store conn.new) result }
+    ensures survives { Survives (state S.Store conn.old) (state S.Store conn.new) (Never (state S.Store conn.old)) }
+{
+    every_revoked_run(alloc, conn)
+}
+
+fn runs_meeting<S: Alter>(
+    alloc: Global,
+    conn: &mut Connection<S>,
+    ends: &RunRow,
+) -> Result<Runs, Fault>
+    ensures shows { HasCleanDisk (state S.Store conn.new)
+        → Shows (λ s kept runs. runs ≡ meeting ends.now (revoked_runs s))
+        (state S.Store conn.old) (state S.Store conn.new) result }
+    ensures was_open { HasCleanDisk (state S.Store conn.new)
+        → WasOpen (state S.Store conn.old) (state S.Store conn.new) result }
+    ensures survives { Survives (state S.Store conn.old) (state S.Store conn.new) (Never (state S.Store conn.old)) }
+{
+    match find_runs(alloc, conn, ends) {
+        Ok(rows) => read_runs(alloc, rows.as_slice()),
+        Err(fault) => Err(fault),
+    }
+}
+
+/// Whether each serial from `lo` to `hi` is revoked. It reads what is between them alone.
+pub fn are_revoked<S: Alter>(
+    alloc: Global,
+    conn: &mut Connection<S>,
+    lo: u64,
+    hi: u64,
+) -> Result<bool, Fault>
+    requires order { lo ≤ hi }
+    requires high { hi < 2 ^ 63 }
+    ensures shows { HasCleanDisk (state S.Store conn.new)
+        → Shows (λ s kept are. IsOfHistory s kept → (IsTrue are ↔ HasAll s.revoked lo hi))
+        (state S.Store conn.old) (state S.Store conn.new) result }
+    ensures was_open { HasCleanDisk (state S.Store conn.new)
+        → WasOpen (state S.Store conn.old) (state S.Store conn.new) result }
+    ensures survives { Survives (state S.Store conn.old) (state S.Store conn.new) (Never (state S.Store conn.old)) }
+{
+    let ends = RunRow {
+        lo: number(lo),
+        hi: number(hi),
+    };
+    match runs_meeting(alloc, conn, &ends) {
+        Ok(runs) => Ok(runs.has_all(lo, hi)),
+        Err(fault) => Err(fault),
+    }
+}

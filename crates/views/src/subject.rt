@@ -1,0 +1,108 @@
+//! The certificate and the department that a message concerns.
+
+ghost use Rattle.std.specs.Prelude.{◌≡◌, IfOk, IfSome, IsTrue, option_copied};
+ghost use Rattle.sqlite.specs.Held.{state};
+ghost use Rattle.sqlite.specs.State.{HasCleanDisk, Survives};
+ghost use Rattle.message.specs.Values.{is_department};
+ghost use Rattle.office.specs.Certificates.{IsCertificate};
+ghost use Rattle.office.specs.Decided.{certificate_concerned, department_concerned};
+ghost use Rattle.tables.specs.Calls.{Never};
+ghost use Rattle.rows.specs.Showing.{Shows};
+ghost use Rattle.views.specs.Concerning.{IsLawfulSubject, IsSubject};
+ghost use Rattle.views.specs.Finding.{NeverWhereOpen};
+ghost use Rattle.views.specs.Histories.{IsOfHistory};
+
+use crate::certificates::find_certificate;
+use crate::departments::find_department;
+use message::{Department, Message};
+use office::{Certificate, concerned};
+use sqlite::{Alter, Connection};
+use std::alloc::Global;
+use tables::Fault;
+
+/// The certificate and the department that a message concerns, if they are there.
+#[derive(Debug, Drop)]
+pub(crate) struct Subject {
+    pub(crate) certificate: Option<Certificate>,
+    pub(crate) department: Option<Department>,
+}
+
+fn certificate_of<S: Alter>(
+    alloc: Global,
+    conn: &mut Connection<S>,
+    message: &Message,
+) -> Result<Option<Certificate>, Fault>
+    ensures shows { HasCleanDisk (state S.Store conn.new) → IsTrue (state S.Store conn.old).is_open
+        → Shows (λ s kept found. IsOfHistory s kept → found ≡ certificate_concerned s message.now)
+        (state S.Store conn.old) (state S.Store conn.new) result }
+    ensures lawful { IfOk result (λ found. IfSome found IsCertificate) }
+    ensures survives { Survives (state S.Store conn.old) (state S.Store conn.new) (Never (state S.Store conn.old)) }
+{
+    match concerned(message).serial {
+        Some(serial) => find_certificate(alloc, conn, serial),
+        None => Ok(None),
+    }
+}
+
+/// The department of the certificate, where the message concerns one.
+fn department_of<S: Alter>(
+    alloc: Global,
+    conn: &mut Connection<S>,
+    message: &Message,
+    certificate: Option<&Certificate>,
+) -> Result<Option<Department>, Fault>
+    ensures shows { HasCleanDisk (state S.Store conn.new) → IsTrue (state S.Store conn.old).is_open
+        → Shows (λ s kept found. option_copied certificate.entry ≡ certificate_concerned s message.now
+        → found ≡ department_concerned s message.now) (state S.Store conn.old) (state S.Store conn.new) result }
+    ensures lawful { IfOk result (λ found. IfSome found (λ d. IsTrue (is_department d))) }
+    ensures survives { Survives (state S.Store conn.old) (state S.Store conn.new) (Never (state S.Store conn.old)) }
+{
+    match (certificate, concerned(message).department) {
+        (Some(certificate), _) => {
+            find_department(alloc, conn, certificate.department.as_slice())
+        }
+        (None, Some(name)) => find_department(alloc, conn, name),
+        (None, None) => Ok(None),
+    }
+}
+
+fn with_department<S: Alter>(
+    alloc: Global,
+    conn: &mut Connection<S>,
+    message: &Message,
+    certificate: Option<Certificate>,
+) -> Result<Subject, Fault>
+    requires { IfSome certificate IsCertificate }
+    ensures shows { HasCleanDisk (state S.Store conn.new) → IsTrue (state S.Store conn.old).is_open
+        → Shows (λ s kept subject. certificate ≡ certificate_concerned s message.now → IsSubject subject s message.now)
+        (state S.Store conn.old) (state S.Store conn.new) result }
+    ensures lawful { IfOk result IsLawfulSubject }
+    ensures survives { Survives (state S.Store conn.old) (state S.Store conn.new) (Never (state S.Store conn.old)) }
+{
+    match department_of(alloc, conn, message, certificate.as_ref()) {
+        Ok(department) => Ok(Subject {
+            certificate,
+            department,
+        }),
+        Err(fault) => Err(fault),
+    }
+}
+
+/// The certificate and the department that a message concerns.
+pub(crate) fn subject_of<S: Alter>(
+    alloc: Global,
+    conn: &mut Connection<S>,
+    message: &Message,
+) -> Result<Subject, Fault>
+    ensures shows { HasCleanDisk (state S.Store conn.new) → IsTrue (state S.Store conn.old).is_open
+        → Shows (λ s kept subject. IsOfHistory s kept → IsSubject subject s message.now)
+        (state S.Store conn.old) (state S.Store conn.new) result }
+    ensures lawful { IfOk result IsLawfulSubject }
+    ensures survives { Survives (state S.Store conn.old) (state S.Store conn.new)
+        (NeverWhereOpen (state S.Store conn.old)) }
+{
+    match certificate_of(alloc, conn, message) {
+        Ok(certificate) => with_department(alloc, conn, message, certificate),
+        Err(fault) => Err(fault),
+    }
+}
