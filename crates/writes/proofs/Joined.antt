@@ -1,0 +1,137 @@
+-- The rows of runs once a range is put among them.
+use Rattle.std.proofs.Common.{◌≡◌, ℕ, ◌+◌, ◌<◌, ◌≤◌, ◌^◌, List, [], ◌∷◌, ◌++◌, length, length-append, map, Bool, true, false, ◌&&◌, ◌||◌, refl, sym, ap, ◌∙◌, arith, IsPermutation}
+use Rattle.std.specs.Prelude.{not, min, max, filter}
+use Rattle.std.specs.List.{AllByRecursion}
+use Rattle.std.proofs.lemmas.Bool.Decides.{nat_tests}
+use Rattle.std.proofs.lemmas.List.Sorted.{IsPermutation-map, IsPermutation-sym}
+use Rattle.sqlite_trees.proofs.ListLemmas.{filter-map, all-permutation}
+use Rattle.krl.specs.declared.run.Run.{Run}
+use Rattle.krl.specs.Sets.{is_within, is_counted, runs_in, AreRuns}
+use Rattle.krl.proofs.Joining.{joined, joined_runs, contains_joined}
+use Rattle.krl.proofs.Counting.{runs_in_runs, contains_runs_in, runs_in_only}
+use Rattle.message.specs.declared.serial_range.SerialRange.{SerialRange}
+use Rattle.message.specs.Values.{is_range}
+use Rattle.office.specs.declared.certificate.Certificate.{Certificate}
+use Rattle.office.specs.State.{State, next_serial}
+use Rattle.office.specs.Machine.{with_certificate, with_range}
+use Rattle.tables.specs.declared.runs.RunRow.{RunRow}
+use Rattle.tables.specs.Changes.{meets}
+use Rattle.rows.specs.Rows.{revoked_runs, run_row}
+use Rattle.writes.specs.Ranges.{around, spanning}
+use Rattle.writes.proofs.Spans.{is_near, is_far, span, spanned}
+
+-- ---- the order of the runs is nothing
+
+least_low : (lo hi : ℕ) (rs : List RunRow) → ((spanning lo hi rs).lo ≤ lo) × AllByRecursion (λ r. (spanning lo hi rs).lo ≤ r.lo) rs
+least_low lo hi [] = (omega arith, tt)
+least_low lo hi (r ∷ rs) =
+    let later = least_low (min lo r.lo) (max hi r.hi) rs in
+    let least : (spanning lo hi (r ∷ rs)).lo ≤ min lo r.lo = later.0 in
+    (omega arith, (omega arith, later.1))
+
+low_above : (m lo hi : ℕ) (rs : List RunRow) → m ≤ lo → AllByRecursion (λ r. m ≤ r.lo) rs → m ≤ (spanning lo hi rs).lo
+low_above m lo hi [] le all = le
+low_above m lo hi (r ∷ rs) le all = low_above m (min lo r.lo) (max hi r.hi) rs (omega (arith, all.0)) all.1
+
+greatest_high : (lo hi : ℕ) (rs : List RunRow) → (hi ≤ (spanning lo hi rs).hi) × AllByRecursion (λ r. r.hi ≤ (spanning lo hi rs).hi) rs
+greatest_high lo hi [] = (omega arith, tt)
+greatest_high lo hi (r ∷ rs) =
+    let later = greatest_high (min lo r.lo) (max hi r.hi) rs in
+    let greatest : max hi r.hi ≤ (spanning lo hi (r ∷ rs)).hi = later.0 in
+    (omega arith, (omega arith, later.1))
+
+high_below : (m lo hi : ℕ) (rs : List RunRow) → hi ≤ m → AllByRecursion (λ r. r.hi ≤ m) rs → (spanning lo hi rs).hi ≤ m
+high_below m lo hi [] le all = le
+high_below m lo hi (r ∷ rs) le all = high_below m (min lo r.lo) (max hi r.hi) rs (omega (arith, all.0)) all.1
+
+low_le : (lo hi : ℕ) (xs ys : List RunRow) → IsPermutation xs ys → (spanning lo hi xs).lo ≤ (spanning lo hi ys).lo
+low_le lo hi xs ys same =
+    let low = least_low lo hi xs in
+    low_above (spanning lo hi xs).lo lo hi ys low.0 (all-permutation (λ r. (spanning lo hi xs).lo ≤ r.lo) xs ys same low.1)
+
+high_le : (lo hi : ℕ) (xs ys : List RunRow) → IsPermutation xs ys → (spanning lo hi ys).hi ≤ (spanning lo hi xs).hi
+high_le lo hi xs ys same =
+    let high = greatest_high lo hi xs in
+    high_below (spanning lo hi xs).hi lo hi ys high.0 (all-permutation (λ r. r.hi ≤ (spanning lo hi xs).hi) xs ys same high.1)
+
+pub spanning_same : (lo hi : ℕ) (xs ys : List RunRow) → IsPermutation xs ys → spanning lo hi xs ≡ spanning lo hi ys
+spanning_same lo hi xs ys same =
+    let back = IsPermutation-sym xs ys same in
+    let low : (spanning lo hi xs).lo ≡ (spanning lo hi ys).lo = omega (arith, low_le lo hi xs ys same, low_le lo hi ys xs back) in
+    let high : (spanning lo hi xs).hi ≡ (spanning lo hi ys).hi = omega (arith, high_le lo hi xs ys same, high_le lo hi ys xs back) in
+    λ i. record { lo = low i; hi = high i }
+
+-- ---- the set
+
+counted_in : (within counted revoked : Bool) → (within ≡ true → counted ≡ true)
+    → (within || (counted && revoked)) ≡ (counted && (within || revoked))
+counted_in true counted revoked h = let is : counted ≡ true = h refl in rw is refl
+counted_in false counted revoked h = refl
+
+within_counted : (n lo hi first count : ℕ) → first ≤ lo → hi < first + count
+    → is_within n (record { lo = lo; hi = hi }) ≡ true → is_counted first count n ≡ true
+within_counted n lo hi first count p q e = grind (arith, nat_tests)
+
+-- the runs of the revoked serials, the range among them
+pub runs_after : (s : State) (r : SerialRange) → r.lo ≤ r.hi → s.opening.first ≤ r.lo → r.hi < next_serial s
+    → next_serial s ≤ 2 ^ 64 → joined r.lo r.hi (revoked_runs s) ≡ revoked_runs (with_range s r)
+runs_after s r le low high fits =
+    let first = s.opening.first in
+    let count = length s.certificates in
+    let rs = revoked_runs s in
+    let are : AreRuns rs = runs_in_runs s.revoked first count fits in
+    runs_in_only (with_range s r).revoked first count (joined r.lo r.hi rs) (joined_runs 0 r.lo r.hi rs (omega arith) le (omega arith) are)
+    (λ n. contains_joined 0 r.lo r.hi n rs le are
+    ∙ ap (λ b. is_within n (record { lo = r.lo; hi = r.hi }) || b) (contains_runs_in s.revoked first count n fits)
+    ∙ counted_in (is_within n (record { lo = r.lo; hi = r.hi })) (is_counted first count n) (s.revoked n)
+    (within_counted n r.lo r.hi first count low high))
+
+-- ---- the rows
+
+spanning_rows : (lo hi : ℕ) (rs : List Run) → spanning lo hi (map run_row rs) ≡ run_row (span lo hi rs)
+spanning_rows lo hi [] = refl
+spanning_rows lo hi (r ∷ rs) = spanning_rows (min lo r.lo) (max hi r.hi) rs
+
+in_order : (r : SerialRange) → is_range r ≡ true → (1 ≤ r.lo) × (r.lo ≤ r.hi)
+in_order r is = (grind (arith, nat_tests), grind (arith, nat_tests))
+
+-- the range and the runs that it touches or overlaps as one, and the other runs, are the runs of the state with the range
+pub rows_joined : (s : State) (r : SerialRange) → is_range r ≡ true → s.opening.first ≤ r.lo → r.hi < next_serial s
+    → next_serial s ≤ 2 ^ 64
+    → IsPermutation (spanning r.lo r.hi (filter (meets (around r)) (map run_row (revoked_runs s)))
+    ∷ filter (λ q. not (meets (around r) q)) (map run_row (revoked_runs s))) (map run_row (revoked_runs (with_range s r)))
+rows_joined s r is low high fits =
+    let order = in_order r is in
+    let rs = revoked_runs s in
+    let near : filter (meets (around r)) (map run_row rs) ≡ map run_row (filter (is_near r.lo r.hi) rs) = filter-map (meets (around r)) run_row rs in
+    let far : filter (λ q. not (meets (around r) q)) (map run_row rs) ≡ map run_row (filter (is_far r.lo r.hi) rs) =
+    filter-map (λ q. not (meets (around r) q)) run_row rs in
+    rw (near, far, spanning_rows r.lo r.hi (filter (is_near r.lo r.hi) rs), sym (runs_after s r order.1 low high fits))
+    (IsPermutation-map run_row (span r.lo r.hi (filter (is_near r.lo r.hi) rs) ∷ filter (is_far r.lo r.hi) rs) (joined r.lo r.hi rs)
+    (spanned r.lo r.hi 0 rs order.0 order.1 (runs_in_runs s.revoked s.opening.first (length s.certificates) fits)))
+
+-- ---- a certificate more
+
+counted_more : (first count n : ℕ) (revoked : Bool) → (revoked ≡ true → n < first + count)
+    → (is_counted first count n && revoked) ≡ (is_counted first (count + 1) n && revoked)
+counted_more first count n true h =
+    let lt : n < first + count = h refl in
+    let same : is_counted first count n ≡ is_counted first (count + 1) n = grind (arith, nat_tests) in
+    rw same refl
+counted_more first count n false h = none (is_counted first count n) ∙ sym (none (is_counted first (count + 1) n))
+  where
+    none : (b : Bool) → (b && false) ≡ false
+    none true = refl
+    none false = refl
+
+-- where only serials that were handed out are revoked the next one makes no run
+pub runs_still : (s : State) (c : Certificate) → ((n : ℕ) → s.revoked n ≡ true → n < next_serial s)
+    → next_serial (with_certificate s c) ≤ 2 ^ 64 → revoked_runs s ≡ revoked_runs (with_certificate s c)
+runs_still s c issued fits =
+    let first = s.opening.first in
+    let count = length s.certificates in
+    let longer : length (s.certificates ++ c ∷ []) ≡ count + 1 = length-append s.certificates (c ∷ []) in
+    let low : first + count ≤ 2 ^ 64 = omega (arith, fits, longer) in
+    runs_in_only s.revoked first (count + 1) (revoked_runs s) (runs_in_runs s.revoked first count low)
+    (λ n. contains_runs_in s.revoked first count n low ∙ counted_more first count n (s.revoked n) (issued n))
+    ∙ ap (λ (k : ℕ). runs_in s.revoked first k) (sym longer)

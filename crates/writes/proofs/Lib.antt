@@ -1,0 +1,7 @@
+pub mod Spans
+pub mod Joined
+pub mod Named
+pub mod Serials
+pub mod Once
+pub mod Parts
+pub mod Whole

@@ -1,0 +1,8 @@
+use Rattle.sqlite.specs.Held.{state}
+use Rattle.tables.specs.Changes.{with_cert}
+use Rattle.rows.proofs.Steps.{waits}
+use Rattle.writes.proofs.changing.add_certificate.Goals as goal
+
+pub returns-clause-survives : goal.returns-clause-survives
+returns-clause-survives g c =
+    waits (with_cert c.in_ok-row.row) (state g.S.Store c.args.conn.now) (state g.S.Store c.insert_cert.new.conn) c.insert_cert.ensures.survives

@@ -1,0 +1,38 @@
+use Rattle.std.proofs.Common.{◌≡◌, arith, sym, ap, subst, Bool, cond, true, false, Some}
+use Rattle.std.specs.List.{list_any}
+use Rattle.sqlite.specs.Held.{state}
+use Rattle.sqlite.specs.State.{HasCleanDisk}
+use Rattle.tables.specs.Changes.{is_key_id, revoked_as, with_revoked}
+use Rattle.tables.specs.Calls.{IsOneOf}
+use Rattle.rows.proofs.Steps.{goes_still, makes}
+use Rattle.rows.specs.Transactions.{Goes}
+use Rattle.writes.specs.Changing.{with_key_id}
+use Rattle.writes.proofs.Once.{none_found, one_found}
+use Rattle.writes.proofs.Parts.{found_then}
+use Rattle.writes.proofs.changing.add_key_id.Goals as goal
+
+pub returns-in-Ok-None-clause-makes : goal.returns-in-Ok-None-clause-makes
+returns-in-Ok-None-clause-makes g c clean =
+    let old = state g.S.Store c.args.conn.now in
+    let mid = state g.S.Store c.find_revoked.new.conn in
+    let new = state g.S.Store c.insert_revoked.new.conn in
+    let still : HasCleanDisk mid = omega (arith, c.insert_revoked.ensures.survives.clean) in
+    let key_id = c.args.key_id.now in
+    found_then (with_key_id key_id) (with_revoked key_id) old mid new c.insert_revoked.result
+    (λ d means.
+    let found = (rw c.as_slice.ensures at c.in-Ok-None.ensures.finds still) d means in
+    let none : list_any (is_key_id key_id) d.revoked ≡ false = none_found key_id d.revoked
+    (subst (IsOneOf (revoked_as key_id d)) c.in-Ok-None.field-0-is found.1) in
+    (found.0, sym (ap (λ (b : Bool). cond b d (with_revoked key_id d)) none)))
+    (makes (with_revoked key_id) mid new c.insert_revoked.result (rw c.as_slice-in-Ok-None.ensures at c.insert_revoked.ensures.changes clean))
+
+pub returns-in-Ok-Some-clause-makes : goal.returns-in-Ok-Some-clause-makes
+returns-in-Ok-Some-clause-makes g c clean d means =
+    let old = state g.S.Store c.args.conn.now in
+    let new = state g.S.Store c.find_revoked.new.conn in
+    let key_id = c.args.key_id.now in
+    let found = (rw c.as_slice.ensures at c.in-Ok-Some.ensures.finds clean) d means in
+    let one : IsOneOf (revoked_as key_id d) (Some c.in-Ok-Some.field-0-0) =
+    subst (IsOneOf (revoked_as key_id d)) c.in-Ok-Some.field-0-is found.1 in
+    let there : list_any (is_key_id key_id) d.revoked ≡ true = one_found key_id c.in-Ok-Some.field-0-0 d.revoked one.0 one.1 in
+    (tt, subst (Goes old new) (sym (ap (λ (b : Bool). cond b d (with_revoked key_id d)) there)) (goes_still old new d found.0 means))

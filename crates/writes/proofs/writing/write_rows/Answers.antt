@@ -1,0 +1,39 @@
+use Rattle.std.proofs.Common.{arith}
+use Rattle.sqlite.specs.Held.{state}
+use Rattle.sqlite.specs.State.{HasCleanDisk}
+use Rattle.tables.specs.Contents.{Contents}
+use Rattle.tables.specs.Changes.{with_counters, with_request}
+use Rattle.rows.specs.Transactions.{Has}
+use Rattle.rows.proofs.Steps.{waits_then}
+use Rattle.writes.specs.Changing.{with_change}
+use Rattle.writes.proofs.Parts.{leads_on, made_then, undamaged}
+use Rattle.writes.proofs.writing.write_rows.Goals as goal
+
+pub returns-clause-makes : goal.returns-clause-makes
+returns-clause-makes g c clean =
+    let old = state g.S.Store c.args.conn.now in
+    let mid = state g.S.Store c.record.new.conn in
+    let new = state g.S.Store c.make.new.conn in
+    let still : HasCleanDisk mid = omega (arith, c.make.ensures.survives.clean) in
+    made_then (λ d. with_request c.args.request.now (with_counters c.args.counters.now d))
+    (with_change c.args.number c.args.counters.now.next c.args.change.now) old mid new c.make.result
+    (c.in_ok-record.ensures.makes still) (c.make.ensures.makes clean)
+
+pub returns-clause-undamaged : goal.returns-clause-undamaged
+returns-clause-undamaged g c clean =
+    let old = state g.S.Store c.args.conn.now in
+    let mid = state g.S.Store c.record.new.conn in
+    let new = state g.S.Store c.make.new.conn in
+    let still : HasCleanDisk mid = omega (arith, c.make.ensures.survives.clean) in
+    let recorded : Contents → Contents = λ d. with_request c.args.request.now (with_counters c.args.counters.now d) in
+    undamaged Has Has recorded old mid c.make.result (leads_on recorded old mid (c.in_ok-record.ensures.makes still))
+    (c.make.ensures.undamaged clean)
+
+pub returns-clause-survives : goal.returns-clause-survives
+returns-clause-survives g c =
+    let old = state g.S.Store c.args.conn.now in
+    let mid = state g.S.Store c.record.new.conn in
+    let new = state g.S.Store c.make.new.conn in
+    let recorded : Contents → Contents = λ d. with_request c.args.request.now (with_counters c.args.counters.now d) in
+    waits_then Has Has recorded old mid new (λ clean. leads_on recorded old mid (c.in_ok-record.ensures.makes clean))
+    c.record.ensures.survives c.make.ensures.survives
