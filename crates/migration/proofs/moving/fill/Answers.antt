@@ -1,0 +1,37 @@
+use Rattle.std.proofs.Common.{List, Err, arith, subst}
+use Rattle.sqlite.specs.Held.{state}
+use Rattle.sqlite.specs.State.{HasCleanDisk}
+use Rattle.tables.specs.declared.offices.OfficeRow.{OfficeRow}
+use Rattle.tables.specs.Calls.{Never}
+use Rattle.migration.specs.Former.{ca_of}
+use Rattle.migration.specs.Migrating.{IsCaDue}
+use Rattle.migration.proofs.Judging.{judged_filled, judged_rows}
+use Rattle.migration.proofs.Moves.{filled}
+use Rattle.migration.proofs.moving.fill.Goals as goal
+
+pub returns-in-Ok-ca_of-clause-makes : goal.returns-in-Ok-ca_of-clause-makes
+returns-in-Ok-ca_of-clause-makes g c clean =
+    let old = state g.S.Store c.args.conn.now in
+    let mid = state g.S.Store c.every_office.new.conn in
+    let new = state g.S.Store c.put.new.conn in
+    let still : HasCleanDisk mid = omega (arith, c.put.ensures.survives.clean) in
+    let due = rw c.as_slice.ensures.value at c.in-Ok-ca_of.ensures in
+    rw c.told.ensures (filled old mid new c.in-Ok.rows.items c.in-Ok-ca_of.ca c.put.result
+    (c.in-Ok.ensures.finds still) due (c.put.ensures.makes clean))
+
+pub returns-in-Ok-ca_of-clause-judges : goal.returns-in-Ok-ca_of-clause-judges
+returns-in-Ok-ca_of-clause-judges g c clean con before =
+    let old = state g.S.Store c.args.conn.now in
+    let mid = state g.S.Store c.every_office.new.conn in
+    let new = state g.S.Store c.put.new.conn in
+    let still : HasCleanDisk mid = omega (arith, c.put.ensures.survives.clean) in
+    let due = rw c.as_slice.ensures.value at c.in-Ok-ca_of.ensures in
+    rw c.told.ensures (judged_filled (Never old) old mid new con c.in-Ok.rows.items c.in-Ok-ca_of.ca c.put.result
+    c.every_office.ensures.survives still c.put.ensures.survives.counts before.0 (c.in-Ok.ensures.finds still con before.0)
+    due (c.put.ensures.fault clean))
+
+pub returns-in-Ok-clause-judges : goal.returns-in-Ok-clause-judges
+returns-in-Ok-clause-judges g c clean con before =
+    judged_rows con _ c.in-Ok.rows.items c.in-Err-ca_of.fault (c.in-Ok.ensures.finds clean con before.0).1
+    (subst (λ (rows : List OfficeRow). IsCaDue (ca_of rows) (Err c.in-Err-ca_of.fault)) c.as_slice.ensures.value
+    c.in-Err-ca_of.ensures)
