@@ -1,60 +1,96 @@
 -- What a reading call answers of tables that tell a history.
-use Rattle.std.proofs.Common.{◌≡◌, inl, inr, Bool, true, false, List, Ok, Err, Result, IsTrue, refl}
-use Rattle.sqlite.specs.State.{State as Connection}
-use Rattle.tables.specs.Contents.{Means}
+use Rattle.std.proofs.Common.{◌≡◌, inl, inr, Bool, true, false, List, Ok, Err, Result, IsTrue, refl, subst, sym}
+use Rattle.std.specs.Prelude.{IfOk, IfErr}
+use Rattle.sqlite.specs.State.{State as Connection, HasCleanDisk}
 use Rattle.tables.specs.Calls.{WasOpen}
-use Rattle.tables.specs.Faults.{HasFailed}
+use Rattle.tables.specs.Faults as table
 use Rattle.tables.specs.declared.fault.Fault.{Fault}
 use Rattle.tables.specs.declared.fault.Fault.TheVariants.{Damaged, Device, NoMemory}
 use Rattle.office.specs.declared.opening.Opening.{Opening}
 use Rattle.office.specs.declared.arrival.Arrival.{Arrival}
 use Rattle.office.specs.declared.arrival.Kept.{Kept}
-use Rattle.office.specs.Faults.{IsOfARegister}
+use Rattle.office.specs.declared.fault.StoreFault.{StoreFault}
+use Rattle.office.specs.Faults.{HasCause, IsOfARegister}
 use Rattle.office.specs.State.{State}
 use Rattle.office.specs.History.{first_accepted, kept_by, state}
-use Rattle.store.specs.Faults.{fault_of}
-use Rattle.store.specs.Lawful.{IsLawful}
-use Rattle.store.specs.Meaning.{IsHistory, Tells}
-use Rattle.store.specs.Rows.{office_contents}
-use Rattle.store.specs.Showing.{Shows}
+use Rattle.rows.specs.Faults.{fault_of}
+use Rattle.rows.specs.Rows.{office_contents}
+use Rattle.store.specs.Meaning.{HasFailed, Tells, told}
+use Rattle.store.specs.Showing.{ShowsOffice}
 use Rattle.store.proofs.Telling.{rests_still}
 
--- where the state after every history of a lawful office is lawful
-module _ (lawful : (o : Opening) (l : List Arrival) → IsHistory o l → IsLawful (state o l)) {X : Type 0}
-    (Shown : State → List Kept → X → Type 0) (old new : Connection) (o : Opening) (l : List Arrival) (tells : Tells old o l) where
-  -- the tables mean the history in an open connection
-  means : IsTrue old.is_open → Means old.now (office_contents o l)
-  means is_open = (tells.rows is_open).now
+module _ {X : Type 0} (Shown : State → List Kept → X → Type 0) (old new : Connection) where
+  shown : (x : X) (o : Opening) (l : List Arrival) → Tells old o l → WasOpen old new (Ok x)
+      → ShowsOffice Shown old new (Ok x) → Shown (state o l) (kept_by (first_accepted o l)) x
+  shown x o l tells was shows = (shows o l tells.history (tells.rows was).now).0
 
-  -- it is the state's
-  pub row_shown : (x : X) → WasOpen old new (Ok x) → Shows Shown old new (Ok x) → Shown (state o l) (kept_by (first_accepted o l)) x
-  row_shown x was shows = (shows (state o l) (kept_by (first_accepted o l)) (lawful o l tells.history) (means was)).0
-
-  -- the tables tell it still
-  pub tells_shown : (r : Result X Fault) → WasOpen old new r → Shows Shown old new r → Tells new o l
-  tells_shown (Ok x) was shows = record {
+  still : (r : Result X Fault) (o : Opening) (l : List Arrival) → Tells old o l → WasOpen old new r
+      → ShowsOffice Shown old new r → Tells new o l
+  still (Ok x) o l tells was shows = record {
     history = tells.history;
-    rows = λ still. rests_still old new (office_contents o l)
-        (inl (shows (state o l) (kept_by (first_accepted o l)) (lawful o l tells.history) (means was)).1) still (tells.rows was);
+    rows = λ now.
+        rests_still old new (office_contents o l) (inl (shows o l tells.history (tells.rows was).now).1) now (tells.rows was);
   }
-  tells_shown (Err f) was shows = record {
+  still (Err f) o l tells was shows = record {
     history = tells.history;
-    rows = λ still. rests_still old new (office_contents o l)
-        (shows (state o l) (kept_by (first_accepted o l)) (lawful o l tells.history) (means (was.0 still))).0 still
-        (tells.rows (was.0 still));
+    rows = λ now.
+        let rests = tells.rows (was.0 now) in
+        rests_still old new (office_contents o l) (shows o l tells.history rests.now).0 now rests;
   }
 
   -- no fault but want of memory and a failure
-  pub only_shown : (f : Fault) → WasOpen {X = X} old new (Err f) → Shows Shown old new (Err f) → IsOfARegister (fault_of f)
-  only_shown NoMemory was shows = tt
-  only_shown Device was shows = tt
-  only_shown Damaged was shows =
-      absurd (shows (state o l) (kept_by (first_accepted o l)) (lawful o l tells.history) (means (was.1 refl))).1
+  of_a_register : (f : Fault) (o : Opening) (l : List Arrival) → Tells old o l → WasOpen {X = X} old new (Err f)
+      → ShowsOffice Shown old new (Err f) → IsOfARegister (fault_of f)
+  of_a_register NoMemory o l tells was shows = tt
+  of_a_register Device o l tells was shows = tt
+  of_a_register Damaged o l tells was shows = absurd (shows o l tells.history (tells.rows (was.1 refl)).now).1
 
   -- a failure has its cause
-  pub device_shown : Shows Shown old new (Err Device) → HasFailed old new
-  device_shown shows = go old.is_open refl
+  failed : (o : Opening) (l : List Arrival) → Tells old o l → ShowsOffice Shown old new (Err Device)
+      → table.HasFailed old new
+  failed o l tells shows = go old.is_open refl
     where
-      go : (b : Bool) → old.is_open ≡ b → HasFailed old new
-      go true is = (shows (state o l) (kept_by (first_accepted o l)) (lawful o l tells.history) (means is)).1
+      go : (b : Bool) → old.is_open ≡ b → table.HasFailed old new
+      go true is = (shows o l tells.history (tells.rows is).now).1
       go false is = inr (inl is)
+
+  module _ (r : Result X Fault) (q : Result X StoreFault) (is : q ≡ told r) (was : HasCleanDisk new → WasOpen old new r)
+      (shows : HasCleanDisk new → ShowsOffice Shown old new r) where
+    abbrev IsRow : X → Type 0
+    IsRow x = (o : Opening) (l : List Arrival) → Tells old o l → Shown (state o l) (kept_by (first_accepted o l)) x
+
+    -- what is answered is the state's
+    pub row_told : HasCleanDisk new → IfOk q IsRow
+    row_told clean = subst (λ z. IfOk z IsRow) (sym is) (go r (was clean) (shows clean))
+      where
+        go : (r : Result X Fault) → WasOpen old new r → ShowsOffice Shown old new r → IfOk (told r) IsRow
+        go (Ok x) was shows = λ o l tells. shown x o l tells was shows
+        go (Err f) was shows = tt
+
+    -- the tables tell it still
+    pub same_told : HasCleanDisk new → (o : Opening) (l : List Arrival) → Tells old o l → Tells new o l
+    same_told clean o l tells = still r o l tells (was clean) (shows clean)
+
+    abbrev IsCaused : StoreFault → Type 0
+    IsCaused e = HasCause e (HasFailed old new)
+
+    -- a failure is told where there was one
+    pub cause_told : IfErr q IsCaused
+    cause_told = subst (λ z. IfErr z IsCaused) (sym is) (go r shows)
+      where
+        go : (r : Result X Fault) → (HasCleanDisk new → ShowsOffice Shown old new r) → IfErr (told r) IsCaused
+        go (Ok x) shows = tt
+        go (Err NoMemory) shows = tt
+        go (Err Damaged) shows = tt
+        go (Err Device) shows = λ clean o l tells. inl (failed o l tells (shows clean))
+
+    abbrev IsOnly : StoreFault → Type 0
+    IsOnly e = (o : Opening) (l : List Arrival) → Tells old o l → IsOfARegister e
+
+    -- and nothing else but want of memory
+    pub only_told : HasCleanDisk new → IfErr q IsOnly
+    only_told clean = subst (λ z. IfErr z IsOnly) (sym is) (go r (was clean) (shows clean))
+      where
+        go : (r : Result X Fault) → WasOpen old new r → ShowsOffice Shown old new r → IfErr (told r) IsOnly
+        go (Ok x) was shows = tt
+        go (Err f) was shows = λ o l tells. of_a_register f o l tells was shows

@@ -1,10 +1,5 @@
-pub mod Faults
-pub mod Reading
-pub mod Departments
-pub mod Certificates
-pub mod Lawful
-pub mod Offices
-pub mod Rows
-pub mod Transactions
-pub mod Showing
 pub mod Meaning
+pub mod Showing
+pub mod Revocations
+pub mod Parts
+pub mod Arriving

@@ -1,7 +1,7 @@
 -- What the tables mean.
-use Rattle.std.specs.Prelude.{◌≡◌, List, [], ◌∷◌, length, ◌==◌, if◌then◌else◌, IsTrue, Result, Ok, Err}
+use Rattle.std.specs.Prelude.{◌≡◌, ◌⊎◌, List, [], ◌∷◌, length, ◌==◌, if◌then◌else◌, IsTrue, Result, Ok, Err}
 use Rattle.std.specs.List.{AllByRecursion}
-use Rattle.sqlite.specs.State.{State}
+use Rattle.sqlite.specs.State.{State, HasCleanDisk}
 use Rattle.office.specs.declared.opening.Opening.{Opening}
 use Rattle.office.specs.declared.arrival.Arrival.{Arrival}
 use Rattle.office.specs.declared.fault.StoreFault.{StoreFault}
@@ -9,10 +9,15 @@ use Rattle.office.specs.declared.fault.StoreFault.TheVariants.{Device, NoMemory,
 use Rattle.office.specs.Shows.{IsOffice}
 use Rattle.tables.specs.declared.offices.OfficeRow.{OfficeRow}
 use Rattle.tables.specs.Contents.{Contents}
+use Rattle.tables.specs.Faults as table
+use Rattle.tables.specs.declared.fault.Fault.{Fault}
+use Rattle.tables.specs.declared.fault.Fault.TheVariants as table_fault
+use Rattle.rows.specs.Faults.{fault_of}
+use Rattle.text.specs.declared.memory.NoMemory as text
 use Rattle.tables.specs.Schema.{no_schema}
 use Rattle.tables.specs.Calls.{IsBare}
-use Rattle.store.specs.Rows.{office_contents}
-use Rattle.store.specs.Transactions.{Rests, Has}
+use Rattle.rows.specs.Rows.{office_contents}
+use Rattle.rows.specs.Transactions.{Rests, Has}
 
 -- no transaction is open, and the database has no table
 abbrev pub IsBlank : State → Type 0
@@ -29,6 +34,12 @@ pub record Tells (s : State) (o : Opening) (l : List Arrival) : Type 0 where
   pub history : IsHistory o l
   pub rows : IsTrue s.is_open → Rests (Has (office_contents o l)) s
 
+-- Of an honest disk and of tables that tell a history: the database failed, or, on an open connection, it refused a
+-- statement.
+abbrev pub HasFailed : State → State → Type 0
+HasFailed old new =
+    HasCleanDisk new → (o : Opening) (l : List Arrival) → Tells old o l → table.HasFailed old new ⊎ IsTrue old.is_open
+
 -- what an open answers to the rows of the table of the office: there is one, of the schema that this store has
 abbrev pub opened_by : List OfficeRow → Result (Unit {0}) StoreFault
 opened_by [] = Err NotAnOffice
@@ -41,3 +52,13 @@ Looks c failed (Ok x) = opened_by c.offices ≡ Ok x
 Looks c failed (Err NoMemory) = Unit {0}
 Looks c failed (Err Device) = failed
 Looks c failed (Err e) = opened_by c.offices ≡ Err e
+
+-- the register's answer of an answer of the tables
+abbrev pub told : {X : Type 0} → Result X Fault → Result X StoreFault
+told (Ok x) = Ok x
+told (Err f) = Err (fault_of f)
+
+-- what is made where memory allows, as an answer of the tables
+abbrev pub made : {X : Type 0} → Result X text.NoMemory → Result X Fault
+made (Ok x) = Ok x
+made (Err e) = Err table_fault.NoMemory

@@ -1,19 +1,30 @@
--- What a reading call shows of the tables of an office.
+-- What a reading call shows of the tables of an office after a history.
 use Rattle.std.specs.Prelude.{List, Result, Ok, Err}
 use Rattle.sqlite.specs.State.{State as Connection, IsUnchanged}
+use Rattle.sqlite.specs.Tree.{Trees}
 use Rattle.tables.specs.Contents.{Means}
 use Rattle.tables.specs.Calls.{Fails}
 use Rattle.tables.specs.Faults.{HasCause}
 use Rattle.tables.specs.declared.fault.Fault.{Fault}
+use Rattle.office.specs.declared.opening.Opening.{Opening}
+use Rattle.office.specs.declared.arrival.Arrival.{Arrival}
 use Rattle.office.specs.declared.arrival.Kept.{Kept}
 use Rattle.office.specs.State.{State}
-use Rattle.store.specs.Lawful.{IsLawful}
-use Rattle.store.specs.Rows.{contents_of}
+use Rattle.office.specs.History.{first_accepted, kept_by, state}
+use Rattle.rows.specs.Rows.{office_contents}
+use Rattle.store.specs.Meaning.{IsHistory}
 
--- Of tables with the rows of a lawful state and of what is kept with it: this is shown, and nothing has changed; or the
--- call fails, for want of memory or because the database failed.
-abbrev pub Shows : {X : Type 0} → (State → List Kept → X → Type 0) → Connection → Connection → Result X Fault → Type 0
-Shows Shown old new (Ok x) =
-    (s : State) (kept : List Kept) → IsLawful s → Means old.now (contents_of s kept) → Shown s kept x × IsUnchanged old new
-Shows Shown old new (Err f) =
-    (s : State) (kept : List Kept) → IsLawful s → Means old.now (contents_of s kept) → Fails old new × HasCause old new f
+-- Of tables with the rows of an office after a history: this is shown of its state and of what is kept with it, and
+-- nothing has changed; or the call fails, for want of memory or because the database failed.
+abbrev pub ShowsOffice : {X : Type 0} → (State → List Kept → X → Type 0) → Connection → Connection → Result X Fault
+    → Type 0
+ShowsOffice Shown old new (Ok x) =
+    (o : Opening) (l : List Arrival) → IsHistory o l → Means old.now (office_contents o l)
+    → Shown (state o l) (kept_by (first_accepted o l)) x × IsUnchanged old new
+ShowsOffice Shown old new (Err f) =
+    (o : Opening) (l : List Arrival) → IsHistory o l → Means old.now (office_contents o l)
+    → Fails old new × HasCause old new f
+
+-- nothing is committed of tables with the rows of an office after a history
+abbrev pub Never : Connection → Trees → Type 0
+Never old trees = (o : Opening) (l : List Arrival) → IsHistory o l → ¬ Means old.now (office_contents o l)

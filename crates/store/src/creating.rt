@@ -9,11 +9,11 @@ ghost use Rattle.tables.specs.Calls.{IsBare};
 ghost use Rattle.tables.specs.Changes.{with_ca, with_office};
 ghost use Rattle.office.specs.Openings.{IsOpening};
 ghost use Rattle.office.specs.State.{first_ca, opened};
-ghost use Rattle.store.specs.Rows.{ca_row, office_contents, office_row};
-ghost use Rattle.store.specs.Transactions.{Ends, Has, Leaves, Makes, Waits};
+ghost use Rattle.rows.specs.Rows.{ca_row, office_contents, office_row};
+ghost use Rattle.rows.specs.Transactions.{Ends, Has, Leaves, Makes, Waits};
 
-use crate::number::number;
-use crate::transaction::conclude;
+use rows::number;
+use rows::conclude;
 use lines::key_blob_of;
 use office::Opening;
 use profile::LAST_SERIAL;

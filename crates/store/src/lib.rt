@@ -1,22 +1,28 @@
 //! The office's register in the tables of a database.
 //!
 //! An office is made whole or not at all. What the tables tell of a history they tell after each call too, also after one
-//! that failed. A row is read as a lawful value of the office, or told damaged.
+//! that failed.
 #![tactic(auto)]
 
-mod cas;
-mod cert_rows;
-mod certificates;
+mod answer;
 mod creating;
-mod department_rows;
-mod departments;
-mod fault;
-mod key_ids;
+mod ending;
+mod listing;
 mod looking;
-mod number;
-mod office_rows;
-mod reading;
+mod publishing;
 mod register;
-mod transaction;
+mod registry;
+mod revocations;
+mod serials;
+mod settling;
+mod taking;
+#[cfg(test)]
+mod tests;
 
+pub use krl::{CaPart, KrlHead, Run, Runs};
+pub use office::{
+    Arrival, Ca, Entry, Issued, Opening, OpeningFault, Outcome, Pending, Registry, Revoked,
+    Standing, StoreFault,
+};
+pub use profile::is_name;
 pub use register::Store;

@@ -13,7 +13,7 @@ ghost use Rattle.office.specs.declared.arrival.Arrival.{Arrival};
 ghost use Rattle.store.specs.Meaning.{Looks, Tells, opened_by};
 
 use crate::creating::SCHEMA;
-use crate::fault::fault_of;
+use rows::fault_of;
 use office::StoreFault;
 use sqlite::{Alter, Connection};
 use std::alloc::Global;

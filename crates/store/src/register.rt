@@ -1,25 +1,32 @@
 //! The register, from its connection and back.
 
-ghost use Rattle.std.specs.Prelude.{◌≡◌, false, [], List, IfErr, IfOk, IsTrue};
+ghost use Rattle.std.specs.Prelude.{◌≡◌, false, [], List, IfErr, IfOk, IsTrue, true};
 ghost use Rattle.std.specs.List.{list_any};
 ghost use Rattle.sqlite.specs.Held.{state};
-ghost use Rattle.sqlite.specs.State.{HasCleanDisk};
-ghost use Rattle.tables.specs.Look.{is_office_name, is_office_table};
+ghost use Rattle.sqlite.specs.State.{HasCleanDisk, Survives};
+ghost use Rattle.tables.specs.Schema.{no_schema};
+ghost use Rattle.tables.specs.Calls.{IsBare};
+ghost use Rattle.rows.specs.Rows.{office_contents};
+ghost use Rattle.rows.specs.Transactions.{Leaves};
+ghost use Rattle.tables.specs.Look.{is_ca_name, is_office_name, is_office_table};
+ghost use Rattle.migration.specs.Former.{TellsBefore};
 ghost use Rattle.office.specs.declared.opening.Opening.{Opening};
 ghost use Rattle.office.specs.declared.arrival.Arrival.{Arrival};
 ghost use Rattle.office.specs.Openings.{IsOpening};
 ghost use Rattle.office.specs.Faults.{IsOfARegister};
-ghost use Rattle.store.specs.Meaning.{IsBlank, Tells};
+ghost use Rattle.store.specs.Meaning.{IsBlank, IsHistory, Tells};
 
 use crate::creating::create;
-use crate::fault::fault_of;
+use rows::fault_of;
 use crate::looking::look;
+use migration::migrate;
 use office::{Opening, StoreFault};
 use sqlite::{Alter, Connection};
 use std::alloc::Global;
 use tables::has_any_table;
 
 /// An office's register in the tables of a database.
+#[derive(Drop)]
 pub struct Store<S: Alter> {
     pub(crate) conn: Connection<S>,
 }
@@ -41,6 +48,12 @@ impl<S: Alter> Store<S> {
             → result ≡ Err (record { 0 = StoreFault.AlreadyAnOffice; 1 = conn }) }
         ensures blank { IfErr result (λ e. HasCleanDisk (state S.Store e.1) → IsBlank (state S.Store conn)
             → IsTrue (state S.Store e.1).is_open → IsBlank (state S.Store e.1)) }
+
+        // A crash in its midst leaves the database without tables, or with the whole office.
+        ensures crash { IfOk result (λ s. Survives (state S.Store conn) (state S.Store s.conn)
+            (Leaves (λ _. IsBare no_schema) (λ (_ : Unit {0}). office_contents opening.now []) (state S.Store conn))) }
+        ensures crash_back { IfErr result (λ e. Survives (state S.Store conn) (state S.Store e.1)
+            (Leaves (λ _. IsBare no_schema) (λ (_ : Unit {0}). office_contents opening.now []) (state S.Store conn))) }
     {
         let mut conn = conn;
         if has_any_table(&conn) {
@@ -67,6 +80,33 @@ impl<S: Alter> Store<S> {
     {
         let mut conn = conn;
         match look(alloc, &mut conn) {
+            Ok(()) => Ok(Store { conn }),
+            Err(fault) => Err((fault, conn)),
+        }
+    }
+
+    /// The office of a database with the tables of schema 1, which become those of this version: its CA gets number 1. All
+    /// of it is done or, with a fault, which gives the connection back, nothing. `NotAnOffice` where the table of the
+    /// office is missing or has not just one row, `WrongSchema` where its tables are those of another version.
+    pub fn migrate(
+        alloc: Global,
+        conn: Connection<S>,
+    ) -> Result<Store<S>, (StoreFault, Connection<S>)>
+        requires { (state S.Store conn).in_transaction ≡ false }
+        ensures carried { IfOk result (λ s. HasCleanDisk (state S.Store s.conn) → (o : Opening) (l : List Arrival)
+            → IsHistory o l → TellsBefore (state S.Store conn) o l → Tells (state S.Store s.conn) o l) }
+        ensures back { IfErr result (λ e. HasCleanDisk (state S.Store e.1) → (o : Opening) (l : List Arrival)
+            → TellsBefore (state S.Store conn) o l → TellsBefore (state S.Store e.1) o l) }
+        ensures only { IfErr result (λ e. HasCleanDisk (state S.Store e.1) → IsTrue (state S.Store conn).is_open
+            → (o : Opening) (l : List Arrival) → TellsBefore (state S.Store conn) o l → IsOfARegister e.0) }
+        ensures none { list_any is_office_table (state S.Store conn).now.schema.tables ≡ false
+            → result ≡ Err (record { 0 = StoreFault.NotAnOffice; 1 = conn }) }
+        ensures already { list_any is_office_table (state S.Store conn).now.schema.tables ≡ true
+            → list_any is_ca_name (state S.Store conn).now.schema.tables ≡ true
+            → result ≡ Err (record { 0 = StoreFault.WrongSchema; 1 = conn }) }
+    {
+        let mut conn = conn;
+        match migrate(alloc, &mut conn) {
             Ok(()) => Ok(Store { conn }),
             Err(fault) => Err((fault, conn)),
         }

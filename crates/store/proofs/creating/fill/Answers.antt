@@ -2,8 +2,8 @@ use Rattle.std.proofs.Common.{arith}
 use Rattle.sqlite.specs.Held.{state}
 use Rattle.sqlite.specs.State.{HasCleanDisk}
 use Rattle.tables.specs.Changes.{with_ca, with_office}
-use Rattle.store.specs.Transactions.{Has}
-use Rattle.store.proofs.Steps.{leads, makes, makes_then, waits, waits_then}
+use Rattle.rows.specs.Transactions.{Has}
+use Rattle.rows.proofs.Steps.{leads, makes, makes_then, waits, waits_then}
 use Rattle.store.proofs.creating.fill.Goals as goal
 
 pub returns-clause-makes : goal.returns-clause-makes

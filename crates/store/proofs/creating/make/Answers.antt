@@ -5,8 +5,8 @@ use Rattle.tables.specs.Schema.{no_schema}
 use Rattle.tables.specs.Contents.{no_contents}
 use Rattle.tables.specs.Calls.{IsBare}
 use Rattle.tables.specs.Changes.{with_ca, with_office}
-use Rattle.store.specs.Transactions.{Has}
-use Rattle.store.proofs.Steps.{answers_then, waits_then}
+use Rattle.rows.specs.Transactions.{Has}
+use Rattle.rows.proofs.Steps.{answers_then, waits_then}
 use Rattle.store.proofs.Bare.{bare_leads, bare_waits}
 use Rattle.store.proofs.creating.make.Goals as goal
 

@@ -5,7 +5,7 @@ use Rattle.tables.specs.Schema.{no_schema}
 use Rattle.tables.specs.Contents.{no_contents}
 use Rattle.tables.specs.Calls.{IsBare}
 use Rattle.tables.specs.Changes.{with_ca, with_office}
-use Rattle.store.proofs.Steps.{ends, left}
+use Rattle.rows.proofs.Steps.{ends, left}
 use Rattle.store.proofs.creating.make_whole.Goals as goal
 
 pub returns-clause-ends : goal.returns-clause-ends

@@ -1,7 +1,7 @@
 use Rattle.std.proofs.Common.{refl}
 use Rattle.sqlite.specs.Held.{state}
 use Rattle.tables.specs.Faults.{HasFailed}
-use Rattle.store.specs.Rows.{office_contents}
+use Rattle.rows.specs.Rows.{office_contents}
 use Rattle.store.proofs.OfficeRows.{not_missed}
 use Rattle.store.proofs.register.Store.open.Goals as goal
 

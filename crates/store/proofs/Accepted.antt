@@ -1,0 +1,153 @@
+-- An arrival that is accepted now.
+use Rattle.std.proofs.Common.{◌≡◌, ℕ, ◌+◌, ◌<◌, ◌≤◌, List, [], ◌∷◌, ◌++◌, length, false, None, Some, Option, Result, Ok, Err, refl, sym, ap, subst, ◌∙◌, ◌&&◌, arith}
+use Rattle.std.specs.Prelude.{IsOkAnd, nat_le, nat_lt, ◌^◌}
+use Rattle.std.proofs.lemmas.Bool.{and_parts, leb-true}
+use Rattle.profile.specs.declared.limits.TheConstants.{LATEST_MOMENT}
+use Rattle.profile.specs.declared.refusal.Refusal.{Refusal}
+use Rattle.sqlite.specs.Effect.{Database}
+use Rattle.sqlite.specs.State.{State as Connection, Survives}
+use Rattle.sqlite.proofs.StateLemmas.{survives_weaker}
+use Rattle.message.specs.declared.kinds.Message.{Message}
+use Rattle.tables.specs.Contents.{Contents, Means}
+use Rattle.tables.specs.declared.fault.Fault.{Fault}
+use Rattle.office.specs.declared.arrival.Arrival.{Arrival}
+use Rattle.office.specs.declared.arrival.Kept.{Kept}
+use Rattle.office.specs.declared.arrival.Outcome.TheVariants as outcome
+use Rattle.office.specs.declared.ca.Ca.{Ca}
+use Rattle.office.specs.declared.opening.Opening.{Opening}
+use Rattle.office.specs.declared.view.Decision.{Decision}
+use Rattle.office.specs.declared.view.View.{View}
+use Rattle.office.specs.Decided.{Agrees, Decided, HasRoom, stepped_by, written}
+use Rattle.office.specs.Openings.{IsOpening}
+use Rattle.office.specs.Machine.{Stepped, after, first_holding, refusals, refused_or, reply_to}
+use Rattle.office.specs.State.{State, next_serial}
+use Rattle.office.specs.History.{First, change, due, judged, kept_row, reply_kept, state}
+use Rattle.office.specs.Shows.{Shows}
+use Rattle.office.proofs.Growth.{after_grows, holds_in_range, opening_stays}
+use Rattle.office.proofs.Ranges.{revoked_is_issued}
+use Rattle.office.proofs.Steps.{shows_accepted}
+use Rattle.rows.specs.Rows.{contents_of}
+use Rattle.rows.specs.Transactions.{Goes, Makes, Waits}
+use Rattle.writes.specs.Due.{Fits, IsDue, contents_after, kept_of}
+use Rattle.store.specs.Meaning.{IsHistory}
+use Rattle.store.specs.Arriving.{IsAccepted, IsAfter, IsAnswered, IsNew, Past, Settles, contents_with, kept_at, state_at, with_one_more}
+use Rattle.store.proofs.Dates.{date_after}
+use Rattle.store.proofs.Lawful.{lawful_after}
+use Rattle.store.proofs.Settled.{goes_on, rows_with, shown_at}
+
+-- ---- what is decided
+
+-- a step that isn't refused
+step_gives : (r : Option Refusal) (x y : Stepped) → refused_or r x ≡ Ok y → x ≡ y
+step_gives (Some r) x y e = absurd cc
+step_gives None x y e = cc
+
+pub decided_accepted : (p : Past) (a : Arrival) (m : Message) (d : Decision) (v : View) → IsNew a m p
+    → Decided (Ok d) (state_at p) a.caller m a.moment a.nonce → HasRoom d.change (state_at p) → Agrees v (state_at p) m
+    → v.version < 9223372036854775806 → IsAccepted a d v.cas.now p
+decided_accepted p a m d v is decided room agrees small =
+    let s = state_at p in
+    let stepped : Stepped = record { state = after s m a.moment a.nonce; reply = reply_to s m a.moment a.nonce } in
+    let same = step_gives (first_holding (refusals s a.caller m a.moment)) stepped (stepped_by d s) decided.0 in
+    let message = is.message in
+    let in_time = is.in_time in
+    let unknown = is.unknown in
+    record {
+      new = is.new;
+      judged = rw (message, in_time, unknown, decided.0) (refl, refl, sym (ap (λ (x : Stepped). x.state) same));
+      room = room;
+      next = decided.1;
+      cas = agrees.cas;
+      version = subst (λ (n : ℕ). n < 9223372036854775806) agrees.version small;
+    }
+
+-- ---- what is written
+
+shows_written : (p : Past) (a : Arrival) (d : Decision) (j : Result First Refusal) → IsHistory p.0 p.1
+    → reply_kept (kept_at p) a ≡ None → judged (state_at p) (kept_at p) a ≡ j
+    → IsOkAnd j (λ f. (f.arrival ≡ a) × (f.reply ≡ d.reply) × (written d (state_at p) ≡ change (state_at p) f))
+    → (state_at p).version < 9223372036854775806
+    → (outcome.Accepted d.reply ≡ due p.0 p.1 a)
+    × Shows (written d (state_at p)) (kept_at p ++ kept_of a d.reply ∷ []) p.0 (p.1 ++ a ∷ [])
+shows_written p a d (Err x) h new e found small = absurd found
+shows_written p a d (Ok f) h new e found small =
+    let s = state_at p in
+    let kept = kept_at p in
+    let l = p.1 ++ a ∷ [] in
+    let grown : (change s f).version ≤ s.version + 1 = (after_grows s f.message f.arrival.moment f.arrival.nonce).by_one in
+    let r = shows_accepted s kept p.0 p.1 a f new e (omega (arith, small, grown)) (shown_at p h) in
+    let row : kept_row f ≡ kept_of a d.reply =
+    ap (λ (x : Arrival). kept_of x f.reply) found.0 ∙ ap (λ (x : List ℕ). kept_of a x) found.1 in
+    let rows : kept ++ kept_row f ∷ [] ≡ kept ++ kept_of a d.reply ∷ [] = ap (λ (k : Kept). kept ++ k ∷ []) row in
+    let after : change s f ≡ written d s = sym found.2 in (
+      ap (λ (x : List ℕ). outcome.Accepted x) (sym found.1) ∙ r.0,
+      subst (λ (t : State). Shows t (kept ++ kept_of a d.reply ∷ []) p.0 l) after
+          (subst (λ (ks : List Kept). Shows (change s f) ks p.0 l) rows r.1),
+    )
+
+-- the outcome is due, and the office with the arrival shows what is written
+pub accepted : (p : Past) (a : Arrival) (d : Decision) (cas : List Ca) → IsHistory p.0 p.1 → IsAccepted a d cas p
+    → (outcome.Accepted d.reply ≡ due p.0 p.1 a)
+    × Shows (written d (state_at p)) (kept_at p ++ kept_of a d.reply ∷ []) p.0 (p.1 ++ a ∷ [])
+accepted p a d cas h is = shows_written p a d (judged (state_at p) (kept_at p) a) h is.new refl is.judged is.version
+
+small : LATEST_MOMENT < 2 ^ 63
+small = omega arith
+
+last_small : (o : Opening) → IsOpening o → o.last ≤ 9223372036854775806
+last_small o is =
+    leb-true _ _ (and_parts (nat_le o.first o.last) (nat_le o.last 9223372036854775806)
+    (and_parts (nat_le 1 o.first) (nat_le o.first o.last && nat_le o.last 9223372036854775806) is.serials).1).1
+
+-- its counters are numbers that a column holds
+fits : (p : Past) (a : Arrival) (d : Decision) (cas : List Ca) → IsHistory p.0 p.1 → IsAccepted a d cas p → Fits d
+fits p a d cas h is =
+    let l = p.1 ++ a ∷ [] in
+    let shows = (accepted p a d cas h is).1 in
+    let same : written d (state_at p) ≡ state p.0 l = shows.is_state in
+    let range : next_serial (state p.0 l) ≤ (state p.0 l).opening.last + 1 = holds_in_range p.0 l h.office.opening in
+    let opening : (state p.0 l).opening.last ≡ p.0.last = ap (λ (o : Opening). o.last) (opening_stays p.0 l) in
+    let next : d.next ≡ next_serial (state p.0 l) = is.next ∙ ap next_serial same in
+    let date : d.date ≡ (state p.0 l).date = ap (λ (s : State). s.date) same in
+    record {
+      next = omega (arith, range, opening, next, last_small p.0 h.office.opening);
+      version = omega (arith, shows.version);
+      date = omega (arith, date, date_after p.0 l, small);
+    }
+
+pub is_due : (p : Past) (a : Arrival) (d : Decision) (cas : List Ca) (db : Database) → IsAfter (IsAccepted a d cas) p db
+    → IsDue d cas (state_at p, kept_at p) db
+is_due p a d cas db is = record {
+  lawful = lawful_after p.0 p.1 is.history;
+  room = is.known.room;
+  issued = λ n revoked. (revoked_is_issued p.0 p.1 n revoked).1;
+  next = is.known.next;
+  fits = fits p a d cas is.history is.known;
+  listed = is.known.cas;
+  means = is.means;
+}
+
+-- what is written is the office with the arrival
+pub settles_written : (a : Arrival) (d : Decision) (cas : List Ca) (old new : Connection) → length a.nonce ≡ 32
+    → Makes {X = Unit {0}} (IsDue d cas) (contents_after d a) old new (Ok tt)
+    → Settles a (IsAccepted a d cas) old new (Ok (outcome.Accepted d.reply))
+settles_written a d cas old new size makes = λ p after.
+    let s = accepted p a d cas after.history after.known in
+    let x = written d (state_at p) in
+    let kept = kept_at p ++ kept_of a d.reply ∷ [] in
+    let q = makes (state_at p, kept_at p) (is_due p a d cas old.now after) in (
+      record { due = s.0; history = goes_on a p x kept size after.history s.1 },
+      subst (λ (c : Contents). Goes old new c) (rows_with a p x kept s.1) q.1,
+    )
+
+pub settles_unwritten : (a : Arrival) (d : Decision) (cas : List Ca) (old new : Connection) (f : Fault)
+    → Makes {X = Unit {0}} (IsDue d cas) (contents_after d a) old new (Err f) → Settles a (IsAccepted a d cas) old new (Err f)
+settles_unwritten a d cas old new f makes = λ p after.
+    makes (state_at p, kept_at p) (is_due p a d cas old.now after)
+
+-- a crash in the midst of what is written commits nothing
+pub waits_written : (a : Arrival) (d : Decision) (cas : List Ca) (old new : Connection) → Survives old new (Waits (IsDue d cas) old)
+    → Survives old new (Waits (IsAfter (IsAccepted a d cas)) old)
+waits_written a d cas old new one =
+    survives_weaker old new (Waits (IsDue d cas) old) (Waits (IsAfter (IsAccepted a d cas)) old)
+    (λ clean trees h p after. h (state_at p, kept_at p) (is_due p a d cas old.now after)) one

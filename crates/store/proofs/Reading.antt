@@ -1,0 +1,128 @@
+-- Reading calls over the tables of an office, one after the other.
+use Rattle.std.proofs.Common.{◌≡◌, inl, inr, Bool, true, false, List, Ok, Err, Result, IsTrue, refl, sym, ap, subst, ◌∙◌, arith}
+use Rattle.std.specs.Prelude.{IfOk, IsSome, Option}
+use Rattle.sqlite.specs.Effect.{Database}
+use Rattle.sqlite.specs.Tree.{Trees}
+use Rattle.sqlite.specs.State.{State as Connection, HasCleanDisk, Survives, IsUnchanged}
+use Rattle.sqlite.proofs.StateLemmas.{survives_then, survives_weaker}
+use Rattle.text.specs.declared.memory.NoMemory.{NoMemory as Refusal}
+use Rattle.tables.specs.Contents.{Means}
+use Rattle.tables.specs.Calls as table
+use Rattle.tables.specs.Faults.{HasCause, HasFailed}
+use Rattle.tables.specs.declared.fault.Fault.{Fault}
+use Rattle.tables.specs.declared.fault.Fault.TheVariants.{Damaged, Device, NoMemory}
+use Rattle.office.specs.declared.opening.Opening.{Opening}
+use Rattle.office.specs.declared.arrival.Arrival.{Arrival}
+use Rattle.office.specs.declared.arrival.Kept.{Kept}
+use Rattle.office.specs.State.{State}
+use Rattle.office.specs.History.{first_accepted, kept_by, state}
+use Rattle.rows.specs.Rows.{office_contents}
+use Rattle.rows.specs.Showing.{Shows}
+use Rattle.store.specs.Meaning.{IsHistory, made}
+use Rattle.store.specs.Showing.{Never, ShowsOffice}
+use Rattle.store.proofs.Lawful.{lawful_after}
+
+-- what is shown of each lawful state is shown of each office
+pub shows_office : {X : Type 0} (P : State → List Kept → X → Type 0) (old new : Connection) (r : Result X Fault)
+    → Shows P old new r → ShowsOffice P old new r
+shows_office P old new (Ok x) shows = λ o l history means.
+    shows (state o l) (kept_by (first_accepted o l)) (lawful_after o l history) means
+shows_office P old new (Err f) shows = λ o l history means.
+    shows (state o l) (kept_by (first_accepted o l)) (lawful_after o l history) means
+
+pub never : (a b : Connection) → Survives a b (table.Never a) → Survives a b (Never a)
+never a b one = survives_weaker a b (table.Never a) (Never a) (λ clean trees h o l history. h (office_contents o l)) one
+
+-- an answer that is made of an answer
+pub shows_of : {X Y : Type 0} (P : State → List Kept → X → Type 0) (Q : State → List Kept → Y → Type 0) (old new : Connection)
+    (x : X) (y : Y) → ((o : Opening) (l : List Arrival) → IsHistory o l → P (state o l) (kept_by (first_accepted o l)) x
+    → Q (state o l) (kept_by (first_accepted o l)) y) → ShowsOffice P old new (Ok x) → ShowsOffice Q old new (Ok y)
+shows_of P Q old new x y less shows = λ o l history means.
+    let p = shows o l history means in (less o l history p.0, p.1)
+
+-- ---- what comes after a call that changed nothing
+
+unchanged_then : (a b c : Connection) → IsUnchanged a b → IsUnchanged b c → IsUnchanged a c
+unchanged_then a b c p q = (
+  record {
+    was_open = p.0.was_open;
+    is_open = q.0.is_open;
+    now_is = q.0.now_is ∙ p.0.now_is;
+    committed_is = q.0.committed_is ∙ p.0.committed_is;
+    mode = q.0.mode ∙ p.0.mode;
+  },
+  record { changes = q.1.changes ∙ p.1.changes; last_rowid = q.1.last_rowid ∙ p.1.last_rowid },
+  q.2 ∙ p.2,
+)
+
+fails_then : (a b c : Connection) → IsUnchanged a b → table.Fails b c → table.Fails a c
+fails_then a b c p (inl q) = inl (unchanged_then a b c p q)
+fails_then a b c p (inr back) = inr (record {
+  was_open = λ _. p.0.was_open;
+  undone = λ still. let u = back.undone still in (u.0 ∙ p.0.committed_is, u.1 ∙ p.0.committed_is);
+  autocommit = back.autocommit;
+  unmarked = back.unmarked;
+  counts = record {
+    changes = back.counts.changes ∙ p.1.changes;
+    last_rowid = back.counts.last_rowid ∙ p.1.last_rowid;
+  };
+})
+
+not_both : (b : Bool) → IsTrue b → b ≡ false → ⊥
+not_both true is e = cc
+not_both false is e = cc
+
+-- what failed after a call that left the connection open failed since before it
+pub failed_then : (a b c : Connection) (P : Trees → Type 0) → Survives a b P → IsTrue b.is_open → HasFailed b c → HasFailed a c
+failed_then a b c P one is_open (inl more) = inl (omega (arith, one.counts, more))
+failed_then a b c P one is_open (inr (inl shut)) = absurd (not_both b.is_open is_open shut)
+failed_then a b c P one is_open (inr (inr limit)) = inr (inr (subst (λ (o : Option _). IsSome o) one.limit limit))
+
+pub cause_then : (a b c : Connection) (f : Fault) (P : Trees → Type 0) → Survives a b P → IsTrue b.is_open → HasCause b c f
+    → HasCause a c f
+cause_then a b c NoMemory P one is_open cause = tt
+cause_then a b c Damaged P one is_open cause = cause
+cause_then a b c Device P one is_open cause = failed_then a b c P one is_open cause
+
+pub still_means : (a b : Connection) (o : Opening) (l : List Arrival) → IsUnchanged a b → Means a.now (office_contents o l)
+    → Means b.now (office_contents o l)
+still_means a b o l same means = subst (λ (d : Database). Means d (office_contents o l)) (sym same.0.now_is) means
+
+-- what is shown first, and then what is shown of the same tables
+pub shows_then : {X Y : Type 0} (First : State → List Kept → X → Type 0) (Rest Whole : State → List Kept → Y → Type 0)
+    (a b c : Connection) (x : X) (r : Result Y Fault) (P : Trees → Type 0) → Survives a b P
+    → ((o : Opening) (l : List Arrival) (y : Y) → IsHistory o l → First (state o l) (kept_by (first_accepted o l)) x
+    → Rest (state o l) (kept_by (first_accepted o l)) y → Whole (state o l) (kept_by (first_accepted o l)) y)
+    → ShowsOffice First a b (Ok x) → ShowsOffice Rest b c r → ShowsOffice Whole a c r
+shows_then First Rest Whole a b c x (Ok y) P one both first rest = λ o l history means.
+    let p = first o l history means in
+    let q = rest o l history (still_means a b o l p.1 means) in
+    (both o l y history p.0 q.0, unchanged_then a b c p.1 q.1)
+shows_then First Rest Whole a b c x (Err f) P one both first rest = λ o l history means.
+    let p = first o l history means in
+    let q = rest o l history (still_means a b o l p.1 means) in
+    (fails_then a b c p.1 q.0, cause_then a b c f P one p.1.0.is_open q.1)
+
+-- what is shown, and then what is made of it, if memory allows
+pub shows_made : {X Y : Type 0} (First : State → List Kept → X → Type 0) (Made : Y → Type 0)
+    (Whole : State → List Kept → Y → Type 0) (a b : Connection) (x : X) (m : Result Y Refusal) (r : Result Y Fault)
+    → r ≡ made m → IfOk m Made
+    → ((o : Opening) (l : List Arrival) (y : Y) → IsHistory o l → First (state o l) (kept_by (first_accepted o l)) x → Made y
+    → Whole (state o l) (kept_by (first_accepted o l)) y)
+    → ShowsOffice First a b (Ok x) → ShowsOffice Whole a b r
+shows_made {X} {Y} First Made Whole a b x m r is holds both first =
+    subst (λ z. ShowsOffice Whole a b z) (sym is) (go m holds)
+  where
+    go : (m : Result Y Refusal) → IfOk m Made → ShowsOffice Whole a b (made m)
+    go (Ok y) holds = λ o l history means. let p = first o l history means in (both o l y history p.0 holds, p.1)
+    go (Err e) holds = λ o l history means. (inl (first o l history means).1, tt)
+
+-- two calls, of which neither commits anything
+pub reads_then : {X : Type 0} (First : State → List Kept → X → Type 0) (a b c : Connection) (x : X)
+    → (HasCleanDisk b → ShowsOffice First a b (Ok x)) → Survives a b (Never a) → Survives b c (Never b)
+    → Survives a c (Never a)
+reads_then First a b c x first one two =
+    survives_then a b c (Never a) (Never b) (Never a) (λ clean trees h. h)
+    (λ clean trees h o l history means.
+    let p = first (omega (arith, two.clean)) o l history means in
+    h o l history (still_means a b o l p.1 means)) one two

@@ -1,0 +1,258 @@
+-- What is answered inside a transaction, part by part.
+use Rattle.std.proofs.Common.{◌≡◌, ℕ, List, [], ◌∷◌, ◌++◌, length, true, false, Option, Some, None, Ok, Err, Result, IsTrue, refl, sym, ap, ap₂, subst, ◌∙◌}
+use Rattle.std.specs.Prelude.{◌≢◌, IfErr, nat_lt}
+use Rattle.std.specs.List.{list_any}
+use Rattle.std.specs.Str.{bytes_eq}
+use Rattle.std.proofs.lemmas.Slice.Eq.{bytes_eq-Decides}
+use Rattle.profile.specs.declared.limits.TheConstants.{LATEST_MOMENT}
+use Rattle.profile.specs.declared.refusal.Refusal.{Refusal}
+use Rattle.profile.specs.declared.refusal.Refusal.TheVariants.{BadMessage, BadMoment, KeyReused}
+use Rattle.sqlite.specs.Effect.{Database}
+use Rattle.sqlite.specs.Tree.{Trees}
+use Rattle.sqlite.specs.State.{State as Connection, HasCleanDisk, IsUnchanged, Survives}
+use Rattle.sqlite.proofs.StateLemmas.{survives_weaker}
+use Rattle.message.specs.declared.kinds.Message.{Message}
+use Rattle.message.specs.Values.{is_message}
+use Rattle.message.specs.Texts.{message_text}
+use Rattle.message.specs.Reading.{Gives, message_at}
+use Rattle.message.specs.declared.fault.MessageFault.{MessageFault}
+use Rattle.message.specs.declared.fault.MessageFault.TheVariants.{BadLine}
+use Rattle.tables.specs.Contents.{Contents, Means}
+use Rattle.tables.specs.Calls as table
+use Rattle.tables.specs.Faults.{HasCause}
+use Rattle.tables.specs.declared.fault.Fault.{Fault}
+use Rattle.tables.specs.declared.fault.Fault.TheVariants.{Damaged, Device, NoMemory}
+use Rattle.office.specs.declared.arrival.Arrival.{Arrival}
+use Rattle.office.specs.declared.arrival.Kept.{Kept}
+use Rattle.office.specs.declared.arrival.Outcome.{Outcome}
+use Rattle.office.specs.declared.arrival.Outcome.TheVariants as outcome
+use Rattle.office.specs.declared.view.Stop.{Stop}
+use Rattle.office.specs.declared.view.Stop.TheVariants as stop
+use Rattle.office.specs.declared.view.Stop.TheVariants.{Refused}
+use Rattle.office.specs.Decided.{Decided}
+use Rattle.office.specs.Messages.{message_with_text}
+use Rattle.office.specs.State.{State}
+use Rattle.office.specs.Machine.{step}
+use Rattle.office.specs.History.{due, has_key, judged, reply_kept}
+use Rattle.office.specs.Shows.{Shows}
+use Rattle.office.proofs.Steps.{shows_office, shows_refused, shows_repeated}
+use Rattle.rows.specs.Rows.{contents_of, office_contents}
+use Rattle.rows.specs.Transactions.{Answers, Goes, Waits}
+use Rattle.rows.proofs.Steps.{Leads, answers_then, goes_still, stops, waits_then}
+use Rattle.views.specs.Finding.{NeverOfOffice}
+use Rattle.store.specs.Meaning.{IsHistory}
+use Rattle.store.specs.Showing.{ShowsOffice}
+use Rattle.store.specs.Arriving.{IsAfter, IsAnswered, IsAsked, IsNew, Past, Settles, TellsNoDamage, contents_with, kept_at, state_at, stopped}
+use Rattle.store.proofs.Lawful.{all_push, lawful_after}
+use Rattle.store.proofs.Reading.{still_means}
+
+-- ---- one arrival more
+
+-- the office after a history shows it
+pub shown_at : (p : Past) → IsHistory p.0 p.1 → Shows (state_at p) (kept_at p) p.0 p.1
+shown_at p h = record { lawful = h.office.opening; version = h.office.version; is_state = refl; is_kept = refl }
+
+-- the history with the arrival is one
+pub goes_on : (a : Arrival) (p : Past) (s : State) (kept : List Kept) → length a.nonce ≡ 32 → IsHistory p.0 p.1
+    → Shows s kept p.0 (p.1 ++ a ∷ []) → IsHistory p.0 (p.1 ++ a ∷ [])
+goes_on a p s kept size h shows = record {
+  office = shows_office s kept p.0 (p.1 ++ a ∷ []) shows;
+  nonces = all_push (λ (x : Arrival). length x.nonce ≡ 32) p.1 a h.nonces size;
+}
+
+-- its rows are those that are shown
+pub rows_with : (a : Arrival) (p : Past) (s : State) (kept : List Kept) → Shows s kept p.0 (p.1 ++ a ∷ [])
+    → contents_of s kept ≡ contents_with a p
+rows_with a p s kept shows = ap₂ (λ (t : State) (ks : List Kept). contents_of t ks) shows.is_state shows.is_kept
+
+-- ---- answers that change nothing
+
+-- the outcome is due, and leaves the office as it was
+abbrev pub IsStill : Arrival → Outcome → Past → Type 0
+IsStill a outcome p = (outcome ≡ due p.0 p.1 a) × Shows (state_at p) (kept_at p) p.0 (p.1 ++ a ∷ [])
+
+pub settles_still : (a : Arrival) (Known : Past → Type 0) (c : Connection) (outcome : Outcome) → length a.nonce ≡ 32
+    → IsTrue c.is_open → ((p : Past) → IsHistory p.0 p.1 → Known p → IsStill a outcome p) → Settles a Known c c (Ok outcome)
+settles_still a Known c outcome size is_open same = λ p after.
+    let s = same p after.history after.known in
+    let rows : office_contents p.0 p.1 ≡ contents_with a p = rows_with a p (state_at p) (kept_at p) s.1 in (
+      record { due = s.0; history = goes_on a p (state_at p) (kept_at p) size after.history s.1 },
+      record {
+        was_open = is_open;
+        is_open = is_open;
+        means = subst (λ (x : Contents). Means c.now x) rows after.means;
+        committed = λ _. refl;
+        mode = refl;
+      },
+    )
+
+pub settles_not : (a : Arrival) (Known : Past → Type 0) (c : Connection) (f : Fault) → Settles a Known c c (Err f)
+settles_not a Known c f = λ p after inside. record { was_open = λ still. still; committed = λ _. refl }
+
+-- a repeat is due the reply that is kept
+pub repeated_still : (a : Arrival) (p : Past) (r : List ℕ) → IsHistory p.0 p.1 → reply_kept (kept_at p) a ≡ Some r
+    → IsStill a (outcome.Repeated r) p
+repeated_still a p r h known = shows_repeated (state_at p) (kept_at p) p.0 p.1 a r known (shown_at p h)
+
+-- a refusal that is judged is due
+pub refused_still : (a : Arrival) (p : Past) (r : Refusal) → IsHistory p.0 p.1 → reply_kept (kept_at p) a ≡ None
+    → judged (state_at p) (kept_at p) a ≡ Err r → IsStill a (outcome.Refused r) p
+refused_still a p r h new is = shows_refused (state_at p) (kept_at p) p.0 p.1 a r new is (shown_at p h)
+
+-- a message that was read is the one whose text the bytes are
+pub read_is : (bytes : List ℕ) (m : Message) → message_at bytes ≡ Ok m → is_message m ≡ true → bytes ≡ message_text m
+    → message_with_text bytes ≡ Some m
+read_is bytes m read lawful text =
+    let same : bytes_eq bytes (message_text m) ≡ true = (bytes_eq-Decides bytes (message_text m)).1 text in
+    rw (read, lawful, same) refl
+
+-- bytes with a bad line are no message's text
+bad_is : (bytes : List ℕ) (n : ℕ) → message_at bytes ≡ Err n → message_with_text bytes ≡ None
+bad_is bytes n read = rw read refl
+
+pub bad_line : (bytes : List ℕ) (f : MessageFault) (n : ℕ) → f ≡ BadLine n → Gives {X = Message} (Err f) (message_at bytes)
+    → message_with_text bytes ≡ None
+bad_line bytes f n is read =
+    bad_is bytes n (subst (λ (g : MessageFault). Gives {X = Message} (Err g) (message_at bytes)) is read)
+
+pub bad_message : (s : State) (kept : List Kept) (a : Arrival) → message_with_text a.bytes ≡ None → judged s kept a ≡ Err BadMessage
+bad_message s kept a is = rw is refl
+
+pub bad_moment : (s : State) (kept : List Kept) (a : Arrival) (m : Message) → message_with_text a.bytes ≡ Some m
+    → nat_lt LATEST_MOMENT a.moment ≡ true → judged s kept a ≡ Err BadMoment
+bad_moment s kept a m is late = rw (is, late) refl
+
+pub key_reused : (s : State) (kept : List Kept) (a : Arrival) (m : Message) → message_with_text a.bytes ≡ Some m
+    → nat_lt LATEST_MOMENT a.moment ≡ false → list_any (has_key a) kept ≡ true → judged s kept a ≡ Err KeyReused
+key_reused s kept a m is in_time known = rw (is, in_time, known) refl
+
+pub step_refused : (p : Past) (a : Arrival) (m : Message) (r : Refusal) → IsNew a m p
+    → step (state_at p) a.caller m a.moment a.nonce ≡ Err r → judged (state_at p) (kept_at p) a ≡ Err r
+step_refused p a m r is refused =
+    let message = is.message in
+    let in_time = is.in_time in
+    let unknown = is.unknown in
+    rw (message, in_time, unknown, refused) refl
+
+-- a message that isn't accepted now changes nothing
+pub stopped_settles : (a : Arrival) (m : Message) (Known : Past → Type 0) (c : Connection) (s : Stop) (r : Result Outcome Fault)
+    → r ≡ stopped s → length a.nonce ≡ 32 → IsTrue c.is_open → ((p : Past) → Known p → IsNew a m p)
+    → ((p : Past) → Known p → Decided (Err s) (state_at p) a.caller m a.moment a.nonce) → Settles a Known c c r
+stopped_settles a m Known c s r is size is_open new decided = subst (λ q. Settles a Known c c q) (sym is) (go s decided)
+  where
+    go : (s : Stop) → ((p : Past) → Known p → Decided (Err s) (state_at p) a.caller m a.moment a.nonce)
+        → Settles a Known c c (stopped s)
+    go (Refused x) decided =
+        settles_still a Known c (outcome.Refused x) size is_open
+        (λ p h known. refused_still a p x h (new p known).new (step_refused p a m x (new p known) (decided p known)))
+    go stop.NoMemory decided = settles_not a Known c NoMemory
+
+pub stopped_undamaged : (Known : Past → Type 0) (c : Connection) (s : Stop) (r : Result Outcome Fault) → r ≡ stopped s
+    → TellsNoDamage Known c r
+stopped_undamaged Known c s r is = subst (λ q. TellsNoDamage Known c q) (sym is) (go s)
+  where
+    go : (s : Stop) → TellsNoDamage Known c (stopped s)
+    go (Refused x) = tt
+    go stop.NoMemory = λ p after e. cc
+
+-- ---- what is known says less
+
+pub settles_weaker : (a : Arrival) (Known Later : Past → Type 0) (old new : Connection) (r : Result Outcome Fault)
+    → ((p : Past) → IsHistory p.0 p.1 → Known p → Later p) → Settles a Later old new r → Settles a Known old new r
+settles_weaker a Known Later old new (Ok x) less settles = λ p after.
+    settles p (record { history = after.history; means = after.means; known = less p after.history after.known })
+settles_weaker a Known Later old new (Err f) less settles = λ p after inside.
+    settles p (record { history = after.history; means = after.means; known = less p after.history after.known }) inside
+
+pub damage_weaker : (Known Later : Past → Type 0) (old : Connection) (r : Result Outcome Fault)
+    → ((p : Past) → IsHistory p.0 p.1 → Known p → Later p) → TellsNoDamage Later old r → TellsNoDamage Known old r
+damage_weaker Known Later old (Ok x) less told = tt
+damage_weaker Known Later old (Err f) less told = λ p after.
+    told p (record { history = after.history; means = after.means; known = less p after.history after.known })
+
+pub waits_weaker : (Known Later : Past → Type 0) (a b : Connection) → ((p : Past) → IsHistory p.0 p.1 → Known p → Later p)
+    → Survives a b (Waits (IsAfter Later) a) → Survives a b (Waits (IsAfter Known) a)
+waits_weaker Known Later a b less one =
+    survives_weaker a b (Waits (IsAfter Later) a) (Waits (IsAfter Known) a)
+    (λ clean trees h p after. h p (record { history = after.history; means = after.means; known = less p after.history after.known }))
+    one
+
+-- ---- a reading call, and then the rest
+
+module _ {X : Type 0} (First : State → List Kept → X → Type 0) (Known Later : Past → Type 0) (x : X)
+    (both : (p : Past) → IsHistory p.0 p.1 → Known p → First (state_at p) (kept_at p) x → Later p) (a b : Connection) where
+  later : (p : Past) → IsAfter Known p a.now → ShowsOffice First a b (Ok x) → IsAfter Later p b.now
+  later p after first =
+      let q = first p.0 p.1 after.history after.means in
+      record {
+        history = after.history;
+        means = still_means a b p.0 p.1 q.1 after.means;
+        known = both p after.history after.known q.0;
+      }
+
+  -- the connection is open then
+  abbrev IsOpenAfter : Past → Database → Type 0
+  IsOpenAfter p db = IsAfter Later p db × IsTrue b.is_open
+
+  leads_open : ShowsOffice First a b (Ok x) → Leads (IsAfter Known) IsOpenAfter (λ p. p) a b
+  leads_open first = λ p after.
+      let q = first p.0 p.1 after.history after.means in (
+        office_contents p.0 p.1,
+        goes_still a b (office_contents p.0 p.1) q.1 after.means,
+        (later p after first, q.1.0.is_open),
+      )
+
+  leads_later : ShowsOffice First a b (Ok x) → Leads (IsAfter Known) (IsAfter Later) (λ p. p) a b
+  leads_later first = λ p after.
+      let q = first p.0 p.1 after.history after.means in
+      (office_contents p.0 p.1, goes_still a b (office_contents p.0 p.1) q.1 after.means, later p after first)
+
+  opened : (arrival : Arrival) (c : Connection) (r : Result Outcome Fault)
+      → (IsTrue b.is_open → Settles arrival Later b c r)
+      → Answers IsOpenAfter (IsAnswered arrival) (contents_with arrival) b c r
+  opened arrival c (Ok v) rest = λ p after. rest after.1 p after.0
+  opened arrival c (Err f) rest = λ p after. rest after.1 p after.0
+
+  pub settles_then : (arrival : Arrival) (c : Connection) (r : Result Outcome Fault) → ShowsOffice First a b (Ok x)
+      → (IsTrue b.is_open → Settles arrival Later b c r) → Settles arrival Known a c r
+  settles_then arrival c r first rest =
+      answers_then (IsAfter Known) (IsAnswered arrival) (contents_with arrival) IsOpenAfter (IsAnswered arrival)
+      (contents_with arrival) (λ p. p) a b c r (leads_open first) (opened arrival c r rest) (λ p v due. due) (λ p. refl)
+
+  pub damage_then : (r : Result Outcome Fault) → ShowsOffice First a b (Ok x) → TellsNoDamage Later b r
+      → TellsNoDamage Known a r
+  damage_then (Ok v) first told = tt
+  damage_then (Err f) first told = λ p after. told p (later p after first)
+
+  pub waits_read : (c : Connection) → (HasCleanDisk b → ShowsOffice First a b (Ok x))
+      → Survives a b (Waits (IsAfter Known) a) → Survives b c (Waits (IsAfter Later) b) → Survives a c (Waits (IsAfter Known) a)
+  waits_read c first one rest =
+      waits_then (IsAfter Known) (IsAfter Later) (λ p. p) a b c (λ clean. leads_later (first clean)) one rest
+
+-- ---- a reading call that fails
+
+not_damaged : (old new : Connection) (f : Fault) → HasCause old new f → f ≢ Damaged
+not_damaged old new NoMemory cause e = cc
+not_damaged old new Device cause e = cc
+not_damaged old new Damaged cause e = cause
+
+module _ {X : Type 0} (First : State → List Kept → X → Type 0) (Known : Past → Type 0) (a b : Connection) (f : Fault) where
+  pub settles_failed : (arrival : Arrival) → ShowsOffice First a b (Err f) → Settles arrival Known a b (Err f)
+  settles_failed arrival first = λ p after inside. stops a b (first p.0 p.1 after.history after.means).0
+
+  pub damage_failed : ShowsOffice First a b (Err f) → TellsNoDamage Known a (Err f)
+  damage_failed first = λ p after. not_damaged a b f (first p.0 p.1 after.history after.means).1
+
+-- ---- crashes
+
+pub waits_never : (Known : Past → Type 0) (a b : Connection) → Survives a b (table.Never a)
+    → Survives a b (Waits (IsAfter Known) a)
+waits_never Known a b one =
+    survives_weaker a b (table.Never a) (Waits (IsAfter Known) a)
+    (λ clean trees h p after. absurd (h (office_contents p.0 p.1) after.means)) one
+
+pub waits_office : (Known : Past → Type 0) (a b : Connection) → Survives a b (NeverOfOffice a)
+    → Survives a b (Waits (IsAfter Known) a)
+waits_office Known a b one =
+    survives_weaker a b (NeverOfOffice a) (Waits (IsAfter Known) a)
+    (λ clean trees h p after. absurd (h (state_at p) (kept_at p) (lawful_after p.0 p.1 after.history) after.means)) one

@@ -1,0 +1,40 @@
+use Rattle.std.proofs.Common.{◌≡◌, ℕ, List, Ok, Err, map, refl, sym, ap, subst, ◌∙◌, arith}
+use Rattle.sqlite.specs.Held.{state}
+use Rattle.sqlite.specs.State.{HasCleanDisk}
+use Rattle.rows.proofs.Sorting.{asked}
+use Rattle.store.specs.Showing.{Never}
+use Rattle.office.specs.Publication.{entries_of, entry_of}
+use Rattle.office.specs.History.{state as after}
+use Rattle.store.specs.Revocations.{AreRevokedOf, state_with}
+use Rattle.store.proofs.Listed.{entries_shown}
+use Rattle.store.proofs.Reading.{reads_then, shows_then}
+use Rattle.store.proofs.listing.read_entries.Goals as goal
+
+pub returns-in-Ok-clause-shows : goal.returns-in-Ok-clause-shows
+returns-in-Ok-clause-shows g c clean =
+    let old = state g.S.Store c.args.conn.now in
+    let mid = state g.S.Store c.read_revocations.new.conn in
+    let new = state g.S.Store c.entries_beside.new.conn in
+    let still : HasCleanDisk mid = omega (arith, c.entries_beside.ensures.survives.clean) in
+    shows_then (λ s kept r. AreRevokedOf r s)
+    (λ s kept rows. rows.items ≡ map (entry_of (state_with c.in-Ok.revocations)) s.certificates)
+    (λ s kept rows. rows.items ≡ entries_of s) old mid new c.in-Ok.revocations c.entries_beside.result (Never old)
+    c.read_revocations.ensures.survives
+    (λ o l rows history of is. is ∙ entries_shown c.in-Ok.revocations (after o l) of)
+    (c.in-Ok.ensures.shows still)
+    (c.entries_beside.ensures.shows clean)
+
+pub returns-in-Ok-clause-was_open : goal.returns-in-Ok-clause-was_open
+returns-in-Ok-clause-was_open g c clean =
+    let mid = state g.S.Store c.read_revocations.new.conn in
+    let still : HasCleanDisk mid = omega (arith, c.entries_beside.ensures.survives.clean) in
+    asked (state g.S.Store c.args.conn.now) (state g.S.Store c.entries_beside.new.conn) (c.in-Ok.ensures.was_open still) c.entries_beside.result
+
+pub returns-in-Ok-clause-survives : goal.returns-in-Ok-clause-survives
+returns-in-Ok-clause-survives g c =
+    let old = state g.S.Store c.args.conn.now in
+    let mid = state g.S.Store c.read_revocations.new.conn in
+    let new = state g.S.Store c.entries_beside.new.conn in
+    reads_then (λ s kept r. AreRevokedOf r s) old mid new c.in-Ok.revocations
+    (λ clean. (c.in-Ok.ensures.shows clean))
+    c.read_revocations.ensures.survives c.entries_beside.ensures.survives

@@ -1,0 +1,28 @@
+use Rattle.sqlite.specs.Held.{state}
+use Rattle.store.proofs.Taken.{cause_of_take, due_told, fault_told, next_told, only_of_take}
+use Rattle.store.proofs.registry.StoreRegistry.apply.Goals as goal
+
+pub returns-clause-due : goal.returns-clause-due
+returns-clause-due g c clean =
+    due_told c.args.arrival (state g.S.Store c.args.self.now.conn) (state g.S.Store c.take.new.conn) c.take.result c.told.result
+    c.told.ensures (c.take.ensures.ends clean)
+
+pub returns-clause-next : goal.returns-clause-next
+returns-clause-next g c clean =
+    next_told c.args.arrival (state g.S.Store c.args.self.now.conn) (state g.S.Store c.take.new.conn) c.take.result c.told.result
+    c.told.ensures (c.take.ensures.ends clean)
+
+pub returns-clause-fault : goal.returns-clause-fault
+returns-clause-fault g c clean =
+    fault_told c.args.arrival (state g.S.Store c.args.self.now.conn) (state g.S.Store c.take.new.conn) c.take.result c.told.result
+    c.told.ensures (c.take.ensures.ends clean)
+
+pub returns-clause-cause : goal.returns-clause-cause
+returns-clause-cause g c =
+    cause_of_take (state g.S.Store c.args.self.now.conn) (state g.S.Store c.take.new.conn) c.take.result c.told.result
+    c.told.ensures
+
+pub returns-clause-only : goal.returns-clause-only
+returns-clause-only g c clean =
+    only_of_take (state g.S.Store c.args.self.now.conn) c.take.result c.told.result c.told.ensures
+    (c.take.ensures.undamaged clean)

@@ -1,0 +1,34 @@
+use Rattle.std.specs.Prelude.{◌≡◌}
+use Rattle.sqlite.specs.Held.{state}
+use Rattle.office.specs.Publication.{departments_of}
+use Rattle.store.proofs.Answering.{cause_told, only_told, row_told, same_told}
+use Rattle.store.proofs.Reading.{shows_office}
+use Rattle.store.proofs.registry.StoreRegistry.departments.Goals as goal
+
+pub returns-clause-row : goal.returns-clause-row
+returns-clause-row g c clean =
+    let old = state g.S.Store c.args.self.now.conn in
+    let new = state g.S.Store c.read_departments.new.conn in
+    row_told (λ s kept rows. rows.items ≡ departments_of s) old new c.read_departments.result c.told.result c.told.ensures c.read_departments.ensures.was_open
+    (λ clean. shows_office (λ s kept rows. rows.items ≡ departments_of s) old new c.read_departments.result (c.read_departments.ensures.shows clean)) clean
+
+pub returns-clause-same : goal.returns-clause-same
+returns-clause-same g c clean =
+    let old = state g.S.Store c.args.self.now.conn in
+    let new = state g.S.Store c.read_departments.new.conn in
+    same_told (λ s kept rows. rows.items ≡ departments_of s) old new c.read_departments.result c.told.result c.told.ensures c.read_departments.ensures.was_open
+    (λ clean. shows_office (λ s kept rows. rows.items ≡ departments_of s) old new c.read_departments.result (c.read_departments.ensures.shows clean)) clean
+
+pub returns-clause-cause : goal.returns-clause-cause
+returns-clause-cause g c =
+    let old = state g.S.Store c.args.self.now.conn in
+    let new = state g.S.Store c.read_departments.new.conn in
+    cause_told (λ s kept rows. rows.items ≡ departments_of s) old new c.read_departments.result c.told.result c.told.ensures c.read_departments.ensures.was_open
+    (λ clean. shows_office (λ s kept rows. rows.items ≡ departments_of s) old new c.read_departments.result (c.read_departments.ensures.shows clean))
+
+pub returns-clause-only : goal.returns-clause-only
+returns-clause-only g c clean =
+    let old = state g.S.Store c.args.self.now.conn in
+    let new = state g.S.Store c.read_departments.new.conn in
+    only_told (λ s kept rows. rows.items ≡ departments_of s) old new c.read_departments.result c.told.result c.told.ensures c.read_departments.ensures.was_open
+    (λ clean. shows_office (λ s kept rows. rows.items ≡ departments_of s) old new c.read_departments.result (c.read_departments.ensures.shows clean)) clean

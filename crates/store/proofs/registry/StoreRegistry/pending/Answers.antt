@@ -1,0 +1,33 @@
+use Rattle.std.specs.Prelude.{◌≡◌}
+use Rattle.sqlite.specs.Held.{state}
+use Rattle.office.specs.Publication.{pending_of}
+use Rattle.store.proofs.Answering.{cause_told, only_told, row_told, same_told}
+use Rattle.store.proofs.registry.StoreRegistry.pending.Goals as goal
+
+pub returns-clause-row : goal.returns-clause-row
+returns-clause-row g c clean =
+    let old = state g.S.Store c.args.self.now.conn in
+    let new = state g.S.Store c.read_pending.new.conn in
+    row_told (λ s kept rows. rows.items ≡ pending_of s) old new c.read_pending.result c.told.result c.told.ensures c.read_pending.ensures.was_open
+    c.read_pending.ensures.shows clean
+
+pub returns-clause-same : goal.returns-clause-same
+returns-clause-same g c clean =
+    let old = state g.S.Store c.args.self.now.conn in
+    let new = state g.S.Store c.read_pending.new.conn in
+    same_told (λ s kept rows. rows.items ≡ pending_of s) old new c.read_pending.result c.told.result c.told.ensures c.read_pending.ensures.was_open
+    c.read_pending.ensures.shows clean
+
+pub returns-clause-cause : goal.returns-clause-cause
+returns-clause-cause g c =
+    let old = state g.S.Store c.args.self.now.conn in
+    let new = state g.S.Store c.read_pending.new.conn in
+    cause_told (λ s kept rows. rows.items ≡ pending_of s) old new c.read_pending.result c.told.result c.told.ensures c.read_pending.ensures.was_open
+    c.read_pending.ensures.shows
+
+pub returns-clause-only : goal.returns-clause-only
+returns-clause-only g c clean =
+    let old = state g.S.Store c.args.self.now.conn in
+    let new = state g.S.Store c.read_pending.new.conn in
+    only_told (λ s kept rows. rows.items ≡ pending_of s) old new c.read_pending.result c.told.result c.told.ensures c.read_pending.ensures.was_open
+    c.read_pending.ensures.shows clean

@@ -1,0 +1,72 @@
+use Rattle.std.proofs.Common.{◌≡◌, ℕ, List, Ok, Err, arith, subst}
+use Rattle.sqlite.specs.Held.{state}
+use Rattle.office.specs.Decided.{Decided}
+use Rattle.store.specs.Meaning.{IsHistory}
+use Rattle.store.specs.Arriving.{IsAccepted, IsWeighed, Past, state_at}
+use Rattle.store.proofs.Accepted.{decided_accepted}
+use Rattle.store.proofs.Settled.{damage_weaker, settles_weaker, stopped_settles, stopped_undamaged, waits_weaker}
+use Rattle.store.proofs.settling.weigh.Goals as goal
+
+pub returns-in-Ok-clause-settles : goal.returns-in-Ok-clause-settles
+returns-in-Ok-clause-settles g c clean is_open =
+    let a = c.args.arrival.now in
+    let m = c.args.message.now in
+    let rows = c.args.rows.now in
+    let v = c.view-view.result in
+    let less : (p : Past) → IsHistory p.0 p.1 → IsWeighed a m rows p → IsAccepted a c.in-Ok.decision v.cas.now p =
+    λ p history is.
+    let agrees = c.view-view.ensures.agrees (state_at p) m is.rows in
+    decided_accepted p a m c.in-Ok.decision v is.new
+    (subst (λ (x : List ℕ). Decided (Ok c.in-Ok.decision) (state_at p) x m a.moment a.nonce) c.as_slice.ensures
+    (c.in-Ok.ensures.decided (state_at p) agrees))
+    (c.in-Ok.ensures.room (state_at p) agrees) agrees (omega (arith, c.if-view-ge-LAST_VERSION.false)) in
+    settles_weaker a (IsWeighed a m rows) (IsAccepted a c.in-Ok.decision v.cas.now) (state g.S.Store c.args.conn.now)
+    (state g.S.Store c.accept.new.conn) c.accept.result less (c.accept.ensures.settles clean)
+
+pub returns-in-Ok-clause-undamaged : goal.returns-in-Ok-clause-undamaged
+returns-in-Ok-clause-undamaged g c clean =
+    let a = c.args.arrival.now in
+    let m = c.args.message.now in
+    let rows = c.args.rows.now in
+    let v = c.view-view.result in
+    let less : (p : Past) → IsHistory p.0 p.1 → IsWeighed a m rows p → IsAccepted a c.in-Ok.decision v.cas.now p =
+    λ p history is.
+    let agrees = c.view-view.ensures.agrees (state_at p) m is.rows in
+    decided_accepted p a m c.in-Ok.decision v is.new
+    (subst (λ (x : List ℕ). Decided (Ok c.in-Ok.decision) (state_at p) x m a.moment a.nonce) c.as_slice.ensures
+    (c.in-Ok.ensures.decided (state_at p) agrees))
+    (c.in-Ok.ensures.room (state_at p) agrees) agrees (omega (arith, c.if-view-ge-LAST_VERSION.false)) in
+    damage_weaker (IsWeighed a m rows) (IsAccepted a c.in-Ok.decision v.cas.now) (state g.S.Store c.args.conn.now)
+    c.accept.result less (c.accept.ensures.undamaged clean)
+
+pub returns-in-Ok-clause-survives : goal.returns-in-Ok-clause-survives
+returns-in-Ok-clause-survives g c =
+    let a = c.args.arrival.now in
+    let m = c.args.message.now in
+    let rows = c.args.rows.now in
+    let v = c.view-view.result in
+    let less : (p : Past) → IsHistory p.0 p.1 → IsWeighed a m rows p → IsAccepted a c.in-Ok.decision v.cas.now p =
+    λ p history is.
+    let agrees = c.view-view.ensures.agrees (state_at p) m is.rows in
+    decided_accepted p a m c.in-Ok.decision v is.new
+    (subst (λ (x : List ℕ). Decided (Ok c.in-Ok.decision) (state_at p) x m a.moment a.nonce) c.as_slice.ensures
+    (c.in-Ok.ensures.decided (state_at p) agrees))
+    (c.in-Ok.ensures.room (state_at p) agrees) agrees (omega (arith, c.if-view-ge-LAST_VERSION.false)) in
+    waits_weaker (IsWeighed a m rows) (IsAccepted a c.in-Ok.decision v.cas.now) (state g.S.Store c.args.conn.now)
+    (state g.S.Store c.accept.new.conn) less c.accept.ensures.survives
+
+pub returns-in-Err-clause-settles : goal.returns-in-Err-clause-settles
+returns-in-Err-clause-settles g c clean is_open =
+    let a = c.args.arrival.now in
+    let m = c.args.message.now in
+    let rows = c.args.rows.now in
+    stopped_settles a m (IsWeighed a m rows) (state g.S.Store c.args.conn.now) c.in-Err.stop c.stopped.result c.stopped.ensures
+    c.requires.nonce is_open (λ p is. is.new)
+    (λ p is.
+    subst (λ (x : List ℕ). Decided (Err c.in-Err.stop) (state_at p) x m a.moment a.nonce) c.as_slice.ensures
+    (c.in-Err.ensures.decided (state_at p) (c.view-view.ensures.agrees (state_at p) m is.rows)))
+
+pub returns-in-Err-clause-undamaged : goal.returns-in-Err-clause-undamaged
+returns-in-Err-clause-undamaged g c clean =
+    stopped_undamaged (IsWeighed c.args.arrival.now c.args.message.now c.args.rows.now) (state g.S.Store c.args.conn.now)
+    c.in-Err.stop c.stopped.result c.stopped.ensures

@@ -1,0 +1,133 @@
+-- One arrival more, in one transaction.
+use Rattle.std.specs.Prelude.{◌≡◌, ◌≢◌, ◌<◌, true, false, nat_lt, Bool, List, [], ◌∷◌, ◌++◌, find, IfErr, IsOkAnd, IsTrue, Option, Some, None, Result, Ok, Err}
+use Rattle.std.specs.List.{list_any}
+use Rattle.profile.specs.declared.limits.TheConstants.{LATEST_MOMENT}
+use Rattle.sqlite.specs.Effect.{Database}
+use Rattle.sqlite.specs.State.{State as Connection}
+use Rattle.message.specs.declared.kinds.Message.{Message}
+use Rattle.tables.specs.declared.fault.Fault.{Fault}
+use Rattle.tables.specs.declared.fault.Fault.TheVariants.{Damaged, Device, NoMemory}
+use Rattle.tables.specs.Contents.{Contents, Means}
+use Rattle.tables.specs.Faults.{HasCause}
+use Rattle.office.specs.declared.opening.Opening.{Opening}
+use Rattle.office.specs.declared.arrival.Arrival.{Arrival}
+use Rattle.office.specs.declared.arrival.Kept.{Kept}
+use Rattle.office.specs.declared.arrival.Outcome.{Outcome}
+use Rattle.office.specs.declared.arrival.Outcome.TheVariants as outcome
+use Rattle.office.specs.declared.ca.Ca.{Ca}
+use Rattle.office.specs.declared.view.Stop.{Stop}
+use Rattle.office.specs.declared.view.Stop.TheVariants as stop
+use Rattle.office.specs.declared.view.Stop.TheVariants.{Refused}
+use Rattle.office.specs.declared.view.Decision.{Decision}
+use Rattle.office.specs.Decided.{HasRoom, written}
+use Rattle.office.specs.Messages.{message_with_text}
+use Rattle.office.specs.State.{State, next_serial}
+use Rattle.office.specs.History.{change, due, first_accepted, has_key, judged, kept_by, reply_kept, state}
+use Rattle.rows.specs.Rows.{office_contents}
+use Rattle.rows.specs.Transactions.{Answers, Rests}
+use Rattle.views.specs.declared.concerning.Concerned.{Concerned}
+use Rattle.views.specs.Concerning.{AreConcerned}
+use Rattle.views.specs.Histories.{is_for}
+use Rattle.store.specs.Meaning.{IsHistory}
+
+-- ---- an office after a history
+
+-- an opening, and the arrivals since
+abbrev pub Past : Type 0
+Past = Opening × List Arrival
+
+abbrev pub state_at : Past → State
+state_at p = state p.0 p.1
+
+abbrev pub kept_at : Past → List Kept
+kept_at p = kept_by (first_accepted p.0 p.1)
+
+-- the history with one arrival more
+abbrev pub with_one_more : Arrival → Past → Past
+with_one_more a p = (p.0, p.1 ++ a ∷ [])
+
+-- the tables hold the rows of the office after this history, of which this is known
+pub record IsAfter (Known : Past → Type 0) (p : Past) (db : Database) : Type 0 where
+  pub history : IsHistory p.0 p.1
+  pub means : Means db (office_contents p.0 p.1)
+  pub known : Known p
+
+-- nothing else is known of it
+abbrev pub IsAny : Past → Type 0
+IsAny p = Unit {0}
+
+-- ---- an arrival
+
+-- what is due is answered, and the history may go on with the arrival
+pub record IsAnswered (a : Arrival) (p : Past) (outcome : Outcome) : Type 0 where
+  pub due : outcome ≡ due p.0 p.1 a
+  pub history : IsHistory p.0 (p.1 ++ a ∷ [])
+
+-- the rows of the office with the arrival
+abbrev pub contents_with : Arrival → Past → Contents
+contents_with a p = office_contents p.0 (p.1 ++ a ∷ [])
+
+-- Of tables as these, inside a transaction: what is due to the arrival is answered, and they hold the rows of the office
+-- with it; or, with an error, nothing is committed.
+abbrev pub Settles : Arrival → (Past → Type 0) → Connection → Connection → Result Outcome Fault → Type 0
+Settles a Known old new r = Answers (IsAfter Known) (IsAnswered a) (contents_with a) old new r
+
+-- no row of such tables is told damaged
+abbrev pub TellsNoDamage : (Past → Type 0) → Connection → Result Outcome Fault → Type 0
+TellsNoDamage Known old r = IfErr r (λ f. (p : Past) → IsAfter Known p old.now → f ≢ Damaged)
+
+-- what a message that isn't accepted now is answered
+abbrev pub stopped : Stop → Result Outcome Fault
+stopped (Refused r) = Ok (outcome.Refused r)
+stopped stop.NoMemory = Err NoMemory
+
+-- ---- what is known of it, step by step
+
+-- the kept request of its caller and its key
+abbrev pub IsFound : Arrival → Option Kept → Past → Type 0
+IsFound a found p = found ≡ find (is_for a.caller a.key) (kept_at p)
+
+-- it is no repeat, and this says whether its key was used before
+pub record IsAsked (a : Arrival) (is_known : Bool) (p : Past) : Type 0 where
+  pub new : reply_kept (kept_at p) a ≡ None
+  pub known : list_any (has_key a) (kept_at p) ≡ is_known
+
+-- its message is this, it comes in time, and its key is new
+pub record IsNew (a : Arrival) (m : Message) (p : Past) : Type 0 where
+  pub new : reply_kept (kept_at p) a ≡ None
+  pub message : message_with_text a.bytes ≡ Some m
+  pub in_time : nat_lt LATEST_MOMENT a.moment ≡ false
+  pub unknown : list_any (has_key a) (kept_at p) ≡ false
+
+-- and these are the rows that the message concerns
+pub record IsWeighed (a : Arrival) (m : Message) (found : Concerned) (p : Past) : Type 0 where
+  pub new : IsNew a m p
+  pub rows : AreConcerned found (state_at p) m
+
+-- it is a first acceptance, for which this is decided, under these CAs
+pub record IsAccepted (a : Arrival) (d : Decision) (serving : List Ca) (p : Past) : Type 0 where
+  pub new : reply_kept (kept_at p) a ≡ None
+  pub judged : IsOkAnd (judged (state_at p) (kept_at p) a)
+      (λ f. (f.arrival ≡ a) × (f.reply ≡ d.reply) × (written d (state_at p) ≡ change (state_at p) f))
+  pub room : HasRoom d.change (state_at p)
+  pub next : d.next ≡ next_serial (written d (state_at p))
+  pub cas : serving ≡ (state_at p).cas
+  pub version : (state_at p).version < 9223372036854775806
+
+-- ---- the whole
+
+-- a statement that shows no rows tells of none that are damaged
+abbrev pub of_statement : Fault → Fault
+of_statement Device = Device
+of_statement Damaged = Device
+of_statement NoMemory = NoMemory
+
+-- of tables that tell a history, if the connection is open, no row is told damaged
+abbrev pub IsUndamaged : Connection → Fault → Type 0
+IsUndamaged old f = (p : Past) → (IsTrue old.is_open → Rests (IsAfter IsAny p) old) → f ≢ Damaged
+
+-- a commit that fails has its cause
+abbrev pub EndsFor : {X Y : Type 0} → Result X Fault → Connection → Connection → Result Y Fault → Type 0
+EndsFor (Ok x) old new (Ok y) = Unit {0}
+EndsFor (Ok x) old new (Err f) = old.in_transaction ≡ true → HasCause old new f
+EndsFor (Err e) old new r = Unit {0}

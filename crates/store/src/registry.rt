@@ -1,0 +1,63 @@
+//! The tables are a register.
+
+ghost use Rattle.std.specs.Prelude.{List};
+ghost use Rattle.sqlite.specs.Held.{state};
+ghost use Rattle.sqlite.specs.State.{HasCleanDisk};
+ghost use Rattle.office.specs.declared.opening.Opening.{Opening};
+ghost use Rattle.office.specs.declared.arrival.Arrival.{Arrival};
+ghost use Rattle.store.specs.Meaning.{HasFailed, Tells};
+
+use crate::answer::told;
+use crate::listing::{read_entries, read_pending};
+use crate::publishing::read_revoked;
+use crate::register::Store;
+use crate::serials::{read_body_of, read_issued};
+use crate::taking::take;
+use message::Department;
+use office::{Arrival, Ca, Entry, Issued, Outcome, Pending, Registry, Revoked, StoreFault};
+use rows::{read_cas, read_departments};
+use sqlite::Alter;
+use std::alloc::Global;
+use text::Text;
+
+impl<S: Alter> Registry for Store<S> {
+    ghost is_honest = { λ s. HasCleanDisk (state S.Store s.conn) };
+
+    ghost fails = { λ old new. HasFailed (state S.Store old.conn) (state S.Store new.conn) };
+
+    ghost means = { λ s o l. Tells (state S.Store s.conn) o l };
+
+    fn apply(&mut self, alloc: Global, arrival: Arrival) -> Result<Outcome, StoreFault> {
+        told(take(alloc, &mut self.conn, &arrival))
+    }
+
+    fn cas(&mut self, alloc: Global) -> Result<Vec<Ca>, StoreFault> {
+        told(read_cas(alloc, &mut self.conn))
+    }
+
+    fn pending(&mut self, alloc: Global) -> Result<Vec<Pending>, StoreFault> {
+        told(read_pending(alloc, &mut self.conn))
+    }
+
+    fn body(&mut self, alloc: Global, serial: u64) -> Result<Option<Text>, StoreFault> {
+        told(read_body_of(alloc, &mut self.conn, serial))
+    }
+
+    fn certificate(&mut self, alloc: Global, serial: u64) -> Result<Option<Issued>, StoreFault> {
+        told(read_issued(alloc, &mut self.conn, serial))
+    }
+
+    fn revoked(&mut self, alloc: Global) -> Result<Revoked, StoreFault> {
+        told(read_revoked(alloc, &mut self.conn))
+    }
+
+    fn departments(&mut self, alloc: Global) -> Result<Vec<Department>, StoreFault> {
+        told(read_departments(alloc, &mut self.conn))
+    }
+
+    fn certificates(&mut self, alloc: Global) -> Result<Vec<Entry>, StoreFault> {
+        told(read_entries(alloc, &mut self.conn))
+    }
+
+    ghost lawful = { λ s o l m. m.history.office };
+}

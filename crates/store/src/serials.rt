@@ -1,0 +1,96 @@
+//! The certificate of a serial.
+
+ghost use Rattle.std.specs.Prelude.{◌≡◌, IfOk};
+ghost use Rattle.std.specs.Option.{option_map};
+ghost use Rattle.cert.specs.Certificates.{certificate_text};
+ghost use Rattle.sqlite.specs.Held.{state};
+ghost use Rattle.sqlite.specs.State.{HasCleanDisk, Survives};
+ghost use Rattle.tables.specs.Calls.{WasOpen};
+ghost use Rattle.office.specs.State.{body_of};
+ghost use Rattle.office.specs.Publication.{issued_of, issued_row};
+ghost use Rattle.store.specs.Showing.{Never, ShowsOffice};
+
+use crate::answer::made;
+use cert::join_signature;
+use office::{Certificate, Issued};
+use sqlite::{Alter, Connection};
+use std::alloc::Global;
+use tables::Fault;
+use text::{NoMemory, Text};
+use views::find_certificate;
+
+fn body_in(found: Option<Certificate>) -> Option<Text>
+    ensures { result ≡ option_map (λ c. c.body) found }
+{
+    match found {
+        Some(certificate) => Some(certificate.body),
+        None => None,
+    }
+}
+
+/// The body of a serial, or `None` where it wasn't issued.
+pub(crate) fn read_body_of<S: Alter>(
+    alloc: Global,
+    conn: &mut Connection<S>,
+    serial: u64,
+) -> Result<Option<Text>, Fault>
+    ensures shows { HasCleanDisk (state S.Store conn.new) → ShowsOffice (λ s kept body. body ≡ body_of s serial)
+        (state S.Store conn.old) (state S.Store conn.new) result }
+    ensures was_open { HasCleanDisk (state S.Store conn.new)
+        → WasOpen (state S.Store conn.old) (state S.Store conn.new) result }
+    ensures survives { Survives (state S.Store conn.old) (state S.Store conn.new) (Never (state S.Store conn.old)) }
+{
+    match find_certificate(alloc, conn, serial) {
+        Ok(found) => Ok(body_in(found)),
+        Err(fault) => Err(fault),
+    }
+}
+
+// The body with its signature, if there is one.
+fn joined(alloc: Global, certificate: &Certificate) -> Result<Option<Text>, NoMemory>
+    ensures { IfOk result (λ joined. joined ≡ option_map (λ signature. certificate_text certificate.now.body signature.bytes) certificate.now.signature) }
+{
+    match &certificate.signature {
+        Some(signature) => {
+            let bytes = join_signature(alloc, certificate.body.as_slice(), signature)?;
+            Ok(Some(Text::from_vec(bytes)))
+        }
+        None => Ok(None),
+    }
+}
+
+fn issued_row(alloc: Global, certificate: &Certificate) -> Result<Issued, NoMemory>
+    ensures { IfOk result (λ issued. issued ≡ issued_row certificate.now) }
+{
+    Ok(Issued {
+        key_id: certificate.fields.key_id.copied(alloc)?,
+        certificate: joined(alloc, certificate)?,
+    })
+}
+
+fn issued_in(alloc: Global, found: Option<Certificate>) -> Result<Option<Issued>, NoMemory>
+    ensures { IfOk result (λ issued. issued ≡ option_map issued_row found) }
+{
+    match found {
+        Some(certificate) => Ok(Some(issued_row(alloc, &certificate)?)),
+        None => Ok(None),
+    }
+}
+
+/// The certificate of a serial, or `None` where it wasn't issued.
+pub(crate) fn read_issued<S: Alter>(
+    alloc: Global,
+    conn: &mut Connection<S>,
+    serial: u64,
+) -> Result<Option<Issued>, Fault>
+    ensures shows { HasCleanDisk (state S.Store conn.new) → ShowsOffice (λ s kept issued. issued ≡ issued_of s serial)
+        (state S.Store conn.old) (state S.Store conn.new) result }
+    ensures was_open { HasCleanDisk (state S.Store conn.new)
+        → WasOpen (state S.Store conn.old) (state S.Store conn.new) result }
+    ensures survives { Survives (state S.Store conn.old) (state S.Store conn.new) (Never (state S.Store conn.old)) }
+{
+    match find_certificate(alloc, conn, serial) {
+        Ok(found) => made(issued_in(alloc, found)),
+        Err(fault) => Err(fault),
+    }
+}

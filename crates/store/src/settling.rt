@@ -1,0 +1,197 @@
+//! What an arrival is answered, inside a transaction.
+
+ghost use Rattle.std.specs.Prelude.{◌≡◌, IsTrue, length};
+ghost use Rattle.sqlite.specs.Held.{state};
+ghost use Rattle.sqlite.specs.State.{HasCleanDisk, Survives};
+ghost use Rattle.message.specs.Values.{is_message};
+ghost use Rattle.office.specs.Decided.{IsLawfulChange};
+ghost use Rattle.rows.specs.Transactions.{Waits};
+ghost use Rattle.views.specs.Concerning.{AreLawful};
+ghost use Rattle.store.specs.Arriving.{IsAccepted, IsAfter, IsAny, IsAsked, IsFound, IsNew, IsWeighed, Settles, TellsNoDamage, stopped};
+
+use message::{Message, MessageFault, read_message};
+use office::{Arrival, Ca, Decision, Kept, Outcome, Stop, decide};
+use profile::{LATEST_MOMENT, Refusal};
+use sqlite::{Alter, Connection};
+use std::alloc::Global;
+use tables::Fault;
+use views::{Concerned, concerned_rows, kept_for};
+use writes::write;
+
+/// The last version of the published list.
+const LAST_VERSION: u64 = 9223372036854775806;
+
+/// Writes what was decided of an arrival.
+fn accept<S: Alter>(
+    alloc: Global,
+    conn: &mut Connection<S>,
+    arrival: &Arrival,
+    decision: &Decision,
+    cas: &[Ca],
+) -> Result<Outcome, Fault>
+    requires lawful { IsLawfulChange decision.now.change }
+    requires nonce { length arrival.now.nonce ≡ 32 }
+    ensures settles { HasCleanDisk (state S.Store conn.new)
+        → Settles arrival.now (IsAccepted arrival.now decision.now cas.now)
+        (state S.Store conn.old) (state S.Store conn.new) result }
+    ensures undamaged { HasCleanDisk (state S.Store conn.new)
+        → TellsNoDamage (IsAccepted arrival.now decision.now cas.now) (state S.Store conn.old) result }
+    ensures survives { Survives (state S.Store conn.old) (state S.Store conn.new)
+        (Waits (IsAfter (IsAccepted arrival.now decision.now cas.now)) (state S.Store conn.old)) }
+{
+    let Ok(reply) = decision.reply.copied(alloc) else {
+        return Err(Fault::NoMemory);
+    };
+    match write(alloc, conn, arrival, decision, cas) {
+        Ok(()) => Ok(Outcome::Accepted(reply)),
+        Err(fault) => Err(fault),
+    }
+}
+
+fn stopped(stop: Stop) -> Result<Outcome, Fault>
+    ensures { result ≡ stopped stop }
+{
+    match stop {
+        Stop::Refused(refusal) => Ok(Outcome::Refused(refusal)),
+        Stop::NoMemory => Err(Fault::NoMemory),
+    }
+}
+
+/// Decides on the rows that a message concerns. A version that can't grow any more counts as a refused growth.
+fn weigh<S: Alter>(
+    alloc: Global,
+    conn: &mut Connection<S>,
+    arrival: &Arrival,
+    message: &Message,
+    rows: &Concerned,
+) -> Result<Outcome, Fault>
+    requires message { IsTrue (is_message message.now) }
+    requires rows { AreLawful rows.now }
+    requires nonce { length arrival.now.nonce ≡ 32 }
+    ensures settles { HasCleanDisk (state S.Store conn.new) → IsTrue (state S.Store conn.old).is_open
+        → Settles arrival.now (IsWeighed arrival.now message.now rows.now)
+        (state S.Store conn.old) (state S.Store conn.new) result }
+    ensures undamaged { HasCleanDisk (state S.Store conn.new)
+        → TellsNoDamage (IsWeighed arrival.now message.now rows.now) (state S.Store conn.old) result }
+    ensures survives { Survives (state S.Store conn.old) (state S.Store conn.new)
+        (Waits (IsAfter (IsWeighed arrival.now message.now rows.now)) (state S.Store conn.old)) }
+{
+    let view = rows.view();
+    if LAST_VERSION <= view.version {
+        return Err(Fault::NoMemory);
+    }
+    match decide(
+        alloc,
+        &view,
+        arrival.caller.as_slice(),
+        message,
+        arrival.moment,
+        &arrival.nonce,
+    ) {
+        Ok(decision) => accept(alloc, conn, arrival, &decision, view.cas),
+        Err(stop) => stopped(stop),
+    }
+}
+
+/// Reads the rows that a message concerns.
+fn consider<S: Alter>(
+    alloc: Global,
+    conn: &mut Connection<S>,
+    arrival: &Arrival,
+    message: &Message,
+) -> Result<Outcome, Fault>
+    requires message { IsTrue (is_message message.now) }
+    requires nonce { length arrival.now.nonce ≡ 32 }
+    ensures settles { HasCleanDisk (state S.Store conn.new)
+        → Settles arrival.now (IsNew arrival.now message.now)
+        (state S.Store conn.old) (state S.Store conn.new) result }
+    ensures undamaged { HasCleanDisk (state S.Store conn.new)
+        → TellsNoDamage (IsNew arrival.now message.now) (state S.Store conn.old) result }
+    ensures survives { Survives (state S.Store conn.old) (state S.Store conn.new)
+        (Waits (IsAfter (IsNew arrival.now message.now)) (state S.Store conn.old)) }
+{
+    match concerned_rows(alloc, conn, message) {
+        Ok(rows) => weigh(alloc, conn, arrival, message, &rows),
+        Err(fault) => Err(fault),
+    }
+}
+
+/// Reads the message of an arrival that is no repeat.
+fn judge<S: Alter>(
+    alloc: Global,
+    conn: &mut Connection<S>,
+    arrival: &Arrival,
+    is_known: bool,
+) -> Result<Outcome, Fault>
+    requires { length arrival.now.nonce ≡ 32 }
+    ensures settles { HasCleanDisk (state S.Store conn.new) → IsTrue (state S.Store conn.old).is_open
+        → Settles arrival.now (IsAsked arrival.now is_known)
+        (state S.Store conn.old) (state S.Store conn.new) result }
+    ensures undamaged { HasCleanDisk (state S.Store conn.new)
+        → TellsNoDamage (IsAsked arrival.now is_known) (state S.Store conn.old) result }
+    ensures survives { Survives (state S.Store conn.old) (state S.Store conn.new)
+        (Waits (IsAfter (IsAsked arrival.now is_known)) (state S.Store conn.old)) }
+{
+    let message = match read_message(alloc, arrival.bytes.as_slice()) {
+        Ok(message) => message,
+        Err(MessageFault::BadLine(_)) => return Ok(Outcome::Refused(Refusal::BadMessage)),
+        Err(MessageFault::NoMemory) => return Err(Fault::NoMemory),
+    };
+    if LATEST_MOMENT < arrival.moment {
+        return Ok(Outcome::Refused(Refusal::BadMoment));
+    }
+    if is_known {
+        return Ok(Outcome::Refused(Refusal::KeyReused));
+    }
+    consider(alloc, conn, arrival, &message)
+}
+
+/// Answers the reply that is kept, if the message is the same.
+fn settle_beside<S: Alter>(
+    alloc: Global,
+    conn: &mut Connection<S>,
+    arrival: &Arrival,
+    found: Option<Kept>,
+) -> Result<Outcome, Fault>
+    requires { length arrival.now.nonce ≡ 32 }
+    ensures settles { HasCleanDisk (state S.Store conn.new) → IsTrue (state S.Store conn.old).is_open
+        → Settles arrival.now (IsFound arrival.now found)
+        (state S.Store conn.old) (state S.Store conn.new) result }
+    ensures undamaged { HasCleanDisk (state S.Store conn.new)
+        → TellsNoDamage (IsFound arrival.now found) (state S.Store conn.old) result }
+    ensures survives { Survives (state S.Store conn.old) (state S.Store conn.new)
+        (Waits (IsAfter (IsFound arrival.now found)) (state S.Store conn.old)) }
+{
+    let Some(kept) = found else {
+        return judge(alloc, conn, arrival, false);
+    };
+    if kept.bytes.is(arrival.bytes.as_slice()) {
+        return Ok(Outcome::Repeated(kept.reply));
+    }
+    judge(alloc, conn, arrival, true)
+}
+
+/// What is due to an arrival, written if it is accepted now.
+pub(crate) fn settle<S: Alter>(
+    alloc: Global,
+    conn: &mut Connection<S>,
+    arrival: &Arrival,
+) -> Result<Outcome, Fault>
+    requires { length arrival.now.nonce ≡ 32 }
+    ensures settles { HasCleanDisk (state S.Store conn.new) → Settles arrival.now IsAny
+        (state S.Store conn.old) (state S.Store conn.new) result }
+    ensures undamaged { HasCleanDisk (state S.Store conn.new)
+        → TellsNoDamage IsAny (state S.Store conn.old) result }
+    ensures survives { Survives (state S.Store conn.old) (state S.Store conn.new)
+        (Waits (IsAfter IsAny) (state S.Store conn.old)) }
+{
+    match kept_for(
+        alloc,
+        conn,
+        arrival.caller.as_slice(),
+        arrival.key.as_slice(),
+    ) {
+        Ok(found) => settle_beside(alloc, conn, arrival, found),
+        Err(fault) => Err(fault),
+    }
+}

@@ -1,0 +1,50 @@
+//! One arrival, in one transaction.
+
+ghost use Rattle.std.specs.Prelude.{◌≡◌, IfErr, length};
+ghost use Rattle.sqlite.specs.Held.{state};
+ghost use Rattle.sqlite.specs.State.{HasCleanDisk, Survives};
+ghost use Rattle.rows.specs.Transactions.{Ends, Leaves};
+ghost use Rattle.store.specs.Arriving.{IsAfter, IsAnswered, IsAny, IsUndamaged, contents_with, of_statement};
+
+use crate::ending::finish;
+use crate::settling::settle;
+use office::{Arrival, Outcome};
+use sqlite::{Alter, Connection};
+use std::alloc::Global;
+use tables::{Fault, begin};
+
+/// The fault of a statement that shows no rows, of which none is damaged.
+fn of_statement(fault: Fault) -> Fault
+    ensures { result ≡ of_statement fault }
+{
+    match fault {
+        Fault::Device | Fault::Damaged => Fault::Device,
+        Fault::NoMemory => Fault::NoMemory,
+    }
+}
+
+/// Answers an arrival what is due, and keeps it if it is accepted now: all of it or, with a fault, nothing.
+pub(crate) fn take<S: Alter>(
+    alloc: Global,
+    conn: &mut Connection<S>,
+    arrival: &Arrival,
+) -> Result<Outcome, Fault>
+    requires { length arrival.now.nonce ≡ 32 }
+    ensures ends { HasCleanDisk (state S.Store conn.new) →
+        Ends (IsAfter IsAny) (IsAnswered arrival.now) (contents_with arrival.now)
+        (state S.Store conn.old) (state S.Store conn.new) result }
+    ensures undamaged { HasCleanDisk (state S.Store conn.new) →
+        IfErr result (IsUndamaged (state S.Store conn.old)) }
+
+    // A crash in its midst leaves the tables as they were, or with the arrival.
+    ensures survives { Survives (state S.Store conn.old) (state S.Store conn.new)
+        (Leaves (IsAfter IsAny) (contents_with arrival.now) (state S.Store conn.old)) }
+{
+    match begin(conn) {
+        Ok(()) => {
+            let settled = settle(alloc, conn, arrival);
+            finish(conn, settled)
+        }
+        Err(fault) => Err(of_statement(fault)),
+    }
+}
