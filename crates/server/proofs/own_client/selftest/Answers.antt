@@ -1,0 +1,10 @@
+use Rattle.server.proofs.Extensions.{served_extends}
+use Rattle.server.proofs.own_client.selftest.Goals as goal
+
+pub returns-then-is_answered-clause-served : goal.returns-then-is_answered-clause-served
+returns-then-is_answered-clause-served g c h =
+    served_extends _ _ _ _ _ c.in-Ok-serve_connection.ensures.ok h
+
+pub returns-clause-served : goal.returns-clause-served
+returns-clause-served g c h =
+    served_extends _ _ _ _ _ c.in-Ok-serve_connection.ensures.ok h

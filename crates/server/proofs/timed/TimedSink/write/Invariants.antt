@@ -1,0 +1,8 @@
+use Rattle.std.proofs.Common.{◌≡◌}
+use Rattle.std.specs.Io.KnownBytes.{Keeps}
+use Rattle.server.proofs.timed.TimedSink.write.Given as goal
+
+abbrev pub invariant-tries : goal.invariant-tries
+invariant-tries g l =
+    Keeps (g.S.Write.contents l.fn.self.stream) (g.S.Write.contents l.self.stream)
+    × (l.self.failures ≡ l.fn.self.failures)

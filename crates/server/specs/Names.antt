@@ -1,0 +1,39 @@
+-- What is printed.
+use Rattle.std.specs.Prelude.{ℕ, List, [], ◌∷◌, ◌++◌, codes}
+use Rattle.std.specs.Fmt.{decimal}
+use Rattle.serving.specs.declared.fault.ServeFault.{ServeFault}
+use Rattle.serving.specs.declared.fault.ServeFault.TheVariants as serve
+use Rattle.server.specs.declared.fault.Fault.{Fault}
+use Rattle.server.specs.declared.fault.Fault.TheVariants.{Socket, Clock, Serving}
+use Rattle.server.specs.declared.fault.ListenFault.{ListenFault}
+use Rattle.server.specs.declared.fault.ListenFault.TheVariants as listen
+use Rattle.server.specs.declared.fault.SelftestFault.{SelftestFault}
+use Rattle.server.specs.declared.fault.SelftestFault.TheVariants.{Unserved, Mismatch}
+
+abbrev pub serve_fault_name : ServeFault → List ℕ
+serve_fault_name serve.Read = codes "Read"
+serve_fault_name serve.Nonces = codes "Nonces"
+serve_fault_name serve.Store = codes "Store"
+serve_fault_name serve.NoMemory = codes "NoMemory"
+serve_fault_name serve.Write = codes "Write"
+
+abbrev pub fault_name : Fault → List ℕ
+fault_name Socket = codes "Socket"
+fault_name Clock = codes "Clock"
+fault_name (Serving fault) = serve_fault_name fault
+
+abbrev pub listen_fault_name : ListenFault → List ℕ
+listen_fault_name listen.Socket = codes "Socket"
+listen_fault_name listen.Write = codes "Write"
+
+abbrev pub selftest_fault_name : SelftestFault → List ℕ
+selftest_fault_name (Unserved fault) = fault_name fault
+selftest_fault_name Mismatch = codes "Mismatch"
+
+-- the line of a connection's fault, the connections being counted from 1
+abbrev pub connection_line : ℕ → Fault → List ℕ
+connection_line number fault = codes "sshoffice: connection " ++ (decimal number ++ 32 ∷ (fault_name fault ++ 10 ∷ []))
+
+-- the line of a port at which a server listens
+abbrev pub listening_line : ℕ → List ℕ
+listening_line port = codes "listening " ++ (decimal port ++ 10 ∷ [])

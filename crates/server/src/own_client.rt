@@ -1,0 +1,81 @@
+//! A server that is its own client.
+
+ghost use Rattle.std.specs.Prelude.{◌≡◌};
+ghost use Rattle.server.specs.Connections.{Extends};
+
+use crate::connection::serve_connection;
+use crate::fault::{Fault, SelftestFault};
+use crate::listening::bind;
+use crate::patience::{Patience, STEP_SECONDS};
+use office::Registry;
+use requests::Routes;
+use serving::ServeFault;
+use std::io::Write;
+use std::net::{Net, TcpListener, TcpStream};
+use std::time::{Clock, Duration};
+use wire::{FromRead, read_full};
+
+const REQUEST: &[u8] = b"GET /v1/krl HTTP/1.1\r\n\r\n";
+
+/// The response with the list of an office with nothing revoked: PROTOCOL.krl, a header alone, of version 0 and date 0.
+const RESPONSE: &[u8] = b"HTTP/1.1 200 OK\r\ncontent-type: application/octet-stream\r\n\
+content-length: 44\r\nconnection: close\r\n\r\n\
+SSHKRL\n\0\0\0\0\x01\0\0\0\0\0\0\0\0\0\0\0\0\0\0\0\0\0\0\0\0\0\0\0\0\0\0\0\0\0\0\0\0";
+
+/// A GET takes a nonce and lets it go.
+const NONCE: &[u8] = &[0x33; 32];
+
+// A client of the listener that has sent the request.
+fn ask<R: Net<Listener = TcpListener, Stream = TcpStream>>(
+    rt: &R,
+    listener: &TcpListener,
+) -> std::io::Result<TcpStream> {
+    let mut client = TcpStream::connect(rt, listener.local_addr()?)?;
+    client.set_read_timeout(Some(Duration::from_secs(STEP_SECONDS)))?;
+    client.write_all(REQUEST)?;
+    Ok(client)
+}
+
+// Whether all that the client is sent is the response.
+fn is_answered(client: TcpStream) -> bool {
+    let mut bytes = [0; RESPONSE.len() + 1];
+    match read_full(&mut FromRead::new(client), &mut bytes) {
+        Ok(n) => &bytes[..n] == RESPONSE,
+        Err(_) => false,
+    }
+}
+
+/// Tests the way from a socket to a register and back, of an office with nothing revoked: listens on 127.0.0.1 at a port
+/// that the system chooses, connects to it, asks for the list, serves that connection, and looks at the answer.
+///
+/// # Errors
+///
+/// `Unserved` where a socket, the clock or the register failed or a growth was refused; `Mismatch` where anything but the
+/// list of 44 bytes was answered.
+pub fn selftest<
+    R: Net<Listener = TcpListener, Stream = TcpStream> + Clock + AllocGlobal,
+    S: Registry,
+>(rt: &R, store: &mut S) -> Result<(), SelftestFault>
+    ensures honest { S.is_honest store.new → S.is_honest store.old }
+    ensures served { S.is_honest store.new → Extends 1 (S.means store.old) (S.means store.new) }
+{
+    let Ok(routes) = Routes::new(rt.alloc()) else {
+        return Err(SelftestFault::Unserved(Fault::Serving(ServeFault::NoMemory)));
+    };
+    let Ok(listener) = bind(rt, 0) else {
+        return Err(SelftestFault::Unserved(Fault::Socket));
+    };
+    let Ok(client) = ask(rt, &listener) else {
+        return Err(SelftestFault::Unserved(Fault::Socket));
+    };
+    let mut nonces = FromRead::new(NONCE);
+    match serve_connection(&routes, rt, &listener, store, &mut nonces, Patience::usual()) {
+        Ok(()) => {}
+        Err(fault) => return Err(SelftestFault::Unserved(fault)),
+    }
+    if is_answered(client) {
+        Ok(())
+    } else {
+        Err(SelftestFault::Mismatch)
+    }
+}

@@ -1,0 +1,16 @@
+//! Faults of connections, printed.
+
+ghost use Rattle.std.specs.Prelude.{OnOk};
+ghost use Rattle.std.specs.Io.KnownBytes.{Appends};
+ghost use Rattle.server.specs.Names.{connection_line};
+
+use crate::fault::Fault;
+use std::io;
+use std::io::Write;
+
+/// Prints the fault of a connection, the connections being counted from 1.
+pub(crate) fn report<E: Write>(err: &mut E, connection: u64, fault: Fault) -> io::Result<()>
+    ensures { OnOk result (Appends (E.contents err.old) (E.contents err.new) (connection_line connection fault)) }
+{
+    writeln!(err, "sshoffice: connection {connection} {fault}")
+}

@@ -1,0 +1,77 @@
+//! What is left of a connection's time.
+
+ghost use Rattle.std.specs.Prelude.{◌≡◌, ◌-◌, ◌<◌, ℕ, min, MatchOption};
+ghost use Rattle.std.specs.Duration.{as_nanos};
+ghost use Rattle.std.specs.Time.{instant_nanos};
+
+use crate::patience::Patience;
+use std::net::TcpStream;
+use std::time::{Clock, Duration, Instant};
+
+/// Sets how long the next read or write of a stream may wait.
+#[derive(Drop)]
+pub(crate) struct Watch<'a, C> {
+    stream: &'a TcpStream,
+    clock: &'a C,
+    step: Duration,
+    end: Instant,
+}
+
+/// How long a wait that begins now may last: a step, and no longer than until the end. `None` where no time is left.
+fn time_left(now: Instant, end: Instant, step: Duration) -> Option<Duration>
+    ensures { MatchOption result (min (as_nanos step) (instant_nanos end - instant_nanos now) ≡ 0)
+        (λ wait. (0 < as_nanos wait) × (as_nanos wait ≡ min (as_nanos step) (instant_nanos end - instant_nanos now))) }
+{
+    let left = end.duration_since(now);
+    let wait = if left < step { left } else { step };
+    if wait.is_zero() {
+        return None;
+    }
+    Some(wait)
+}
+
+impl<'a, C: Clock> Watch<'a, C> {
+    /// A watch whose time begins now, or `None` where the clock fails.
+    pub(crate) fn new(
+        stream: &'a TcpStream,
+        clock: &'a C,
+        patience: Patience,
+    ) -> Option<Watch<'a, C>> {
+        let Ok(start) = Instant::now(clock) else {
+            return None;
+        };
+        let Some(end) = start.checked_add(patience.whole) else {
+            return None;
+        };
+        Some(Watch {
+            stream,
+            clock,
+            step: patience.step,
+            end,
+        })
+    }
+
+    // How long the next wait may last, if at all.
+    fn left(&self) -> Option<Duration> {
+        match Instant::now(self.clock) {
+            Ok(now) => time_left(now, self.end, self.step),
+            Err(_) => None,
+        }
+    }
+
+    /// Lets the next read wait for as long as it may. `false` where it may not.
+    pub(crate) fn allow_read(&self) -> bool {
+        match self.left() {
+            Some(wait) => self.stream.set_read_timeout(Some(wait)).is_ok(),
+            None => false,
+        }
+    }
+
+    /// Lets the next write wait for as long as it may. `false` where it may not.
+    pub(crate) fn allow_write(&self) -> bool {
+        match self.left() {
+            Some(wait) => self.stream.set_write_timeout(Some(wait)).is_ok(),
+            None => false,
+        }
+    }
+}
