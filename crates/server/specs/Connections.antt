@@ -4,7 +4,6 @@ use Rattle.profile.specs.declared.limits.TheConstants.{LATEST_MOMENT}
 use Rattle.office.specs.declared.opening.Opening.{Opening}
 use Rattle.office.specs.declared.arrival.Arrival.{Arrival}
 use Rattle.serving.specs.Faults.{IfUnserved}
-use Rattle.serving.specs.Nonces.{FailsBy}
 use Rattle.serving.specs.Served.{Served}
 use Rattle.server.specs.declared.fault.Fault.{Fault}
 use Rattle.server.specs.declared.fault.Fault.TheVariants.{Socket, Clock, Serving}

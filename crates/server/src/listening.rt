@@ -10,7 +10,10 @@ use std::io::Write;
 use std::net::{Ipv4Addr, Net, SocketAddr, SocketAddrV4, TcpListener, TcpStream};
 
 /// A listener on 127.0.0.1 at this port, or at one that the system chooses for 0.
-pub(crate) fn bind<R: Net<Listener = TcpListener, Stream = TcpStream>>(rt: &R, port: u16) -> io::Result<TcpListener> {
+pub(crate) fn bind<R: Net<Listener = TcpListener, Stream = TcpStream>>(
+    rt: &R,
+    port: u16,
+) -> io::Result<TcpListener> {
     TcpListener::bind(
         rt,
         SocketAddr::V4(SocketAddrV4::new(Ipv4Addr::LOCALHOST, port)),

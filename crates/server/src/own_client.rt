@@ -69,7 +69,14 @@ pub fn selftest<
         return Err(SelftestFault::Unserved(Fault::Socket));
     };
     let mut nonces = FromRead::new(NONCE);
-    match serve_connection(&routes, rt, &listener, store, &mut nonces, Patience::usual()) {
+    match serve_connection(
+        &routes,
+        rt,
+        &listener,
+        store,
+        &mut nonces,
+        Patience::usual(),
+    ) {
         Ok(()) => {}
         Err(fault) => return Err(SelftestFault::Unserved(fault)),
     }

@@ -46,7 +46,15 @@ pub fn serve_on<R: Clock + AllocGlobal, S: Registry, N: Source, O: Write, E: Wri
     ensures drawn { N.failed nonces.new ≤ N.failed nonces.old + connections }
     ensures quiet { out.new ≡ out.old }
 {
-    serve_within(rt, listener, store, nonces, connections, Patience::usual(), err)
+    serve_within(
+        rt,
+        listener,
+        store,
+        nonces,
+        connections,
+        Patience::usual(),
+        err,
+    )
 }
 
 /// As `serve_on`, with another patience.

@@ -100,7 +100,13 @@ fn an_arrival_comes_at_the_moment_of_the_clock(rt: HostRuntime) -> Result<(), Fa
 /// What is printed of a peer that sends half a request, where a server has this patience.
 fn printed_of_half(rt: &HostRuntime, step: Duration, whole: Duration) -> Result<Vec<u8>, Fail> {
     let mut office = new_office(rt)?;
-    let met = met_by(rt, rt, &mut office, b"GET /v1/krl", Patience { step, whole })?;
+    let met = met_by(
+        rt,
+        rt,
+        &mut office,
+        b"GET /v1/krl",
+        Patience { step, whole },
+    )?;
     Ok(met.printed)
 }
 
@@ -112,7 +118,10 @@ fn a_silent_peer_is_not_waited_for(rt: HostRuntime) -> Result<(), Fail> {
         let start = Instant::now(&rt)?;
         let printed = printed_of_half(&rt, step, whole)?;
         let waited = start.elapsed(&rt)?;
-        assert_eq!(rt; printed.as_slice(), b"sshoffice: connection 1 Read\n".as_slice());
+        assert_eq!(rt;
+            printed.as_slice(),
+            b"sshoffice: connection 1 Read\n".as_slice()
+        );
         assert!(rt; short <= waited && waited < Duration::from_secs(5));
     }
     Ok(())

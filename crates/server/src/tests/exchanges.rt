@@ -27,7 +27,10 @@ fn met_anew(rt: &HostRuntime, requests: &[&[u8]], nonces: usize) -> Result<Met, 
 fn forty_nonce_bytes_serve_one_of_two(rt: HostRuntime) -> Result<(), Fail> {
     let met = met_anew(&rt, &[LIST, LIST], 40)?;
     assert_eq!(rt; met.status, 0);
-    assert_eq!(rt; met.printed.as_slice(), b"sshoffice: connection 2 Nonces\n".as_slice());
+    assert_eq!(rt;
+        met.printed.as_slice(),
+        b"sshoffice: connection 2 Nonces\n".as_slice()
+    );
     assert_eq!(rt; met.answered.as_slice(), EMPTY_LIST);
     Ok(())
 }
@@ -109,7 +112,14 @@ fn a_server_finds_its_own_list(rt: HostRuntime) -> Result<(), Fail> {
     let mut office = new_office(&rt)?;
     assert_eq!(rt; selftest(&rt, &mut office), Ok(()));
     let listener = bind(&rt, 0)?;
-    let met = met_at(&rt, &listener, &mut office, &[DEPARTMENT, REVOCATION], 2, 64)?;
+    let met = met_at(
+        &rt,
+        &listener,
+        &mut office,
+        &[DEPARTMENT, REVOCATION],
+        2,
+        64,
+    )?;
     assert_eq!(rt; met.answered.as_slice(), ACCEPTED);
     assert_eq!(rt; selftest(&rt, &mut office), Err(SelftestFault::Mismatch));
     Ok(())

@@ -97,7 +97,15 @@ pub(super) fn met_at(
     let mut printed = Vec::new(rt.alloc());
     let mut out = Vec::new(rt.alloc());
     let count = u64::from(connections);
-    let status = crate::serve_on(rt, listener, office, &mut source, count, &mut out, &mut printed);
+    let status = crate::serve_on(
+        rt,
+        listener,
+        office,
+        &mut source,
+        count,
+        &mut out,
+        &mut printed,
+    );
     let answered = answers(rt, peers)?;
     Ok(Met {
         status,
@@ -118,7 +126,15 @@ pub(super) fn met_by<R: Clock + AllocGlobal>(
     let peers = clients(rt, &listener, &[request])?;
     let mut source = ScriptedNonces::new(0x33, 32, Ending::Ends);
     let mut printed = Vec::new(rt.alloc());
-    let status = serve_within(by, &listener, office, &mut source, 1, patience, &mut printed);
+    let status = serve_within(
+        by,
+        &listener,
+        office,
+        &mut source,
+        1,
+        patience,
+        &mut printed,
+    );
     let answered = match answers(rt, peers) {
         Ok(bytes) => bytes,
         Err(_) => Vec::new(rt.alloc()),

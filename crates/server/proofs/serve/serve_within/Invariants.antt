@@ -1,4 +1,4 @@
-use Rattle.std.proofs.Common.{◌≡◌, ◌≤◌, ◌+◌}
+use Rattle.std.proofs.Common.{◌≤◌, ◌+◌}
 use Rattle.server.specs.Connections.{Extends}
 use Rattle.server.proofs.serve.serve_within.Given as goal
 
