@@ -1,6 +1,6 @@
 -- An arrival that is accepted now.
-use Rattle.std.proofs.Common.{◌≡◌, ℕ, ◌+◌, ◌<◌, ◌≤◌, List, [], ◌∷◌, ◌++◌, length, false, None, Some, Option, Result, Ok, Err, refl, sym, ap, subst, ◌∙◌, ◌&&◌, arith}
-use Rattle.std.specs.Prelude.{IsOkAnd, nat_le, nat_lt, ◌^◌}
+use Rattle.std.proofs.Common.{◌≡◌, ℕ, ◌+◌, ◌<◌, ◌≤◌, List, [], ◌∷◌, ◌++◌, length, None, Some, Option, Result, Ok, Err, refl, sym, ap, subst, ◌∙◌, ◌&&◌, arith}
+use Rattle.std.specs.Prelude.{IsOkAnd, nat_le, ◌^◌}
 use Rattle.std.proofs.lemmas.Bool.{and_parts, leb-true}
 use Rattle.profile.specs.declared.limits.TheConstants.{LATEST_MOMENT}
 use Rattle.profile.specs.declared.refusal.Refusal.{Refusal}
@@ -8,7 +8,7 @@ use Rattle.sqlite.specs.Effect.{Database}
 use Rattle.sqlite.specs.State.{State as Connection, Survives}
 use Rattle.sqlite.proofs.StateLemmas.{survives_weaker}
 use Rattle.message.specs.declared.kinds.Message.{Message}
-use Rattle.tables.specs.Contents.{Contents, Means}
+use Rattle.tables.specs.Contents.{Contents}
 use Rattle.tables.specs.declared.fault.Fault.{Fault}
 use Rattle.office.specs.declared.arrival.Arrival.{Arrival}
 use Rattle.office.specs.declared.arrival.Kept.{Kept}
@@ -26,11 +26,10 @@ use Rattle.office.specs.Shows.{Shows}
 use Rattle.office.proofs.Growth.{after_grows, holds_in_range, opening_stays}
 use Rattle.office.proofs.Ranges.{revoked_is_issued}
 use Rattle.office.proofs.Steps.{shows_accepted}
-use Rattle.rows.specs.Rows.{contents_of}
 use Rattle.rows.specs.Transactions.{Goes, Makes, Waits}
 use Rattle.writes.specs.Due.{Fits, IsDue, contents_after, kept_of}
 use Rattle.store.specs.Meaning.{IsHistory}
-use Rattle.store.specs.Arriving.{IsAccepted, IsAfter, IsAnswered, IsNew, Past, Settles, contents_with, kept_at, state_at, with_one_more}
+use Rattle.store.specs.Arriving.{IsAccepted, IsAfter, IsNew, Past, Settles, kept_at, state_at}
 use Rattle.store.proofs.Dates.{date_after}
 use Rattle.store.proofs.Lawful.{lawful_after}
 use Rattle.store.proofs.Settled.{goes_on, rows_with, shown_at}

@@ -1,5 +1,5 @@
 -- What a reading call answers of tables that tell a history.
-use Rattle.std.proofs.Common.{◌≡◌, inl, inr, Bool, true, false, List, Ok, Err, Result, IsTrue, refl, subst, sym}
+use Rattle.std.proofs.Common.{◌≡◌, inl, inr, Bool, true, false, List, Ok, Err, Result, refl, subst, sym}
 use Rattle.std.specs.Prelude.{IfOk, IfErr}
 use Rattle.sqlite.specs.State.{State as Connection, HasCleanDisk}
 use Rattle.tables.specs.Calls.{WasOpen}

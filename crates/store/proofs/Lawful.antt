@@ -1,7 +1,7 @@
 -- The state of an office is lawful after every history.
-use Rattle.std.proofs.Common.{◌≡◌, ℕ, zero, suc, ◌+◌, ◌-◌, ◌≤◌, List, [], ◌∷◌, ◌++◌, length, Bool, true, false, cond, not, ◌&&◌, Option, Some, None, Result, Ok, Err, refl, sym, ap, subst, ◌∙◌, arith, length-append}
+use Rattle.std.proofs.Common.{◌≡◌, ℕ, zero, suc, ◌+◌, ◌-◌, List, [], ◌∷◌, ◌++◌, length, Bool, true, false, cond, not, Option, Some, None, Result, Ok, Err, refl, sym, subst, arith}
 use Rattle.std.specs.Prelude.{IfSome, slice_get, nat_lt}
-use Rattle.std.specs.List.{AllByRecursion, fold, list_all}
+use Rattle.std.specs.List.{AllByRecursion, fold}
 use Rattle.std.specs.Ordering.{eq_by_cmp, nat_cmp}
 use Rattle.std.specs.Cmp.Lexicographic.{slice_cmp}
 use Rattle.std.specs.FinMap.Entries.{find}
@@ -17,7 +17,7 @@ use Rattle.message.specs.declared.renewal.Renewal.{Renewal}
 use Rattle.message.specs.declared.delivery.Delivery.{Delivery}
 use Rattle.message.specs.declared.kinds.Message.{Message}
 use Rattle.message.specs.declared.kinds.Message.TheVariants as message
-use Rattle.message.specs.Values.{is_delivery, is_department, is_digest, is_issue, is_message, is_renewal, is_serial, is_signature}
+use Rattle.message.specs.Values.{is_delivery, is_department, is_issue, is_message, is_renewal, is_signature}
 use Rattle.office.specs.declared.opening.Opening.{Opening}
 use Rattle.office.specs.declared.arrival.Arrival.{Arrival}
 use Rattle.office.specs.declared.ca.Ca.{Ca}
@@ -30,7 +30,7 @@ use Rattle.office.specs.Certificates.{IsCertificate, certificate_for, kind_or_us
 use Rattle.office.specs.Refusals.{is_one_that}
 use Rattle.office.specs.State.{key_or}
 use Rattle.office.specs.Machine.{State, after, ca_from_now, certificate_of, department_named, department_of_serial, first_holding, has_any, is_key_id_revoked, is_range_revoked, issued, newest_key, next_serial, opened, refusals, renewed, republished, signed_at, with_ca, with_certificate, with_department, with_key_id, with_one_more, with_range, with_signature}
-use Rattle.office.specs.History.{First, add_accepted, change, first_accepted, judged, kept_by, state, state_after, with_arrival}
+use Rattle.office.specs.History.{First, add_accepted, change, judged, kept_by, state, state_after, with_arrival}
 use Rattle.office.proofs.Histories.{message_lawful}
 use Rattle.office.proofs.Issuable.{issuable_certificate, renewable_certificate}
 use Rattle.office.proofs.Judged.{judged_is_first, none_holds}

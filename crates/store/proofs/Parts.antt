@@ -6,7 +6,7 @@ use Rattle.std.proofs.lemmas.Bool.{and_from, and_parts, le-leb, leb-true, lt-ltb
 use Rattle.krl.specs.declared.run.Run.{Run}
 use Rattle.krl.specs.declared.ca_part.CaPart.{CaPart}
 use Rattle.krl.specs.declared.krl_head.KrlHead.{KrlHead}
-use Rattle.krl.specs.Sets.{AreRuns, contains, is_counted, is_last_reached, runs_in}
+use Rattle.krl.specs.Sets.{AreRuns, is_counted, is_last_reached, runs_in}
 use Rattle.krl.proofs.Counting.{runs_in_only}
 use Rattle.office.specs.declared.ca.Ca.{Ca}
 use Rattle.office.specs.declared.publication.Revoked.{Revoked}

@@ -1,5 +1,5 @@
 -- The CAs of an office serve from serials on that don't descend.
-use Rattle.std.proofs.Common.{◌≡◌, ℕ, ◌+◌, ◌-◌, ◌≤◌, ◌<◌, List, [], ◌∷◌, ◌++◌, length, map, Bool, true, false, cond, Option, Some, None, refl, sym, ap, subst, ◌∙◌, arith, length-append}
+use Rattle.std.proofs.Common.{◌≡◌, ℕ, ◌-◌, ◌≤◌, List, [], ◌∷◌, ◌++◌, length, Bool, true, false, cond, Option, Some, None, refl, sym, ap, subst, ◌∙◌, arith, length-append}
 use Rattle.std.specs.Prelude.{All, slice_index_or}
 use Rattle.std.specs.List.Sorted.{IsNonDecreasing}
 use Rattle.std.proofs.lemmas.List.{map-append}
@@ -21,8 +21,6 @@ use Rattle.tables.specs.declared.fault.Fault.TheVariants.{Damaged, Device, NoMem
 use Rattle.store.specs.Parts.{AreOrdered, numbers}
 use Rattle.store.specs.Showing.{ShowsOffice}
 use Rattle.office.proofs.Histories.{IsKept, holds_after}
-
-
 
 -- none serves from an earlier serial than the one before it, nor from one that isn't handed out next or was before
 pub record AreServing (s : State) : Type 0 where

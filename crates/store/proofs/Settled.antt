@@ -1,6 +1,6 @@
 -- What is answered inside a transaction, part by part.
-use Rattle.std.proofs.Common.{◌≡◌, ℕ, List, [], ◌∷◌, ◌++◌, length, true, false, Option, Some, None, Ok, Err, Result, IsTrue, refl, sym, ap, ap₂, subst, ◌∙◌}
-use Rattle.std.specs.Prelude.{◌≢◌, IfErr, nat_lt}
+use Rattle.std.proofs.Common.{◌≡◌, ℕ, List, [], ◌∷◌, ◌++◌, length, true, false, Some, None, Ok, Err, Result, IsTrue, refl, sym, ap₂, subst}
+use Rattle.std.specs.Prelude.{◌≢◌, nat_lt}
 use Rattle.std.specs.List.{list_any}
 use Rattle.std.specs.Str.{bytes_eq}
 use Rattle.std.proofs.lemmas.Slice.Eq.{bytes_eq-Decides}
@@ -8,8 +8,7 @@ use Rattle.profile.specs.declared.limits.TheConstants.{LATEST_MOMENT}
 use Rattle.profile.specs.declared.refusal.Refusal.{Refusal}
 use Rattle.profile.specs.declared.refusal.Refusal.TheVariants.{BadMessage, BadMoment, KeyReused}
 use Rattle.sqlite.specs.Effect.{Database}
-use Rattle.sqlite.specs.Tree.{Trees}
-use Rattle.sqlite.specs.State.{State as Connection, HasCleanDisk, IsUnchanged, Survives}
+use Rattle.sqlite.specs.State.{State as Connection, HasCleanDisk, Survives}
 use Rattle.sqlite.proofs.StateLemmas.{survives_weaker}
 use Rattle.message.specs.declared.kinds.Message.{Message}
 use Rattle.message.specs.Values.{is_message}
@@ -37,12 +36,12 @@ use Rattle.office.specs.History.{due, has_key, judged, reply_kept}
 use Rattle.office.specs.Shows.{Shows}
 use Rattle.office.proofs.Steps.{shows_office, shows_refused, shows_repeated}
 use Rattle.rows.specs.Rows.{contents_of, office_contents}
-use Rattle.rows.specs.Transactions.{Answers, Goes, Waits}
+use Rattle.rows.specs.Transactions.{Answers, Waits}
 use Rattle.rows.proofs.Steps.{Leads, answers_then, goes_still, stops, waits_then}
 use Rattle.views.specs.Finding.{NeverOfOffice}
 use Rattle.store.specs.Meaning.{IsHistory}
 use Rattle.store.specs.Showing.{ShowsOffice}
-use Rattle.store.specs.Arriving.{IsAfter, IsAnswered, IsAsked, IsNew, Past, Settles, TellsNoDamage, contents_with, kept_at, state_at, stopped}
+use Rattle.store.specs.Arriving.{IsAfter, IsAnswered, IsNew, Past, Settles, TellsNoDamage, contents_with, kept_at, state_at, stopped}
 use Rattle.store.proofs.Lawful.{all_push, lawful_after}
 use Rattle.store.proofs.Reading.{still_means}
 

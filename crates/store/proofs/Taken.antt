@@ -12,11 +12,10 @@ use Rattle.office.specs.declared.arrival.Outcome.{Outcome}
 use Rattle.office.specs.declared.fault.StoreFault.{StoreFault}
 use Rattle.office.specs.Faults.{HasCause, IsOfARegister}
 use Rattle.office.specs.History.{due}
-use Rattle.rows.specs.Faults.{fault_of}
 use Rattle.rows.specs.Rows.{office_contents}
 use Rattle.rows.specs.Transactions.{Concludes, Ends, Has, Rests}
 use Rattle.store.specs.Meaning.{HasFailed, Tells, told}
-use Rattle.store.specs.Arriving.{EndsFor, IsAfter, IsAnswered, IsAny, IsUndamaged, Past, Settles, TellsNoDamage, contents_with, of_statement}
+use Rattle.store.specs.Arriving.{EndsFor, IsAfter, IsAnswered, IsAny, IsUndamaged, Settles, TellsNoDamage, contents_with, of_statement}
 
 -- ---- no damage is told
 

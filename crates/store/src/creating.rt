@@ -12,11 +12,10 @@ ghost use Rattle.office.specs.State.{first_ca, opened};
 ghost use Rattle.rows.specs.Rows.{ca_row, office_contents, office_row};
 ghost use Rattle.rows.specs.Transactions.{Ends, Has, Leaves, Makes, Waits};
 
-use rows::number;
-use rows::conclude;
 use lines::key_blob_of;
 use office::Opening;
 use profile::LAST_SERIAL;
+use rows::{conclude, number};
 use sqlite::{Alter, Connection};
 use std::alloc::Global;
 use tables::{CaRow, Fault, Number, OfficeRow, begin, create_tables, insert_ca, insert_office};

@@ -1,7 +1,8 @@
 //! The office's register in the tables of a database.
 //!
-//! An office is made whole or not at all. What the tables tell of a history they tell after each call too, also after one
-//! that failed.
+//! An office is made whole or not at all, and so is each arrival, in one transaction: what is answered is due after the
+//! history that the tables tell, and a crash leaves that history or the one with the arrival. What the tables tell they
+//! tell after each reading call too, and after each call that failed.
 #![tactic(auto)]
 
 mod answer;

@@ -13,8 +13,8 @@ ghost use Rattle.office.specs.declared.arrival.Arrival.{Arrival};
 ghost use Rattle.store.specs.Meaning.{Looks, Tells, opened_by};
 
 use crate::creating::SCHEMA;
-use rows::fault_of;
 use office::StoreFault;
+use rows::fault_of;
 use sqlite::{Alter, Connection};
 use std::alloc::Global;
 use tables::{OfficeRow, every_office, has_office};

@@ -17,10 +17,10 @@ ghost use Rattle.office.specs.Faults.{IsOfARegister};
 ghost use Rattle.store.specs.Meaning.{IsBlank, IsHistory, Tells};
 
 use crate::creating::create;
-use rows::fault_of;
 use crate::looking::look;
 use migration::migrate;
 use office::{Opening, StoreFault};
+use rows::fault_of;
 use sqlite::{Alter, Connection};
 use std::alloc::Global;
 use tables::has_any_table;

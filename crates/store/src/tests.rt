@@ -6,7 +6,8 @@ use std::alloc::Global;
 use std::test::Fail;
 use text::Text;
 
-const DEPARTMENT: &[u8] = b"department web\nkind user\nadmins ana\nprincipals alice,*@example.org\noptions force-command\nextensions permit-X11-forwarding,permit-agent-forwarding,permit-pty\nmaxlife 86400\nnamespaces file,git\n";
+const DEPARTMENT: &[u8] =
+    b"department web\nkind user\nadmins ana\nprincipals alice,*@example.org\noptions force-command\nextensions permit-X11-forwarding,permit-agent-forwarding,permit-pty\nmaxlife 86400\nnamespaces file,git\n";
 
 fn init(
     alloc: Global,

@@ -1,8 +1,5 @@
-use Rattle.std.proofs.Common.{◌≡◌, ℕ, List, Ok, Err, refl, sym, ap, ap₂, subst, ◌∙◌, arith}
 use Rattle.sqlite.specs.Held.{state}
-use Rattle.sqlite.specs.State.{HasCleanDisk}
 use Rattle.rows.proofs.Sorting.{asked}
-use Rattle.store.specs.Showing.{Never}
 use Rattle.office.specs.History.{state as after}
 use Rattle.office.proofs.Ranges.{revoked_is_issued}
 use Rattle.store.specs.Parts.{AreShown, IsMadeOf}

@@ -1,4 +1,4 @@
-use Rattle.std.proofs.Common.{◌≡◌, ℕ, List, Ok, Err, map, refl, sym, ap, subst, ◌∙◌}
+use Rattle.std.proofs.Common.{◌≡◌, Ok, Err, ap, ◌∙◌}
 use Rattle.sqlite.specs.Held.{state}
 use Rattle.rows.proofs.Sorting.{asked}
 use Rattle.std.specs.Option.{option_map}

@@ -1,4 +1,4 @@
-use Rattle.std.proofs.Common.{◌≡◌, ℕ, List, Ok, sym, subst}
+use Rattle.std.proofs.Common.{ℕ, List, Ok, sym, subst}
 use Rattle.sqlite.specs.Held.{state}
 use Rattle.office.specs.declared.arrival.Outcome.TheVariants as outcome
 use Rattle.store.specs.Arriving.{IsAccepted, Settles, kept_at, state_at}

@@ -1,18 +1,18 @@
-use Rattle.std.proofs.Common.{◌≡◌, ℕ, List, Some, None, Ok, Err, refl, sym, ap, subst, ◌∙◌}
+use Rattle.std.proofs.Common.{◌≡◌, ℕ, List, Some, None, subst, ◌∙◌}
 use Rattle.std.proofs.lemmas.Bool.{le-ltb, lt-ltb}
 use Rattle.sqlite.specs.Held.{state}
 use Rattle.profile.specs.declared.refusal.Refusal.TheVariants.{BadMessage, BadMoment, KeyReused}
 use Rattle.office.specs.declared.arrival.Outcome.TheVariants as outcome
 use Rattle.office.specs.Messages.{message_with_text}
 use Rattle.store.specs.Arriving.{IsAsked, IsNew, kept_at, state_at}
-use Rattle.store.proofs.Settled.{bad_line, bad_message, bad_moment, damage_weaker, key_reused, read_is, refused_still, settles_not, settles_still, settles_weaker, waits_weaker}
+use Rattle.store.proofs.Settled.{bad_line, bad_message, bad_moment, damage_weaker, key_reused, read_is, refused_still, settles_still, settles_weaker, waits_weaker}
 use Rattle.store.proofs.settling.judge.Goals as goal
 
 pub returns-in-Err-BadLine-clause-settles : goal.returns-in-Err-BadLine-clause-settles
 returns-in-Err-BadLine-clause-settles g c clean is_open =
     let a = c.args.arrival.now in
     let is : message_with_text a.bytes ≡ None =
-    subst (λ (b : List ℕ). message_with_text b ≡ None) c.as_slice.ensures 
+    subst (λ (b : List ℕ). message_with_text b ≡ None) c.as_slice.ensures
     (bad_line c.as_slice.result.now c.in-Err-BadLine.field-0 c.in-Err-BadLine.field-0-0 c.in-Err-BadLine.field-0-is
     c.in-Err-BadLine.ensures.exact) in
     settles_still a (IsAsked a c.args.is_known) (state g.S.Store c.args.conn.now) (outcome.Refused BadMessage) c.requires is_open

@@ -1,8 +1,7 @@
-use Rattle.std.proofs.Common.{◌≡◌, ℕ, List, true, false, Option, Some, None, refl, sym, ap, subst, ◌∙◌}
+use Rattle.std.proofs.Common.{◌≡◌, ℕ, List, true, false, Some, None, sym, ap, ◌∙◌}
 use Rattle.std.specs.Prelude.{find}
 use Rattle.std.specs.Str.{bytes_eq}
 use Rattle.sqlite.specs.Held.{state}
-use Rattle.office.specs.declared.arrival.Kept.{Kept}
 use Rattle.office.specs.declared.arrival.Outcome.TheVariants as outcome
 use Rattle.views.specs.Histories.{is_for}
 use Rattle.store.specs.Meaning.{IsHistory}

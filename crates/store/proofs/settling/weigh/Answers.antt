@@ -1,4 +1,4 @@
-use Rattle.std.proofs.Common.{◌≡◌, ℕ, List, Ok, Err, arith, subst}
+use Rattle.std.proofs.Common.{ℕ, List, Ok, Err, arith, subst}
 use Rattle.sqlite.specs.Held.{state}
 use Rattle.office.specs.Decided.{Decided}
 use Rattle.store.specs.Meaning.{IsHistory}
