@@ -29,27 +29,32 @@ fn text(alloc: Global, lines: &[&str]) -> Result<String, AllocError> {
     text_with(alloc, lines, lines.len(), "")
 }
 
-/// The number of the line that is answered, or 0 where a message is read.
-fn bad_line(alloc: Global, bytes: &[u8]) -> Result<u64, AllocError> {
+/// Whether the line of this number is answered, or a message is read where it is 0.
+fn is_bad_line(alloc: Global, bytes: &[u8], wanted: u64) -> bool {
     match read_message(alloc, bytes) {
-        Ok(_) => Ok(0),
-        Err(MessageFault::BadLine(n)) => Ok(n),
-        Err(MessageFault::NoMemory) => Err(AllocError),
+        Ok(_) => wanted == 0,
+        Err(MessageFault::BadLine(n)) => n == wanted,
+        Err(MessageFault::NoMemory) => false,
     }
 }
 
-/// The first case whose answer is another one than is wanted: an index, the line that is put there, and the number of
-/// the line that is answered.
-fn wrong_case(
-    alloc: Global,
-    lines: &[&str],
-    cases: &[(usize, &str, u64)],
-) -> Result<Option<usize>, AllocError> {
-    for (at, (index, line, want)) in cases.iter().enumerate() {
-        let text = text_with(alloc, lines, *index, line)?;
-        if bad_line(alloc, text.as_bytes())? != *want {
-            return Ok(Some(at));
+/// A line's index, the line that is put there, and the number of the line that is then answered, or 0.
+type Case = (usize, &'static str, u64);
+
+fn is_right(alloc: Global, lines: &[&str], case: &Case) -> bool {
+    let (index, line, wanted) = *case;
+    match text_with(alloc, lines, index, line) {
+        Ok(text) => is_bad_line(alloc, text.as_bytes(), wanted),
+        Err(AllocError) => false,
+    }
+}
+
+/// The index of the first case with another answer.
+fn first_wrong(alloc: Global, lines: &[&str], cases: &[Case]) -> Option<usize> {
+    for (index, case) in cases.iter().enumerate() {
+        if !is_right(alloc, lines, case) {
+            return Some(index);
         }
     }
-    Ok(None)
+    None
 }

@@ -4,7 +4,6 @@
 use crate::fault::KrlFault;
 use crate::reader::check;
 use crate::tests::writing::{CA, CA2};
-use std::test::Fail;
 
 // From the lines `serial: 1`, `serial: 1000000`, `serial: 5000000-9000000`, `id: web/alice`, `id: web/bob`.
 const FEW: [u8; 179] = [
@@ -34,52 +33,59 @@ const BITMAP: [u8; 128] = [
     0x0f, 0x00, 0x00, 0x00, 0x00, 0x00, 0x00, 0x00, 0x01, 0x00, 0x00, 0x00, 0x03, 0x05, 0x2a, 0xd5,
 ];
 
-#[test]
-fn a_list_of_ssh_keygen_is_read(rt: HostRuntime) -> Result<(), Fail> {
-    let serials = [
-        (1, true),
-        (2, false),
-        (999999, false),
-        (1000000, true),
-        (4999999, false),
-        (5000000, true),
-        (9000000, true),
-        (9000001, false),
-    ];
-    for (serial, revoked) in serials {
-        assert_eq!(rt;
-            check(&FEW, &CA, serial, b"db/x"),
-            Ok(revoked),
-            "serial {serial}"
-        );
-        assert_eq!(rt;
-            check(&FEW, &CA2, serial, b"db/x"),
-            Ok(false),
-            "serial {serial}"
-        );
+/// Serials, and whether `FEW` revokes them.
+const SERIALS: [(u64, bool); 8] = [
+    (1, true),
+    (2, false),
+    (999999, false),
+    (1000000, true),
+    (4999999, false),
+    (5000000, true),
+    (9000000, true),
+    (9000001, false),
+];
+
+/// Key ids, and whether `FEW` revokes them.
+const KEY_IDS: [(&[u8], bool); 4] = [
+    (b"web/alice", true),
+    (b"web/bob", true),
+    (b"web/bo", false),
+    (b"web/bobb", false),
+];
+
+/// Whether `FEW` answers this under the first CA, and not revoked under the other.
+fn is_answered(serial: u64, key_id: &[u8], revoked: bool) -> bool {
+    check(&FEW, &CA, serial, key_id) == Ok(revoked)
+        && check(&FEW, &CA2, serial, key_id) == Ok(false)
+}
+
+/// The first serial that is answered otherwise.
+fn first_wrong_serial() -> Option<u64> {
+    for (serial, revoked) in SERIALS {
+        if !is_answered(serial, b"db/x", revoked) {
+            return Some(serial);
+        }
     }
-    for (key_id, revoked) in [
-        ("web/alice", true),
-        ("web/bob", true),
-        ("web/bo", false),
-        ("web/bobb", false),
-    ] {
-        assert_eq!(rt;
-            check(&FEW, &CA, 2, key_id.as_bytes()),
-            Ok(revoked),
-            "key id {key_id}"
-        );
-        assert_eq!(rt;
-            check(&FEW, &CA2, 2, key_id.as_bytes()),
-            Ok(false),
-            "key id {key_id}"
-        );
+    None
+}
+
+/// The index of the first key id that is answered otherwise.
+fn first_wrong_key_id() -> Option<usize> {
+    for (index, (key_id, revoked)) in KEY_IDS.iter().enumerate() {
+        if !is_answered(2, key_id, *revoked) {
+            return Some(index);
+        }
     }
-    Ok(())
+    None
 }
 
 #[test]
-fn a_bitmap_is_unsupported(rt: HostRuntime) -> Result<(), Fail> {
+fn a_list_of_ssh_keygen_is_read(rt: HostRuntime) {
+    assert_eq!(rt; first_wrong_serial(), None);
+    assert_eq!(rt; first_wrong_key_id(), None);
+}
+
+#[test]
+fn a_bitmap_is_unsupported(rt: HostRuntime) {
     assert_eq!(rt; check(&BITMAP, &CA, 1, b""), Err(KrlFault::Unsupported(34)));
-    Ok(())
 }
