@@ -33,7 +33,7 @@ fn a_number_past_its_limits_names_its_option(rt: HostRuntime) -> Result<(), Fail
         ),
         (
             "init --db d --ca c --root r --station s --first= --last 9",
-            "error: a value is required for '--first <N>' but none was supplied",
+            "error: invalid value '' for '--first <N>': cannot parse integer from empty string",
         ),
         (
             "init --db d --ca c --root r --station s --first 18446744073709551616 --last 9",
