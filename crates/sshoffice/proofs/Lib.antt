@@ -1,6 +1,8 @@
 pub mod Applied
-pub mod Commands
-pub mod Files
+pub mod Blank
+pub mod RecordFiles
+pub mod Listed
 pub mod Openings
 pub mod Printed
 pub mod Records
+pub mod Whole

@@ -1,14 +1,19 @@
 //! Jobs done.
 
 ghost use Rattle.std.specs.Prelude.{◌≡◌, ◌≤◌, map, string_bytes};
-ghost use Rattle.sshoffice.specs.Words.{AreBad};
+ghost use Rattle.words.specs.Answers.{AreBad};
 
-use crate::applying::apply_to_trial;
+use crate::applying::{apply_to_office, apply_to_trial};
+use crate::checking::check;
+use crate::exchanges::read_exchanges;
 use crate::fault::JobFault;
-use crate::words::{Job, WordsFault, read_words};
-use std::fs;
+use crate::files::read_exchange_file;
+use crate::founding::{Founding, found};
+use crate::loopback::{Service, serve, test_itself};
+use crate::migrating::migrate;
+use crate::reporting::{Report, print_list, print_report};
 use std::io::{ErrorKind, Write};
-use std::rt::Files;
+use words::{Job, WordsFault, read_words};
 
 /// The status of a job that was done.
 pub const DONE: u8 = 0;
@@ -19,21 +24,72 @@ pub const FAULT: u8 = 1;
 /// The status of bad words.
 pub const BAD_WORDS: u8 = 2;
 
-fn read_file<R: Files + AllocGlobal>(rt: &R, path: &str) -> Result<Vec<u8>, JobFault> {
-    match fs::read(rt, path) {
-        Ok(bytes) => Ok(bytes),
-        Err(fault) if fault.kind() == ErrorKind::OutOfMemory => Err(JobFault::NoMemory),
-        Err(_) => Err(JobFault::File),
-    }
-}
-
-fn apply<R: Files + AllocGlobal, O: Write>(
-    rt: &R,
+fn apply<O: Write>(
+    rt: &HostRuntime,
+    db: Option<&str>,
     file: &str,
     out: &mut O,
 ) -> Result<(), JobFault> {
-    let bytes = read_file(rt, file)?;
-    apply_to_trial(rt.alloc(), bytes.as_slice(), out)
+    let bytes = read_exchange_file(rt, file)?;
+    let Some(db) = db else {
+        return apply_to_trial(rt.alloc(), bytes.as_slice(), out);
+    };
+    let exchanges = read_exchanges(rt.alloc(), bytes.as_slice())?;
+    apply_to_office(rt, db, exchanges.as_slice(), out)
+}
+
+// All but serving.
+fn done_by<O: Write>(rt: &HostRuntime, job: &Job, out: &mut O) -> Result<(), JobFault> {
+    match job {
+        Job::Init {
+            db,
+            ca,
+            root,
+            station,
+            first,
+            last,
+        } => found(
+            rt,
+            &Founding {
+                db: db.as_str(),
+                ca: ca.as_str(),
+                root: root.as_str(),
+                station: station.as_str(),
+                first: *first,
+                last: *last,
+            },
+            out,
+        ),
+        Job::Apply { db, file } => apply(rt, db.as_ref().map(|db| db.as_str()), file.as_str(), out),
+        Job::Krl { db } => print_list(rt, db.as_str(), out),
+        Job::Signers { db } => print_report(rt, db.as_str(), Report::Signers, out),
+        Job::Table { db } => print_report(rt, db.as_str(), Report::Table, out),
+        Job::Check {
+            ca,
+            list,
+            serial,
+            key_id,
+        } => check(
+            rt,
+            ca.as_str(),
+            list.as_str(),
+            *serial,
+            key_id.as_str(),
+            out,
+        ),
+        Job::Migrate { db } => migrate(rt, db.as_str(), out),
+        Job::Selftest => test_itself(rt, out),
+        Job::Serve { .. } => Ok(()),
+    }
+}
+
+// What was done, once all is written.
+fn flushed<O: Write>(done: Result<(), JobFault>, out: &mut O) -> Result<(), JobFault> {
+    let flushed = out.flush().is_ok();
+    match done {
+        Ok(()) if !flushed => Err(JobFault::Write),
+        done => done,
+    }
 }
 
 // The status of what was done. A fault is printed by its name.
@@ -49,18 +105,41 @@ fn status_of<E: Write>(done: Result<(), JobFault>, err: &mut E) -> u8
     }
 }
 
-/// Does a job: what it gives is written to `out`, and the name of a fault to `err`. Answers the status.
-pub fn do_job<R: Files + AllocGlobal, O: Write, E: Write>(
-    rt: &R,
-    job: &Job,
+fn serve_by<O: Write, E: Write>(
+    rt: &HostRuntime,
+    service: &Service<'_>,
     out: &mut O,
     err: &mut E,
 ) -> u8
     ensures { result ≤ FAULT }
 {
-    match job {
-        Job::Apply { file } => status_of(apply(rt, file.as_str(), out), err),
+    match serve(rt, service, out, err) {
+        Ok(status) => status,
+        Err(fault) => status_of(Err(fault), err),
     }
+}
+
+/// Does a job: what it gives is written to `out`, and the name of a fault to `err`. Answers the status.
+pub fn do_job<O: Write, E: Write>(rt: &HostRuntime, job: &Job, out: &mut O, err: &mut E) -> u8
+    ensures { result ≤ FAULT }
+{
+    if let Job::Serve {
+        db,
+        port,
+        connections,
+        nonces,
+    } = job
+    {
+        let service = Service {
+            db: db.as_str(),
+            port: *port,
+            connections: *connections,
+            nonces: nonces.as_str(),
+        };
+        return serve_by(rt, &service, out, err);
+    }
+    let done = done_by(rt, job, out);
+    status_of(flushed(done, out), err)
 }
 
 fn show<W: Write>(text: &str, out: &mut W) -> Result<(), JobFault> {
@@ -71,8 +150,8 @@ fn show<W: Write>(text: &str, out: &mut W) -> Result<(), JobFault> {
 }
 
 /// Does the job that the words ask for, or shows the text of clap. Answers the status.
-pub fn do_words<R: Files + AllocGlobal, O: Write, E: Write>(
-    rt: &R,
+pub fn do_words<O: Write, E: Write>(
+    rt: &HostRuntime,
     words: &[String],
     out: &mut O,
     err: &mut E,
@@ -82,7 +161,10 @@ pub fn do_words<R: Files + AllocGlobal, O: Write, E: Write>(
 {
     match read_words(rt.alloc(), words) {
         Ok(job) => do_job(rt, &job, out, err),
-        Err(WordsFault::Help(text)) => status_of(show(text.as_str(), out), err),
+        Err(WordsFault::Help(text)) => {
+            let shown = show(text.as_str(), out);
+            status_of(flushed(shown, out), err)
+        }
         Err(WordsFault::BadWords(text)) => {
             let _ = show(text.as_str(), err);
             BAD_WORDS

@@ -1,19 +1,29 @@
-//! The program: words, files and printing.
+//! The program: words, files, printing, and the office over its tables.
 //!
-//! The words are read by clap's meaning of the command, an exchange file exactly as its format says, and what is printed
-//! for exchanges is what the office gave to them. Files and the console are the system's, and nothing is proved of them.
+//! `headline` has what is promised of the office over its tables: each answer is that of the plain machine on first
+//! acceptances, and the list revokes exactly what accepted messages name. An exchange file is read exactly as its format
+//! says, and what is printed for exchanges is what the office gave to them. Files, the console and sockets are the
+//! system's, and nothing is proved of them.
 #![tactic(auto)]
 
 mod applying;
+mod checking;
+mod database;
 mod exchanges;
 mod fault;
+mod files;
+mod founding;
+pub mod headline;
 mod job;
+mod loopback;
+mod migrating;
 mod printing;
+mod reporting;
 #[cfg(test)]
 mod tests;
 mod trial;
-mod words;
 
+use std::io::BufWriter;
 use std::process::ExitCode;
 use std::rt::Env;
 use std::{env, io};
@@ -23,12 +33,16 @@ fn words_of<R: Env + AllocGlobal>(rt: &R) -> io::Result<Vec<String>> {
     Ok(words)
 }
 
-fn main(rt: HostRuntime) -> ExitCode {
-    let mut out = rt.stdout();
+fn status_by(rt: &HostRuntime) -> u8 {
     let mut err = rt.stderr();
-    let status = match words_of(&rt) {
-        Ok(words) => job::do_words(&rt, words.as_slice(), &mut out, &mut err),
-        Err(fault) => job::do_no_words(fault.kind(), &mut err),
-    };
-    ExitCode::from(status)
+    let out = BufWriter::new(rt.alloc(), rt.stdout());
+    match (words_of(rt), out) {
+        (Ok(words), Ok(mut out)) => job::do_words(rt, words.as_slice(), &mut out, &mut err),
+        (Err(fault), _) => job::do_no_words(fault.kind(), &mut err),
+        (_, Err(fault)) => job::do_no_words(fault.kind(), &mut err),
+    }
+}
+
+fn main(rt: HostRuntime) -> ExitCode {
+    ExitCode::from(status_by(&rt))
 }

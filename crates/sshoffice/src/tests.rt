@@ -1,5 +1,6 @@
 //! What the office is asked and what it answers, over the trial office, with values from outside.
 
+mod commands;
 mod deliveries;
 mod departments;
 mod faults;
@@ -13,9 +14,7 @@ mod reports;
 mod revocations;
 mod rollovers;
 mod script;
-mod words;
 
-use office::Registry;
 use std::alloc::Global;
 use std::io::Write;
 use std::process::Abort;

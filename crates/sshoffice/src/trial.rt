@@ -1,17 +1,20 @@
 //! The trial office, on which `apply` runs without a database.
 
 ghost use Rattle.std.specs.Prelude.{◌≡◌, ◌++◌, [], ◌∷◌, List, IfOk, OnOk};
+ghost use Rattle.sqlite.specs.Held.{state};
+ghost use Rattle.sqlite.specs.State.{HasCleanDisk};
+ghost use Rattle.sqlite.specs.Steps.{over_memory};
 ghost use Rattle.office.specs.declared.opening.Opening.{Opening};
 ghost use Rattle.office.specs.declared.arrival.Arrival.{Arrival};
 ghost use Rattle.office.specs.Openings.{IsOpening};
-ghost use Rattle.office.specs.Shows.{Shows};
-ghost use Rattle.plain.specs.Contents.{state_of};
+ghost use Rattle.store.specs.Meaning.{Tells};
 ghost use Rattle.sshoffice.specs.Trial.{opening_of, trial_arrival};
 
 use office::{Arrival, Opening, Outcome, Registry, StoreFault};
-use plain::PlainStore;
 use profile::LAST_SERIAL;
+use sqlite::{Alter, Connection, MemStore};
 use std::alloc::Global;
+use store::Store;
 use text::{NoMemory, Text};
 
 const CA_KEY: [u8; 32] = [0x11; 32];
@@ -23,6 +26,9 @@ const FIRST_SERIAL: u64 = 1;
 
 const MESSAGE: &str =
     "department web\nkind user\nadmins ana\nprincipals alice,*@example.org\noptions force-command\nextensions permit-X11-forwarding,permit-agent-forwarding,permit-pty\nmaxlife 86400\nnamespaces file,git\n";
+
+/// An office in memory.
+pub(crate) type MemoryOffice = Store<MemStore>;
 
 /// An opening with the trial office's CA and names, or `Damaged` where these are no serials.
 pub(crate) fn opening_of(alloc: Global, first: u64, last: u64) -> Result<Opening, StoreFault>
@@ -50,23 +56,44 @@ fn trial_arrival(alloc: Global) -> Result<Arrival, NoMemory>
 }
 
 /// Puts the trial office's department.
-pub(crate) fn put_department<S: Registry>(registry: &mut S, alloc: Global) -> Result<(), StoreFault>
-    ensures honest { S.is_honest registry.new → S.is_honest registry.old }
-    ensures ok { S.is_honest registry.new → OnOk result ((o : Opening) (l : List Arrival) → S.means registry.old o l → S.means registry.new o (l ++ trial_arrival ∷ [])) }
+pub(crate) fn put_department<S: Alter>(
+    store: &mut Store<S>,
+    alloc: Global,
+) -> Result<(), StoreFault>
+    ensures { HasCleanDisk (state S.Store store.new.conn) → OnOk result ((o : Opening) (l : List Arrival) → Tells (state S.Store store.old.conn) o l → Tells (state S.Store store.new.conn) o (l ++ trial_arrival ∷ [])) }
 {
     let arrival = trial_arrival(alloc)?;
-    match registry.apply(alloc, arrival)? {
+    match store.apply(alloc, arrival)? {
         Outcome::Accepted(_) => Ok(()),
         Outcome::Repeated(_) | Outcome::Refused(_) => Err(StoreFault::Damaged),
     }
 }
 
+/// An office of this opening in memory, in which nothing has happened.
+pub(crate) fn office_in_memory(alloc: Global, opening: &Opening) -> Result<MemoryOffice, StoreFault>
+    requires { IsOpening opening.now }
+    ensures { IfOk result (λ s. Tells (state over_memory s.conn) opening.now []) }
+{
+    let Ok(conn) = Connection::open_in_memory(alloc) else {
+        return Err(StoreFault::NoMemory);
+    };
+    match Store::init(alloc, conn, opening) {
+        Ok(store) => Ok(store),
+        Err((fault, _)) => Err(fault),
+    }
+}
+
 /// The trial office: the opening, and then the department.
-pub(crate) fn trial_office(alloc: Global) -> Result<PlainStore, StoreFault>
-    ensures { IfOk result (λ s. Shows (state_of s) s.kept (opening_of 1 LAST_SERIAL) (trial_arrival ∷ [])) }
+pub(crate) fn trial_office(alloc: Global) -> Result<MemoryOffice, StoreFault>
+    ensures { IfOk result (λ s. Tells (state over_memory s.conn) (opening_of 1 LAST_SERIAL) (trial_arrival ∷ [])) }
 {
     let opening = opening_of(alloc, FIRST_SERIAL, LAST_SERIAL)?;
-    let mut office = PlainStore::new(alloc, opening)?;
-    put_department(&mut office, alloc)?;
-    Ok(office)
+    let mut store = office_in_memory(alloc, &opening)?;
+    match put_department(&mut store, alloc) {
+        Ok(()) => Ok(store),
+        Err(fault) => {
+            let _ = store.into_connection();
+            Err(fault)
+        }
+    }
 }

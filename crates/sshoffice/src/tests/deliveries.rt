@@ -18,7 +18,7 @@ const WAITING: [Row; 7] = [
 
 #[test]
 fn an_issue_waits_for_its_signature(rt: HostRuntime) -> Result<(), Fail> {
-    run(&rt, "waiting.exchange", WAITING.as_slice())
+    run(&rt, WAITING.as_slice())
 }
 
 const EARLY: [Row; 3] = [
@@ -36,7 +36,7 @@ const EARLY: [Row; 3] = [
 
 #[test]
 fn an_early_delivery_comes_again(rt: HostRuntime) -> Result<(), Fail> {
-    run(&rt, "early.exchange", EARLY.as_slice())
+    run(&rt, EARLY.as_slice())
 }
 
 const ASTRAY: [Row; 5] = [
@@ -56,7 +56,7 @@ const ASTRAY: [Row; 5] = [
 
 #[test]
 fn a_delivery_is_of_a_body_that_stands(rt: HostRuntime) -> Result<(), Fail> {
-    run(&rt, "astray.exchange", ASTRAY.as_slice())
+    run(&rt, ASTRAY.as_slice())
 }
 
 const SIGNED: [Row; 5] = [
@@ -76,7 +76,7 @@ const SIGNED: [Row; 5] = [
 
 #[test]
 fn a_signature_stays(rt: HostRuntime) -> Result<(), Fail> {
-    run(&rt, "signed.exchange", SIGNED.as_slice())
+    run(&rt, SIGNED.as_slice())
 }
 
 const RENEWED: [Row; 7] = [
@@ -105,7 +105,7 @@ const RENEWED: [Row; 7] = [
 
 #[test]
 fn a_signed_certificate_is_renewed(rt: HostRuntime) -> Result<(), Fail> {
-    run(&rt, "renewed.exchange", RENEWED.as_slice())
+    run(&rt, RENEWED.as_slice())
 }
 
 const UNKNOWN: [Row; 3] = [
@@ -116,5 +116,5 @@ const UNKNOWN: [Row; 3] = [
 
 #[test]
 fn a_renewal_names_a_certificate(rt: HostRuntime) -> Result<(), Fail> {
-    run(&rt, "unknown.exchange", UNKNOWN.as_slice())
+    run(&rt, UNKNOWN.as_slice())
 }

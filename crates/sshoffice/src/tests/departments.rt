@@ -7,7 +7,6 @@ use super::script::{Row, run, run_over};
 use super::*;
 use crate::trial::opening_of;
 use office::{Opening, OpeningFault};
-use plain::PlainStore;
 
 const SENDERS: [Row; 4] = [
     ("ana/d1", 1000, 0x33, ISSUE_OF_DB, FORBIDDEN, NOT_ALLOWED),
@@ -25,7 +24,7 @@ const SENDERS: [Row; 4] = [
 
 #[test]
 fn who_may_send_is_looked_at_first(rt: HostRuntime) -> Result<(), Fail> {
-    run(&rt, "senders.exchange", SENDERS.as_slice())
+    run(&rt, SENDERS.as_slice())
 }
 
 const CHANGED: [Row; 5] = [
@@ -38,7 +37,7 @@ const CHANGED: [Row; 5] = [
 
 #[test]
 fn a_changed_department_judges_later_issues(rt: HostRuntime) -> Result<(), Fail> {
-    run(&rt, "changed.exchange", CHANGED.as_slice())
+    run(&rt, CHANGED.as_slice())
 }
 
 const LAST: [Row; 3] = [
@@ -51,8 +50,7 @@ const LAST: [Row; 3] = [
 fn serials_run_out(rt: HostRuntime) -> Result<(), Fail> {
     let alloc = rt.alloc();
     let last = 9223372036854775806;
-    let mut office = PlainStore::new(alloc, opening_of(alloc, last, last)?)?;
-    run_over(&rt, alloc, &mut office, LAST.as_slice())
+    run_over(&rt, &opening_of(alloc, last, last)?, LAST.as_slice())
 }
 
 #[test]

@@ -17,7 +17,7 @@ fn a_cut_request_is_refused(rt: HostRuntime) -> Result<(), Fail> {
         let wanted = if n < 66 { &head } else { &body };
         script.send(&request[..n], 1000, 0x33, wanted.as_slice())?;
     }
-    script.run(&rt, "cuts.exchange")
+    script.run(&rt)
 }
 
 const LONG: &str = "POST /v1/callers/ana/requests/i1 HTTP/1.1\r\ncontent-length: 16385\r\n\r\n";
@@ -46,7 +46,7 @@ fn a_head_is_judged_before_its_body(rt: HostRuntime) -> Result<(), Fail> {
         let wanted = response(alloc, status, TEXT, reply.as_bytes())?;
         script.send(head.as_bytes(), 1000, 0x33, wanted.as_slice())?;
     }
-    script.run(&rt, "lengths.exchange")
+    script.run(&rt)
 }
 
 const NO_ROUTE: &str = "refused 2 NoRoute\n";
@@ -61,5 +61,5 @@ const ROUTES: [Row; 5] = [
 
 #[test]
 fn a_target_is_spelled_one_way(rt: HostRuntime) -> Result<(), Fail> {
-    run(&rt, "routes.exchange", ROUTES.as_slice())
+    run(&rt, ROUTES.as_slice())
 }

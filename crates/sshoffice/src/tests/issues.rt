@@ -21,7 +21,7 @@ const ISSUED: [Row; 3] = [
 
 #[test]
 fn an_issue_has_its_body(rt: HostRuntime) -> Result<(), Fail> {
-    run(&rt, "issued.exchange", ISSUED.as_slice())
+    run(&rt, ISSUED.as_slice())
 }
 
 const REPEATED: [Row; 5] = [
@@ -34,7 +34,7 @@ const REPEATED: [Row; 5] = [
 
 #[test]
 fn repeat_gets_the_kept_reply(rt: HostRuntime) -> Result<(), Fail> {
-    run(&rt, "repeated.exchange", REPEATED.as_slice())
+    run(&rt, REPEATED.as_slice())
 }
 
 const KEY: [Row; 3] = [
@@ -45,7 +45,7 @@ const KEY: [Row; 3] = [
 
 #[test]
 fn a_key_is_used_once(rt: HostRuntime) -> Result<(), Fail> {
-    run(&rt, "key.exchange", KEY.as_slice())
+    run(&rt, KEY.as_slice())
 }
 
 const OPTIONS: [Row; 3] = [
@@ -70,7 +70,7 @@ const OPTIONS: [Row; 3] = [
 
 #[test]
 fn options_and_extensions_stand_in_the_body(rt: HostRuntime) -> Result<(), Fail> {
-    run(&rt, "options.exchange", OPTIONS.as_slice())
+    run(&rt, OPTIONS.as_slice())
 }
 
 const EXTENSIONS: [Row; 1] = [(
@@ -84,7 +84,7 @@ const EXTENSIONS: [Row; 1] = [(
 
 #[test]
 fn extensions_ascend_in_the_body(rt: HostRuntime) -> Result<(), Fail> {
-    run(&rt, "extensions.exchange", EXTENSIONS.as_slice())
+    run(&rt, EXTENSIONS.as_slice())
 }
 
 const LIVES: [Row; 4] = [
@@ -103,7 +103,7 @@ const LIVES: [Row; 4] = [
 
 #[test]
 fn life_is_judged(rt: HostRuntime) -> Result<(), Fail> {
-    run(&rt, "lives.exchange", LIVES.as_slice())
+    run(&rt, LIVES.as_slice())
 }
 
 const PRINCIPALS: [Row; 3] = [
@@ -121,7 +121,7 @@ const PRINCIPALS: [Row; 3] = [
 
 #[test]
 fn principals_are_judged(rt: HostRuntime) -> Result<(), Fail> {
-    run(&rt, "principals.exchange", PRINCIPALS.as_slice())
+    run(&rt, PRINCIPALS.as_slice())
 }
 
 const REFUSED: [Row; 2] = [
@@ -131,5 +131,5 @@ const REFUSED: [Row; 2] = [
 
 #[test]
 fn refusals_are_not_remembered(rt: HostRuntime) -> Result<(), Fail> {
-    run(&rt, "refused.exchange", REFUSED.as_slice())
+    run(&rt, REFUSED.as_slice())
 }

@@ -13,7 +13,7 @@ const USERS: [Row; 3] = [
 
 #[test]
 fn user_departments_have_signers(rt: HostRuntime) -> Result<(), Fail> {
-    run(&rt, "users.exchange", USERS.as_slice())
+    run(&rt, USERS.as_slice())
 }
 
 const TABLE: [Row; 7] = [
@@ -28,5 +28,5 @@ const TABLE: [Row; 7] = [
 
 #[test]
 fn the_table_has_each_certificate(rt: HostRuntime) -> Result<(), Fail> {
-    run(&rt, "table.exchange", TABLE.as_slice())
+    run(&rt, TABLE.as_slice())
 }

@@ -6,7 +6,6 @@ use super::replies::*;
 use super::script::{Row, run, run_over};
 use super::*;
 use crate::trial::opening_of;
-use plain::PlainStore;
 
 const SERIAL: [Row; 4] = [
     ("/v1/krl", 1000, 0x33, "", OK, NOTHING_REVOKED),
@@ -17,7 +16,7 @@ const SERIAL: [Row; 4] = [
 
 #[test]
 fn a_revoked_serial_is_listed(rt: HostRuntime) -> Result<(), Fail> {
-    run(&rt, "serial.exchange", SERIAL.as_slice())
+    run(&rt, SERIAL.as_slice())
 }
 
 const THREE: [Row; 8] = [
@@ -33,7 +32,7 @@ const THREE: [Row; 8] = [
 
 #[test]
 fn three_serials_are_a_range(rt: HostRuntime) -> Result<(), Fail> {
-    run(&rt, "three.exchange", THREE.as_slice())
+    run(&rt, THREE.as_slice())
 }
 
 const JOINED: [Row; 13] = [
@@ -54,7 +53,7 @@ const JOINED: [Row; 13] = [
 
 #[test]
 fn two_serials_join_and_a_date_may_go_back(rt: HostRuntime) -> Result<(), Fail> {
-    run(&rt, "joined.exchange", JOINED.as_slice())
+    run(&rt, JOINED.as_slice())
 }
 
 const FILLED: [Row; 19] = [
@@ -81,7 +80,7 @@ const FILLED: [Row; 19] = [
 
 #[test]
 fn a_range_fills_what_lies_between(rt: HostRuntime) -> Result<(), Fail> {
-    run(&rt, "filled.exchange", FILLED.as_slice())
+    run(&rt, FILLED.as_slice())
 }
 
 const LAST_ALONE: [Row; 5] = [
@@ -126,10 +125,12 @@ const LAST_TWO: [Row; 6] = [
 fn the_last_serials_are_listed(rt: HostRuntime) -> Result<(), Fail> {
     let alloc = rt.alloc();
     let last = 9223372036854775806;
-    let mut office = PlainStore::new(alloc, opening_of(alloc, last, last)?)?;
-    run_over(&rt, alloc, &mut office, LAST_ALONE.as_slice())?;
-    let mut office = PlainStore::new(alloc, opening_of(alloc, last - 1, last)?)?;
-    run_over(&rt, alloc, &mut office, LAST_TWO.as_slice())
+    run_over(&rt, &opening_of(alloc, last, last)?, LAST_ALONE.as_slice())?;
+    run_over(
+        &rt,
+        &opening_of(alloc, last - 1, last)?,
+        LAST_TWO.as_slice(),
+    )
 }
 
 const KEY_IDS: [Row; 5] = [
@@ -156,5 +157,5 @@ const KEY_IDS: [Row; 5] = [
 
 #[test]
 fn a_revoked_key_id_is_not_issued(rt: HostRuntime) -> Result<(), Fail> {
-    run(&rt, "key-ids.exchange", KEY_IDS.as_slice())
+    run(&rt, KEY_IDS.as_slice())
 }

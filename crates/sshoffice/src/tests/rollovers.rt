@@ -6,7 +6,6 @@ use super::replies::*;
 use super::script::{Row, run, run_over};
 use super::*;
 use crate::trial::opening_of;
-use plain::PlainStore;
 
 const ROLLED: [Row; 8] = [
     ("ana/i1", 1000, 0x33, ISSUE, OK, ISSUED_1),
@@ -21,7 +20,7 @@ const ROLLED: [Row; 8] = [
 
 #[test]
 fn the_newest_ca_issues(rt: HostRuntime) -> Result<(), Fail> {
-    run(&rt, "rolled.exchange", ROLLED.as_slice())
+    run(&rt, ROLLED.as_slice())
 }
 
 const SPLIT: [Row; 14] = [
@@ -50,7 +49,7 @@ const SPLIT: [Row; 14] = [
 
 #[test]
 fn each_ca_has_its_section(rt: HostRuntime) -> Result<(), Fail> {
-    run(&rt, "split.exchange", SPLIT.as_slice())
+    run(&rt, SPLIT.as_slice())
 }
 
 const EIGHT: [Row; 10] = [
@@ -68,7 +67,7 @@ const EIGHT: [Row; 10] = [
 
 #[test]
 fn an_office_has_at_most_eight_cas(rt: HostRuntime) -> Result<(), Fail> {
-    run(&rt, "eight.exchange", EIGHT.as_slice())
+    run(&rt, EIGHT.as_slice())
 }
 
 const NO_SERIAL_LEFT: [Row; 3] = [
@@ -88,6 +87,9 @@ const NO_SERIAL_LEFT: [Row; 3] = [
 fn a_ca_may_have_no_serial_left(rt: HostRuntime) -> Result<(), Fail> {
     let alloc = rt.alloc();
     let last = 9223372036854775806;
-    let mut office = PlainStore::new(alloc, opening_of(alloc, last, last)?)?;
-    run_over(&rt, alloc, &mut office, NO_SERIAL_LEFT.as_slice())
+    run_over(
+        &rt,
+        &opening_of(alloc, last, last)?,
+        NO_SERIAL_LEFT.as_slice(),
+    )
 }

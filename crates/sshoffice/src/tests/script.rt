@@ -1,12 +1,12 @@
 //! Exchange files, with the responses that are wanted.
 
+ghost use Rattle.office.specs.Openings.{IsOpening};
+
 use super::*;
-use crate::applying::apply_exchanges;
+use crate::applying::{apply_exchanges, apply_to_trial};
 use crate::exchanges::read_exchanges;
-use crate::job::do_job;
-use crate::words::Job;
-use std::fs;
-use std::rt::Files;
+use crate::trial::office_in_memory;
+use office::Opening;
 
 /// An exchange: a path `caller/key` or a target that is asked for, the moment, the byte of the nonce, and the message; then
 /// the status and the reply that are wanted. Bytes are written in hexadecimal.
@@ -37,8 +37,8 @@ fn request_of(alloc: Global, path: &str, message: &str) -> Result<Vec<u8>, Fail>
     post(alloc, caller, key, message.as_bytes())
 }
 
-// The bytes that hexadecimal digits write, between white space.
-fn decoded(alloc: Global, digits: &str) -> Result<Vec<u8>, Fail> {
+/// The bytes that hexadecimal digits write, between white space.
+pub fn decoded(alloc: Global, digits: &str) -> Result<Vec<u8>, Fail> {
     let mut bytes = Vec::new(alloc);
     for field in digits.split_whitespace() {
         bytes.write_all(hex::decode(alloc, field)?.as_slice())?;
@@ -107,40 +107,34 @@ impl Script {
         assert!(rt; rest.is_empty());
     }
 
-    /// The exchange file, which is to have this name, is run by `apply`.
-    pub fn run<R: Files + AllocGlobal + Abort>(&self, rt: &R, name: &str) -> Result<(), Fail> {
-        fs::write(rt, name, self.file.as_slice())?;
-        let job = Job::Apply {
-            file: String::from_str(self.alloc, name)?,
-        };
-        let (mut out, mut err) = (Vec::new(self.alloc), Vec::new(self.alloc));
-        assert_eq!(rt; do_job(rt, &job, &mut out, &mut err), 0);
-        assert!(rt; err.is_empty());
+    /// The exchange file is run over the trial office.
+    pub fn run(&self, rt: &impl Abort) -> Result<(), Fail> {
+        let mut out = Vec::new(self.alloc);
+        let done = apply_to_trial(self.alloc, self.file.as_slice(), &mut out);
+        assert!(rt; done.is_ok());
         self.is_met(rt, out.as_slice());
-        fs::remove_file(rt, name)?;
         Ok(())
     }
 }
 
-/// Runs an exchange file, which is to have this name, by `apply`.
-pub fn run<R: Files + AllocGlobal + Abort>(rt: &R, name: &str, rows: &[Row]) -> Result<(), Fail> {
+/// Runs exchanges over the trial office.
+pub fn run<R: AllocGlobal + Abort>(rt: &R, rows: &[Row]) -> Result<(), Fail> {
     let mut script = Script::new(rt.alloc());
     script.send_rows(rows)?;
-    script.run(rt, name)
+    script.run(rt)
 }
 
-/// Runs exchanges over another office.
-pub fn run_over<S: Registry>(
-    rt: &impl Abort,
-    alloc: Global,
-    office: &mut S,
-    rows: &[Row],
-) -> Result<(), Fail> {
-    let mut script = Script::new(alloc);
+/// Runs exchanges over the office of another opening.
+pub fn run_over<R: AllocGlobal + Abort>(rt: &R, opening: &Opening, rows: &[Row]) -> Result<(), Fail>
+    requires { IsOpening opening.now }
+{
+    let mut script = Script::new(rt.alloc());
     script.send_rows(rows)?;
-    let exchanges = read_exchanges(alloc, script.file.as_slice())?;
-    let mut out = Vec::new(alloc);
-    let done = apply_exchanges(office, alloc, exchanges.as_slice(), &mut out);
+    let exchanges = read_exchanges(rt.alloc(), script.file.as_slice())?;
+    let mut office = office_in_memory(rt.alloc(), opening)?;
+    let mut out = Vec::new(rt.alloc());
+    let done = apply_exchanges(&mut office, rt.alloc(), exchanges.as_slice(), &mut out);
+    let _ = office.into_connection();
     assert!(rt; done.is_ok());
     script.is_met(rt, out.as_slice());
     Ok(())

@@ -1,8 +1,8 @@
-use Rattle.std.proofs.Common.{◌≡◌, ℕ, ◌+◌, ◌<◌, ◌≤◌, List, [], length, Option, Some, None, rules, sym, ap, subst, arith}
+use Rattle.std.proofs.Common.{◌≡◌, ℕ, ◌+◌, ◌<◌, List, length, rules, sym, subst, arith}
 use Rattle.sshoffice.proofs.exchanges.read_exchanges.Goals as goal
 use Rattle.web.specs.declared.exchange.Exchange.{Exchange}
 use Rattle.sshoffice.specs.Exchanges.{IsBadRecord}
-use Rattle.sshoffice.proofs.Files.{Longer, bad_record, less_left, no_record, one_more, too_many, whole_file}
+use Rattle.sshoffice.proofs.RecordFiles.{Longer, bad_record, less_left, no_record, one_more, too_many, whole_file}
 
 pub returns-then-number-gt-MAX_EXCHANGES-clause-only :
     goal.returns-then-number-gt-MAX_EXCHANGES-clause-only

@@ -1,0 +1,18 @@
+-- A new database in memory.
+use Rattle.std.proofs.Common.{subst}
+use Rattle.sqlite.specs.Effect.{Database}
+use Rattle.sqlite.specs.State.{State}
+use Rattle.sqlite.specs.Steps.{IsEmpty}
+use Rattle.tables.specs.Calls.{IsBare}
+use Rattle.tables.specs.Schema.{no_schema}
+use Rattle.store.specs.Meaning.{IsBlank}
+
+-- it has no table, and no transaction is open
+pub blank : (s : State) → IsEmpty s → IsBlank s
+blank s empty =
+    let bare : IsBare no_schema s.now = (empty.2, tt) in
+    record {
+      autocommit = empty.0.autocommit;
+      now = bare;
+      committed = subst (λ (db : Database). IsBare no_schema db) empty.0.clean bare;
+    }

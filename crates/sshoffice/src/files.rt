@@ -1,0 +1,101 @@
+//! Files, read whole.
+
+ghost use Rattle.std.specs.Prelude.{◌≡◌, ◌<◌, ◌≤◌, IfErr, IfOk, IfSome, vec_len};
+ghost use Rattle.sshoffice.specs.Faults.{IsOfAFile};
+
+use crate::exchanges::{MAX_EXCHANGES, MAX_REQUEST};
+use crate::fault::JobFault;
+use lines::{KeyLine, read_key_line};
+use std::alloc::Global;
+use std::io::{ErrorKind, Read};
+use std::rt::Files;
+use std::{fs, io};
+
+/// The most bytes of a file with a key line: some KiB more than any has.
+const MAX_KEY_FILE: u64 = 8192;
+
+/// The most bytes of a record's first line: a word, two numbers, a nonce, three spaces and a line feed.
+const MAX_RECORD_LINE: usize = 101;
+
+/// The most bytes of an exchange file.
+const MAX_EXCHANGE_FILE: u64 = (MAX_EXCHANGES * (MAX_RECORD_LINE + MAX_REQUEST)) as u64;
+
+/// The most bytes of a list: a header of 44 bytes, and a section of 4294967295 with its type and length.
+const MAX_LIST: u64 = 4_294_967_344;
+
+fn fault_of(error: &io::Error) -> JobFault
+    ensures { IsOfAFile result }
+{
+    if error.kind() == ErrorKind::OutOfMemory {
+        JobFault::NoMemory
+    } else {
+        JobFault::File
+    }
+}
+
+/// All that a reader gives. It is a fault of the file if that is more than `most` bytes.
+pub(crate) fn read_whole<R: Read + Drop>(
+    alloc: Global,
+    reader: R,
+    most: u64,
+) -> Result<Vec<u8>, JobFault>
+    requires { most < u64.MAX }
+    ensures size { IfOk result (λ v. vec_len v ≤ most) }
+    ensures whole { IfOk result (λ v. IfSome (R.remaining reader) (λ bytes. v.items ≡ bytes)) }
+    ensures only { IfErr result IsOfAFile }
+{
+    let mut bytes = Vec::new(alloc);
+    match reader.take(most + 1).read_to_end(&mut bytes) {
+        Ok(_) => {}
+        Err(error) => return Err(fault_of(&error)),
+    }
+    if most < bytes.len() as u64 {
+        return Err(JobFault::File);
+    }
+    Ok(bytes)
+}
+
+fn read_file<R: Files + AllocGlobal>(rt: &R, path: &str, most: u64) -> Result<Vec<u8>, JobFault>
+    requires { most < u64.MAX }
+    ensures { IfErr result IsOfAFile }
+{
+    match fs::open(rt, path) {
+        Ok(file) => read_whole(rt.alloc(), file, most),
+        Err(error) => Err(fault_of(&error)),
+    }
+}
+
+/// The bytes of an exchange file.
+pub(crate) fn read_exchange_file<R: Files + AllocGlobal>(
+    rt: &R,
+    path: &str,
+) -> Result<Vec<u8>, JobFault>
+    ensures { IfErr result IsOfAFile }
+{
+    read_file(rt, path, MAX_EXCHANGE_FILE)
+}
+
+/// The bytes of a list.
+pub(crate) fn read_list_file<R: Files + AllocGlobal>(
+    rt: &R,
+    path: &str,
+) -> Result<Vec<u8>, JobFault>
+    ensures { IfErr result IsOfAFile }
+{
+    read_file(rt, path, MAX_LIST)
+}
+
+/// The key of a file with a key line, whose last line feed may be left out.
+pub(crate) fn read_key_file<R: Files + AllocGlobal>(
+    rt: &R,
+    path: &str,
+) -> Result<KeyLine, JobFault> {
+    let bytes = read_file(rt, path, MAX_KEY_FILE)?;
+    key_in(rt.alloc(), bytes.as_slice())
+}
+
+/// The key that a text holds: a key line, and then a line feed or nothing.
+pub(crate) fn key_in(alloc: Global, text: &[u8]) -> Result<KeyLine, JobFault> {
+    let line = text.strip_suffix(b"\n".as_slice()).unwrap_or(text);
+    Ok(read_key_line(alloc, line)?)
+}
