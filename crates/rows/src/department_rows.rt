@@ -102,10 +102,7 @@ fn is_department(department: &Department) -> bool
 }
 
 /// The row of a department.
-pub fn department_row(
-    alloc: Global,
-    department: &Department,
-) -> Result<DepartmentRow, NoMemory>
+pub fn department_row(alloc: Global, department: &Department) -> Result<DepartmentRow, NoMemory>
     requires { department.now.longest_life < 2 ^ 63 }
     ensures { IfOk result (λ row. row ≡ department_row department.now) }
 {

@@ -80,10 +80,7 @@ fn only_office(alloc: Global, rows: &[OfficeRow]) -> Result<Office, Fault>
 }
 
 /// The office's opening and its counters.
-pub fn read_office<S: Alter>(
-    alloc: Global,
-    conn: &mut Connection<S>,
-) -> Result<Office, Fault>
+pub fn read_office<S: Alter>(alloc: Global, conn: &mut Connection<S>) -> Result<Office, Fault>
     ensures shows { HasCleanDisk (state S.Store conn.new) → Shows (λ s kept office. IsOfficeOf office s)
         (state S.Store conn.old) (state S.Store conn.new) result }
     ensures was_open { HasCleanDisk (state S.Store conn.new)

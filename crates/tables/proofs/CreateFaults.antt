@@ -153,6 +153,7 @@ module _ (old new : State) (has : old.now.schema ≡ without_ca) where
         ]
         | inr wrong ↦ failed old new _ e (refuses None) wrong
       ]
+
   pub create_faults : (r : Result ℕ Error) → Executes CREATE_CA.now [] old new r
       → IfErr r (λ e. HasCause old new (fault_of e))
   create_faults (Ok n) h = tt
