@@ -10,3 +10,6 @@ mod migrating;
 mod moving;
 
 pub use migrating::migrate;
+
+#[cfg(test)]
+mod tests;
