@@ -2,14 +2,14 @@
 
 use super::*;
 use office::StoreFault;
+use rows::number;
 use sqlite::{Connection, MemStore};
 use std::alloc::Global;
 use std::test::Fail;
 use tables::{
-    Number, OfficeRow, RequestRow, create_tables, every_ca, every_office, find_request, has_ca_table,
-    insert_office, insert_request,
+    Number, OfficeRow, RequestRow, create_tables, every_ca, every_office, find_request,
+    has_ca_table, insert_office, insert_request,
 };
-use rows::number;
 use text::Text;
 
 fn office(alloc: Global, schema: Number) -> Result<OfficeRow, Fail> {
