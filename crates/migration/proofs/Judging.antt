@@ -21,7 +21,8 @@ use Rattle.migration.specs.Former.{Had, ca_of, first_ca, former_contents, migrat
 use Rattle.tables.specs.Refusals.{HasCauseOr}
 use Rattle.migration.specs.Migrating.{HasStopped, IsCaDue, IsExcused, IsRefused, Judges, TellsEnd, done, told}
 use Rattle.migration.proofs.Contents.{ca_same}
-use Rattle.migration.proofs.Failing.{failed_late, stopped_early, stopped_late}
+use Rattle.rows.proofs.Causes.{failed_late}
+use Rattle.migration.proofs.Failing.{stopped_early, stopped_late}
 
 is_ok : {X E : Type 0} (r : Result X E) (x : X) → r ≡ Ok x → IsOk r
 is_ok r x e = subst IsOk (sym e) refl

@@ -17,7 +17,7 @@ use Rattle.rows.specs.Transactions.{Goes, Has, Makes, Waits}
 use Rattle.rows.proofs.Steps.{Leads, goes, goes_still, goes_then, stops_then}
 use Rattle.migration.specs.Former.{Had, ca_of, migrated}
 use Rattle.migration.specs.Migrating.{HasNoCa, IsRefused, done, told}
-use Rattle.migration.proofs.Failing.{failed_late}
+use Rattle.rows.proofs.Causes.{failed_late}
 use Rattle.migration.proofs.Contents.{ca_same, no_cas, put_in}
 
 -- the rows were read, and then CA 1 and the number are put

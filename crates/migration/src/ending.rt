@@ -1,43 +1,13 @@
 //! The end of the transaction.
 
-ghost use Rattle.std.specs.Prelude.{◌≡◌, Ok};
 ghost use Rattle.sqlite.specs.Held.{state};
 ghost use Rattle.sqlite.specs.State.{HasCleanDisk, Survives};
-ghost use Rattle.rows.specs.Transactions.{Closes, Commits, Concludes, HasEnded};
+ghost use Rattle.rows.specs.Transactions.{Commits, Concludes};
 ghost use Rattle.migration.specs.Migrating.{TellsEnd, done};
 
 use office::StoreFault;
-use rows::fault_of;
+use rows::{close, fault_of, undo};
 use sqlite::{Alter, Connection};
-use tables::{commit, rollback};
-
-/// Leaves no transaction open.
-fn undo<S: Alter>(conn: &mut Connection<S>)
-    ensures ended { HasCleanDisk (state S.Store conn.new) → HasEnded (state S.Store conn.old) (state S.Store conn.new) }
-    ensures survives { Survives (state S.Store conn.old) (state S.Store conn.new) (λ _. ⊥) }
-{
-    if !conn.is_autocommit() {
-        rollback(conn);
-    }
-}
-
-/// Commits, or leaves nothing of the transaction.
-fn close<S: Alter>(conn: &mut Connection<S>) -> Result<(), StoreFault>
-    ensures closes { HasCleanDisk (state S.Store conn.new) →
-        Closes (state S.Store conn.old) (state S.Store conn.new) (done result) }
-    ensures tells { HasCleanDisk (state S.Store conn.new)
-        → TellsEnd (Ok tt) (state S.Store conn.old) (state S.Store conn.new) result }
-    ensures survives { Survives (state S.Store conn.old) (state S.Store conn.new)
-        (λ trees. trees ≡ (state S.Store conn.old).now.trees) }
-{
-    match commit(conn) {
-        Ok(()) => Ok(()),
-        Err(fault) => {
-            undo(conn);
-            Err(fault_of(fault))
-        }
-    }
-}
 
 /// Commits what was moved, and leaves nothing of what was not.
 pub(crate) fn end<S: Alter>(
@@ -52,7 +22,10 @@ pub(crate) fn end<S: Alter>(
         (Commits (done moved) (state S.Store conn.old)) }
 {
     match moved {
-        Ok(()) => close(conn),
+        Ok(()) => match close(conn) {
+            Ok(()) => Ok(()),
+            Err(fault) => Err(fault_of(fault)),
+        },
         Err(fault) => {
             undo(conn);
             Err(fault)

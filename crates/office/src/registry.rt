@@ -20,14 +20,17 @@ use text::Text;
 /// An office's register: what the tables, or the lists in memory, do for the layers above.
 ///
 /// Each call's clauses are asked of an honest register alone, as the call leaves it: honesty only falls. A reading call
-/// leaves what the register means as it is. `Device` is answered only where the database failed, and a register that
-/// means a history answers no other fault but want of memory.
+/// leaves what the register means as it is. `Device` is answered only where the database failed, or refused what was to be
+/// kept of an arrival, and a register that means a history answers no other fault but want of memory.
 pub trait Registry {
     // So far every answer of the disk was true.
     ghost is_honest: { Self → Type 0 };
 
     // Between the two the database failed, or it was shut before.
     ghost fails: { Self → Self → Type 0 };
+
+    // So it was, or the rules of the database refused what was to be kept of this arrival.
+    ghost stops: { Self → Self → Arrival → Type 0 };
 
     // Where no failed disk has shut it, it shows the office of this lawful opening after this history.
     ghost means: { Self → Opening → List Arrival → Type 0 };
@@ -39,7 +42,7 @@ pub trait Registry {
         ensures due { is_honest self.new → IfOk result (λ outcome. (o : Opening) (l : List Arrival) → means self.old o l → outcome ≡ due o l arrival) }
         ensures next { is_honest self.new → OnOk result ((o : Opening) (l : List Arrival) → means self.old o l → means self.new o (l ++ arrival ∷ [])) }
         ensures fault { is_honest self.new → OnErr result ((o : Opening) (l : List Arrival) → means self.old o l → means self.new o l) }
-        ensures cause { IfErr result (λ e. HasCause e (fails self.old self.new)) }
+        ensures cause { IfErr result (λ e. HasCause e (stops self.old self.new arrival)) }
         ensures only { is_honest self.new → IfErr result (λ e. (o : Opening) (l : List Arrival) → means self.old o l → IsOfARegister e) };
 
     /// The CAs by number.

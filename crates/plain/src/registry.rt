@@ -20,6 +20,8 @@ impl Registry for PlainStore {
 
     ghost fails = { λ _ _. ⊥ };
 
+    ghost stops = { λ _ _ _. ⊥ };
+
     ghost means = { λ s o l. Shows (state_of s) s.kept o l };
 
     fn apply(&mut self, alloc: Global, arrival: Arrival) -> Result<Outcome, StoreFault> {

@@ -6,3 +6,4 @@ pub mod DepartmentRows
 pub mod OneOffice
 pub mod Same
 pub mod Steps
+pub mod Causes

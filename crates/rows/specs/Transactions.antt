@@ -1,10 +1,12 @@
 -- What a part of a transaction does to the connection, and what the whole of one does.
-use Rattle.std.specs.Prelude.{◌≡◌, false, IsTrue, Result, Ok, Err}
+use Rattle.std.specs.Prelude.{◌≡◌, false, true, IfErr, IsTrue, Result, Ok, Err}
 use Rattle.sqlite.specs.Tree.{Trees}
 use Rattle.sqlite.specs.Effect.{Database}
 use Rattle.sqlite.specs.State.{State, KeepsCommit, Shows}
 use Rattle.tables.specs.Contents.{Contents, Kept, Means}
 use Rattle.tables.specs.declared.fault.Fault.{Fault}
+use Rattle.tables.specs.Faults.{HasCause}
+use Rattle.tables.specs.Refusals.{HasCauseOr}
 
 -- no transaction is open, and this holds of the database
 pub record Rests (P : Database → Type 0) (s : State) : Type 0 where
@@ -38,6 +40,10 @@ Answers {A} Before Due after old new (Err e) =
 abbrev pub Makes : {A X : Type 0} → (A → Database → Type 0) → (A → Contents) → State → State → Result X Fault → Type 0
 Makes Before after old new r = Answers Before (λ _ _. Unit {0}) after old new r
 
+-- of a database that is as one of these says a fault is want of memory, or a failure of the database, or this refusal
+abbrev pub FailsFor : {A X : Type 0} → (A → Database → Type 0) → (A → Type 0) → State → State → Result X Fault → Type 0
+FailsFor {A} Before Refused old new r = IfErr r (λ f. (a : A) → Before a old.now → HasCauseOr (Refused a) old new f)
+
 -- a crash in its midst leaves what was committed before
 abbrev pub Waits : {A : Type 0} → (A → Database → Type 0) → State → Trees → Type 0
 Waits {A} Before old trees = (a : A) → Before a old.now → old.in_transaction ≡ false
@@ -56,12 +62,21 @@ abbrev pub Closes : {X : Type 0} → State → State → Result X Fault → Type
 Closes old new (Ok x) = Shows old new old.now old.now false
 Closes old new (Err e) = HasEnded old new
 
+-- a commit of an open transaction that fails has its cause
+abbrev pub ClosesFor : {X : Type 0} → State → State → Result X Fault → Type 0
+ClosesFor old new r = old.in_transaction ≡ true → IfErr r (HasCause old new)
+
 -- what was answered is answered on, and is committed; or nothing is
 abbrev pub Concludes : {X : Type 0} → Result X Fault → State → State → Result X Fault → Type 0
 Concludes (Ok x) old new (Ok y) = (y ≡ x) × Shows old new old.now old.now false
 Concludes (Ok x) old new (Err e) = HasEnded old new
 Concludes (Err e) old new (Ok x) = ⊥
 Concludes (Err e) old new (Err f) = (f ≡ e) × HasEnded old new
+
+-- so has one of what was answered
+abbrev pub EndsFor : {X : Type 0} → Result X Fault → State → State → Result X Fault → Type 0
+EndsFor (Ok x) old new r = ClosesFor old new r
+EndsFor (Err e) old new r = Unit {0}
 
 -- what a crash may leave once it is answered: what is committed, if anything is
 abbrev pub Commits : {X : Type 0} → Result X Fault → State → Trees → Type 0

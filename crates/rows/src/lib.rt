@@ -25,4 +25,4 @@ pub use fault::fault_of;
 pub use key_ids::read_key_ids;
 pub use numbers::number;
 pub use office_rows::{Office, is_opening, read_office};
-pub use transaction::conclude;
+pub use transaction::{close, conclude, undo};

@@ -3,13 +3,13 @@
 ghost use Rattle.std.specs.Prelude.{◌≡◌};
 ghost use Rattle.sqlite.specs.Held.{state};
 ghost use Rattle.sqlite.specs.State.{HasCleanDisk, Survives};
-ghost use Rattle.rows.specs.Transactions.{Closes, Commits, Concludes, HasEnded};
+ghost use Rattle.rows.specs.Transactions.{Closes, ClosesFor, Commits, Concludes, EndsFor, HasEnded};
 
 use sqlite::{Alter, Connection};
 use tables::{Fault, commit, rollback};
 
-/// Leaves no transaction open.
-fn undo<S: Alter>(conn: &mut Connection<S>)
+/// Leaves no transaction open, and nothing of one that was.
+pub fn undo<S: Alter>(conn: &mut Connection<S>)
     ensures ended { HasCleanDisk (state S.Store conn.new) → HasEnded (state S.Store conn.old) (state S.Store conn.new) }
     ensures survives { Survives (state S.Store conn.old) (state S.Store conn.new) (λ _. ⊥) }
 {
@@ -18,10 +18,12 @@ fn undo<S: Alter>(conn: &mut Connection<S>)
     }
 }
 
-/// Commits, or leaves nothing of the transaction.
-fn close<S: Alter>(conn: &mut Connection<S>) -> Result<(), Fault>
+/// Commits, or leaves nothing of the transaction. A commit fails for want of memory, or because the database failed.
+pub fn close<S: Alter>(conn: &mut Connection<S>) -> Result<(), Fault>
     ensures closes { HasCleanDisk (state S.Store conn.new) →
         Closes (state S.Store conn.old) (state S.Store conn.new) result }
+    ensures cause { HasCleanDisk (state S.Store conn.new) →
+        ClosesFor (state S.Store conn.old) (state S.Store conn.new) result }
     ensures survives { Survives (state S.Store conn.old) (state S.Store conn.new)
         (λ trees. trees ≡ (state S.Store conn.old).now.trees) }
 {
@@ -41,6 +43,8 @@ pub fn conclude<S: Alter, T: Drop>(
 ) -> Result<T, Fault>
     ensures concludes { HasCleanDisk (state S.Store conn.new) →
         Concludes answer (state S.Store conn.old) (state S.Store conn.new) result }
+    ensures cause { HasCleanDisk (state S.Store conn.new) →
+        EndsFor answer (state S.Store conn.old) (state S.Store conn.new) result }
     ensures survives { Survives (state S.Store conn.old) (state S.Store conn.new)
         (Commits answer (state S.Store conn.old)) }
 {

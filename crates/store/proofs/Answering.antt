@@ -82,7 +82,7 @@ module _ {X : Type 0} (Shown : State → List Kept → X → Type 0) (old new : 
         go (Ok x) shows = tt
         go (Err NoMemory) shows = tt
         go (Err Damaged) shows = tt
-        go (Err Device) shows = λ clean o l tells. inl (failed o l tells (shows clean))
+        go (Err Device) shows = λ clean o l tells. failed o l tells (shows clean)
 
     abbrev IsOnly : StoreFault → Type 0
     IsOnly e = (o : Opening) (l : List Arrival) → Tells old o l → IsOfARegister e

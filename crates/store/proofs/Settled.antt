@@ -1,12 +1,13 @@
 -- What is answered inside a transaction, part by part.
 use Rattle.std.proofs.Common.{◌≡◌, ℕ, List, [], ◌∷◌, ◌++◌, length, true, false, Some, None, Ok, Err, Result, IsTrue, refl, sym, ap₂, subst}
-use Rattle.std.specs.Prelude.{◌≢◌, nat_lt}
+use Rattle.std.specs.Prelude.{◌≤◌, nat_lt}
 use Rattle.std.specs.List.{list_any}
 use Rattle.std.specs.Str.{bytes_eq}
 use Rattle.std.proofs.lemmas.Slice.Eq.{bytes_eq-Decides}
 use Rattle.profile.specs.declared.limits.TheConstants.{LATEST_MOMENT}
 use Rattle.profile.specs.declared.refusal.Refusal.{Refusal}
 use Rattle.profile.specs.declared.refusal.Refusal.TheVariants.{BadMessage, BadMoment, KeyReused}
+use Rattle.sqlite.specs.Tree.{Trees}
 use Rattle.sqlite.specs.Effect.{Database}
 use Rattle.sqlite.specs.State.{State as Connection, HasCleanDisk, Survives}
 use Rattle.sqlite.proofs.StateLemmas.{survives_weaker}
@@ -18,9 +19,8 @@ use Rattle.message.specs.declared.fault.MessageFault.{MessageFault}
 use Rattle.message.specs.declared.fault.MessageFault.TheVariants.{BadLine}
 use Rattle.tables.specs.Contents.{Contents, Means}
 use Rattle.tables.specs.Calls as table
-use Rattle.tables.specs.Faults.{HasCause}
 use Rattle.tables.specs.declared.fault.Fault.{Fault}
-use Rattle.tables.specs.declared.fault.Fault.TheVariants.{Damaged, Device, NoMemory}
+use Rattle.tables.specs.declared.fault.Fault.TheVariants.{NoMemory}
 use Rattle.office.specs.declared.arrival.Arrival.{Arrival}
 use Rattle.office.specs.declared.arrival.Kept.{Kept}
 use Rattle.office.specs.declared.arrival.Outcome.{Outcome}
@@ -37,11 +37,12 @@ use Rattle.office.specs.Shows.{Shows}
 use Rattle.office.proofs.Steps.{shows_office, shows_refused, shows_repeated}
 use Rattle.rows.specs.Rows.{contents_of, office_contents}
 use Rattle.rows.specs.Transactions.{Answers, Waits}
+use Rattle.rows.proofs.Causes.{cause_of, fails_then, fails_weaker}
 use Rattle.rows.proofs.Steps.{Leads, answers_then, goes_still, stops, waits_then}
 use Rattle.views.specs.Finding.{NeverOfOffice}
 use Rattle.store.specs.Meaning.{IsHistory}
 use Rattle.store.specs.Showing.{ShowsOffice}
-use Rattle.store.specs.Arriving.{IsAfter, IsAnswered, IsNew, Past, Settles, TellsNoDamage, contents_with, kept_at, state_at, stopped}
+use Rattle.store.specs.Arriving.{FailsAt, IsAfter, IsAnswered, IsNew, Past, RefusesArrival, Settles, contents_with, kept_at, state_at, stopped}
 use Rattle.store.proofs.Lawful.{all_push, lawful_after}
 use Rattle.store.proofs.Reading.{still_means}
 
@@ -146,13 +147,13 @@ stopped_settles a m Known c s r is size is_open new decided = subst (λ q. Settl
         (λ p h known. refused_still a p x h (new p known).new (step_refused p a m x (new p known) (decided p known)))
     go stop.NoMemory decided = settles_not a Known c NoMemory
 
-pub stopped_undamaged : (Known : Past → Type 0) (c : Connection) (s : Stop) (r : Result Outcome Fault) → r ≡ stopped s
-    → TellsNoDamage Known c r
-stopped_undamaged Known c s r is = subst (λ q. TellsNoDamage Known c q) (sym is) (go s)
+pub stopped_fails : (a : Arrival) (Known : Past → Type 0) (c : Connection) (s : Stop) (r : Result Outcome Fault) → r ≡ stopped s
+    → FailsAt a Known c c r
+stopped_fails a Known c s r is = subst (λ q. FailsAt a Known c c q) (sym is) (go s)
   where
-    go : (s : Stop) → TellsNoDamage Known c (stopped s)
+    go : (s : Stop) → FailsAt a Known c c (stopped s)
     go (Refused x) = tt
-    go stop.NoMemory = λ p after e. cc
+    go stop.NoMemory = λ p after. tt
 
 -- ---- what is known says less
 
@@ -163,11 +164,12 @@ settles_weaker a Known Later old new (Ok x) less settles = λ p after.
 settles_weaker a Known Later old new (Err f) less settles = λ p after inside.
     settles p (record { history = after.history; means = after.means; known = less p after.history after.known }) inside
 
-pub damage_weaker : (Known Later : Past → Type 0) (old : Connection) (r : Result Outcome Fault)
-    → ((p : Past) → IsHistory p.0 p.1 → Known p → Later p) → TellsNoDamage Later old r → TellsNoDamage Known old r
-damage_weaker Known Later old (Ok x) less told = tt
-damage_weaker Known Later old (Err f) less told = λ p after.
-    told p (record { history = after.history; means = after.means; known = less p after.history after.known })
+pub fails_less : (a : Arrival) (Known Later : Past → Type 0) (old new : Connection) (r : Result Outcome Fault)
+    → ((p : Past) → IsHistory p.0 p.1 → Known p → Later p) → FailsAt a Later old new r → FailsAt a Known old new r
+fails_less a Known Later old new r less fails =
+    fails_weaker (IsAfter Known) (IsAfter Later) (RefusesArrival a) (RefusesArrival a) (λ p. p) old new r
+    (λ p after. record { history = after.history; means = after.means; known = less p after.history after.known })
+    (λ p after why. why) fails
 
 pub waits_weaker : (Known Later : Past → Type 0) (a b : Connection) → ((p : Past) → IsHistory p.0 p.1 → Known p → Later p)
     → Survives a b (Waits (IsAfter Later) a) → Survives a b (Waits (IsAfter Known) a)
@@ -218,10 +220,12 @@ module _ {X : Type 0} (First : State → List Kept → X → Type 0) (Known Late
       answers_then (IsAfter Known) (IsAnswered arrival) (contents_with arrival) IsOpenAfter (IsAnswered arrival)
       (contents_with arrival) (λ p. p) a b c r (leads_open first) (opened arrival c r rest) (λ p v due. due) (λ p. refl)
 
-  pub damage_then : (r : Result Outcome Fault) → ShowsOffice First a b (Ok x) → TellsNoDamage Later b r
-      → TellsNoDamage Known a r
-  damage_then (Ok v) first told = tt
-  damage_then (Err f) first told = λ p after. told p (later p after first)
+  pub fails_after : (arrival : Arrival) (c : Connection) (P : Trees → Type 0) (r : Result Outcome Fault)
+      → ShowsOffice First a b (Ok x) → Survives a b P → HasCleanDisk b → b.faults ≤ c.faults → FailsAt arrival Later b c r
+      → FailsAt arrival Known a c r
+  fails_after arrival c P r first one clean le rest =
+      fails_then (IsAfter Known) (IsAfter Later) (RefusesArrival arrival) (RefusesArrival arrival) (λ p. p) P a b c r
+      (leads_later first) (λ p after why. why) one clean le rest
 
   pub waits_read : (c : Connection) → (HasCleanDisk b → ShowsOffice First a b (Ok x))
       → Survives a b (Waits (IsAfter Known) a) → Survives b c (Waits (IsAfter Later) b) → Survives a c (Waits (IsAfter Known) a)
@@ -230,17 +234,13 @@ module _ {X : Type 0} (First : State → List Kept → X → Type 0) (Known Late
 
 -- ---- a reading call that fails
 
-not_damaged : (old new : Connection) (f : Fault) → HasCause old new f → f ≢ Damaged
-not_damaged old new NoMemory cause e = cc
-not_damaged old new Device cause e = cc
-not_damaged old new Damaged cause e = cause
-
 module _ {X : Type 0} (First : State → List Kept → X → Type 0) (Known : Past → Type 0) (a b : Connection) (f : Fault) where
   pub settles_failed : (arrival : Arrival) → ShowsOffice First a b (Err f) → Settles arrival Known a b (Err f)
   settles_failed arrival first = λ p after inside. stops a b (first p.0 p.1 after.history after.means).0
 
-  pub damage_failed : ShowsOffice First a b (Err f) → TellsNoDamage Known a (Err f)
-  damage_failed first = λ p after. not_damaged a b f (first p.0 p.1 after.history after.means).1
+  pub fails_read : (arrival : Arrival) → ShowsOffice First a b (Err f) → FailsAt arrival Known a b (Err f)
+  fails_read arrival first = λ p after.
+      cause_of (RefusesArrival arrival p) a b f (first p.0 p.1 after.history after.means).1
 
 -- ---- crashes
 

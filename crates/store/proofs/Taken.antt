@@ -1,9 +1,11 @@
 -- What an arrival leaves of what the tables tell.
-use Rattle.std.proofs.Common.{◌≡◌, ◌⊎◌, inl, inr, Bool, false, List, [], ◌∷◌, ◌++◌, true, Ok, Err, Result, IsTrue, refl, sym, subst, ◌∙◌}
-use Rattle.std.specs.Prelude.{◌≢◌, IfErr, IfOk, OnErr, OnOk}
-use Rattle.sqlite.specs.State.{State as Connection}
+use Rattle.std.proofs.Common.{◌≡◌, inl, inr, Bool, false, List, [], ◌∷◌, ◌++◌, true, Ok, Err, Result, IsTrue, refl, sym, subst, ◌∙◌, ◌≤◌, arith}
+use Rattle.std.specs.Prelude.{IfErr, IfOk, OnErr, OnOk}
+use Rattle.sqlite.specs.Tree.{Trees}
+use Rattle.sqlite.specs.State.{State as Connection, HasCleanDisk, Survives}
 use Rattle.tables.specs.Calls.{Begins}
 use Rattle.tables.specs.Faults as table
+use Rattle.tables.specs.Refusals.{HasCauseOr}
 use Rattle.tables.specs.declared.fault.Fault.{Fault}
 use Rattle.tables.specs.declared.fault.Fault.TheVariants.{Damaged, Device, NoMemory}
 use Rattle.office.specs.declared.opening.Opening.{Opening}
@@ -13,37 +15,51 @@ use Rattle.office.specs.declared.fault.StoreFault.{StoreFault}
 use Rattle.office.specs.Faults.{HasCause, IsOfARegister}
 use Rattle.office.specs.History.{due}
 use Rattle.rows.specs.Rows.{office_contents}
-use Rattle.rows.specs.Transactions.{Concludes, Ends, Has, Rests}
-use Rattle.store.specs.Meaning.{HasFailed, Tells, told}
-use Rattle.store.specs.Arriving.{EndsFor, IsAfter, IsAnswered, IsAny, IsUndamaged, Settles, TellsNoDamage, contents_with, of_statement}
+use Rattle.rows.specs.Transactions.{Concludes, Ends, EndsFor, Has, Rests}
+use Rattle.rows.proofs.Causes.{cause_early, cause_late, cause_of}
+use Rattle.store.specs.Meaning.{Tells, told}
+use Rattle.store.specs.Arriving.{FailsAt, IsAfter, IsAnswered, IsAny, IsCaused, IsStopped, Past, RefusesArrival, Settles, contents_with, of_statement}
 
--- ---- no damage is told
+-- ---- why it fails
 
-not_damaged : (old new : Connection) (f : Fault) → table.HasCause old new f → f ≢ Damaged
-not_damaged old new NoMemory cause e = cc
-not_damaged old new Device cause e = cc
-not_damaged old new Damaged cause e = cause
+-- a statement of an open connection fails for its cause, and one of a shut connection because that is shut
+pub statement_caused : (a : Arrival) (old new : Connection) (f g : Fault) → g ≡ of_statement f
+    → (old.in_transaction ≡ false → table.HasCause old new f) → IsCaused a old new g
+statement_caused a old new f g is cause =
+    subst (λ h. IsCaused a old new h) (sym is) (λ p resting. go (RefusesArrival a p) f cause (λ is_open. (resting is_open).autocommit) old.is_open refl)
+  where
+    go : (R : Type 0) (f : Fault) → (old.in_transaction ≡ false → table.HasCause old new f)
+        → (IsTrue old.is_open → old.in_transaction ≡ false) → (b : Bool) → old.is_open ≡ b → HasCauseOr R old new (of_statement f)
+    go R NoMemory cause outside b is = tt
+    go R Device cause outside false is = inl (inr (inl is))
+    go R Device cause outside true is = inl (cause (outside is))
+    go R Damaged cause outside false is = inl (inr (inl is))
+    go R Damaged cause outside true is = absurd (cause (outside is))
 
--- a statement tells none
-pub statement_undamaged : (f g : Fault) → g ≡ of_statement f → g ≢ Damaged
-statement_undamaged Device g is e = let same : Device ≡ Damaged = sym is ∙ e in cc
-statement_undamaged Damaged g is e = let same : Device ≡ Damaged = sym is ∙ e in cc
-statement_undamaged NoMemory g is e = let same : NoMemory ≡ Damaged = sym is ∙ e in cc
+module _ (a : Arrival) (P : Trees → Type 0) (old first last new : Connection) (one : Survives old first (λ _. ⊥))
+    (two : Survives first last P) (early : HasCleanDisk first) (late : HasCleanDisk last) (le : last.faults ≤ new.faults) where
+  abbrev Why : Past → Type 0
+  Why p = RefusesArrival a p
 
-pub undamaged : (a : Arrival) (old first last new : Connection) (r q : Result Outcome Fault)
-    → Begins {X = Unit {0}} {E = Fault} old first (Ok tt) → Settles a IsAny first last r → TellsNoDamage IsAny first r
-    → Concludes r last new q → EndsFor r last new q → IfErr q (IsUndamaged old)
-undamaged a old first last new (Ok x) (Ok y) begun settles told concludes ends = tt
-undamaged a old first last new (Ok x) (Err f) begun settles told concludes ends = λ p resting.
-    let rests = resting begun.1.was_open in
-    let after : IsAfter IsAny p first.now = subst (IsAfter IsAny p) (sym begun.1.now_is) rests.now in
-    let inside : last.in_transaction ≡ true = (settles p after).1.mode ∙ begun.1.mode in
-    not_damaged last new f (ends inside)
-undamaged a old first last new (Err e) (Ok y) begun settles told concludes ends = absurd concludes
-undamaged a old first last new (Err e) (Err f) begun settles told concludes ends = λ p resting same.
-    let rests = resting begun.1.was_open in
-    let after : IsAfter IsAny p first.now = subst (IsAfter IsAny p) (sym begun.1.now_is) rests.now in
-    told p after (sym concludes.0 ∙ same)
+  from_start : (p : Past) (f : Fault) → HasCauseOr (Why p) first new f → HasCauseOr (Why p) old new f
+  from_start p f cause =
+      cause_late (Why p) (Why p) (λ _. ⊥) old first new f (λ why. why) one early (omega (arith, two.counts, le)) cause
+
+  pub taken_for : (r q : Result Outcome Fault) → Begins {X = Unit {0}} {E = Fault} old first (Ok tt) → Settles a IsAny first last r
+      → FailsAt a IsAny first last r → Concludes r last new q → EndsFor r last new q → IfErr q (IsCaused a old new)
+  taken_for (Ok x) (Ok y) begun settles fails concludes ends = tt
+  taken_for (Ok x) (Err f) begun settles fails concludes ends = λ p resting.
+      let rests = resting begun.1.was_open in
+      let after : IsAfter IsAny p first.now = subst (IsAfter IsAny p) (sym begun.1.now_is) rests.now in
+      let inside : last.in_transaction ≡ true = (settles p after).1.mode ∙ begun.1.mode in
+      from_start p f (cause_late (Why p) (Why p) P first last new f (λ why. why) two late le
+      (cause_of (Why p) last new f (ends inside)))
+  taken_for (Err e) (Ok y) begun settles fails concludes ends = absurd concludes
+  taken_for (Err e) (Err f) begun settles fails concludes ends = λ p resting.
+      let rests = resting begun.1.was_open in
+      let after : IsAfter IsAny p first.now = subst (IsAfter IsAny p) (sym begun.1.now_is) rests.now in
+      from_start p f (cause_early (Why p) first last new f
+      (subst (λ (h : Fault). HasCauseOr (Why p) first last h) (sym concludes.0) (fails p after)) le)
 
 -- ---- what the tables tell
 
@@ -99,36 +115,30 @@ module _ (a : Arrival) (old new : Connection) (r : Result Outcome Fault) (q : Re
             let was = ends still in has_of new o l (was.1 (o, l) (rests_of old o l tells was.0));
       }
 
-module _ (old : Connection) (r : Result Outcome Fault) (q : Result Outcome StoreFault) (is : q ≡ told r)
-    (clear : IfErr r (IsUndamaged old)) where
+module _ (a : Arrival) (old new : Connection) (r : Result Outcome Fault) (q : Result Outcome StoreFault) (is : q ≡ told r)
+    (cause : HasCleanDisk new → IfErr r (IsCaused a old new)) where
   abbrev IsOnly : StoreFault → Type 0
   IsOnly e = (o : Opening) (l : List Arrival) → Tells old o l → IsOfARegister e
 
   -- nothing else is told but want of memory and a failure
-  pub only_of_take : IfErr q IsOnly
-  only_of_take = subst (λ z. IfErr z IsOnly) (sym is) (go r clear)
+  pub only_of_take : HasCleanDisk new → IfErr q IsOnly
+  only_of_take clean = subst (λ z. IfErr z IsOnly) (sym is) (go r (cause clean))
     where
-      go : (r : Result Outcome Fault) → IfErr r (IsUndamaged old) → IfErr (told r) IsOnly
-      go (Ok x) clear = tt
-      go (Err NoMemory) clear = λ o l tells. tt
-      go (Err Device) clear = λ o l tells. tt
-      go (Err Damaged) clear = λ o l tells. absurd (clear (o, l) (rests_of old o l tells) refl)
+      go : (r : Result Outcome Fault) → IfErr r (IsCaused a old new) → IfErr (told r) IsOnly
+      go (Ok x) cause = tt
+      go (Err NoMemory) cause = λ o l tells. tt
+      go (Err Device) cause = λ o l tells. tt
+      go (Err Damaged) cause = λ o l tells. absurd (cause (o, l) (rests_of old o l tells))
 
--- ---- causes
+  abbrev HasItsCause : StoreFault → Type 0
+  HasItsCause e = HasCause e (IsStopped old new a)
 
-either : (old new : Connection) (b : Bool) → old.is_open ≡ b → table.HasFailed old new ⊎ IsTrue old.is_open
-either old new true is = inr is
-either old new false is = inl (inr (inl is))
-
-module _ (old new : Connection) (r : Result Outcome Fault) (q : Result Outcome StoreFault) (is : q ≡ told r) where
-  abbrev IsCaused : StoreFault → Type 0
-  IsCaused e = HasCause e (HasFailed old new)
-
-  pub cause_of_take : IfErr q IsCaused
-  cause_of_take = subst (λ z. IfErr z IsCaused) (sym is) (go r)
+  -- a failure is told where there was one, or where what is decided was refused
+  pub cause_of_take : IfErr q HasItsCause
+  cause_of_take = subst (λ z. IfErr z HasItsCause) (sym is) (go r cause)
     where
-      go : (r : Result Outcome Fault) → IfErr (told r) IsCaused
-      go (Ok x) = tt
-      go (Err NoMemory) = tt
-      go (Err Damaged) = tt
-      go (Err Device) = λ clean o l tells. either old new old.is_open refl
+      go : (r : Result Outcome Fault) → (HasCleanDisk new → IfErr r (IsCaused a old new)) → IfErr (told r) HasItsCause
+      go (Ok x) cause = tt
+      go (Err NoMemory) cause = tt
+      go (Err Damaged) cause = tt
+      go (Err Device) cause = λ clean o l tells. cause clean (o, l) (rests_of old o l tells)

@@ -1,14 +1,15 @@
 -- One arrival more, in one transaction.
-use Rattle.std.specs.Prelude.{◌≡◌, ◌≢◌, ◌<◌, true, false, nat_lt, Bool, List, [], ◌∷◌, ◌++◌, find, IfErr, IsOkAnd, IsTrue, Option, Some, None, Result, Ok, Err}
+use Rattle.std.specs.Prelude.{◌≡◌, ◌⊎◌, ◌<◌, false, nat_lt, Bool, List, [], ◌∷◌, ◌++◌, find, IsOkAnd, IsTrue, Option, Some, None, Result, Ok, Err}
 use Rattle.std.specs.List.{list_any}
 use Rattle.profile.specs.declared.limits.TheConstants.{LATEST_MOMENT}
 use Rattle.sqlite.specs.Effect.{Database}
-use Rattle.sqlite.specs.State.{State as Connection}
+use Rattle.sqlite.specs.State.{State as Connection, HasCleanDisk}
 use Rattle.message.specs.declared.kinds.Message.{Message}
 use Rattle.tables.specs.declared.fault.Fault.{Fault}
 use Rattle.tables.specs.declared.fault.Fault.TheVariants.{Damaged, Device, NoMemory}
 use Rattle.tables.specs.Contents.{Contents, Means}
-use Rattle.tables.specs.Faults.{HasCause}
+use Rattle.tables.specs.Faults.{HasFailed}
+use Rattle.tables.specs.Refusals.{HasCauseOr}
 use Rattle.office.specs.declared.opening.Opening.{Opening}
 use Rattle.office.specs.declared.arrival.Arrival.{Arrival}
 use Rattle.office.specs.declared.arrival.Kept.{Kept}
@@ -24,11 +25,12 @@ use Rattle.office.specs.Messages.{message_with_text}
 use Rattle.office.specs.State.{State, next_serial}
 use Rattle.office.specs.History.{change, due, first_accepted, has_key, judged, kept_by, reply_kept, state}
 use Rattle.rows.specs.Rows.{office_contents}
-use Rattle.rows.specs.Transactions.{Answers, Rests}
+use Rattle.rows.specs.Transactions.{Answers, FailsFor, Rests}
 use Rattle.views.specs.declared.concerning.Concerned.{Concerned}
 use Rattle.views.specs.Concerning.{AreConcerned}
 use Rattle.views.specs.Histories.{is_for}
-use Rattle.store.specs.Meaning.{IsHistory}
+use Rattle.writes.specs.Refused.{RefusesDecision}
+use Rattle.store.specs.Meaning.{IsHistory, Tells}
 
 -- ---- an office after a history
 
@@ -72,10 +74,6 @@ contents_with a p = office_contents p.0 (p.1 ++ a ∷ [])
 abbrev pub Settles : Arrival → (Past → Type 0) → Connection → Connection → Result Outcome Fault → Type 0
 Settles a Known old new r = Answers (IsAfter Known) (IsAnswered a) (contents_with a) old new r
 
--- no row of such tables is told damaged
-abbrev pub TellsNoDamage : (Past → Type 0) → Connection → Result Outcome Fault → Type 0
-TellsNoDamage Known old r = IfErr r (λ f. (p : Past) → IsAfter Known p old.now → f ≢ Damaged)
-
 -- what a message that isn't accepted now is answered
 abbrev pub stopped : Stop → Result Outcome Fault
 stopped (Refused r) = Ok (outcome.Refused r)
@@ -114,6 +112,18 @@ pub record IsAccepted (a : Arrival) (d : Decision) (serving : List Ca) (p : Past
   pub cas : serving ≡ (state_at p).cas
   pub version : (state_at p).version < 9223372036854775806
 
+-- ---- why it fails
+
+-- the rules of the tables refuse what is decided of the arrival, which is a first acceptance
+abbrev pub RefusesArrival : Arrival → Past → Type 0
+RefusesArrival a p =
+    (d : Decision) × (serving : List Ca) × IsAccepted a d serving p
+    × RefusesDecision d a serving (office_contents p.0 p.1)
+
+-- of tables as these a fault is want of memory, or the database failed, or its rules refuse what is decided
+abbrev pub FailsAt : Arrival → (Past → Type 0) → Connection → Connection → Result Outcome Fault → Type 0
+FailsAt a Known old new r = FailsFor (IsAfter Known) (RefusesArrival a) old new r
+
 -- ---- the whole
 
 -- a statement that shows no rows tells of none that are damaged
@@ -122,12 +132,13 @@ of_statement Device = Device
 of_statement Damaged = Device
 of_statement NoMemory = NoMemory
 
--- of tables that tell a history, if the connection is open, no row is told damaged
-abbrev pub IsUndamaged : Connection → Fault → Type 0
-IsUndamaged old f = (p : Past) → (IsTrue old.is_open → Rests (IsAfter IsAny p) old) → f ≢ Damaged
+-- of tables that tell a history, if the connection is open, a fault has its cause
+abbrev pub IsCaused : Arrival → Connection → Connection → Fault → Type 0
+IsCaused a old new f =
+    (p : Past) → (IsTrue old.is_open → Rests (IsAfter IsAny p) old) → HasCauseOr (RefusesArrival a p) old new f
 
--- a commit that fails has its cause
-abbrev pub EndsFor : {X Y : Type 0} → Result X Fault → Connection → Connection → Result Y Fault → Type 0
-EndsFor (Ok x) old new (Ok y) = Unit {0}
-EndsFor (Ok x) old new (Err f) = old.in_transaction ≡ true → HasCause old new f
-EndsFor (Err e) old new r = Unit {0}
+-- Of an honest disk and of tables that tell a history: the database failed, or its rules refuse what is decided of the
+-- arrival.
+abbrev pub IsStopped : Connection → Connection → Arrival → Type 0
+IsStopped old new a =
+    HasCleanDisk new → (o : Opening) (l : List Arrival) → Tells old o l → HasFailed old new ⊎ RefusesArrival a (o, l)

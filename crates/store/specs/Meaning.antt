@@ -1,5 +1,5 @@
 -- What the tables mean.
-use Rattle.std.specs.Prelude.{◌≡◌, ◌⊎◌, List, [], ◌∷◌, length, ◌==◌, if◌then◌else◌, IsTrue, Result, Ok, Err}
+use Rattle.std.specs.Prelude.{◌≡◌, List, [], ◌∷◌, length, ◌==◌, if◌then◌else◌, IsTrue, Result, Ok, Err}
 use Rattle.std.specs.List.{AllByRecursion}
 use Rattle.sqlite.specs.State.{State, HasCleanDisk}
 use Rattle.office.specs.declared.opening.Opening.{Opening}
@@ -34,11 +34,9 @@ pub record Tells (s : State) (o : Opening) (l : List Arrival) : Type 0 where
   pub history : IsHistory o l
   pub rows : IsTrue s.is_open → Rests (Has (office_contents o l)) s
 
--- Of an honest disk and of tables that tell a history: the database failed, or, on an open connection, it refused a
--- statement.
+-- of an honest disk and of tables that tell a history: the database failed
 abbrev pub HasFailed : State → State → Type 0
-HasFailed old new =
-    HasCleanDisk new → (o : Opening) (l : List Arrival) → Tells old o l → table.HasFailed old new ⊎ IsTrue old.is_open
+HasFailed old new = HasCleanDisk new → (o : Opening) (l : List Arrival) → Tells old o l → table.HasFailed old new
 
 -- what an open answers to the rows of the table of the office: there is one, of the schema that this store has
 abbrev pub opened_by : List OfficeRow → Result (Unit {0}) StoreFault

@@ -6,8 +6,8 @@
 #![tactic(auto)]
 
 mod answer;
+mod crashes;
 mod creating;
-mod ending;
 mod listing;
 mod looking;
 mod publishing;
@@ -20,6 +20,7 @@ mod taking;
 #[cfg(test)]
 mod tests;
 
+pub use crashes::a_crash_leaves_the_history;
 pub use krl::{CaPart, KrlHead, Run, Runs};
 pub use office::{
     Arrival, Ca, Entry, Issued, Opening, OpeningFault, Outcome, Pending, Registry, Revoked,

@@ -6,6 +6,7 @@ ghost use Rattle.sqlite.specs.State.{HasCleanDisk};
 ghost use Rattle.office.specs.declared.opening.Opening.{Opening};
 ghost use Rattle.office.specs.declared.arrival.Arrival.{Arrival};
 ghost use Rattle.store.specs.Meaning.{HasFailed, Tells};
+ghost use Rattle.store.specs.Arriving.{IsStopped};
 
 use crate::answer::told;
 use crate::listing::{read_entries, read_pending};
@@ -24,6 +25,8 @@ impl<S: Alter> Registry for Store<S> {
     ghost is_honest = { λ s. HasCleanDisk (state S.Store s.conn) };
 
     ghost fails = { λ old new. HasFailed (state S.Store old.conn) (state S.Store new.conn) };
+
+    ghost stops = { λ old new a. IsStopped (state S.Store old.conn) (state S.Store new.conn) a };
 
     ghost means = { λ s o l. Tells (state S.Store s.conn) o l };
 

@@ -7,7 +7,7 @@ ghost use Rattle.message.specs.Values.{is_message};
 ghost use Rattle.office.specs.Decided.{IsLawfulChange};
 ghost use Rattle.rows.specs.Transactions.{Waits};
 ghost use Rattle.views.specs.Concerning.{AreLawful};
-ghost use Rattle.store.specs.Arriving.{IsAccepted, IsAfter, IsAny, IsAsked, IsFound, IsNew, IsWeighed, Settles, TellsNoDamage, stopped};
+ghost use Rattle.store.specs.Arriving.{FailsAt, IsAccepted, IsAfter, IsAny, IsAsked, IsFound, IsNew, IsWeighed, Settles, stopped};
 
 use message::{Message, MessageFault, read_message};
 use office::{Arrival, Ca, Decision, Kept, Outcome, Stop, decide};
@@ -34,8 +34,9 @@ fn accept<S: Alter>(
     ensures settles { HasCleanDisk (state S.Store conn.new)
         → Settles arrival.now (IsAccepted arrival.now decision.now cas.now)
         (state S.Store conn.old) (state S.Store conn.new) result }
-    ensures undamaged { HasCleanDisk (state S.Store conn.new)
-        → TellsNoDamage (IsAccepted arrival.now decision.now cas.now) (state S.Store conn.old) result }
+    ensures fails { HasCleanDisk (state S.Store conn.new)
+        → FailsAt arrival.now (IsAccepted arrival.now decision.now cas.now)
+        (state S.Store conn.old) (state S.Store conn.new) result }
     ensures survives { Survives (state S.Store conn.old) (state S.Store conn.new)
         (Waits (IsAfter (IsAccepted arrival.now decision.now cas.now)) (state S.Store conn.old)) }
 {
@@ -71,8 +72,9 @@ fn weigh<S: Alter>(
     ensures settles { HasCleanDisk (state S.Store conn.new) → IsTrue (state S.Store conn.old).is_open
         → Settles arrival.now (IsWeighed arrival.now message.now rows.now)
         (state S.Store conn.old) (state S.Store conn.new) result }
-    ensures undamaged { HasCleanDisk (state S.Store conn.new)
-        → TellsNoDamage (IsWeighed arrival.now message.now rows.now) (state S.Store conn.old) result }
+    ensures fails { HasCleanDisk (state S.Store conn.new)
+        → FailsAt arrival.now (IsWeighed arrival.now message.now rows.now)
+        (state S.Store conn.old) (state S.Store conn.new) result }
     ensures survives { Survives (state S.Store conn.old) (state S.Store conn.new)
         (Waits (IsAfter (IsWeighed arrival.now message.now rows.now)) (state S.Store conn.old)) }
 {
@@ -105,8 +107,9 @@ fn consider<S: Alter>(
     ensures settles { HasCleanDisk (state S.Store conn.new)
         → Settles arrival.now (IsNew arrival.now message.now)
         (state S.Store conn.old) (state S.Store conn.new) result }
-    ensures undamaged { HasCleanDisk (state S.Store conn.new)
-        → TellsNoDamage (IsNew arrival.now message.now) (state S.Store conn.old) result }
+    ensures fails { HasCleanDisk (state S.Store conn.new)
+        → FailsAt arrival.now (IsNew arrival.now message.now)
+        (state S.Store conn.old) (state S.Store conn.new) result }
     ensures survives { Survives (state S.Store conn.old) (state S.Store conn.new)
         (Waits (IsAfter (IsNew arrival.now message.now)) (state S.Store conn.old)) }
 {
@@ -127,8 +130,9 @@ fn judge<S: Alter>(
     ensures settles { HasCleanDisk (state S.Store conn.new) → IsTrue (state S.Store conn.old).is_open
         → Settles arrival.now (IsAsked arrival.now is_known)
         (state S.Store conn.old) (state S.Store conn.new) result }
-    ensures undamaged { HasCleanDisk (state S.Store conn.new)
-        → TellsNoDamage (IsAsked arrival.now is_known) (state S.Store conn.old) result }
+    ensures fails { HasCleanDisk (state S.Store conn.new)
+        → FailsAt arrival.now (IsAsked arrival.now is_known)
+        (state S.Store conn.old) (state S.Store conn.new) result }
     ensures survives { Survives (state S.Store conn.old) (state S.Store conn.new)
         (Waits (IsAfter (IsAsked arrival.now is_known)) (state S.Store conn.old)) }
 {
@@ -157,8 +161,9 @@ fn settle_beside<S: Alter>(
     ensures settles { HasCleanDisk (state S.Store conn.new) → IsTrue (state S.Store conn.old).is_open
         → Settles arrival.now (IsFound arrival.now found)
         (state S.Store conn.old) (state S.Store conn.new) result }
-    ensures undamaged { HasCleanDisk (state S.Store conn.new)
-        → TellsNoDamage (IsFound arrival.now found) (state S.Store conn.old) result }
+    ensures fails { HasCleanDisk (state S.Store conn.new)
+        → FailsAt arrival.now (IsFound arrival.now found)
+        (state S.Store conn.old) (state S.Store conn.new) result }
     ensures survives { Survives (state S.Store conn.old) (state S.Store conn.new)
         (Waits (IsAfter (IsFound arrival.now found)) (state S.Store conn.old)) }
 {
@@ -180,8 +185,9 @@ pub(crate) fn settle<S: Alter>(
     requires { length arrival.now.nonce ≡ 32 }
     ensures settles { HasCleanDisk (state S.Store conn.new) → Settles arrival.now IsAny
         (state S.Store conn.old) (state S.Store conn.new) result }
-    ensures undamaged { HasCleanDisk (state S.Store conn.new)
-        → TellsNoDamage IsAny (state S.Store conn.old) result }
+    ensures fails { HasCleanDisk (state S.Store conn.new)
+        → FailsAt arrival.now IsAny
+        (state S.Store conn.old) (state S.Store conn.new) result }
     ensures survives { Survives (state S.Store conn.old) (state S.Store conn.new)
         (Waits (IsAfter IsAny) (state S.Store conn.old)) }
 {

@@ -4,11 +4,11 @@ ghost use Rattle.std.specs.Prelude.{◌≡◌, IfErr, length};
 ghost use Rattle.sqlite.specs.Held.{state};
 ghost use Rattle.sqlite.specs.State.{HasCleanDisk, Survives};
 ghost use Rattle.rows.specs.Transactions.{Ends, Leaves};
-ghost use Rattle.store.specs.Arriving.{IsAfter, IsAnswered, IsAny, IsUndamaged, contents_with, of_statement};
+ghost use Rattle.store.specs.Arriving.{IsAfter, IsAnswered, IsAny, IsCaused, contents_with, of_statement};
 
-use crate::ending::finish;
 use crate::settling::settle;
 use office::{Arrival, Outcome};
+use rows::conclude;
 use sqlite::{Alter, Connection};
 use std::alloc::Global;
 use tables::{Fault, begin};
@@ -33,8 +33,8 @@ pub(crate) fn take<S: Alter>(
     ensures ends { HasCleanDisk (state S.Store conn.new) →
         Ends (IsAfter IsAny) (IsAnswered arrival.now) (contents_with arrival.now)
         (state S.Store conn.old) (state S.Store conn.new) result }
-    ensures undamaged { HasCleanDisk (state S.Store conn.new) →
-        IfErr result (IsUndamaged (state S.Store conn.old)) }
+    ensures cause { HasCleanDisk (state S.Store conn.new) →
+        IfErr result (IsCaused arrival.now (state S.Store conn.old) (state S.Store conn.new)) }
 
     // A crash in its midst leaves the tables as they were, or with the arrival.
     ensures survives { Survives (state S.Store conn.old) (state S.Store conn.new)
@@ -43,7 +43,7 @@ pub(crate) fn take<S: Alter>(
     match begin(conn) {
         Ok(()) => {
             let settled = settle(alloc, conn, arrival);
-            finish(conn, settled)
+            conclude(conn, settled)
         }
         Err(fault) => Err(of_statement(fault)),
     }

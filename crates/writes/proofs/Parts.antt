@@ -9,7 +9,6 @@ use Rattle.rows.specs.Transactions.{Goes, Has, Makes, Waits}
 use Rattle.rows.proofs.Same.{IsSame, means_same}
 use Rattle.tables.specs.Calls.{Never}
 use Rattle.rows.proofs.Steps.{Leads, goes_still, goes_then, stops_then}
-use Rattle.writes.specs.Damage.{TellsNoDamage}
 
 goes_same : (a b : State) (c d : Contents) → IsSame c d → Goes a b c → Goes a b d
 goes_same a b c d same g = record {
@@ -38,12 +37,6 @@ waited Before a b means one =
 -- a part that is done leads to the next
 pub leads_on : (f : Contents → Contents) (a b : State) → Makes {X = Unit {0}} Has f a b (Ok tt) → Leads Has Has f a b
 leads_on f a b makes d means = let g = (makes d means).1 in (f d, g, g.means)
-
--- the next tells no damage
-pub undamaged : {A B X : Type 0} (Before : A → Database → Type 0) (Later : B → Database → Type 0) (next : A → B) (a b : State)
-    (r : Result X Fault) → Leads Before Later next a b → TellsNoDamage Later b r → TellsNoDamage Before a r
-undamaged Before Later next a b (Ok v) leads rest = tt
-undamaged Before Later next a b (Err f) leads rest = λ x before. rest (next x) (leads x before).2
 
 -- ---- one after the other
 

@@ -1,4 +1,4 @@
 pub mod Ranges
 pub mod Changing
 pub mod Due
-pub mod Damage
+pub mod Refused

@@ -7,9 +7,11 @@ ghost use Rattle.message.specs.Values.{is_department};
 ghost use Rattle.office.specs.declared.view.Change.TheVariants as change;
 ghost use Rattle.office.specs.Certificates.{IsCertificate};
 ghost use Rattle.office.specs.Decided.{IsLawfulChange};
-ghost use Rattle.rows.specs.Transactions.{Has, Makes, Waits};
-ghost use Rattle.writes.specs.Changing.{with_change, with_key_id};
-ghost use Rattle.writes.specs.Damage.{TellsNoDamage};
+ghost use Rattle.tables.specs.Refusals.{RefusesCa, RefusesCert, RefusesDepartment, RefusesKeyId};
+ghost use Rattle.rows.specs.Rows.{cert_row, department_row};
+ghost use Rattle.rows.specs.Transactions.{FailsFor, Has, Makes, Waits};
+ghost use Rattle.writes.specs.Changing.{ca_from, with_change, with_key_id};
+ghost use Rattle.writes.specs.Refused.{RefusesChange};
 
 use crate::new_rows::{ca_row, cert_row};
 use crate::ranges::put_range;
@@ -32,8 +34,8 @@ fn change_department<S: Alter>(
     requires { IsTrue (is_department department.now) }
     ensures makes { HasCleanDisk (state S.Store conn.new) → Makes Has (with_change 0 0 (change.Department department.now))
         (state S.Store conn.old) (state S.Store conn.new) result }
-    ensures undamaged { HasCleanDisk (state S.Store conn.new) →
-        TellsNoDamage Has (state S.Store conn.old) result }
+    ensures fault { HasCleanDisk (state S.Store conn.new) → FailsFor Has (RefusesDepartment (department_row department.now))
+        (state S.Store conn.old) (state S.Store conn.new) result }
     ensures survives { Survives (state S.Store conn.old) (state S.Store conn.new) (Waits Has (state S.Store conn.old)) }
 {
     let row = department_row(alloc, department)?;
@@ -48,8 +50,8 @@ fn add_certificate<S: Alter>(
     requires { IsCertificate certificate.now }
     ensures makes { HasCleanDisk (state S.Store conn.new) → Makes Has (with_change 0 0 (change.Certificate certificate.now))
         (state S.Store conn.old) (state S.Store conn.new) result }
-    ensures undamaged { HasCleanDisk (state S.Store conn.new) →
-        TellsNoDamage Has (state S.Store conn.old) result }
+    ensures fault { HasCleanDisk (state S.Store conn.new) → FailsFor Has (RefusesCert (cert_row certificate.now))
+        (state S.Store conn.old) (state S.Store conn.new) result }
     ensures survives { Survives (state S.Store conn.old) (state S.Store conn.new) (Waits Has (state S.Store conn.old)) }
 {
     let row = cert_row(alloc, certificate)?;
@@ -59,8 +61,8 @@ fn add_certificate<S: Alter>(
 fn add_key_id<S: Alter>(alloc: Global, conn: &mut Connection<S>, key_id: &Text) -> Result<(), Fault>
     ensures makes { HasCleanDisk (state S.Store conn.new) → Makes Has (with_key_id key_id.now)
         (state S.Store conn.old) (state S.Store conn.new) result }
-    ensures undamaged { HasCleanDisk (state S.Store conn.new) →
-        TellsNoDamage Has (state S.Store conn.old) result }
+    ensures fault { HasCleanDisk (state S.Store conn.new) → FailsFor Has (RefusesKeyId key_id.now)
+        (state S.Store conn.old) (state S.Store conn.new) result }
     ensures survives { Survives (state S.Store conn.old) (state S.Store conn.new) (Waits Has (state S.Store conn.old)) }
 {
     match find_revoked(alloc, conn, key_id.as_slice()) {
@@ -79,8 +81,8 @@ fn add_ca<S: Alter>(
 ) -> Result<(), Fault>
     ensures makes { HasCleanDisk (state S.Store conn.new) → Makes Has (with_change number since (change.Ca ca.now))
         (state S.Store conn.old) (state S.Store conn.new) result }
-    ensures undamaged { HasCleanDisk (state S.Store conn.new) →
-        TellsNoDamage Has (state S.Store conn.old) result }
+    ensures fault { HasCleanDisk (state S.Store conn.new) → FailsFor Has (RefusesCa (ca_from number since ca.now))
+        (state S.Store conn.old) (state S.Store conn.new) result }
     ensures survives { Survives (state S.Store conn.old) (state S.Store conn.new) (Waits Has (state S.Store conn.old)) }
 {
     let row = ca_row(alloc, number, since, ca)?;
@@ -98,8 +100,8 @@ pub(crate) fn make<S: Alter>(
     requires { IsLawfulChange change.now }
     ensures makes { HasCleanDisk (state S.Store conn.new) → IsTrue (state S.Store conn.old).is_open →
         Makes Has (with_change number since change.now) (state S.Store conn.old) (state S.Store conn.new) result }
-    ensures undamaged { HasCleanDisk (state S.Store conn.new) →
-        TellsNoDamage Has (state S.Store conn.old) result }
+    ensures fault { HasCleanDisk (state S.Store conn.new) → FailsFor Has (RefusesChange number since change.now)
+        (state S.Store conn.old) (state S.Store conn.new) result }
     ensures survives { Survives (state S.Store conn.old) (state S.Store conn.new) (Waits Has (state S.Store conn.old)) }
 {
     match change {

@@ -5,9 +5,10 @@ ghost use Rattle.sqlite.specs.Held.{state};
 ghost use Rattle.sqlite.specs.State.{HasCleanDisk, Survives};
 ghost use Rattle.office.specs.Decided.{IsLawfulChange};
 ghost use Rattle.tables.specs.Changes.{with_counters, with_request};
-ghost use Rattle.rows.specs.Transactions.{Has, Makes, Waits};
+ghost use Rattle.rows.specs.Rows.{contents_of};
+ghost use Rattle.rows.specs.Transactions.{FailsFor, Has, Makes, Waits};
 ghost use Rattle.writes.specs.Changing.{with_change};
-ghost use Rattle.writes.specs.Damage.{TellsNoDamage};
+ghost use Rattle.writes.specs.Refused.{RefusesDecision, RefusesRecord, RefusesRows};
 ghost use Rattle.writes.specs.Due.{IsDue, contents_after};
 
 use crate::changing::make;
@@ -26,12 +27,14 @@ fn record<S: Alter>(
     ensures makes { HasCleanDisk (state S.Store conn.new) →
         Makes Has (λ c. with_request request.now (with_counters counters.now c))
         (state S.Store conn.old) (state S.Store conn.new) result }
-    ensures undamaged { HasCleanDisk (state S.Store conn.new) →
-        TellsNoDamage Has (state S.Store conn.old) result }
+    ensures fault { HasCleanDisk (state S.Store conn.new) → FailsFor Has (RefusesRecord counters.now request.now)
+        (state S.Store conn.old) (state S.Store conn.new) result }
     ensures survives { Survives (state S.Store conn.old) (state S.Store conn.new) (Waits Has (state S.Store conn.old)) }
 {
-    update_office(conn, counters)?;
-    insert_request(conn, request)
+    match update_office(conn, counters) {
+        Ok(()) => insert_request(conn, request),
+        Err(fault) => Err(fault),
+    }
 }
 
 fn write_rows<S: Alter>(
@@ -46,8 +49,8 @@ fn write_rows<S: Alter>(
     ensures makes { HasCleanDisk (state S.Store conn.new) → Makes Has
         (λ c. with_change number counters.now.next change.now (with_request request.now (with_counters counters.now c)))
         (state S.Store conn.old) (state S.Store conn.new) result }
-    ensures undamaged { HasCleanDisk (state S.Store conn.new) →
-        TellsNoDamage Has (state S.Store conn.old) result }
+    ensures fault { HasCleanDisk (state S.Store conn.new) → FailsFor Has (RefusesRows number change.now counters.now request.now)
+        (state S.Store conn.old) (state S.Store conn.new) result }
     ensures survives { Survives (state S.Store conn.old) (state S.Store conn.new) (Waits Has (state S.Store conn.old)) }
 {
     record(conn, counters, request)?;
@@ -71,9 +74,10 @@ pub fn write<S: Alter>(
         Makes (IsDue decision.now cas.now) (contents_after decision.now arrival.now)
         (state S.Store conn.old) (state S.Store conn.new) result }
 
-    // Of such tables no row is damaged.
-    ensures undamaged { HasCleanDisk (state S.Store conn.new) →
-        TellsNoDamage (IsDue decision.now cas.now) (state S.Store conn.old) result }
+    // Of such tables a fault is want of memory, or the database failed, or its rules refuse a row that is due.
+    ensures fault { HasCleanDisk (state S.Store conn.new) → FailsFor (IsDue decision.now cas.now)
+        (λ x. RefusesDecision decision.now arrival.now cas.now (contents_of x.0 x.1))
+        (state S.Store conn.old) (state S.Store conn.new) result }
 
     // A crash in its midst commits nothing.
     ensures survives { Survives (state S.Store conn.old) (state S.Store conn.new)

@@ -1,7 +1,12 @@
-use Rattle.std.proofs.Common.{ℕ, List, Ok, sym, subst}
+use Rattle.std.proofs.Common.{ℕ, List, Ok, Err, sym, subst}
 use Rattle.sqlite.specs.Held.{state}
 use Rattle.office.specs.declared.arrival.Outcome.TheVariants as outcome
-use Rattle.store.specs.Arriving.{IsAccepted, Settles, kept_at, state_at}
+use Rattle.office.specs.declared.arrival.Outcome.{Outcome}
+use Rattle.rows.specs.Rows.{contents_of}
+use Rattle.rows.proofs.Causes.{fails_weaker}
+use Rattle.writes.specs.Due.{IsDue}
+use Rattle.writes.specs.Refused.{RefusesDecision}
+use Rattle.store.specs.Arriving.{IsAccepted, IsAfter, RefusesArrival, Settles, kept_at, state_at}
 use Rattle.store.proofs.Accepted.{is_due, settles_unwritten, settles_written, waits_written}
 use Rattle.store.proofs.settling.accept.Goals as goal
 
@@ -25,10 +30,16 @@ returns-in-Err-clause-settles g c clean =
     settles_unwritten c.args.arrival.now c.args.decision.now c.args.cas.now (state g.S.Store c.args.conn.now)
     (state g.S.Store c.write.new.conn) c.in-Err.fault (c.in-Err.ensures.makes clean)
 
-pub returns-in-Err-clause-undamaged : goal.returns-in-Err-clause-undamaged
-returns-in-Err-clause-undamaged g c clean p after =
-    c.in-Err.ensures.undamaged clean (state_at p, kept_at p)
-    (is_due p c.args.arrival.now c.args.decision.now c.args.cas.now (state g.S.Store c.args.conn.now).now after)
+pub returns-in-Err-clause-fails : goal.returns-in-Err-clause-fails
+returns-in-Err-clause-fails g c clean =
+    let a = c.args.arrival.now in
+    let d = c.args.decision.now in
+    let cas = c.args.cas.now in
+    let old = state g.S.Store c.args.conn.now in
+    let new = state g.S.Store c.write.new.conn in
+    fails_weaker {X = Outcome} (IsAfter (IsAccepted a d cas)) (IsDue d cas) (λ x. RefusesDecision d a cas (contents_of x.0 x.1)) (RefusesArrival a)
+    (λ p. (state_at p, kept_at p)) old new (Err c.in-Err.fault) (λ p after. is_due p a d cas old.now after)
+    (λ p after why. (d, cas, after.known, why)) (c.in-Err.ensures.fault clean)
 
 pub returns-in-Err-clause-survives : goal.returns-in-Err-clause-survives
 returns-in-Err-clause-survives g c =

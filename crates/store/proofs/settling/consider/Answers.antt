@@ -2,9 +2,10 @@ use Rattle.std.proofs.Common.{Ok, Err, arith}
 use Rattle.sqlite.specs.Held.{state}
 use Rattle.sqlite.specs.State.{HasCleanDisk}
 use Rattle.views.specs.Concerning.{AreConcerned}
+use Rattle.views.specs.Finding.{NeverOfOffice}
 use Rattle.store.specs.Arriving.{IsNew, IsWeighed}
 use Rattle.store.proofs.Histories.{shows_of_history}
-use Rattle.store.proofs.Settled.{damage_failed, damage_then, settles_failed, settles_then, waits_office, waits_read}
+use Rattle.store.proofs.Settled.{fails_after, fails_read, settles_failed, settles_then, waits_office, waits_read}
 use Rattle.store.proofs.settling.consider.Goals as goal
 
 pub returns-in-Ok-clause-settles : goal.returns-in-Ok-clause-settles
@@ -20,17 +21,19 @@ returns-in-Ok-clause-settles g c clean =
     (shows_of_history (λ s kept rows. AreConcerned rows s m) old mid (Ok c.in-Ok.rows) (c.in-Ok.ensures.shows still))
     (c.weigh.ensures.settles clean)
 
-pub returns-in-Ok-clause-undamaged : goal.returns-in-Ok-clause-undamaged
-returns-in-Ok-clause-undamaged g c clean =
+pub returns-in-Ok-clause-fails : goal.returns-in-Ok-clause-fails
+returns-in-Ok-clause-fails g c clean =
     let a = c.args.arrival.now in
     let m = c.args.message.now in
     let old = state g.S.Store c.args.conn.now in
     let mid = state g.S.Store c.concerned_rows.new.conn in
+    let new = state g.S.Store c.weigh.new.conn in
     let still : HasCleanDisk mid = omega (arith, c.weigh.ensures.survives.clean) in
-    damage_then (λ s kept rows. AreConcerned rows s m) (IsNew a m) (IsWeighed a m c.in-Ok.rows) c.in-Ok.rows
-    (λ p history is rows. record { new = is; rows = rows }) old mid c.weigh.result
-    (shows_of_history (λ s kept rows. AreConcerned rows s m) old mid (Ok c.in-Ok.rows) (c.in-Ok.ensures.shows still))
-    (c.weigh.ensures.undamaged clean)
+    let first = shows_of_history (λ s kept rows. AreConcerned rows s m) old mid (Ok c.in-Ok.rows) (c.in-Ok.ensures.shows still) in
+    fails_after (λ s kept rows. AreConcerned rows s m) (IsNew a m) (IsWeighed a m c.in-Ok.rows) c.in-Ok.rows
+    (λ p history is rows. record { new = is; rows = rows }) old mid a new (NeverOfOffice old) c.weigh.result first
+    c.concerned_rows.ensures.survives still c.weigh.ensures.survives.counts
+    (c.weigh.ensures.fails clean)
 
 pub returns-in-Ok-clause-survives : goal.returns-in-Ok-clause-survives
 returns-in-Ok-clause-survives g c =
@@ -52,12 +55,12 @@ returns-in-Err-clause-settles g c clean =
     settles_failed (λ s kept rows. AreConcerned rows s m) (IsNew c.args.arrival.now m) old new c.in-Err.fault c.args.arrival.now
     (shows_of_history (λ s kept rows. AreConcerned rows s m) old new (Err c.in-Err.fault) (c.in-Err.ensures.shows clean))
 
-pub returns-in-Err-clause-undamaged : goal.returns-in-Err-clause-undamaged
-returns-in-Err-clause-undamaged g c clean =
+pub returns-in-Err-clause-fails : goal.returns-in-Err-clause-fails
+returns-in-Err-clause-fails g c clean =
     let m = c.args.message.now in
     let old = state g.S.Store c.args.conn.now in
     let new = state g.S.Store c.concerned_rows.new.conn in
-    damage_failed (λ s kept rows. AreConcerned rows s m) (IsNew c.args.arrival.now m) old new c.in-Err.fault
+    fails_read (λ s kept rows. AreConcerned rows s m) (IsNew c.args.arrival.now m) old new c.in-Err.fault c.args.arrival.now
     (shows_of_history (λ s kept rows. AreConcerned rows s m) old new (Err c.in-Err.fault) (c.in-Err.ensures.shows clean))
 
 pub returns-in-Err-clause-survives : goal.returns-in-Err-clause-survives

@@ -5,7 +5,7 @@ use Rattle.profile.specs.declared.refusal.Refusal.TheVariants.{BadMessage, BadMo
 use Rattle.office.specs.declared.arrival.Outcome.TheVariants as outcome
 use Rattle.office.specs.Messages.{message_with_text}
 use Rattle.store.specs.Arriving.{IsAsked, IsNew, kept_at, state_at}
-use Rattle.store.proofs.Settled.{bad_line, bad_message, bad_moment, damage_weaker, key_reused, read_is, refused_still, settles_still, settles_weaker, waits_weaker}
+use Rattle.store.proofs.Settled.{bad_line, bad_message, bad_moment, fails_less, key_reused, read_is, refused_still, settles_still, settles_weaker, waits_weaker}
 use Rattle.store.proofs.settling.judge.Goals as goal
 
 pub returns-in-Err-BadLine-clause-settles : goal.returns-in-Err-BadLine-clause-settles
@@ -51,8 +51,8 @@ returns-clause-settles g c clean is_open =
     (λ p history asked. record { new = asked.new; message = is; in_time = le-ltb _ _ c.if-arrival-gt-LATEST_MOMENT.false; unknown = asked.known ∙ c.if-is_known.false })
     (c.consider.ensures.settles clean)
 
-pub returns-clause-undamaged : goal.returns-clause-undamaged
-returns-clause-undamaged g c clean =
+pub returns-clause-fails : goal.returns-clause-fails
+returns-clause-fails g c clean =
     let a = c.args.arrival.now in
     let m = c.in-Ok.message in
     let is : message_with_text a.bytes ≡ Some m =
@@ -60,9 +60,9 @@ returns-clause-undamaged g c clean =
     (read_is c.as_slice.result.now m c.in-Ok.ensures.exact c.in-Ok.ensures.found.0 c.in-Ok.ensures.found.1) in
     let new = state g.S.Store c.consider.new.conn in
     let old = state g.S.Store c.args.conn.now in
-    damage_weaker (IsAsked a c.args.is_known) (IsNew a m) old c.consider.result
+    fails_less a (IsAsked a c.args.is_known) (IsNew a m) old new c.consider.result
     (λ p history asked. record { new = asked.new; message = is; in_time = le-ltb _ _ c.if-arrival-gt-LATEST_MOMENT.false; unknown = asked.known ∙ c.if-is_known.false })
-    (c.consider.ensures.undamaged clean)
+    (c.consider.ensures.fails clean)
 
 pub returns-clause-survives : goal.returns-clause-survives
 returns-clause-survives g c =

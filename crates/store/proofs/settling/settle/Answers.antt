@@ -2,10 +2,11 @@ use Rattle.std.proofs.Common.{◌≡◌, Ok, Err, arith}
 use Rattle.std.specs.Prelude.{find}
 use Rattle.sqlite.specs.Held.{state}
 use Rattle.sqlite.specs.State.{HasCleanDisk}
+use Rattle.tables.specs.Calls.{Never}
 use Rattle.views.specs.Histories.{is_for}
 use Rattle.store.specs.Arriving.{IsAny, IsFound}
 use Rattle.store.proofs.Histories.{shows_of_history}
-use Rattle.store.proofs.Settled.{damage_failed, damage_then, settles_failed, settles_then, waits_never, waits_read}
+use Rattle.store.proofs.Settled.{fails_after, fails_read, settles_failed, settles_then, waits_never, waits_read}
 use Rattle.store.proofs.settling.settle.Goals as goal
 
 pub returns-in-Ok-clause-settles : goal.returns-in-Ok-clause-settles
@@ -20,16 +21,18 @@ returns-in-Ok-clause-settles g c clean =
     (shows_of_history (λ s kept found. found ≡ find (is_for a.caller a.key) kept) old mid (Ok c.in-Ok.found)
     (rw (c.as_slice.ensures, c.as_slice-2.ensures) at c.in-Ok.ensures.shows still)) (c.settle_beside.ensures.settles clean)
 
-pub returns-in-Ok-clause-undamaged : goal.returns-in-Ok-clause-undamaged
-returns-in-Ok-clause-undamaged g c clean =
+pub returns-in-Ok-clause-fails : goal.returns-in-Ok-clause-fails
+returns-in-Ok-clause-fails g c clean =
     let a = c.args.arrival.now in
     let old = state g.S.Store c.args.conn.now in
     let mid = state g.S.Store c.kept_for.new.conn in
+    let new = state g.S.Store c.settle_beside.new.conn in
     let still : HasCleanDisk mid = omega (arith, c.settle_beside.ensures.survives.clean) in
-    damage_then (λ s kept found. found ≡ find (is_for a.caller a.key) kept) IsAny (IsFound a c.in-Ok.found) c.in-Ok.found
-    (λ p history any is. is) old mid c.settle_beside.result
+    fails_after (λ s kept found. found ≡ find (is_for a.caller a.key) kept) IsAny (IsFound a c.in-Ok.found) c.in-Ok.found
+    (λ p history any is. is) old mid a new (Never old) c.settle_beside.result
     (shows_of_history (λ s kept found. found ≡ find (is_for a.caller a.key) kept) old mid (Ok c.in-Ok.found)
-    (rw (c.as_slice.ensures, c.as_slice-2.ensures) at c.in-Ok.ensures.shows still)) (c.settle_beside.ensures.undamaged clean)
+    (rw (c.as_slice.ensures, c.as_slice-2.ensures) at c.in-Ok.ensures.shows still))
+    c.kept_for.ensures.survives still c.settle_beside.ensures.survives.counts (c.settle_beside.ensures.fails clean)
 
 pub returns-in-Ok-clause-survives : goal.returns-in-Ok-clause-survives
 returns-in-Ok-clause-survives g c =
@@ -52,12 +55,12 @@ returns-in-Err-clause-settles g c clean =
     (shows_of_history (λ s kept found. found ≡ find (is_for a.caller a.key) kept) old new (Err c.in-Err.fault)
     (c.in-Err.ensures.shows clean))
 
-pub returns-in-Err-clause-undamaged : goal.returns-in-Err-clause-undamaged
-returns-in-Err-clause-undamaged g c clean =
+pub returns-in-Err-clause-fails : goal.returns-in-Err-clause-fails
+returns-in-Err-clause-fails g c clean =
     let a = c.args.arrival.now in
     let old = state g.S.Store c.args.conn.now in
     let new = state g.S.Store c.kept_for.new.conn in
-    damage_failed (λ s kept found. found ≡ find (is_for a.caller a.key) kept) IsAny old new c.in-Err.fault
+    fails_read (λ s kept found. found ≡ find (is_for a.caller a.key) kept) IsAny old new c.in-Err.fault a
     (shows_of_history (λ s kept found. found ≡ find (is_for a.caller a.key) kept) old new (Err c.in-Err.fault)
     (c.in-Err.ensures.shows clean))
 

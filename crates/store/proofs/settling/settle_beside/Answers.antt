@@ -8,7 +8,7 @@ use Rattle.store.specs.Meaning.{IsHistory}
 use Rattle.store.specs.Arriving.{IsAsked, IsFound, Past, kept_at}
 use Rattle.store.proofs.Apart.{apart_after}
 use Rattle.store.proofs.Repeats.{known_found, repeat_found, repeat_other, repeat_unknown, unknown_found}
-use Rattle.store.proofs.Settled.{damage_weaker, repeated_still, settles_still, settles_weaker, waits_weaker}
+use Rattle.store.proofs.Settled.{fails_less, repeated_still, settles_still, settles_weaker, waits_weaker}
 use Rattle.store.proofs.settling.settle_beside.Goals as goal
 
 pub returns-in_default-clause-settles : goal.returns-in_default-clause-settles
@@ -22,8 +22,8 @@ returns-in_default-clause-settles g c clean is_open =
     record { new = repeat_unknown a (kept_at p) none; known = unknown_found a (kept_at p) none } in
     settles_weaker a (IsFound a c.args.found) (IsAsked a false) old new c.judge.result less (c.judge.ensures.settles clean is_open)
 
-pub returns-in_default-clause-undamaged : goal.returns-in_default-clause-undamaged
-returns-in_default-clause-undamaged g c clean =
+pub returns-in_default-clause-fails : goal.returns-in_default-clause-fails
+returns-in_default-clause-fails g c clean =
     let a = c.args.arrival.now in
     let old = state g.S.Store c.args.conn.now in
     let new = state g.S.Store c.judge.new.conn in
@@ -31,7 +31,7 @@ returns-in_default-clause-undamaged g c clean =
     λ p history is.
     let none : find (is_for a.caller a.key) (kept_at p) ≡ None = sym is ∙ c.in_default.is in
     record { new = repeat_unknown a (kept_at p) none; known = unknown_found a (kept_at p) none } in
-    damage_weaker (IsFound a c.args.found) (IsAsked a false) old c.judge.result less (c.judge.ensures.undamaged clean)
+    fails_less a (IsFound a c.args.found) (IsAsked a false) old new c.judge.result less (c.judge.ensures.fails clean)
 
 pub returns-in_default-clause-survives : goal.returns-in_default-clause-survives
 returns-in_default-clause-survives g c =
@@ -61,8 +61,8 @@ returns-clause-settles g c clean is_open =
     } in
     settles_weaker a (IsFound a c.args.found) (IsAsked a true) old new c.judge-2.result less (c.judge-2.ensures.settles clean is_open)
 
-pub returns-clause-undamaged : goal.returns-clause-undamaged
-returns-clause-undamaged g c clean =
+pub returns-clause-fails : goal.returns-clause-fails
+returns-clause-fails g c clean =
     let a = c.args.arrival.now in
     let k = c.in-Some.kept in
     let old = state g.S.Store c.args.conn.now in
@@ -76,7 +76,7 @@ returns-clause-undamaged g c clean =
       new = repeat_other a (kept_at p) k (apart_after p.0 p.1) some differs;
       known = known_found a (kept_at p) k some;
     } in
-    damage_weaker (IsFound a c.args.found) (IsAsked a true) old c.judge-2.result less (c.judge-2.ensures.undamaged clean)
+    fails_less a (IsFound a c.args.found) (IsAsked a true) old new c.judge-2.result less (c.judge-2.ensures.fails clean)
 
 pub returns-clause-survives : goal.returns-clause-survives
 returns-clause-survives g c =

@@ -4,7 +4,7 @@ use Rattle.office.specs.Decided.{Decided}
 use Rattle.store.specs.Meaning.{IsHistory}
 use Rattle.store.specs.Arriving.{IsAccepted, IsWeighed, Past, state_at}
 use Rattle.store.proofs.Accepted.{decided_accepted}
-use Rattle.store.proofs.Settled.{damage_weaker, settles_weaker, stopped_settles, stopped_undamaged, waits_weaker}
+use Rattle.store.proofs.Settled.{fails_less, settles_weaker, stopped_fails, stopped_settles, waits_weaker}
 use Rattle.store.proofs.settling.weigh.Goals as goal
 
 pub returns-in-Ok-clause-settles : goal.returns-in-Ok-clause-settles
@@ -23,8 +23,8 @@ returns-in-Ok-clause-settles g c clean is_open =
     settles_weaker a (IsWeighed a m rows) (IsAccepted a c.in-Ok.decision v.cas.now) (state g.S.Store c.args.conn.now)
     (state g.S.Store c.accept.new.conn) c.accept.result less (c.accept.ensures.settles clean)
 
-pub returns-in-Ok-clause-undamaged : goal.returns-in-Ok-clause-undamaged
-returns-in-Ok-clause-undamaged g c clean =
+pub returns-in-Ok-clause-fails : goal.returns-in-Ok-clause-fails
+returns-in-Ok-clause-fails g c clean =
     let a = c.args.arrival.now in
     let m = c.args.message.now in
     let rows = c.args.rows.now in
@@ -36,8 +36,8 @@ returns-in-Ok-clause-undamaged g c clean =
     (subst (λ (x : List ℕ). Decided (Ok c.in-Ok.decision) (state_at p) x m a.moment a.nonce) c.as_slice.ensures
     (c.in-Ok.ensures.decided (state_at p) agrees))
     (c.in-Ok.ensures.room (state_at p) agrees) agrees (omega (arith, c.if-view-ge-LAST_VERSION.false)) in
-    damage_weaker (IsWeighed a m rows) (IsAccepted a c.in-Ok.decision v.cas.now) (state g.S.Store c.args.conn.now)
-    c.accept.result less (c.accept.ensures.undamaged clean)
+    fails_less a (IsWeighed a m rows) (IsAccepted a c.in-Ok.decision v.cas.now) (state g.S.Store c.args.conn.now)
+    (state g.S.Store c.accept.new.conn) c.accept.result less (c.accept.ensures.fails clean)
 
 pub returns-in-Ok-clause-survives : goal.returns-in-Ok-clause-survives
 returns-in-Ok-clause-survives g c =
@@ -66,7 +66,7 @@ returns-in-Err-clause-settles g c clean is_open =
     subst (λ (x : List ℕ). Decided (Err c.in-Err.stop) (state_at p) x m a.moment a.nonce) c.as_slice.ensures
     (c.in-Err.ensures.decided (state_at p) (c.view-view.ensures.agrees (state_at p) m is.rows)))
 
-pub returns-in-Err-clause-undamaged : goal.returns-in-Err-clause-undamaged
-returns-in-Err-clause-undamaged g c clean =
-    stopped_undamaged (IsWeighed c.args.arrival.now c.args.message.now c.args.rows.now) (state g.S.Store c.args.conn.now)
+pub returns-in-Err-clause-fails : goal.returns-in-Err-clause-fails
+returns-in-Err-clause-fails g c clean =
+    stopped_fails c.args.arrival.now (IsWeighed c.args.arrival.now c.args.message.now c.args.rows.now) (state g.S.Store c.args.conn.now)
     c.in-Err.stop c.stopped.result c.stopped.ensures

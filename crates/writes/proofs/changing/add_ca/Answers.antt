@@ -1,5 +1,7 @@
 use Rattle.sqlite.specs.Held.{state}
 use Rattle.tables.specs.Changes.{with_ca}
+use Rattle.tables.specs.Cells.{ca_cells}
+use Rattle.tables.proofs.Refused.{causes}
 use Rattle.rows.proofs.Steps.{makes}
 use Rattle.writes.proofs.changing.add_ca.Goals as goal
 
@@ -7,3 +9,8 @@ pub returns-clause-makes : goal.returns-clause-makes
 returns-clause-makes g c clean =
     rw (c.in_ok-row.ensures) at (makes (with_ca c.in_ok-row.row) (state g.S.Store c.args.conn.now) (state g.S.Store c.insert_ca.new.conn)
     c.insert_ca.result (c.insert_ca.ensures.changes clean))
+
+pub returns-clause-fault : goal.returns-clause-fault
+returns-clause-fault g c clean =
+    rw (c.in_ok-row.ensures) at (causes _ (ca_cells c.in_ok-row.row) (state g.S.Store c.args.conn.now) (state g.S.Store c.insert_ca.new.conn)
+    c.insert_ca.result (c.insert_ca.ensures.fault clean))

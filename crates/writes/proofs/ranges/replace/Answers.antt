@@ -1,11 +1,14 @@
-use Rattle.std.proofs.Common.{arith}
-use Rattle.std.proofs.lemmas.Result.{IfErr-weaker}
+use Rattle.std.proofs.Common.{◌⊎◌, inl, inr, Err, arith}
 use Rattle.sqlite.specs.Held.{state}
 use Rattle.sqlite.specs.State.{HasCleanDisk}
 use Rattle.tables.specs.Changes.{with_run, without_runs}
 use Rattle.rows.specs.Transactions.{Has}
+use Rattle.tables.specs.Calls.{Leaves}
+use Rattle.tables.specs.Refusals.{RefusesDeletion, RefusesRun}
+use Rattle.tables.specs.Cells.{run_cells}
+use Rattle.tables.proofs.Refused.{causes}
+use Rattle.rows.proofs.Causes.{fails_then, fails_weaker}
 use Rattle.rows.proofs.Steps.{leads, makes, makes_then, waits, waits_then}
-use Rattle.writes.proofs.Parts.{undamaged}
 use Rattle.writes.proofs.ranges.replace.Goals as goal
 
 pub returns-clause-makes : goal.returns-clause-makes
@@ -17,15 +20,19 @@ returns-clause-makes g c clean =
     makes_then (without_runs c.args.ends.now) (with_run c.args.run.now) old mid new c.insert_run.result
     (c.in_ok-delete_runs.ensures.changes still) (makes (with_run c.args.run.now) mid new c.insert_run.result (c.insert_run.ensures.changes clean))
 
-pub returns-clause-undamaged : goal.returns-clause-undamaged
-returns-clause-undamaged g c clean =
+pub returns-clause-fault : goal.returns-clause-fault
+returns-clause-fault g c clean =
     let old = state g.S.Store c.args.conn.now in
     let mid = state g.S.Store c.delete_runs.new.conn in
     let new = state g.S.Store c.insert_run.new.conn in
     let still : HasCleanDisk mid = omega (arith, c.insert_run.ensures.survives.clean) in
-    undamaged Has Has (without_runs c.args.ends.now) old mid c.insert_run.result
-    (leads (without_runs c.args.ends.now) old mid (c.in_ok-delete_runs.ensures.changes still))
-    (IfErr-weaker c.insert_run.result _ _ (λ f cause con means e. rw e at (cause con means)) (c.insert_run.ensures.fault clean))
+    let run = c.args.run.now in
+    let ends = c.args.ends.now in
+    fails_then Has Has (RefusesRun run) (λ d. RefusesDeletion ends d ⊎ RefusesRun run (without_runs ends d)) (without_runs ends)
+    (Leaves (without_runs ends) old) old mid new c.insert_run.result
+    (leads (without_runs ends) old mid (c.in_ok-delete_runs.ensures.changes still)) (λ d means why. inr why)
+    c.delete_runs.ensures.survives still c.insert_run.ensures.survives.counts
+    (causes _ (run_cells run) mid new c.insert_run.result (c.insert_run.ensures.fault clean))
 
 pub returns-clause-survives : goal.returns-clause-survives
 returns-clause-survives g c =

@@ -1,38 +1,55 @@
-use Rattle.std.proofs.Common.{arith}
-use Rattle.std.proofs.lemmas.Result.{IfErr-weaker}
+use Rattle.std.proofs.Common.{inl, inr, Err, arith}
 use Rattle.sqlite.specs.Held.{state}
 use Rattle.sqlite.specs.State.{HasCleanDisk}
 use Rattle.tables.specs.Changes.{with_counters, with_request}
 use Rattle.rows.specs.Transactions.{Has}
+use Rattle.tables.specs.Calls.{Leaves}
+use Rattle.tables.specs.Refusals.{RefusesCounters, RefusesRequest}
+use Rattle.tables.specs.Cells.{counter_cells, request_cells}
+use Rattle.tables.proofs.Refused.{causes}
+use Rattle.writes.specs.Refused.{RefusesRecord}
+use Rattle.rows.proofs.Causes.{fails_then, fails_weaker}
 use Rattle.rows.proofs.Steps.{leads, makes, makes_then, waits, waits_then}
-use Rattle.writes.proofs.Parts.{undamaged}
 use Rattle.writes.proofs.writing.record.Goals as goal
 
-pub returns-clause-makes : goal.returns-clause-makes
-returns-clause-makes g c clean =
+pub returns-in-Ok-clause-makes : goal.returns-in-Ok-clause-makes
+returns-in-Ok-clause-makes g c clean =
     let old = state g.S.Store c.args.conn.now in
     let mid = state g.S.Store c.update_office.new.conn in
     let new = state g.S.Store c.insert_request.new.conn in
     let still : HasCleanDisk mid = omega (arith, c.insert_request.ensures.survives.clean) in
     makes_then (with_counters c.args.counters.now) (with_request c.args.request.now) old mid new c.insert_request.result
-    (c.in_ok-update_office.ensures.changes still) (makes (with_request c.args.request.now) mid new c.insert_request.result (c.insert_request.ensures.changes clean))
+    (c.in-Ok.ensures.changes still) (makes (with_request c.args.request.now) mid new c.insert_request.result (c.insert_request.ensures.changes clean))
 
-pub returns-clause-undamaged : goal.returns-clause-undamaged
-returns-clause-undamaged g c clean =
+pub returns-in-Ok-clause-fault : goal.returns-in-Ok-clause-fault
+returns-in-Ok-clause-fault g c clean =
     let old = state g.S.Store c.args.conn.now in
     let mid = state g.S.Store c.update_office.new.conn in
     let new = state g.S.Store c.insert_request.new.conn in
     let still : HasCleanDisk mid = omega (arith, c.insert_request.ensures.survives.clean) in
-    undamaged Has Has (with_counters c.args.counters.now) old mid c.insert_request.result
-    (leads (with_counters c.args.counters.now) old mid (c.in_ok-update_office.ensures.changes still))
-    (IfErr-weaker c.insert_request.result _ _ (λ f cause con means e. rw e at (cause con means)) (c.insert_request.ensures.fault clean))
+    let k = c.args.counters.now in
+    let row = c.args.request.now in
+    fails_then Has Has (RefusesRequest row) (RefusesRecord k row) (with_counters k) (Leaves (with_counters k) old) old mid new
+    c.insert_request.result (leads (with_counters k) old mid (c.in-Ok.ensures.changes still)) (λ d means why. inr why)
+    c.update_office.ensures.survives still c.insert_request.ensures.survives.counts
+    (causes _ (request_cells row) mid new c.insert_request.result (c.insert_request.ensures.fault clean))
 
-pub returns-clause-survives : goal.returns-clause-survives
-returns-clause-survives g c =
+pub returns-in-Ok-clause-survives : goal.returns-in-Ok-clause-survives
+returns-in-Ok-clause-survives g c =
     let old = state g.S.Store c.args.conn.now in
     let mid = state g.S.Store c.update_office.new.conn in
     let new = state g.S.Store c.insert_request.new.conn in
     waits_then Has Has (with_counters c.args.counters.now) old mid new
-    (λ clean. leads (with_counters c.args.counters.now) old mid (c.in_ok-update_office.ensures.changes clean))
+    (λ clean. leads (with_counters c.args.counters.now) old mid (c.in-Ok.ensures.changes clean))
     (waits (with_counters c.args.counters.now) old mid c.update_office.ensures.survives)
     (waits (with_request c.args.request.now) mid new c.insert_request.ensures.survives)
+
+pub returns-in-Err-clause-fault : goal.returns-in-Err-clause-fault
+returns-in-Err-clause-fault g c clean =
+    let old = state g.S.Store c.args.conn.now in
+    let new = state g.S.Store c.update_office.new.conn in
+    let k = c.args.counters.now in
+    let row = c.args.request.now in
+    fails_weaker {X = Unit {0}} Has Has (RefusesCounters k) (RefusesRecord k row) (λ d. d) old new (Err c.in-Err.fault)
+    (λ d means. means) (λ d means why. inl why)
+    (causes {X = Unit {0}} _ (counter_cells k) old new (Err c.in-Err.fault) (c.in-Err.ensures.fault clean))

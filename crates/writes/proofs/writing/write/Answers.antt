@@ -1,7 +1,9 @@
-use Rattle.std.proofs.lemmas.Result.{IfErr-weaker}
 use Rattle.sqlite.specs.Held.{state}
 use Rattle.tables.specs.Changes.{with_counters, with_request}
 use Rattle.rows.specs.Rows.{contents_of}
+use Rattle.rows.specs.Transactions.{Has}
+use Rattle.rows.proofs.Causes.{fails_weaker}
+use Rattle.writes.specs.Refused.{RefusesDecision, RefusesRows}
 use Rattle.writes.specs.Changing.{with_change}
 use Rattle.writes.specs.Due.{IsDue, contents_after}
 use Rattle.writes.proofs.Parts.{made, waited}
@@ -23,9 +25,19 @@ returns-clause-makes g c clean =
     (due_holds d a cas number k row old c.requires.lawful c.number-number.ensures c.in-Some.ensures.value c.in_ok-request.ensures)
     (c.write_rows.ensures.makes clean)
 
-pub returns-clause-undamaged : goal.returns-clause-undamaged
-returns-clause-undamaged g c clean =
-    IfErr-weaker c.write_rows.result _ _ (λ f whole x due. whole (contents_of x.0 x.1) due.means) (c.write_rows.ensures.undamaged clean)
+pub returns-clause-fault : goal.returns-clause-fault
+returns-clause-fault g c clean =
+    let old = state g.S.Store c.args.conn.now in
+    let new = state g.S.Store c.write_rows.new.conn in
+    let d = c.args.decision.now in
+    let a = c.args.arrival.now in
+    let cas = c.args.cas.now in
+    fails_weaker (IsDue d cas) Has
+    (RefusesRows c.number-number.result d.change c.in-Some.counters c.in_ok-request.request)
+    (λ x. RefusesDecision d a cas (contents_of x.0 x.1)) (λ x. contents_of x.0 x.1) old new c.write_rows.result
+    (λ x due. due.means)
+    (λ x due why. rw (c.number-number.ensures, c.in-Some.ensures.value, c.in_ok-request.ensures) at why)
+    (c.write_rows.ensures.fault clean)
 
 pub returns-clause-survives : goal.returns-clause-survives
 returns-clause-survives g c =

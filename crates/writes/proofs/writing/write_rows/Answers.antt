@@ -1,12 +1,14 @@
-use Rattle.std.proofs.Common.{arith}
+use Rattle.std.proofs.Common.{inl, inr, arith}
 use Rattle.sqlite.specs.Held.{state}
 use Rattle.sqlite.specs.State.{HasCleanDisk}
 use Rattle.tables.specs.Contents.{Contents}
 use Rattle.tables.specs.Changes.{with_counters, with_request}
-use Rattle.rows.specs.Transactions.{Has}
+use Rattle.rows.specs.Transactions.{Has, Waits}
+use Rattle.rows.proofs.Causes.{fails_then, fails_weaker}
+use Rattle.writes.specs.Refused.{RefusesChange, RefusesRecord, RefusesRows}
 use Rattle.rows.proofs.Steps.{waits_then}
 use Rattle.writes.specs.Changing.{with_change}
-use Rattle.writes.proofs.Parts.{leads_on, made_then, undamaged}
+use Rattle.writes.proofs.Parts.{leads_on, made_then}
 use Rattle.writes.proofs.writing.write_rows.Goals as goal
 
 pub returns-clause-makes : goal.returns-clause-makes
@@ -19,15 +21,18 @@ returns-clause-makes g c clean =
     (with_change c.args.number c.args.counters.now.next c.args.change.now) old mid new c.make.result
     (c.in_ok-record.ensures.makes still) (c.make.ensures.makes clean)
 
-pub returns-clause-undamaged : goal.returns-clause-undamaged
-returns-clause-undamaged g c clean =
+pub returns-clause-fault : goal.returns-clause-fault
+returns-clause-fault g c clean =
     let old = state g.S.Store c.args.conn.now in
     let mid = state g.S.Store c.record.new.conn in
     let new = state g.S.Store c.make.new.conn in
     let still : HasCleanDisk mid = omega (arith, c.make.ensures.survives.clean) in
     let recorded : Contents → Contents = λ d. with_request c.args.request.now (with_counters c.args.counters.now d) in
-    undamaged Has Has recorded old mid c.make.result (leads_on recorded old mid (c.in_ok-record.ensures.makes still))
-    (c.make.ensures.undamaged clean)
+    let k = c.args.counters.now in
+    fails_then Has Has (RefusesChange c.args.number k.next c.args.change.now)
+    (RefusesRows c.args.number c.args.change.now k c.args.request.now) recorded (Waits Has old) old mid new c.make.result
+    (leads_on recorded old mid (c.in_ok-record.ensures.makes still)) (λ d means why. inr why) c.record.ensures.survives still
+    c.make.ensures.survives.counts (c.make.ensures.fault clean)
 
 pub returns-clause-survives : goal.returns-clause-survives
 returns-clause-survives g c =

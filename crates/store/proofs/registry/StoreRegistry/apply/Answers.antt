@@ -19,10 +19,10 @@ returns-clause-fault g c clean =
 
 pub returns-clause-cause : goal.returns-clause-cause
 returns-clause-cause g c =
-    cause_of_take (state g.S.Store c.args.self.now.conn) (state g.S.Store c.take.new.conn) c.take.result c.told.result
-    c.told.ensures
+    cause_of_take c.args.arrival (state g.S.Store c.args.self.now.conn) (state g.S.Store c.take.new.conn) c.take.result c.told.result
+    c.told.ensures c.take.ensures.cause
 
 pub returns-clause-only : goal.returns-clause-only
 returns-clause-only g c clean =
-    only_of_take (state g.S.Store c.args.self.now.conn) c.take.result c.told.result c.told.ensures
-    (c.take.ensures.undamaged clean)
+    only_of_take c.args.arrival (state g.S.Store c.args.self.now.conn) (state g.S.Store c.take.new.conn) c.take.result c.told.result
+    c.told.ensures c.take.ensures.cause clean

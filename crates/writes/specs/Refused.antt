@@ -1,0 +1,43 @@
+-- When the rules of the tables refuse what is to be written.
+use Rattle.std.specs.Prelude.{◌⊎◌, ℕ, ◌+◌, List, length}
+use Rattle.message.specs.declared.serial_range.SerialRange.{SerialRange}
+use Rattle.office.specs.declared.arrival.Arrival.{Arrival}
+use Rattle.office.specs.declared.ca.Ca.{Ca}
+use Rattle.office.specs.declared.view.Change.{Change}
+use Rattle.office.specs.declared.view.Change.TheVariants as change
+use Rattle.office.specs.declared.view.Decision.{Decision}
+use Rattle.tables.specs.declared.offices.Counters.{Counters}
+use Rattle.tables.specs.declared.requests.RequestRow.{RequestRow}
+use Rattle.tables.specs.Contents.{Contents}
+use Rattle.tables.specs.Changes.{with_counters, with_request, without_runs}
+use Rattle.tables.specs.Refusals.{RefusesCa, RefusesCert, RefusesCounters, RefusesDeletion, RefusesDepartment, RefusesKeyId, RefusesRequest, RefusesRun, RefusesSignature}
+use Rattle.rows.specs.Rows.{cert_row, department_row, request_row}
+use Rattle.writes.specs.Changing.{ca_from}
+use Rattle.writes.specs.Due.{counters_of, kept_of}
+use Rattle.writes.specs.Ranges.{around, joined_run}
+
+-- the runs that touch or overlap the range are not taken out, or then the joined one is not put in
+abbrev pub RefusesRange : SerialRange → Contents → Type 0
+RefusesRange r c = RefusesDeletion (around r) c ⊎ RefusesRun (joined_run r c) (without_runs (around r) c)
+
+-- the change is refused, of which a CA gets this number and serves from this serial on
+abbrev pub RefusesChange : (number since : ℕ) → Change → Contents → Type 0
+RefusesChange number since change.Nothing c = ⊥
+RefusesChange number since (change.Department d) c = RefusesDepartment (department_row d) c
+RefusesChange number since (change.Certificate cert) c = RefusesCert (cert_row cert) c
+RefusesChange number since (change.Signature serial signature) c = RefusesSignature serial signature.bytes c
+RefusesChange number since (change.Range r) c = RefusesRange r c
+RefusesChange number since (change.KeyId key_id) c = RefusesKeyId key_id c
+RefusesChange number since (change.Ca ca) c = RefusesCa (ca_from number since ca) c
+
+-- the counters are refused, or then the row of the request
+abbrev pub RefusesRecord : Counters → RequestRow → Contents → Type 0
+RefusesRecord k row c = RefusesCounters k c ⊎ RefusesRequest row (with_counters k c)
+
+-- those are refused, or then the change
+abbrev pub RefusesRows : (number : ℕ) → Change → Counters → RequestRow → Contents → Type 0
+RefusesRows number change k row c = RefusesRecord k row c ⊎ RefusesChange number k.next change (with_request row (with_counters k c))
+
+-- what was decided of the arrival is refused, where these CAs are there
+abbrev pub RefusesDecision : Decision → Arrival → List Ca → Contents → Type 0
+RefusesDecision d a cas c = RefusesRows (length cas + 1) d.change (counters_of d) (request_row (kept_of a d.reply)) c
