@@ -17,3 +17,13 @@ pub record Served (reader reader' nonces nonces' : Option (List ℕ)) (moment : 
   pub nonce_taken : Consumes nonces nonces' nonce
   pub nonce_size : length nonce ≡ 32
   pub answered : honest → (o : Opening) (l : List Arrival) → before o l → Answers o l request moment nonce response (after o)
+
+-- Exactly one request and one nonce were taken so, and the register was stopped in answering them.
+pub record Stopped (reader reader' nonces nonces' : Option (List ℕ)) (stops : (request nonce : List ℕ) → Type 0) : Type 0 where
+  pub request : List ℕ
+  pub nonce : List ℕ
+  pub taken : Consumes reader reader' request
+  pub one : IsOneRequest reader' request
+  pub nonce_taken : Consumes nonces nonces' nonce
+  pub nonce_size : length nonce ≡ 32
+  pub stopped : stops request nonce

@@ -13,7 +13,7 @@ pub enum ServeFault {
     Read,
     /// The nonce source failed or ended.
     Nonces,
-    /// The register failed, for another cause than memory.
+    /// The register failed, for another cause than memory, or its database refused what was to be kept of the request.
     Store,
     /// A growth was refused.
     NoMemory,

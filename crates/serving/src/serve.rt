@@ -5,10 +5,10 @@ ghost use Rattle.std.specs.Io.KnownBytes.{Appends};
 ghost use Rattle.wire.specs.Streams.{AppendsBeginning};
 ghost use Rattle.office.specs.declared.opening.Opening.{Opening};
 ghost use Rattle.office.specs.declared.arrival.Arrival.{Arrival};
-ghost use Rattle.web.specs.Causes.{FailsWithin};
+ghost use Rattle.web.specs.Causes.{StopsAt};
 ghost use Rattle.serving.specs.Faults.{is_read, is_write, IfUnserved};
 ghost use Rattle.serving.specs.Nonces.{FailsBy};
-ghost use Rattle.serving.specs.Served.{Served};
+ghost use Rattle.serving.specs.Served.{Served, Stopped};
 
 use crate::fault::ServeFault;
 use crate::taking::{take_nonce, take_request};
@@ -47,8 +47,9 @@ pub fn serve_one<R: Source, W: Sink, S: Registry, N: Source>(
     ensures unwritten { IfUnserved result (writer.new ≡ writer.old) }
     ensures unchanged { S.is_honest registry.new → IfUnserved result ((o : Opening) (l : List Arrival) → S.means registry.old o l → S.means registry.new o l) }
 
-    // Each fault is answered only where what it names failed, `Nonces` also where the source ended.
-    ensures store { S.is_honest registry.new → result ≡ Err ServeFault.Store → (o : Opening) (l : List Arrival) → S.means registry.old o l → FailsWithin S.means S.fails registry.old registry.new }
+    // Each fault is answered only where what it names failed, `Nonces` also where the source ended, and `Store` also where
+    // the database refused what was to be kept of the request that was taken.
+    ensures store { S.is_honest registry.new → result ≡ Err ServeFault.Store → (o : Opening) (l : List Arrival) → S.means registry.old o l → Stopped (R.remaining reader.old) (R.remaining reader.new) (N.remaining nonces.old) (N.remaining nonces.new) (λ request nonce. StopsAt S.means S.fails S.stops request moment nonce registry.old registry.new) }
     ensures reader { R.failed reader.new ≡ (if is_read result then R.failed reader.old + 1 else R.failed reader.old) }
     ensures writer { W.failed writer.new ≡ (if is_write result then W.failed writer.old + 1 else W.failed writer.old) }
     ensures nonces { FailsBy result (N.failed nonces.old) (N.failed nonces.new) (N.remaining nonces.old) (N.remaining nonces.new) }
@@ -82,8 +83,9 @@ pub fn serve_by<R: Source, W: Sink, S: Registry, N: Source>(
     ensures unwritten { IfUnserved result (writer.new ≡ writer.old) }
     ensures unchanged { S.is_honest registry.new → IfUnserved result ((o : Opening) (l : List Arrival) → S.means registry.old o l → S.means registry.new o l) }
 
-    // Each fault is answered only where what it names failed, `Nonces` also where the source ended.
-    ensures store { S.is_honest registry.new → result ≡ Err ServeFault.Store → (o : Opening) (l : List Arrival) → S.means registry.old o l → FailsWithin S.means S.fails registry.old registry.new }
+    // Each fault is answered only where what it names failed, `Nonces` also where the source ended, and `Store` also where
+    // the database refused what was to be kept of the request that was taken.
+    ensures store { S.is_honest registry.new → result ≡ Err ServeFault.Store → (o : Opening) (l : List Arrival) → S.means registry.old o l → Stopped (R.remaining reader.old) (R.remaining reader.new) (N.remaining nonces.old) (N.remaining nonces.new) (λ request nonce. StopsAt S.means S.fails S.stops request moment nonce registry.old registry.new) }
     ensures reader { R.failed reader.new ≡ (if is_read result then R.failed reader.old + 1 else R.failed reader.old) }
     ensures writer { W.failed writer.new ≡ (if is_write result then W.failed writer.old + 1 else W.failed writer.old) }
     ensures nonces { FailsBy result (N.failed nonces.old) (N.failed nonces.new) (N.remaining nonces.old) (N.remaining nonces.new) }

@@ -1,7 +1,8 @@
 -- What is answered to a request.
-use Rattle.std.specs.Prelude.{◌≡◌, ℕ, List, [], ◌∷◌, ◌++◌, Option, Some, None}
+use Rattle.std.specs.Prelude.{◌≡◌, IsTrue, ℕ, List, [], ◌∷◌, ◌++◌, Option, Some, None}
 use Rattle.profile.specs.declared.refusal.Refusal.TheVariants.{UnknownSerial, NotSigned}
 use Rattle.lines.specs.CertLines.{certificate_line_text}
+use Rattle.krl.specs.Published.{fits}
 use Rattle.requests.specs.declared.resource.Resource.{Resource}
 use Rattle.requests.specs.declared.resource.Resource.TheVariants.{Pending, Certificate, Body, RevocationList, Signers, Table, Cas}
 use Rattle.requests.specs.declared.response.MediaType.TheVariants.{PlainText, Bytes}
@@ -13,7 +14,7 @@ use Rattle.office.specs.declared.arrival.Outcome.{Outcome}
 use Rattle.office.specs.declared.arrival.Outcome.TheVariants as outcome
 use Rattle.office.specs.declared.publication.Issued.{Issued}
 use Rattle.office.specs.State.{State, body_of}
-use Rattle.office.specs.Publication.{issued_of, published_list}
+use Rattle.office.specs.Publication.{issued_of, published_list, published_parts}
 use Rattle.office.specs.History.{state, due}
 use Rattle.web.specs.Reports.{pending_report, ca_report, signers_report, table_report}
 
@@ -49,6 +50,10 @@ resource_response s RevocationList = response_text 200 Bytes (published_list s)
 resource_response s Signers = response_text 200 PlainText (signers_report s)
 resource_response s Table = response_text 200 PlainText (table_report s)
 resource_response s Cas = response_text 200 PlainText (ca_report s)
+
+-- each section of the published list has a length of 32 bits
+abbrev pub ListFits : State → Type 0
+ListFits s = IsTrue (fits (published_parts s) s.revoked_key_ids)
 
 abbrev pub arrival_by : (caller key message : List ℕ) → ℕ → List ℕ → Arrival
 arrival_by caller key message moment nonce = record { caller = caller; key = key; bytes = message; moment = moment; nonce = nonce }

@@ -42,7 +42,7 @@ pub(crate) fn to_arrival<R: Registry>(
     ensures due { R.is_honest registry.new → IfOk result (λ v. (o : Opening) (l : List Arrival) → R.means registry.old o l → v.items ≡ outcome_response (due o l arrival)) }
     ensures next { R.is_honest registry.new → OnOk result ((o : Opening) (l : List Arrival) → R.means registry.old o l → R.means registry.new o (l ++ arrival ∷ [])) }
     ensures fault { R.is_honest registry.new → OnErr result ((o : Opening) (l : List Arrival) → R.means registry.old o l → R.means registry.new o l) }
-    ensures cause { IfErr result (λ e. HasCause e (R.fails registry.old registry.new)) }
+    ensures cause { IfErr result (λ e. HasCause e (R.stops registry.old registry.new arrival)) }
     ensures only { R.is_honest registry.new → IfErr result (λ e. (o : Opening) (l : List Arrival) → R.means registry.old o l → IsOfARegister e) }
 {
     let room = room(alloc, ROOM)?;

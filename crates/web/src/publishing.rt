@@ -1,7 +1,7 @@
 //! What is published: the key revocation list, the allowed signers and the CAs.
 
-ghost use Rattle.std.specs.Prelude.{◌≡◌, ◌++◌, List, length, IfOk, OnOk, IfErr};
-ghost use Rattle.krl.specs.Published.{published_text};
+ghost use Rattle.std.specs.Prelude.{◌≡◌, ◌++◌, List, length, IsTrue, IfOk, OnOk, IfErr};
+ghost use Rattle.krl.specs.Published.{fits, published_text};
 ghost use Rattle.requests.specs.declared.response.MediaType.TheVariants.{PlainText, Bytes};
 ghost use Rattle.requests.specs.Responses.{response_text};
 ghost use Rattle.office.specs.declared.opening.Opening.{Opening};
@@ -11,6 +11,7 @@ ghost use Rattle.office.specs.History.{state};
 ghost use Rattle.office.specs.Faults.{HasCause, IsOfARegister};
 ghost use Rattle.lines.specs.Digests.{fingerprint_text};
 ghost use Rattle.lines.specs.Signers.{signers_text};
+ghost use Rattle.web.specs.Answers.{ListFits};
 ghost use Rattle.web.specs.Causes.{FailsWithin, IsOfAList};
 ghost use Rattle.web.specs.Reports.{ca_line, ca_lines, ca_report, is_signing, signer_row, signer_rows, signer_rows_of, signers_report};
 
@@ -30,6 +31,7 @@ use wire::VecSink;
 /// bits counts as want of memory, and more parts than an office has CAs are damage.
 fn list_response(alloc: Global, revoked: &Revoked) -> Result<Vec<u8>, StoreFault>
     ensures ok { IfOk result (λ v. v.items ≡ response_text 200 Bytes (published_text revoked.now.head revoked.now.parts.items revoked.now.key_ids)) }
+    ensures fits { OnOk result (IsTrue (fits revoked.now.parts.items revoked.now.key_ids)) }
     ensures err { IfErr result (IsOfAList (length revoked.now.parts.items)) }
 {
     let parts = revoked.parts.as_slice();
@@ -53,6 +55,7 @@ fn list_response(alloc: Global, revoked: &Revoked) -> Result<Vec<u8>, StoreFault
 pub(crate) fn to_list<R: Registry>(registry: &mut R, alloc: Global) -> Result<Vec<u8>, StoreFault>
     ensures honest { R.is_honest registry.new → R.is_honest registry.old }
     ensures row { R.is_honest registry.new → IfOk result (λ v. (o : Opening) (l : List Arrival) → R.means registry.old o l → v.items ≡ response_text 200 Bytes (published_list (state o l))) }
+    ensures fits { R.is_honest registry.new → OnOk result ((o : Opening) (l : List Arrival) → R.means registry.old o l → ListFits (state o l)) }
     ensures same { R.is_honest registry.new → (o : Opening) (l : List Arrival) → R.means registry.old o l → R.means registry.new o l }
     ensures cause { IfErr result (λ e. HasCause e (R.fails registry.old registry.new)) }
     ensures only { R.is_honest registry.new → IfErr result (λ e. (o : Opening) (l : List Arrival) → R.means registry.old o l → IsOfARegister e) }

@@ -1,12 +1,14 @@
 //! What a request is answered.
 
-ghost use Rattle.std.specs.Prelude.{◌≡◌, List, IfOk, OnErr, IfErr};
+ghost use Rattle.std.specs.Prelude.{◌≡◌, List, IfOk, OnOk, OnErr, IfErr};
+ghost use Rattle.requests.specs.declared.resource.Resource.TheVariants.{RevocationList};
+ghost use Rattle.requests.specs.Asks.{Asks, get};
 ghost use Rattle.office.specs.declared.opening.Opening.{Opening};
 ghost use Rattle.office.specs.declared.arrival.Arrival.{Arrival};
 ghost use Rattle.office.specs.Faults.{HasCause, IsOfARegister};
 ghost use Rattle.office.specs.History.{state};
-ghost use Rattle.web.specs.Answers.{Answers, arrival_by, resource_response};
-ghost use Rattle.web.specs.Causes.{FailsWithin};
+ghost use Rattle.web.specs.Answers.{Answers, ListFits, arrival_by, resource_response};
+ghost use Rattle.web.specs.Causes.{FailsWithin, StopsAt};
 
 use crate::answering::to_arrival;
 use crate::certificates::{to_certificate, to_pending, to_serial_body};
@@ -45,6 +47,7 @@ fn to_resource<R: Registry>(
 ) -> Result<Vec<u8>, StoreFault>
     ensures honest { R.is_honest registry.new → R.is_honest registry.old }
     ensures row { R.is_honest registry.new → IfOk result (λ v. (o : Opening) (l : List Arrival) → R.means registry.old o l → v.items ≡ resource_response (state o l) resource) }
+    ensures fits { R.is_honest registry.new → resource ≡ RevocationList → OnOk result ((o : Opening) (l : List Arrival) → R.means registry.old o l → ListFits (state o l)) }
     ensures same { R.is_honest registry.new → (o : Opening) (l : List Arrival) → R.means registry.old o l → R.means registry.new o l }
     ensures cause { R.is_honest registry.new → IfErr result (λ e. HasCause e (FailsWithin R.means R.fails registry.old registry.new)) }
     ensures only { R.is_honest registry.new → IfErr result (λ e. (o : Opening) (l : List Arrival) → R.means registry.old o l → IsOfARegister e) }
@@ -71,8 +74,12 @@ pub fn answer_by<R: Registry>(
 ) -> Result<Vec<u8>, StoreFault>
     ensures honest { R.is_honest registry.new → R.is_honest registry.old }
     ensures answered { R.is_honest registry.new → IfOk result (λ v. (o : Opening) (l : List Arrival) → R.means registry.old o l → Answers o l request.now moment nonce.now v.items (R.means registry.new o)) }
+
+    // The list is answered only where it fits.
+    ensures fits { R.is_honest registry.new → Asks request.now (get RevocationList) → OnOk result ((o : Opening) (l : List Arrival) → R.means registry.old o l → ListFits (state o l)) }
+
     ensures fault { R.is_honest registry.new → OnErr result ((o : Opening) (l : List Arrival) → R.means registry.old o l → R.means registry.new o l) }
-    ensures cause { R.is_honest registry.new → IfErr result (λ e. HasCause e (FailsWithin R.means R.fails registry.old registry.new)) }
+    ensures cause { R.is_honest registry.new → IfErr result (λ e. HasCause e (StopsAt R.means R.fails R.stops request.now moment nonce.now registry.old registry.new)) }
     ensures only { R.is_honest registry.new → IfErr result (λ e. (o : Opening) (l : List Arrival) → R.means registry.old o l → IsOfARegister e) }
 {
     match asks(routes, request) {
@@ -93,6 +100,11 @@ pub fn answer_by<R: Registry>(
 /// request aren't looked at.
 ///
 /// The routes and room for a response are made before the register is asked, so after a fault nothing was applied.
+///
+/// # Errors
+///
+/// `Device` where the database failed, or refused what was to be kept of the arrival, and `NoMemory` where a growth was
+/// refused or a section of the list would be too long. A register that means a history answers no other.
 pub fn answer<R: Registry>(
     registry: &mut R,
     alloc: Global,
@@ -102,8 +114,12 @@ pub fn answer<R: Registry>(
 ) -> Result<Vec<u8>, StoreFault>
     ensures honest { R.is_honest registry.new → R.is_honest registry.old }
     ensures answered { R.is_honest registry.new → IfOk result (λ v. (o : Opening) (l : List Arrival) → R.means registry.old o l → Answers o l request.now moment nonce.now v.items (R.means registry.new o)) }
+
+    // The list is answered only where it fits.
+    ensures fits { R.is_honest registry.new → Asks request.now (get RevocationList) → OnOk result ((o : Opening) (l : List Arrival) → R.means registry.old o l → ListFits (state o l)) }
+
     ensures fault { R.is_honest registry.new → OnErr result ((o : Opening) (l : List Arrival) → R.means registry.old o l → R.means registry.new o l) }
-    ensures cause { R.is_honest registry.new → IfErr result (λ e. HasCause e (FailsWithin R.means R.fails registry.old registry.new)) }
+    ensures cause { R.is_honest registry.new → IfErr result (λ e. HasCause e (StopsAt R.means R.fails R.stops request.now moment nonce.now registry.old registry.new)) }
     ensures only { R.is_honest registry.new → IfErr result (λ e. (o : Opening) (l : List Arrival) → R.means registry.old o l → IsOfARegister e) }
 {
     let routes = Routes::new(alloc)?;

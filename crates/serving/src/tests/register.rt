@@ -25,6 +25,8 @@ impl Registry for Register {
 
     ghost fails = { λ _ _. ⊥ };
 
+    ghost stops = { λ _ _ _. ⊥ };
+
     ghost means = { λ _ _ _. ⊥ };
 
     fn apply(&mut self, alloc: Global, _arrival: Arrival) -> Result<Outcome, StoreFault> {

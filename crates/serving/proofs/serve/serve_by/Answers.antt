@@ -2,6 +2,8 @@ use Rattle.std.proofs.Common.{ℕ, List, subst}
 use Rattle.std.specs.Io.KnownBytes.{Appends}
 use Rattle.wire.specs.Streams.{AppendsBeginning}
 use Rattle.web.specs.Answers.{Answers}
+use Rattle.web.specs.Causes.{StopsAt}
+use Rattle.serving.proofs.Stores.{cause_of_store}
 use Rattle.serving.proofs.serve.serve_by.Goals as goal
 
 pub returns-in-Ok-clause-ok : goal.returns-in-Ok-clause-ok
@@ -41,3 +43,17 @@ returns-clause-write g c _ =
       },
       sent,
     )
+
+pub returns-in_err-response-clause-store : goal.returns-in_err-response-clause-store
+returns-in_err-response-clause-store g c honest store o l means = record {
+  request = c.in_ok-request.request.items;
+  nonce = c.in_ok-nonce.nonce;
+  taken = c.in_ok-request.ensures.consumed;
+  one = c.in_ok-request.ensures.one;
+  nonce_taken = c.in_ok-nonce.ensures.consumed;
+  nonce_size = c.in_ok-nonce.ensures.size;
+  stopped = subst (λ (t : List ℕ). StopsAt g.S.Registry.means g.S.Registry.fails g.S.Registry.stops t c.args.moment c.in_ok-nonce.nonce
+      c.args.registry.now c.answer_by.new.registry) c.deref.ensures.value
+      (cause_of_store c.from_residual-in_err-response.result c.in_err-response.field-0.0 _ c.from_residual-in_err-response.ensures.1 store
+      (c.in_err-response.ensures.only honest o l means) (c.in_err-response.ensures.cause honest));
+}

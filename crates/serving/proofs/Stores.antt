@@ -1,0 +1,25 @@
+-- Why a fault of the register is told as `Store`.
+use Rattle.std.proofs.Common.{◌≡◌, sym, ◌∙◌}
+use Rattle.std.specs.Prelude.{Result, Ok, Err, IsErrAnd}
+use Rattle.office.specs.declared.fault.StoreFault.{StoreFault}
+use Rattle.office.specs.declared.fault.StoreFault.TheVariants.{AlreadyAnOffice, NotAnOffice, WrongSchema, Damaged, Device, NoMemory}
+use Rattle.office.specs.Faults.{HasCause, IsOfARegister}
+use Rattle.serving.specs.declared.fault.ServeFault.{ServeFault}
+use Rattle.serving.specs.declared.fault.ServeFault.TheVariants.{Store}
+use Rattle.serving.specs.Faults.{fault_of}
+
+-- where the register means a history, the fault is the database's
+cause_of : (e : StoreFault) (stopped : Type 0) → fault_of e ≡ Store → IsOfARegister e → HasCause e stopped → stopped
+cause_of Device stopped same only cause = cause
+cause_of NoMemory stopped same only cause = absurd (cc)
+cause_of AlreadyAnOffice stopped same only cause = absurd only
+cause_of NotAnOffice stopped same only cause = absurd only
+cause_of WrongSchema stopped same only cause = absurd only
+cause_of Damaged stopped same only cause = absurd only
+
+-- and it has a cause
+pub cause_of_store : {T : Type 0} (told : Result T ServeFault) (e : StoreFault) (stopped : Type 0) → IsErrAnd told (λ f. f ≡ fault_of e)
+    → told ≡ Err Store → IsOfARegister e → HasCause e stopped → stopped
+cause_of_store (Ok x) e stopped gives same only cause = absurd (cc)
+cause_of_store (Err f) e stopped gives same only cause =
+    let of_store : f ≡ Store = cc in cause_of e stopped (sym gives ∙ of_store) only cause
