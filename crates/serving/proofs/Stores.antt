@@ -8,7 +8,7 @@ use Rattle.serving.specs.declared.fault.ServeFault.{ServeFault}
 use Rattle.serving.specs.declared.fault.ServeFault.TheVariants.{Store}
 use Rattle.serving.specs.Faults.{fault_of}
 
--- where the register means a history, the fault is the database's
+-- of a register that means a history only a fault with a cause is told so
 cause_of : (e : StoreFault) (stopped : Type 0) → fault_of e ≡ Store → IsOfARegister e → HasCause e stopped → stopped
 cause_of Device stopped same only cause = cause
 cause_of NoMemory stopped same only cause = absurd (cc)
@@ -17,7 +17,7 @@ cause_of NotAnOffice stopped same only cause = absurd only
 cause_of WrongSchema stopped same only cause = absurd only
 cause_of Damaged stopped same only cause = absurd only
 
--- and it has a cause
+-- a result that tells it has that cause
 pub cause_of_store : {T : Type 0} (told : Result T ServeFault) (e : StoreFault) (stopped : Type 0) → IsErrAnd told (λ f. f ≡ fault_of e)
     → told ≡ Err Store → IsOfARegister e → HasCause e stopped → stopped
 cause_of_store (Ok x) e stopped gives same only cause = absurd (cc)

@@ -11,7 +11,7 @@ use Rattle.tables.specs.Contents.{Contents}
 use Rattle.tables.specs.declared.offices.OfficeRow.{OfficeRow}
 use Rattle.office.specs.declared.fault.StoreFault.{StoreFault}
 use Rattle.office.specs.declared.fault.StoreFault.TheVariants.{AlreadyAnOffice, NotAnOffice, WrongSchema, Damaged, Device, NoMemory}
-use Rattle.office.specs.Faults.{IsOfARegister}
+use Rattle.migration.specs.Migrating.{IsExcused}
 use Rattle.store.specs.Meaning.{Looks, opened_by}
 
 -- the office's tables are seen
@@ -63,9 +63,9 @@ looked c failed rows r p is = go r (opened_same c.offices rows p ∙ sym is)
 
 -- an office is not missed
 pub not_missed : (c : Contents) (failed : Type 0) (e : StoreFault) → opened_by c.offices ≡ Ok tt → Looks c failed (Err e)
-    → IsOfARegister e
+    → IsExcused failed e
 not_missed c failed NoMemory is h = tt
-not_missed c failed Device is h = tt
+not_missed c failed Device is h = h
 not_missed c failed NotAnOffice is h = absurd cc
 not_missed c failed WrongSchema is h = absurd cc
 not_missed c failed Damaged is h = absurd cc

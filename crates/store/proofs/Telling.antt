@@ -8,10 +8,6 @@ use Rattle.office.specs.declared.opening.Opening.{Opening}
 use Rattle.office.specs.declared.arrival.Arrival.{Arrival}
 use Rattle.rows.specs.Transactions.{Rests, Has}
 use Rattle.rows.specs.Rows.{office_contents}
-use Rattle.office.specs.declared.fault.StoreFault.{StoreFault}
-use Rattle.office.specs.declared.fault.StoreFault.TheVariants.{AlreadyAnOffice, Damaged, Device, NoMemory, NotAnOffice, WrongSchema}
-use Rattle.office.specs.Faults.{IsOfARegister}
-use Rattle.migration.specs.Migrating.{IsExcused}
 use Rattle.store.specs.Meaning.{Tells}
 
 -- nothing changed, or a transaction was undone that was not there
@@ -36,12 +32,3 @@ tells_still old new was fails o l tells = record {
   rows = λ still.
       let r = tells.rows (was still) in rests_still old new (office_contents o l) (fails (office_contents o l) r.now) still r;
 }
-
--- what excuses a migration is of a register
-pub excused : (stopped : Type 0) (e : StoreFault) → IsExcused stopped e → IsOfARegister e
-excused stopped NoMemory is = tt
-excused stopped Device is = tt
-excused stopped AlreadyAnOffice is = is
-excused stopped NotAnOffice is = is
-excused stopped WrongSchema is = is
-excused stopped Damaged is = is

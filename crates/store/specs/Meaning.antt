@@ -1,6 +1,7 @@
 -- What the tables mean.
 use Rattle.std.specs.Prelude.{◌≡◌, List, [], ◌∷◌, length, ◌==◌, if◌then◌else◌, IsTrue, Result, Ok, Err}
 use Rattle.std.specs.List.{AllByRecursion}
+use Rattle.sqlite.specs.Tree.{Trees}
 use Rattle.sqlite.specs.State.{State, HasCleanDisk}
 use Rattle.office.specs.declared.opening.Opening.{Opening}
 use Rattle.office.specs.declared.arrival.Arrival.{Arrival}
@@ -8,7 +9,7 @@ use Rattle.office.specs.declared.fault.StoreFault.{StoreFault}
 use Rattle.office.specs.declared.fault.StoreFault.TheVariants.{Device, NoMemory, NotAnOffice, WrongSchema}
 use Rattle.office.specs.Shows.{IsOffice}
 use Rattle.tables.specs.declared.offices.OfficeRow.{OfficeRow}
-use Rattle.tables.specs.Contents.{Contents}
+use Rattle.tables.specs.Contents.{Contents, Kept}
 use Rattle.tables.specs.Faults as table
 use Rattle.tables.specs.declared.fault.Fault.{Fault}
 use Rattle.tables.specs.declared.fault.Fault.TheVariants as table_fault
@@ -37,6 +38,11 @@ pub record Tells (s : State) (o : Opening) (l : List Arrival) : Type 0 where
 -- of an honest disk and of tables that tell a history: the database failed
 abbrev pub HasFailed : State → State → Type 0
 HasFailed old new = HasCleanDisk new → (o : Opening) (l : List Arrival) → Tells old o l → table.HasFailed old new
+
+-- while the connection is open, a crash leaves the tables of the history that they tell, and nothing else
+abbrev pub OutlastsCrashes : State → Type 0
+OutlastsCrashes s = (o : Opening) (l : List Arrival) → Tells s o l → IsTrue s.is_open
+    → (trees : Trees) → s.may_leave trees → Kept trees (office_contents o l)
 
 -- what an open answers to the rows of the table of the office: there is one, of the schema that this store has
 abbrev pub opened_by : List OfficeRow → Result (Unit {0}) StoreFault

@@ -6,14 +6,15 @@ ghost use Rattle.sqlite.specs.Held.{state};
 ghost use Rattle.sqlite.specs.State.{HasCleanDisk, Survives};
 ghost use Rattle.tables.specs.Schema.{no_schema};
 ghost use Rattle.tables.specs.Calls.{IsBare};
+ghost use Rattle.tables.specs.Faults.{HasFailed};
 ghost use Rattle.rows.specs.Rows.{office_contents};
 ghost use Rattle.rows.specs.Transactions.{Leaves};
 ghost use Rattle.tables.specs.Look.{is_ca_name, is_office_name, is_office_table};
-ghost use Rattle.migration.specs.Former.{TellsBefore};
+ghost use Rattle.migration.specs.Former.{TellsBefore, former_contents};
+ghost use Rattle.migration.specs.Migrating.{HasStopped, IsExcused};
 ghost use Rattle.office.specs.declared.opening.Opening.{Opening};
 ghost use Rattle.office.specs.declared.arrival.Arrival.{Arrival};
 ghost use Rattle.office.specs.Openings.{IsOpening};
-ghost use Rattle.office.specs.Faults.{IsOfARegister};
 ghost use Rattle.store.specs.Meaning.{IsBlank, IsHistory, Tells};
 
 use crate::creating::create;
@@ -66,7 +67,8 @@ impl<S: Alter> Store<S> {
     }
 
     /// The office that a database has. `NotAnOffice` where the table of the office is missing or has not just one row,
-    /// `WrongSchema` where its tables are those of another version. A fault gives the connection back.
+    /// `WrongSchema` where its tables are those of another version, `Device` where the database failed. A fault gives the
+    /// connection back.
     pub fn open(alloc: Global, conn: Connection<S>) -> Result<Store<S>, (StoreFault, Connection<S>)>
         requires { (state S.Store conn).in_transaction ≡ false }
         ensures same { IfOk result (λ s. HasCleanDisk (state S.Store s.conn) → (o : Opening) (l : List Arrival)
@@ -74,7 +76,8 @@ impl<S: Alter> Store<S> {
         ensures back { IfErr result (λ e. HasCleanDisk (state S.Store e.1) → (o : Opening) (l : List Arrival)
             → Tells (state S.Store conn) o l → Tells (state S.Store e.1) o l) }
         ensures only { IfErr result (λ e. HasCleanDisk (state S.Store e.1) → IsTrue (state S.Store conn).is_open
-            → (o : Opening) (l : List Arrival) → Tells (state S.Store conn) o l → IsOfARegister e.0) }
+            → (o : Opening) (l : List Arrival) → Tells (state S.Store conn) o l
+            → IsExcused (HasFailed (state S.Store conn) (state S.Store e.1)) e.0) }
         ensures none { list_any is_office_table (state S.Store conn).now.schema.tables ≡ false
             → result ≡ Err (record { 0 = StoreFault.NotAnOffice; 1 = conn }) }
     {
@@ -87,7 +90,8 @@ impl<S: Alter> Store<S> {
 
     /// The office of a database with the tables of schema 1, which become those of this version: its CA gets number 1. All
     /// of it is done or, with a fault, which gives the connection back, nothing. `NotAnOffice` where the table of the
-    /// office is missing or has not just one row, `WrongSchema` where its tables are those of another version.
+    /// office is missing or has not just one row, `WrongSchema` where its tables are those of another version, `Device`
+    /// where the database failed or its rules refuse the CA.
     pub fn migrate(
         alloc: Global,
         conn: Connection<S>,
@@ -98,7 +102,8 @@ impl<S: Alter> Store<S> {
         ensures back { IfErr result (λ e. HasCleanDisk (state S.Store e.1) → (o : Opening) (l : List Arrival)
             → TellsBefore (state S.Store conn) o l → TellsBefore (state S.Store e.1) o l) }
         ensures only { IfErr result (λ e. HasCleanDisk (state S.Store e.1) → IsTrue (state S.Store conn).is_open
-            → (o : Opening) (l : List Arrival) → TellsBefore (state S.Store conn) o l → IsOfARegister e.0) }
+            → (o : Opening) (l : List Arrival) → TellsBefore (state S.Store conn) o l
+            → IsExcused (HasStopped (former_contents o l) (state S.Store conn) (state S.Store e.1)) e.0) }
         ensures none { list_any is_office_table (state S.Store conn).now.schema.tables ≡ false
             → result ≡ Err (record { 0 = StoreFault.NotAnOffice; 1 = conn }) }
         ensures already { list_any is_office_table (state S.Store conn).now.schema.tables ≡ true

@@ -1,7 +1,4 @@
 use Rattle.sqlite.specs.Held.{state}
-use Rattle.migration.specs.Former.{former_contents}
-use Rattle.migration.specs.Migrating.{HasStopped}
-use Rattle.store.proofs.Telling.{excused}
 use Rattle.store.proofs.register.Store.migrate.Goals as goal
 
 pub returns-in-Ok-clause-carried : goal.returns-in-Ok-clause-carried
@@ -14,6 +11,4 @@ pub returns-in-Err-clause-back : goal.returns-in-Err-clause-back
 returns-in-Err-clause-back g c clean o l before = (c.in-Err.ensures.carries clean o l before).0
 
 pub returns-in-Err-clause-only : goal.returns-in-Err-clause-only
-returns-in-Err-clause-only g c clean is_open o l before =
-    excused (HasStopped (former_contents o l) (state g.S.Store c.args.conn) (state g.S.Store c.migrate.new.conn))
-    c.in-Err.fault ((c.in-Err.ensures.carries clean o l before).1 is_open)
+returns-in-Err-clause-only g c clean is_open o l before = (c.in-Err.ensures.carries clean o l before).1 is_open
