@@ -1,8 +1,7 @@
 -- The office over its tables, in the words of the plain machine.
-use Rattle.std.specs.Prelude.{◌≡◌, ℕ, List, ◌++◌, Some, IsTrue, slice_get, true}
+use Rattle.std.specs.Prelude.{◌≡◌, ℕ, List, ◌++◌, Some, slice_get, true}
 use Rattle.lines.specs.Keys.{key_blob}
 use Rattle.krl.specs.Format.{RevocationList, revokes}
-use Rattle.krl.specs.Published.{fits}
 use Rattle.requests.specs.declared.response.MediaType.TheVariants.{Bytes}
 use Rattle.requests.specs.Responses.{response_text}
 use Rattle.office.specs.declared.opening.Opening.{Opening}
@@ -12,7 +11,6 @@ use Rattle.office.specs.declared.certificate.Certificate.{Certificate}
 use Rattle.office.specs.Openings.{IsOpening}
 use Rattle.office.specs.State.{body_of, certificate_of}
 use Rattle.office.specs.Publication as publication
-use Rattle.office.specs.Publication.{published_parts}
 use Rattle.office.specs.History.{state}
 use Rattle.laws.specs.Bodies.{IsBodyFor}
 use Rattle.laws.specs.Lists.{AreExactList, IsExact}
@@ -35,10 +33,6 @@ BodiesNameTheirSigners = (o : Opening) (l : List Arrival) → IsOpening o → (s
 -- the bytes of the list that an office publishes after a history
 abbrev pub list_bytes : Opening → List Arrival → List ℕ
 list_bytes o l = publication.published_list (state o l)
-
--- each of its sections has a length of 32 bits
-abbrev pub ListFits : Opening → List Arrival → Type 0
-ListFits o l = IsTrue (fits (published_parts (state o l)) (state o l).revoked_key_ids)
 
 -- the bytes of the list; cut in the one way that there is, they revoke what accepted messages named, and nothing else
 pub record IsList (o : Opening) (l : List Arrival) (bytes : List ℕ) : Type 0 where

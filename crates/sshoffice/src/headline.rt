@@ -13,10 +13,11 @@ ghost use Rattle.requests.specs.declared.resource.Resource.TheVariants.{Revocati
 ghost use Rattle.requests.specs.Asks.{Asks, get};
 ghost use Rattle.office.specs.declared.opening.Opening.{Opening};
 ghost use Rattle.office.specs.declared.arrival.Arrival.{Arrival};
-ghost use Rattle.store.specs.Meaning.{Tells};
+ghost use Rattle.office.specs.Faults.{IsOfARegister};
+ghost use Rattle.store.specs.Meaning.{OutlastsCrashes, Tells};
 ghost use Rattle.web.specs.Answers.{Answers};
 ghost use Rattle.laws.specs.Counting.{CountsUp};
-ghost use Rattle.sshoffice.specs.Headline.{BodiesNameTheirSigners, BodiesStay, EqualVersionsAreEqualLists, IsList, IsListResponse, ListFits, ListsForgetNothing};
+ghost use Rattle.sshoffice.specs.Headline.{BodiesNameTheirSigners, BodiesStay, EqualVersionsAreEqualLists, IsList, IsListResponse, ListsForgetNothing};
 ghost use Rattle.sshoffice.specs.Printing.{Prints};
 
 use crate::applying::apply_exchanges;
@@ -26,7 +27,7 @@ use office::{MOST_CAS, Registry, Revoked, StoreFault};
 use sqlite::Alter;
 use std::alloc::Global;
 use std::io::Write;
-use store::Store;
+use store::{Store, a_crash_leaves_the_history};
 use web::{Exchange, answer};
 use wire::Sink;
 
@@ -45,6 +46,9 @@ pub fn replay<S: Alter, W: Write>(
     // The same, but some are given a fault, and are no part of the history.
     ensures fault { HasCleanDisk (state S.Store store.new.conn) → result ≡ Err JobFault.Fault → Prints (Tells (state S.Store store.old.conn)) (Tells (state S.Store store.new.conn)) exchanges.now (W.contents out.old) (W.contents out.new) true }
 
+    // No crash afterwards loses what they tell.
+    ensures crash { OutlastsCrashes (state S.Store store.new.conn) }
+
     // The kth message that makes a certificate gets the serial first + k - 1 and the digest of the kth body, so no serial
     // names two bodies; a body stays, and names the CA that signs it.
     ensures serials { (o : Opening) (l : List Arrival) → CountsUp o l }
@@ -54,7 +58,9 @@ pub fn replay<S: Alter, W: Write>(
     laws::serials_count_up();
     laws::a_body_stays();
     laws::a_body_names_its_signer();
-    apply_exchanges(store, alloc, exchanges, out)
+    let printed = apply_exchanges(store, alloc, exchanges, out);
+    a_crash_leaves_the_history(store);
+    printed
 }
 
 /// The response to one request over the tables of an office.
@@ -71,8 +77,14 @@ pub fn respond<S: Alter>(
     // After a fault they tell what they told.
     ensures fault { HasCleanDisk (state S.Store store.new.conn) → OnErr result ((o : Opening) (l : List Arrival) → Tells (state S.Store store.old.conn) o l → Tells (state S.Store store.new.conn) o l) }
 
+    // Such a fault is want of memory, or the database failed, or refused a row that was due.
+    ensures only { HasCleanDisk (state S.Store store.new.conn) → IfErr result (λ e. (o : Opening) (l : List Arrival) → Tells (state S.Store store.old.conn) o l → IsOfARegister e) }
+
+    // No crash afterwards loses what they tell.
+    ensures crash { OutlastsCrashes (state S.Store store.new.conn) }
+
     // To GET of the list it is the list, which revokes exactly what accepted messages named.
-    ensures list { HasCleanDisk (state S.Store store.new.conn) → Asks request.now (get RevocationList) → IfOk result (λ v. (o : Opening) (l : List Arrival) → Tells (state S.Store store.old.conn) o l → ListFits o l → IsListResponse o l v.items) }
+    ensures list { HasCleanDisk (state S.Store store.new.conn) → Asks request.now (get RevocationList) → IfOk result (λ v. (o : Opening) (l : List Arrival) → Tells (state S.Store store.old.conn) o l → IsListResponse o l v.items) }
     ensures forgets { ListsForgetNothing }
     ensures versions { EqualVersionsAreEqualLists }
 {
@@ -80,7 +92,9 @@ pub fn respond<S: Alter>(
     laws::a_later_list_revokes_as_much();
     laws::equal_versions_are_equal_lists();
     requests::one_ask();
-    answer(store, alloc, request, moment, nonce)
+    let response = answer(store, alloc, request, moment, nonce);
+    a_crash_leaves_the_history(store);
+    response
 }
 
 // Writes a list that was found.

@@ -6,5 +6,5 @@ use Rattle.sshoffice.proofs.headline.respond.Goals as goal
 pub returns-clause-list : goal.returns-clause-list
 returns-clause-list g c honest asks =
     responded c.the_list_is_exact.ensures (Tells (state g.S.Store c.args.store.now.conn)) (λ o l m. m.history.office)
-    c.answer.result c.args.request.now c.args.moment c.args.nonce.now (Tells (state g.S.Store c.answer.new.registry.conn))
-    c.one_ask.ensures asks (c.answer.ensures.answered honest)
+    c.answer-response.result c.args.request.now c.args.moment c.args.nonce.now (Tells (state g.S.Store c.answer-response.new.registry.conn))
+    c.one_ask.ensures asks (c.answer-response.ensures.answered honest) (c.answer-response.ensures.fits honest asks)
