@@ -3,6 +3,8 @@
 mod commands;
 mod deliveries;
 mod departments;
+mod disks;
+mod failing_disks;
 mod faults;
 mod fields;
 mod files;
@@ -14,6 +16,10 @@ mod reports;
 mod revocations;
 mod rollovers;
 mod script;
+mod served;
+mod stored;
+mod thousand;
+mod unwritten;
 
 use std::alloc::Global;
 use std::io::Write;

@@ -12,7 +12,7 @@ use std::fs;
 use std::net::TcpListener;
 
 // The key of 32 bytes 0x11, with a comment.
-const CA: &str =
+pub const CA: &str =
     "ssh-ed25519 AAAAC3NzaC1lZDI1NTE5AAAAIBERERERERERERERERERERERERERERERERERERERERER office\n";
 
 // The key of 32 bytes 0x12, without its line feed.
@@ -20,13 +20,13 @@ const CA_2: &str =
     "ssh-ed25519 AAAAC3NzaC1lZDI1NTE5AAAAIBISEhISEhISEhISEhISEhISEhISEhISEhISEhISEhIS";
 
 // What ssh-keygen -l says of the first key
-const READY: &str =
+pub const READY: &str =
     "office ready 1 9223372036854775806\nca SHA256:SQfC+vTbLURn9cTkVxIS8fGQ3FKNAJWeB0o139+gV4M\n";
 
 const NONCE: &str = "3333333333333333333333333333333333333333333333333333333333333333";
 
 // The program's name and these words.
-fn words_of(alloc: Global, text: &str) -> Option<Vec<String>> {
+pub fn words_of(alloc: Global, text: &str) -> Option<Vec<String>> {
     let mut words = Vec::new(alloc);
     words.push(String::from_str(alloc, "sshoffice").ok()?).ok()?;
     for word in text.split_whitespace() {
@@ -47,7 +47,7 @@ fn gives(rt: &HostRuntime, text: &str, status: u8, printed: &[u8], named: &[u8])
 }
 
 // Whether the command does what it should.
-fn does(rt: &HostRuntime, text: &str, printed: &[u8]) -> bool {
+pub fn does(rt: &HostRuntime, text: &str, printed: &[u8]) -> bool {
     gives(rt, text, 0, printed, b"")
 }
 
@@ -67,7 +67,7 @@ fn all_fail(rt: &HostRuntime, rows: &[(&str, &str)]) -> bool {
 }
 
 // Whether these files could be written.
-fn write_files(rt: &HostRuntime, files: &[(&str, &[u8])]) -> bool {
+pub fn write_files(rt: &HostRuntime, files: &[(&str, &[u8])]) -> bool {
     for (name, bytes) in files {
         if fs::write(rt, *name, *bytes).is_err() {
             return false;
@@ -77,7 +77,7 @@ fn write_files(rt: &HostRuntime, files: &[(&str, &[u8])]) -> bool {
 }
 
 // The database of a test, with its log, is no more.
-fn remove_database(rt: &HostRuntime, name: &str, log: &str) {
+pub fn remove_database(rt: &HostRuntime, name: &str, log: &str) {
     let _ = fs::remove_file(rt, name);
     let _ = fs::remove_file(rt, log);
 }

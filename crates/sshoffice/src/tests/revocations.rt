@@ -56,7 +56,7 @@ fn two_serials_join_and_a_date_may_go_back(rt: HostRuntime) -> Result<(), Fail> 
     run(&rt, JOINED.as_slice())
 }
 
-const FILLED: [Row; 19] = [
+pub const FILLED: [Row; 19] = [
     ("ana/i1", 1000, 0x33, ISSUE, OK, ISSUED_1),
     ("ana/i2", 1000, 0x33, ISSUE, OK, ISSUED_2),
     ("ana/i3", 1000, 0x33, ISSUE, OK, ISSUED_3),
@@ -98,7 +98,7 @@ const LAST_ALONE: [Row; 5] = [
     ("/v1/krl", 1000, 0x33, "", OK, LAST_SERIAL),
 ];
 
-const LAST_TWO: [Row; 6] = [
+pub const LAST_TWO: [Row; 6] = [
     ("root/w1", 0, 0x33, DEPARTMENT, OK, DEPARTMENT_WEB),
     ("ana/i1", 1000, 0x33, ISSUE, OK, ISSUED_LAST_BUT_ONE),
     ("ana/i2", 1000, 0x33, ISSUE, OK, ISSUED_LAST),

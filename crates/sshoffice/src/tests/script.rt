@@ -5,7 +5,7 @@ ghost use Rattle.office.specs.Openings.{IsOpening};
 use super::*;
 use crate::applying::{apply_exchanges, apply_to_trial};
 use crate::exchanges::read_exchanges;
-use crate::trial::office_in_memory;
+use crate::trial::{MemoryOffice, office_in_memory};
 use office::Opening;
 
 /// An exchange: a path `caller/key` or a target that is asked for, the moment, the byte of the nonce, and the message; then
@@ -27,7 +27,8 @@ pub struct Script {
     printed: Vec<Vec<u8>>,
 }
 
-fn request_of(alloc: Global, path: &str, message: &str) -> Result<Vec<u8>, Fail> {
+/// The request of a path and a message.
+pub fn request_of(alloc: Global, path: &str, message: &str) -> Result<Vec<u8>, Fail> {
     if path.starts_with("/") {
         return get(alloc, path);
     }
@@ -46,7 +47,8 @@ pub fn decoded(alloc: Global, digits: &str) -> Result<Vec<u8>, Fail> {
     Ok(bytes)
 }
 
-fn response_of(alloc: Global, path: &str, status: &str, reply: &str) -> Result<Vec<u8>, Fail> {
+/// The response of a status and a reply to what a path asks.
+pub fn response_of(alloc: Global, path: &str, status: &str, reply: &str) -> Result<Vec<u8>, Fail> {
     if status == OK && (path.ends_with("/body") || path == "/v1/krl") {
         let bytes = decoded(alloc, reply)?;
         return response(alloc, OK, "application/octet-stream", bytes.as_slice());
@@ -124,18 +126,28 @@ pub fn run<R: AllocGlobal + Abort>(rt: &R, rows: &[Row]) -> Result<(), Fail> {
     script.run(rt)
 }
 
+/// Runs exchanges over an office.
+pub fn run_on<R: AllocGlobal + Abort>(
+    rt: &R,
+    office: &mut MemoryOffice,
+    rows: &[Row],
+) -> Result<(), Fail> {
+    let mut script = Script::new(rt.alloc());
+    script.send_rows(rows)?;
+    let exchanges = read_exchanges(rt.alloc(), script.file.as_slice())?;
+    let mut out = Vec::new(rt.alloc());
+    let done = apply_exchanges(office, rt.alloc(), exchanges.as_slice(), &mut out);
+    assert!(rt; done.is_ok());
+    script.is_met(rt, out.as_slice());
+    Ok(())
+}
+
 /// Runs exchanges over the office of another opening.
 pub fn run_over<R: AllocGlobal + Abort>(rt: &R, opening: &Opening, rows: &[Row]) -> Result<(), Fail>
     requires { IsOpening opening.now }
 {
-    let mut script = Script::new(rt.alloc());
-    script.send_rows(rows)?;
-    let exchanges = read_exchanges(rt.alloc(), script.file.as_slice())?;
     let mut office = office_in_memory(rt.alloc(), opening)?;
-    let mut out = Vec::new(rt.alloc());
-    let done = apply_exchanges(&mut office, rt.alloc(), exchanges.as_slice(), &mut out);
+    let ran = run_on(rt, &mut office, rows);
     let _ = office.into_connection();
-    assert!(rt; done.is_ok());
-    script.is_met(rt, out.as_slice());
-    Ok(())
+    ran
 }

@@ -1,0 +1,205 @@
+//! An office on disks in memory that fail after some calls.
+
+ghost use Rattle.office.specs.Openings.{IsOpening};
+
+use super::messages::DEPARTMENT;
+use super::script::request_of;
+use super::*;
+use crate::trial::opening_of;
+use office::Opening;
+use sqlite::{Alter, Connection, FileStore, Files, Options};
+use sqlite_disk::{Crash, Disk, Fuse, Memory};
+use store::Store;
+use web::{Given, run};
+
+/// A path, the moment, the byte of the nonce, and the message.
+pub type Asked = (&'static str, u64, u8, &'static str);
+
+/// The department of the trial office.
+pub const FOUNDED: [Asked; 1] = [("root/trial-web", 0, 0, DEPARTMENT)];
+
+pub type Disks = Files<Fuse<Memory>>;
+
+type FusedConnection = Connection<FileStore<Fuse<Memory>>>;
+
+type FusedOffice = Store<FileStore<Fuse<Memory>>>;
+
+/// The bytes of an office's files.
+#[derive(Drop)]
+pub struct Saved {
+    log: Vec<u8>,
+    db: Vec<u8>,
+}
+
+/// How many calls each disk passes on.
+#[derive(Clone, Copy, Debug)]
+pub struct Calls {
+    pub log: u64,
+    pub db: u64,
+}
+
+// Few pages are kept in memory, and the log is soon copied, so that more calls are made than an office needs.
+const OPTIONS: Options = Options {
+    cache_pages: 16,
+    spill_pages: 16,
+    checkpoint_frames: 8,
+    seed: 1,
+};
+
+/// No disk fails.
+pub const ALL: Calls = Calls {
+    log: u64::MAX,
+    db: u64::MAX,
+};
+
+/// What came of a run.
+#[derive(Drop)]
+pub struct Met {
+    /// Nothing, where the office could not be opened.
+    pub given: Vec<Given>,
+    /// Whether the files were opened and closed without a fault.
+    pub is_whole: bool,
+    pub disks: Disks,
+}
+
+fn exchange_of(alloc: Global, asked: Asked) -> Result<Exchange, Fail> {
+    let (path, moment, nonce, message) = asked;
+    Ok(Exchange {
+        request: Text::from_vec(request_of(alloc, path, message)?),
+        moment,
+        nonce: [nonce; 32],
+    })
+}
+
+/// The exchanges of these.
+pub fn exchanges(alloc: Global, asked: &[Asked]) -> Result<Vec<Exchange>, Fail> {
+    let mut exchanges = Vec::new(alloc);
+    for one in asked {
+        exchanges.push(exchange_of(alloc, *one)?)?;
+    }
+    Ok(exchanges)
+}
+
+fn disk(alloc: Global, bytes: &[u8], calls: u64) -> Option<Fuse<Memory>> {
+    let mut memory = Memory::new(alloc);
+    memory.write_at(0, bytes).ok()?;
+    memory.sync().ok()?;
+    Some(Fuse::new(memory, calls))
+}
+
+/// Disks that hold these bytes and pass so many calls on.
+pub fn disks_of(alloc: Global, saved: &Saved, calls: Calls) -> Option<Disks> {
+    let log = disk(alloc, saved.log.as_slice(), calls.log)?;
+    let db = disk(alloc, saved.db.as_slice(), calls.db)?;
+    Some(Files { log, db })
+}
+
+fn saved_on(alloc: Global, disks: &Disks) -> Option<Saved> {
+    let log = Vec::from_slice(alloc, disks.log.inner().bytes()).ok()?;
+    let db = Vec::from_slice(alloc, disks.db.inner().bytes()).ok()?;
+    Some(Saved { log, db })
+}
+
+/// What the disks hold, and what they hold once the power has failed.
+pub fn both_saved(alloc: Global, disks: Disks) -> Option<(Saved, Saved)> {
+    let mut disks = disks;
+    let seen = saved_on(alloc, &disks)?;
+    disks.log.crash();
+    disks.db.crash();
+    let synced = saved_on(alloc, &disks)?;
+    Some((seen, synced))
+}
+
+// The disks of a connection that is closed, and whether that met no fault.
+fn closed(conn: FusedConnection) -> (bool, Disks) {
+    match conn.close_files() {
+        Ok(disks) => (true, disks),
+        Err((_, store)) => (false, store.close()),
+    }
+}
+
+// A database on the disks, or the disks.
+fn connected(alloc: Global, disks: Disks) -> Result<FusedConnection, Disks> {
+    if !disks.may_be_used() {
+        return Err(disks);
+    }
+    match Connection::open_files(alloc, disks, OPTIONS) {
+        Ok(conn) => Ok(conn),
+        Err((_, left)) => Err(left.into_files()),
+    }
+}
+
+// The office of a database, or the database.
+fn opened<S: Alter>(alloc: Global, conn: Connection<S>) -> Result<Store<S>, Connection<S>> {
+    if !conn.is_autocommit() {
+        return Err(conn);
+    }
+    match Store::open(alloc, conn) {
+        Ok(office) => Ok(office),
+        Err((_, conn)) => Err(conn),
+    }
+}
+
+// The office on the disks, or the disks.
+fn office_on(alloc: Global, disks: Disks) -> Result<FusedOffice, Disks> {
+    match opened(alloc, connected(alloc, disks)?) {
+        Ok(office) => Ok(office),
+        Err(conn) => Err(closed(conn).1),
+    }
+}
+
+// Runs exchanges over an office, and closes it.
+fn run_and_closed(alloc: Global, office: FusedOffice, exchanges: &[Exchange]) -> Option<Met> {
+    let mut office = office;
+    let given = run(&mut office, alloc, exchanges);
+    let (is_whole, disks) = closed(office.into_connection());
+    match given {
+        Ok(given) => Some(Met {
+            given,
+            is_whole,
+            disks,
+        }),
+        Err(_) => None,
+    }
+}
+
+/// Runs exchanges over the office on the disks, and closes it.
+pub fn met_on(alloc: Global, disks: Disks, exchanges: &[Exchange]) -> Option<Met> {
+    match office_on(alloc, disks) {
+        Ok(office) => run_and_closed(alloc, office, exchanges),
+        Err(disks) => Some(Met {
+            given: Vec::new(alloc),
+            is_whole: false,
+            disks,
+        }),
+    }
+}
+
+// The new office of a database, or nothing.
+fn created<S: Alter + Drop>(
+    alloc: Global,
+    conn: Connection<S>,
+    opening: &Opening,
+) -> Option<Store<S>>
+    requires { IsOpening opening.now }
+{
+    if !conn.is_autocommit() {
+        return None;
+    }
+    match Store::init(alloc, conn, opening) {
+        Ok(office) => Some(office),
+        Err(_) => None,
+    }
+}
+
+/// A new office with its department, in files that are closed.
+pub fn founded(alloc: Global) -> Result<Saved, Fail> {
+    let (log, db) = (Vec::new(alloc), Vec::new(alloc));
+    let opening = opening_of(alloc, 1, 9223372036854775806)?;
+    let department = exchanges(alloc, FOUNDED.as_slice())?;
+    let disks = disks_of(alloc, &Saved { log, db }, ALL).ok_or("the disks")?;
+    let conn = connected(alloc, disks).ok().ok_or("the database")?;
+    let office = created(alloc, conn, &opening).ok_or("the office")?;
+    let met = run_and_closed(alloc, office, department.as_slice()).ok_or("memory")?;
+    Ok(saved_on(alloc, &met.disks).ok_or("memory")?)
+}
