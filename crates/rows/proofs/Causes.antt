@@ -9,7 +9,9 @@ use Rattle.tables.specs.Faults.{HasCause, HasFailed}
 use Rattle.tables.specs.Refusals.{HasCauseOr}
 use Rattle.tables.specs.declared.fault.Fault.{Fault}
 use Rattle.tables.specs.declared.fault.Fault.TheVariants.{Damaged, Device, NoMemory}
-use Rattle.rows.specs.Transactions.{FailsFor}
+use Rattle.tables.specs.Calls.{Begins}
+use Rattle.tables.specs.Contents.{Contents}
+use Rattle.rows.specs.Transactions.{Answers, Concludes, EndsFor, FailsFor, StopsFor}
 use Rattle.rows.proofs.Steps.{Leads}
 
 more_from : (a b c : ℕ) → a ≤ b → MoreFaults b c → MoreFaults a c
@@ -87,3 +89,28 @@ pub fails_weaker : {A B X : Type 0} (Before : A → Database → Type 0) (Later 
 fails_weaker Before Later late refused next a b (Ok v) known so h = tt
 fails_weaker Before Later late refused next a b (Err f) known so h = λ x before.
     cause_weaker (late (next x)) (refused x) a b f (so x before) (h (next x) (known x before))
+
+-- ---- the whole
+
+module _ {A X : Type 0} (Before : A → Database → Type 0) (Due : A → X → Type 0) (after : A → Contents) (Refused : A → Type 0)
+    (P : Trees → Type 0) (old first last new : State) (one : Survives old first (λ _. ⊥)) (two : Survives first last P)
+    (early : HasCleanDisk first) (late : HasCleanDisk last) (le : last.faults ≤ new.faults) where
+  from_start : (x : A) (f : Fault) → HasCauseOr (Refused x) first new f → HasCauseOr (Refused x) old new f
+  from_start x f cause =
+      cause_late (Refused x) (Refused x) (λ _. ⊥) old first new f (λ why. why) one early (omega (arith, two.counts, le)) cause
+
+  -- a transaction that is begun, and then concluded
+  pub stops_for : (r q : Result X Fault) → Begins {X = Unit {0}} {E = Fault} old first (Ok tt)
+      → Answers Before Due after first last r → FailsFor Before Refused first last r → Concludes r last new q
+      → EndsFor r last new q → IfErr q (StopsFor Before Refused old new)
+  stops_for (Ok v) (Ok w) begun answers fails concludes ends = tt
+  stops_for (Ok v) (Err f) begun answers fails concludes ends = λ x resting.
+      let before : Before x first.now = subst (Before x) (sym begun.1.now_is) (resting begun.1.was_open).now in
+      let inside : last.in_transaction ≡ true = (answers x before).1.mode ∙ begun.1.mode in
+      from_start x f (cause_late (Refused x) (Refused x) P first last new f (λ why. why) two late le
+      (cause_of (Refused x) last new f (ends inside)))
+  stops_for (Err e) (Ok w) begun answers fails concludes ends = absurd concludes
+  stops_for (Err e) (Err f) begun answers fails concludes ends = λ x resting.
+      let before : Before x first.now = subst (Before x) (sym begun.1.now_is) (resting begun.1.was_open).now in
+      from_start x f (cause_early (Refused x) first last new f
+      (subst (λ (h : Fault). HasCauseOr (Refused x) first last h) (sym concludes.0) (fails x before)) le)

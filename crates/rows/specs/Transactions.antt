@@ -95,6 +95,12 @@ Ends {A} Before Due after old new (Ok x) =
 Ends {A} Before Due after old new (Err e) =
     IsTrue new.is_open → IsTrue old.is_open × ((a : A) → Rests (Before a) old → Rests (Before a) new)
 
+-- of a database at rest that is as one of these says, if the connection is open, a fault of the whole is want of memory, or
+-- a failure of the database, or this refusal
+abbrev pub StopsFor : {A : Type 0} → (A → Database → Type 0) → (A → Type 0) → State → State → Fault → Type 0
+StopsFor {A} Before Refused old new f =
+    (a : A) → (IsTrue old.is_open → Rests (Before a) old) → HasCauseOr (Refused a) old new f
+
 -- what a crash in the midst of it may leave, beside what was there before: all that comes after it
 abbrev pub Leaves : {A : Type 0} → (A → Database → Type 0) → (A → Contents) → State → Trees → Type 0
 Leaves {A} Before after old trees = (a : A) → Rests (Before a) old → Kept trees (after a)

@@ -1,5 +1,5 @@
 -- A look at the tables of an office.
-use Rattle.std.proofs.Common.{◌≡◌, Bool, true, false, List, [], ◌∷◌, refl, sym, ◌∙◌, arith}
+use Rattle.std.proofs.Common.{◌≡◌, ◌⊎◌, Bool, true, false, List, [], ◌∷◌, refl, sym, ◌∙◌, arith}
 use Rattle.std.specs.Prelude.{◌==◌, if◌then◌else◌, Result, Ok, Err, IsPermutation, All}
 use Rattle.std.specs.List.{list_any}
 use Rattle.std.proofs.lemmas.List.Sorted.{length_permutation, All-permutation}
@@ -11,6 +11,12 @@ use Rattle.tables.specs.Contents.{Contents}
 use Rattle.tables.specs.declared.offices.OfficeRow.{OfficeRow}
 use Rattle.office.specs.declared.fault.StoreFault.{StoreFault}
 use Rattle.office.specs.declared.fault.StoreFault.TheVariants.{AlreadyAnOffice, NotAnOffice, WrongSchema, Damaged, Device, NoMemory}
+use Rattle.sqlite.specs.State.{State}
+use Rattle.tables.specs.Faults.{HasFailed}
+use Rattle.tables.specs.Refusals.{HasCauseOr}
+use Rattle.tables.specs.declared.fault.Fault.{Fault}
+use Rattle.tables.specs.declared.fault.Fault.TheVariants as table_fault
+use Rattle.rows.specs.Faults.{fault_of}
 use Rattle.migration.specs.Migrating.{IsExcused}
 use Rattle.store.specs.Meaning.{Looks, opened_by}
 
@@ -70,3 +76,10 @@ not_missed c failed NotAnOffice is h = absurd cc
 not_missed c failed WrongSchema is h = absurd cc
 not_missed c failed Damaged is h = absurd cc
 not_missed c failed AlreadyAnOffice is h = absurd cc
+
+-- a fault that has its cause is excused by it
+pub excused_for : (old new : State) (refused : Type 0) (f : Fault) → HasCauseOr refused old new f
+    → IsExcused (HasFailed old new ⊎ refused) (fault_of f)
+excused_for old new refused table_fault.NoMemory cause = tt
+excused_for old new refused table_fault.Device cause = cause
+excused_for old new refused table_fault.Damaged cause = absurd cause

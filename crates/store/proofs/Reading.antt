@@ -11,6 +11,7 @@ use Rattle.tables.specs.Calls as table
 use Rattle.tables.specs.Faults.{HasCause, HasFailed}
 use Rattle.tables.specs.declared.fault.Fault.{Fault}
 use Rattle.tables.specs.declared.fault.Fault.TheVariants.{Damaged, Device, NoMemory}
+use Rattle.tables.proofs.Later.{cause_then, stops_then, unchanged_then}
 use Rattle.office.specs.declared.opening.Opening.{Opening}
 use Rattle.office.specs.declared.arrival.Arrival.{Arrival}
 use Rattle.office.specs.declared.arrival.Kept.{Kept}
@@ -42,48 +43,6 @@ shows_of P Q old new x y less shows = λ o l history means.
 
 -- ---- what comes after a call that changed nothing
 
-unchanged_then : (a b c : Connection) → IsUnchanged a b → IsUnchanged b c → IsUnchanged a c
-unchanged_then a b c p q = (
-  record {
-    was_open = p.0.was_open;
-    is_open = q.0.is_open;
-    now_is = q.0.now_is ∙ p.0.now_is;
-    committed_is = q.0.committed_is ∙ p.0.committed_is;
-    mode = q.0.mode ∙ p.0.mode;
-  },
-  record { changes = q.1.changes ∙ p.1.changes; last_rowid = q.1.last_rowid ∙ p.1.last_rowid },
-  q.2 ∙ p.2,
-)
-
-fails_then : (a b c : Connection) → IsUnchanged a b → table.Fails b c → table.Fails a c
-fails_then a b c p (inl q) = inl (unchanged_then a b c p q)
-fails_then a b c p (inr back) = inr (record {
-  was_open = λ _. p.0.was_open;
-  undone = λ still. let u = back.undone still in (u.0 ∙ p.0.committed_is, u.1 ∙ p.0.committed_is);
-  autocommit = back.autocommit;
-  unmarked = back.unmarked;
-  counts = record {
-    changes = back.counts.changes ∙ p.1.changes;
-    last_rowid = back.counts.last_rowid ∙ p.1.last_rowid;
-  };
-})
-
-not_both : (b : Bool) → IsTrue b → b ≡ false → ⊥
-not_both true is e = cc
-not_both false is e = cc
-
--- what failed after a call that left the connection open failed since before it
-pub failed_then : (a b c : Connection) (P : Trees → Type 0) → Survives a b P → IsTrue b.is_open → HasFailed b c → HasFailed a c
-failed_then a b c P one is_open (inl more) = inl (omega (arith, one.counts, more))
-failed_then a b c P one is_open (inr (inl shut)) = absurd (not_both b.is_open is_open shut)
-failed_then a b c P one is_open (inr (inr limit)) = inr (inr (subst (λ (o : Option _). IsSome o) one.limit limit))
-
-pub cause_then : (a b c : Connection) (f : Fault) (P : Trees → Type 0) → Survives a b P → IsTrue b.is_open → HasCause b c f
-    → HasCause a c f
-cause_then a b c NoMemory P one is_open cause = tt
-cause_then a b c Damaged P one is_open cause = cause
-cause_then a b c Device P one is_open cause = failed_then a b c P one is_open cause
-
 pub still_means : (a b : Connection) (o : Opening) (l : List Arrival) → IsUnchanged a b → Means a.now (office_contents o l)
     → Means b.now (office_contents o l)
 still_means a b o l same means = subst (λ (d : Database). Means d (office_contents o l)) (sym same.0.now_is) means
@@ -101,7 +60,7 @@ shows_then First Rest Whole a b c x (Ok y) P one both first rest = λ o l histor
 shows_then First Rest Whole a b c x (Err f) P one both first rest = λ o l history means.
     let p = first o l history means in
     let q = rest o l history (still_means a b o l p.1 means) in
-    (fails_then a b c p.1 q.0, cause_then a b c f P one p.1.0.is_open q.1)
+    (stops_then a b c p.1 q.0, cause_then a b c f P one p.1.0.is_open q.1)
 
 -- what is shown, and then what is made of it, if memory allows
 pub shows_made : {X Y : Type 0} (First : State → List Kept → X → Type 0) (Made : Y → Type 0)

@@ -36,31 +36,6 @@ statement_caused a old new f g is cause =
     go R Damaged cause outside false is = inl (inr (inl is))
     go R Damaged cause outside true is = absurd (cause (outside is))
 
-module _ (a : Arrival) (P : Trees → Type 0) (old first last new : Connection) (one : Survives old first (λ _. ⊥))
-    (two : Survives first last P) (early : HasCleanDisk first) (late : HasCleanDisk last) (le : last.faults ≤ new.faults) where
-  abbrev Why : Past → Type 0
-  Why p = RefusesArrival a p
-
-  from_start : (p : Past) (f : Fault) → HasCauseOr (Why p) first new f → HasCauseOr (Why p) old new f
-  from_start p f cause =
-      cause_late (Why p) (Why p) (λ _. ⊥) old first new f (λ why. why) one early (omega (arith, two.counts, le)) cause
-
-  pub taken_for : (r q : Result Outcome Fault) → Begins {X = Unit {0}} {E = Fault} old first (Ok tt) → Settles a IsAny first last r
-      → FailsAt a IsAny first last r → Concludes r last new q → EndsFor r last new q → IfErr q (IsCaused a old new)
-  taken_for (Ok x) (Ok y) begun settles fails concludes ends = tt
-  taken_for (Ok x) (Err f) begun settles fails concludes ends = λ p resting.
-      let rests = resting begun.1.was_open in
-      let after : IsAfter IsAny p first.now = subst (IsAfter IsAny p) (sym begun.1.now_is) rests.now in
-      let inside : last.in_transaction ≡ true = (settles p after).1.mode ∙ begun.1.mode in
-      from_start p f (cause_late (Why p) (Why p) P first last new f (λ why. why) two late le
-      (cause_of (Why p) last new f (ends inside)))
-  taken_for (Err e) (Ok y) begun settles fails concludes ends = absurd concludes
-  taken_for (Err e) (Err f) begun settles fails concludes ends = λ p resting.
-      let rests = resting begun.1.was_open in
-      let after : IsAfter IsAny p first.now = subst (IsAfter IsAny p) (sym begun.1.now_is) rests.now in
-      from_start p f (cause_early (Why p) first last new f
-      (subst (λ (h : Fault). HasCauseOr (Why p) first last h) (sym concludes.0) (fails p after)) le)
-
 -- ---- what the tables tell
 
 rests_of : (s : Connection) (o : Opening) (l : List Arrival) → Tells s o l → IsTrue s.is_open → Rests (IsAfter IsAny (o, l)) s

@@ -25,7 +25,7 @@ use Rattle.office.specs.Messages.{message_with_text}
 use Rattle.office.specs.State.{State, next_serial}
 use Rattle.office.specs.History.{change, due, first_accepted, has_key, judged, kept_by, reply_kept, state}
 use Rattle.rows.specs.Rows.{office_contents}
-use Rattle.rows.specs.Transactions.{Answers, FailsFor, Rests}
+use Rattle.rows.specs.Transactions.{Answers, FailsFor, StopsFor}
 use Rattle.views.specs.declared.concerning.Concerned.{Concerned}
 use Rattle.views.specs.Concerning.{AreConcerned}
 use Rattle.views.specs.Histories.{is_for}
@@ -134,8 +134,7 @@ of_statement NoMemory = NoMemory
 
 -- of tables that tell a history, if the connection is open, a fault has its cause
 abbrev pub IsCaused : Arrival → Connection → Connection → Fault → Type 0
-IsCaused a old new f =
-    (p : Past) → (IsTrue old.is_open → Rests (IsAfter IsAny p) old) → HasCauseOr (RefusesArrival a p) old new f
+IsCaused a old new f = StopsFor (IsAfter IsAny) (RefusesArrival a) old new f
 
 -- Of an honest disk and of tables that tell a history: the database failed, or its rules refuse what is decided of the
 -- arrival.

@@ -3,3 +3,4 @@ pub mod Showing
 pub mod Revocations
 pub mod Parts
 pub mod Arriving
+pub mod Creating

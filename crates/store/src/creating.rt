@@ -7,10 +7,12 @@ ghost use Rattle.tables.specs.Schema.{no_schema};
 ghost use Rattle.tables.specs.Contents.{no_contents};
 ghost use Rattle.tables.specs.Calls.{IsBare};
 ghost use Rattle.tables.specs.Changes.{with_ca, with_office};
+ghost use Rattle.tables.specs.Refusals.{HasCauseOr};
 ghost use Rattle.office.specs.Openings.{IsOpening};
 ghost use Rattle.office.specs.State.{first_ca, opened};
 ghost use Rattle.rows.specs.Rows.{ca_row, office_contents, office_row};
-ghost use Rattle.rows.specs.Transactions.{Ends, Has, Leaves, Makes, Waits};
+ghost use Rattle.rows.specs.Transactions.{Ends, FailsFor, Has, Leaves, Makes, Rests, Waits};
+ghost use Rattle.store.specs.Creating.{RefusesFirst, RefusesOpening};
 
 use lines::key_blob_of;
 use office::Opening;
@@ -56,21 +58,30 @@ fn ca_row(alloc: Global, opening: &Opening) -> Result<CaRow, NoMemory>
 fn fill<S: Alter>(conn: &mut Connection<S>, office: &OfficeRow, ca: &CaRow) -> Result<(), Fault>
     ensures makes { HasCleanDisk (state S.Store conn.new) → Makes Has (λ c. with_ca ca.now (with_office office.now c))
         (state S.Store conn.old) (state S.Store conn.new) result }
+    ensures fails { HasCleanDisk (state S.Store conn.new) → FailsFor Has (RefusesFirst office.now ca.now)
+        (state S.Store conn.old) (state S.Store conn.new) result }
     ensures survives { Survives (state S.Store conn.old) (state S.Store conn.new) (Waits Has (state S.Store conn.old)) }
 {
-    insert_office(conn, office)?;
-    insert_ca(conn, ca)
+    match insert_office(conn, office) {
+        Ok(()) => insert_ca(conn, ca),
+        Err(fault) => Err(fault),
+    }
 }
 
 fn make<S: Alter>(conn: &mut Connection<S>, office: &OfficeRow, ca: &CaRow) -> Result<(), Fault>
     ensures makes { HasCleanDisk (state S.Store conn.new) →
         Makes (λ _. IsBare no_schema) (λ (_ : Unit {0}). with_ca ca.now (with_office office.now no_contents))
         (state S.Store conn.old) (state S.Store conn.new) result }
+    ensures fails { HasCleanDisk (state S.Store conn.new) →
+        FailsFor (λ (_ : Unit {0}). IsBare no_schema) (λ _. RefusesFirst office.now ca.now no_contents)
+        (state S.Store conn.old) (state S.Store conn.new) result }
     ensures survives { Survives (state S.Store conn.old) (state S.Store conn.new)
         (Waits (λ (_ : Unit {0}). IsBare no_schema) (state S.Store conn.old)) }
 {
-    create_tables(conn)?;
-    fill(conn, office, ca)
+    match create_tables(conn) {
+        Ok(()) => fill(conn, office, ca),
+        Err(fault) => Err(fault),
+    }
 }
 
 fn make_whole<S: Alter>(
@@ -82,13 +93,19 @@ fn make_whole<S: Alter>(
         Ends (λ _. IsBare no_schema) (λ _ _. Unit {0})
         (λ (_ : Unit {0}). with_ca ca.now (with_office office.now no_contents))
         (state S.Store conn.old) (state S.Store conn.new) result }
+    ensures cause { HasCleanDisk (state S.Store conn.new) → Rests (IsBare no_schema) (state S.Store conn.old)
+        → IfErr result (HasCauseOr (RefusesFirst office.now ca.now no_contents) (state S.Store conn.old) (state S.Store conn.new)) }
     ensures survives { Survives (state S.Store conn.old) (state S.Store conn.new)
         (Leaves (λ _. IsBare no_schema) (λ (_ : Unit {0}). with_ca ca.now (with_office office.now no_contents))
         (state S.Store conn.old)) }
 {
-    begin(conn)?;
-    let made = make(conn, office, ca);
-    conclude(conn, made)
+    match begin(conn) {
+        Ok(()) => {
+            let made = make(conn, office, ca);
+            conclude(conn, made)
+        }
+        Err(fault) => Err(fault),
+    }
 }
 
 /// Makes the tables of the office that begins so in a database without tables, all of them or none.
@@ -101,6 +118,8 @@ pub(crate) fn create<S: Alter>(
     ensures ends { HasCleanDisk (state S.Store conn.new) →
         Ends (λ _. IsBare no_schema) (λ _ _. Unit {0}) (λ (_ : Unit {0}). office_contents opening.now [])
         (state S.Store conn.old) (state S.Store conn.new) result }
+    ensures cause { HasCleanDisk (state S.Store conn.new) → Rests (IsBare no_schema) (state S.Store conn.old)
+        → IfErr result (HasCauseOr (RefusesOpening opening.now) (state S.Store conn.old) (state S.Store conn.new)) }
     ensures survives { Survives (state S.Store conn.old) (state S.Store conn.new)
         (Leaves (λ _. IsBare no_schema) (λ (_ : Unit {0}). office_contents opening.now [])
         (state S.Store conn.old)) }

@@ -1,6 +1,6 @@
 -- One table after the other.
 use Rattle.std.proofs.Common.{◌≡◌, inl, inr, ℕ, Bool, true, false, IsTrue, List, [], ◌∷◌, ◌++◌, Ok, Err, Result, refl, sym, subst, ◌∙◌, arith}
-use Rattle.std.specs.Prelude.{if◌then◌else◌}
+use Rattle.std.specs.Prelude.{if◌then◌else◌, IfErr}
 use Rattle.std.specs.List.{AllByRecursion}
 use Rattle.std.proofs.lemmas.List.Sorted.{IsPermutation-refl}
 use Rattle.sqlite.specs.Schema.{Schema}
@@ -15,6 +15,8 @@ use Rattle.tables.specs.declared.fault.Fault.{Fault}
 use Rattle.tables.specs.Schema.{without_ca, ca}
 use Rattle.tables.specs.Cells.{office_cells, department_cells, cert_cells, request_cells, run_cells, key_id_cells, ca_cells}
 use Rattle.tables.specs.Contents.{Lists, no_contents, office_places, department_places, cert_places, request_places, run_places, key_id_places, ca_places}
+use Rattle.tables.specs.Faults.{HasCause}
+use Rattle.tables.proofs.Later.{cause_then}
 use Rattle.tables.specs.Calls.{Grown, Creates, IsBare, Completes, AddsCa, Steps, Waits, Fails}
 
 -- a table with no row
@@ -83,6 +85,14 @@ pub completes_waits : (before : Schema) (table : Table) (a b c : State)
 completes_waits before table a b c step one two =
     survives_then a b c (Waits before a) (Waits (created before table) b) (Waits before a) (λ clean db h. h)
     (λ clean db h has. let p = step (omega (arith, two.clean)) has in sym p.mode ∙ h p.schema) one two
+
+-- why the first is not made, or those that are missing then
+pub completes_fails : {X : Type 0} (before : Schema) (table : Table) (P : Trees → Type 0) (a b c : State) (r : Result X Fault)
+    → Survives a b P → (IsBare before a.now → Grown a b before table)
+    → (IsBare (created before table) b.now → IfErr r (HasCause b c)) → IsBare before a.now → IfErr r (HasCause a c)
+completes_fails before table P a b c (Ok x) one grown rest bare = tt
+completes_fails before table P a b c (Err f) one grown rest bare =
+    let p = grown bare in cause_then a b c f P one p.is_open (rest (bare_then before table a b p bare))
 
 -- the last table
 pub ca_completes : {X : Type 0} (a b : State) (r : Result X Fault) → Creates without_ca ca a b r

@@ -15,6 +15,8 @@ pub mod FoundLemmas
 pub mod Growth
 pub mod Inserts
 pub mod KindLemmas
+pub mod Later
+pub mod Makeable
 pub mod Makes
 pub mod Numbers
 pub mod OfficeTable

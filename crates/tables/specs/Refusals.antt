@@ -12,13 +12,14 @@ use Rattle.tables.specs.declared.cas.CaRow.{CaRow}
 use Rattle.tables.specs.declared.certs.CertRow.{CertRow}
 use Rattle.tables.specs.declared.departments.DepartmentRow.{DepartmentRow}
 use Rattle.tables.specs.declared.offices.Counters.{Counters}
+use Rattle.tables.specs.declared.offices.OfficeRow.{OfficeRow}
 use Rattle.tables.specs.declared.requests.RequestRow.{RequestRow}
 use Rattle.tables.specs.declared.runs.RunRow.{RunRow}
 use Rattle.tables.specs.declared.fault.Fault.{Fault}
 use Rattle.tables.specs.declared.fault.Fault.TheVariants.{Device, Damaged, NoMemory}
-use Rattle.tables.specs.declared.sql.TheConstants.{COUNT_OFFICE, DELETE_RUNS, INSERT_CA, INSERT_CERT, INSERT_REQUEST, INSERT_REVOKED, INSERT_RUN, NUMBER_OFFICE, PUT_DEPARTMENT, SIGN_CERT}
+use Rattle.tables.specs.declared.sql.TheConstants.{COUNT_OFFICE, DELETE_RUNS, INSERT_CA, INSERT_CERT, INSERT_OFFICE, INSERT_REQUEST, INSERT_REVOKED, INSERT_RUN, NUMBER_OFFICE, PUT_DEPARTMENT, SIGN_CERT}
 use Rattle.tables.specs.Schema.{whole}
-use Rattle.tables.specs.Cells.{ca_cells, cert_cells, counter_cells, department_cells, key_id_cells, request_cells, run_cells}
+use Rattle.tables.specs.Cells.{ca_cells, cert_cells, counter_cells, department_cells, key_id_cells, office_cells, request_cells, run_cells}
 use Rattle.tables.specs.Contents.{Contents, Means}
 use Rattle.tables.specs.Faults.{HasFailed}
 
@@ -30,6 +31,9 @@ Refuses sql params c =
     (Err stop))
 
 -- ---- beside these contents
+
+abbrev pub RefusesOffice : OfficeRow → Contents → Type 0
+RefusesOffice o c = Refuses INSERT_OFFICE.now (office_cells o) c
 
 abbrev pub RefusesDepartment : DepartmentRow → Contents → Type 0
 RefusesDepartment d c = Refuses PUT_DEPARTMENT.now (department_cells d) c

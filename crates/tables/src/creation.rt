@@ -5,7 +5,7 @@ ghost use Rattle.sqlite.specs.Held.{state};
 ghost use Rattle.sqlite.specs.State.{HasCleanDisk, Survives};
 ghost use Rattle.tables.specs.Schema.{no_schema, with_office, with_department, with_cert, with_request, with_run, without_ca, office, department, cert, request, run, revoked_keyid, ca};
 ghost use Rattle.tables.specs.Faults.{HasCause, IsOfStatement};
-ghost use Rattle.tables.specs.Calls.{AddsCa, Completes, Creates, Waits};
+ghost use Rattle.tables.specs.Calls.{AddsCa, Completes, Creates, IsBare, Waits};
 
 use crate::fault::{Fault, done};
 use crate::sql::{
@@ -17,6 +17,8 @@ use sqlite::{Alter, Connection};
 fn create_office<S: Alter>(conn: &mut Connection<S>) -> Result<(), Fault>
     ensures creates { HasCleanDisk (state S.Store conn.new) →
         Creates no_schema office (state S.Store conn.old) (state S.Store conn.new) result }
+    ensures fault { HasCleanDisk (state S.Store conn.new) → (state S.Store conn.old).now.schema ≡ no_schema
+        → IfErr result (HasCause (state S.Store conn.old) (state S.Store conn.new)) }
     ensures undamaged { IfErr result IsOfStatement }
     ensures survives { Survives (state S.Store conn.old) (state S.Store conn.new)
         (Waits no_schema (state S.Store conn.old)) }
@@ -27,6 +29,8 @@ fn create_office<S: Alter>(conn: &mut Connection<S>) -> Result<(), Fault>
 fn create_department<S: Alter>(conn: &mut Connection<S>) -> Result<(), Fault>
     ensures creates { HasCleanDisk (state S.Store conn.new) →
         Creates with_office department (state S.Store conn.old) (state S.Store conn.new) result }
+    ensures fault { HasCleanDisk (state S.Store conn.new) → (state S.Store conn.old).now.schema ≡ with_office
+        → IfErr result (HasCause (state S.Store conn.old) (state S.Store conn.new)) }
     ensures undamaged { IfErr result IsOfStatement }
     ensures survives { Survives (state S.Store conn.old) (state S.Store conn.new)
         (Waits with_office (state S.Store conn.old)) }
@@ -37,6 +41,8 @@ fn create_department<S: Alter>(conn: &mut Connection<S>) -> Result<(), Fault>
 fn create_cert<S: Alter>(conn: &mut Connection<S>) -> Result<(), Fault>
     ensures creates { HasCleanDisk (state S.Store conn.new) →
         Creates with_department cert (state S.Store conn.old) (state S.Store conn.new) result }
+    ensures fault { HasCleanDisk (state S.Store conn.new) → (state S.Store conn.old).now.schema ≡ with_department
+        → IfErr result (HasCause (state S.Store conn.old) (state S.Store conn.new)) }
     ensures undamaged { IfErr result IsOfStatement }
     ensures survives { Survives (state S.Store conn.old) (state S.Store conn.new)
         (Waits with_department (state S.Store conn.old)) }
@@ -47,6 +53,8 @@ fn create_cert<S: Alter>(conn: &mut Connection<S>) -> Result<(), Fault>
 fn create_request<S: Alter>(conn: &mut Connection<S>) -> Result<(), Fault>
     ensures creates { HasCleanDisk (state S.Store conn.new) →
         Creates with_cert request (state S.Store conn.old) (state S.Store conn.new) result }
+    ensures fault { HasCleanDisk (state S.Store conn.new) → (state S.Store conn.old).now.schema ≡ with_cert
+        → IfErr result (HasCause (state S.Store conn.old) (state S.Store conn.new)) }
     ensures undamaged { IfErr result IsOfStatement }
     ensures survives { Survives (state S.Store conn.old) (state S.Store conn.new)
         (Waits with_cert (state S.Store conn.old)) }
@@ -57,6 +65,8 @@ fn create_request<S: Alter>(conn: &mut Connection<S>) -> Result<(), Fault>
 fn create_run<S: Alter>(conn: &mut Connection<S>) -> Result<(), Fault>
     ensures creates { HasCleanDisk (state S.Store conn.new) →
         Creates with_request run (state S.Store conn.old) (state S.Store conn.new) result }
+    ensures fault { HasCleanDisk (state S.Store conn.new) → (state S.Store conn.old).now.schema ≡ with_request
+        → IfErr result (HasCause (state S.Store conn.old) (state S.Store conn.new)) }
     ensures undamaged { IfErr result IsOfStatement }
     ensures survives { Survives (state S.Store conn.old) (state S.Store conn.new)
         (Waits with_request (state S.Store conn.old)) }
@@ -67,6 +77,8 @@ fn create_run<S: Alter>(conn: &mut Connection<S>) -> Result<(), Fault>
 fn create_revoked<S: Alter>(conn: &mut Connection<S>) -> Result<(), Fault>
     ensures creates { HasCleanDisk (state S.Store conn.new) →
         Creates with_run revoked_keyid (state S.Store conn.old) (state S.Store conn.new) result }
+    ensures fault { HasCleanDisk (state S.Store conn.new) → (state S.Store conn.old).now.schema ≡ with_run
+        → IfErr result (HasCause (state S.Store conn.old) (state S.Store conn.new)) }
     ensures undamaged { IfErr result IsOfStatement }
     ensures survives { Survives (state S.Store conn.old) (state S.Store conn.new)
         (Waits with_run (state S.Store conn.old)) }
@@ -92,6 +104,8 @@ pub fn create_ca<S: Alter>(conn: &mut Connection<S>) -> Result<(), Fault>
 fn complete_revoked<S: Alter>(conn: &mut Connection<S>) -> Result<(), Fault>
     ensures completes { HasCleanDisk (state S.Store conn.new) →
         Completes with_run (state S.Store conn.old) (state S.Store conn.new) result }
+    ensures fault { HasCleanDisk (state S.Store conn.new) → IsBare with_run (state S.Store conn.old).now
+        → IfErr result (HasCause (state S.Store conn.old) (state S.Store conn.new)) }
     ensures undamaged { IfErr result IsOfStatement }
     ensures survives { Survives (state S.Store conn.old) (state S.Store conn.new)
         (Waits with_run (state S.Store conn.old)) }
@@ -103,6 +117,8 @@ fn complete_revoked<S: Alter>(conn: &mut Connection<S>) -> Result<(), Fault>
 fn complete_run<S: Alter>(conn: &mut Connection<S>) -> Result<(), Fault>
     ensures completes { HasCleanDisk (state S.Store conn.new) →
         Completes with_request (state S.Store conn.old) (state S.Store conn.new) result }
+    ensures fault { HasCleanDisk (state S.Store conn.new) → IsBare with_request (state S.Store conn.old).now
+        → IfErr result (HasCause (state S.Store conn.old) (state S.Store conn.new)) }
     ensures undamaged { IfErr result IsOfStatement }
     ensures survives { Survives (state S.Store conn.old) (state S.Store conn.new)
         (Waits with_request (state S.Store conn.old)) }
@@ -114,6 +130,8 @@ fn complete_run<S: Alter>(conn: &mut Connection<S>) -> Result<(), Fault>
 fn complete_request<S: Alter>(conn: &mut Connection<S>) -> Result<(), Fault>
     ensures completes { HasCleanDisk (state S.Store conn.new) →
         Completes with_cert (state S.Store conn.old) (state S.Store conn.new) result }
+    ensures fault { HasCleanDisk (state S.Store conn.new) → IsBare with_cert (state S.Store conn.old).now
+        → IfErr result (HasCause (state S.Store conn.old) (state S.Store conn.new)) }
     ensures undamaged { IfErr result IsOfStatement }
     ensures survives { Survives (state S.Store conn.old) (state S.Store conn.new)
         (Waits with_cert (state S.Store conn.old)) }
@@ -125,6 +143,8 @@ fn complete_request<S: Alter>(conn: &mut Connection<S>) -> Result<(), Fault>
 fn complete_cert<S: Alter>(conn: &mut Connection<S>) -> Result<(), Fault>
     ensures completes { HasCleanDisk (state S.Store conn.new) →
         Completes with_department (state S.Store conn.old) (state S.Store conn.new) result }
+    ensures fault { HasCleanDisk (state S.Store conn.new) → IsBare with_department (state S.Store conn.old).now
+        → IfErr result (HasCause (state S.Store conn.old) (state S.Store conn.new)) }
     ensures undamaged { IfErr result IsOfStatement }
     ensures survives { Survives (state S.Store conn.old) (state S.Store conn.new)
         (Waits with_department (state S.Store conn.old)) }
@@ -136,6 +156,8 @@ fn complete_cert<S: Alter>(conn: &mut Connection<S>) -> Result<(), Fault>
 fn complete_department<S: Alter>(conn: &mut Connection<S>) -> Result<(), Fault>
     ensures completes { HasCleanDisk (state S.Store conn.new) →
         Completes with_office (state S.Store conn.old) (state S.Store conn.new) result }
+    ensures fault { HasCleanDisk (state S.Store conn.new) → IsBare with_office (state S.Store conn.old).now
+        → IfErr result (HasCause (state S.Store conn.old) (state S.Store conn.new)) }
     ensures undamaged { IfErr result IsOfStatement }
     ensures survives { Survives (state S.Store conn.old) (state S.Store conn.new)
         (Waits with_office (state S.Store conn.old)) }
@@ -148,6 +170,8 @@ fn complete_department<S: Alter>(conn: &mut Connection<S>) -> Result<(), Fault>
 pub fn create_tables<S: Alter>(conn: &mut Connection<S>) -> Result<(), Fault>
     ensures completes { HasCleanDisk (state S.Store conn.new) →
         Completes no_schema (state S.Store conn.old) (state S.Store conn.new) result }
+    ensures fault { HasCleanDisk (state S.Store conn.new) → IsBare no_schema (state S.Store conn.old).now
+        → IfErr result (HasCause (state S.Store conn.old) (state S.Store conn.new)) }
     ensures undamaged { IfErr result IsOfStatement }
     ensures survives { Survives (state S.Store conn.old) (state S.Store conn.new)
         (Waits no_schema (state S.Store conn.old)) }

@@ -1,16 +1,13 @@
 -- Reading calls, one after the other.
-use Rattle.std.proofs.Common.{◌≡◌, inl, inr, Bool, true, false, List, Ok, Err, Result, IsTrue, refl, sym, subst, ◌∙◌, arith}
-use Rattle.std.specs.Prelude.{IsSome, Option}
-use Rattle.std.proofs.lemmas.Bool.{both_ways}
+use Rattle.std.proofs.Common.{inl, List, Ok, Err, Result, IsTrue, refl, sym, subst, arith}
 use Rattle.sqlite.specs.Effect.{Database}
 use Rattle.sqlite.specs.Tree.{Trees}
 use Rattle.sqlite.specs.State.{State as Connection, HasCleanDisk, Survives, IsUnchanged}
 use Rattle.sqlite.proofs.StateLemmas.{survives_then, survives_weaker, unchanged}
 use Rattle.tables.specs.Contents.{Means}
-use Rattle.tables.specs.Calls.{Fails, Never}
-use Rattle.tables.specs.Faults.{HasCause}
+use Rattle.tables.specs.Calls.{Never}
 use Rattle.tables.specs.declared.fault.Fault.{Fault}
-use Rattle.tables.specs.declared.fault.Fault.TheVariants.{Damaged, Device, NoMemory}
+use Rattle.tables.proofs.Later.{cause_then, stops_then, unchanged_then}
 use Rattle.office.specs.declared.arrival.Kept.{Kept}
 use Rattle.office.specs.State.{State}
 use Rattle.rows.specs.Lawful.{IsLawful}
@@ -36,41 +33,6 @@ shows_of P Q old new x y less shows = λ s kept lawful means.
 
 -- ---- two calls
 
-unchanged_then : (a b c : Connection) → IsUnchanged a b → IsUnchanged b c → IsUnchanged a c
-unchanged_then a b c p q = (
-  record {
-    was_open = p.0.was_open;
-    is_open = q.0.is_open;
-    now_is = q.0.now_is ∙ p.0.now_is;
-    committed_is = q.0.committed_is ∙ p.0.committed_is;
-    mode = q.0.mode ∙ p.0.mode;
-  },
-  record { changes = q.1.changes ∙ p.1.changes; last_rowid = q.1.last_rowid ∙ p.1.last_rowid },
-  q.2 ∙ p.2,
-)
-
-fails_then : (a b c : Connection) → IsUnchanged a b → Fails b c → Fails a c
-fails_then a b c p (inl q) = inl (unchanged_then a b c p q)
-fails_then a b c p (inr back) = inr (record {
-  was_open = λ _. p.0.was_open;
-  undone = λ still. let u = back.undone still in (u.0 ∙ p.0.committed_is, u.1 ∙ p.0.committed_is);
-  autocommit = back.autocommit;
-  unmarked = back.unmarked;
-  counts = record {
-    changes = back.counts.changes ∙ p.1.changes;
-    last_rowid = back.counts.last_rowid ∙ p.1.last_rowid;
-  };
-})
-
-cause_then : (a b c : Connection) (f : Fault) (P : Trees → Type 0) → Survives a b P → IsUnchanged a b
-    → HasCause b c f → HasCause a c f
-cause_then a b c NoMemory P one same cause = tt
-cause_then a b c Damaged P one same cause = cause
-cause_then a b c Device P one same (inl more) = inl (omega (arith, one.counts, more))
-cause_then a b c Device P one same (inr (inl shut)) = absurd (both_ways b.is_open shut same.0.is_open)
-cause_then a b c Device P one same (inr (inr limit)) =
-    inr (inr (subst (λ (o : Option _). IsSome o) one.limit limit))
-
 still_means : (a b : Connection) (s : State) (kept : List Kept) → IsUnchanged a b → Means a.now (contents_of s kept)
     → Means b.now (contents_of s kept)
 still_means a b s kept same means = subst (λ (d : Database). Means d (contents_of s kept)) (sym same.0.now_is) means
@@ -92,7 +54,7 @@ pub fails_second : {X Y Z : Type 0} (First : State → List Kept → X → Type 
 fails_second First Second Whole a b c x f P one first second = λ s kept lawful means.
     let p = first s kept lawful means in
     let q = second p.1.0.is_open s kept lawful (still_means a b s kept p.1 means) in
-    (fails_then a b c p.1 q.0, cause_then a b c f P one p.1 q.1)
+    (stops_then a b c p.1 q.0, cause_then a b c f P one p.1.0.is_open q.1)
 
 -- the same where the second call gives the whole
 pub shows_then : {X Y : Type 0} (First : State → List Kept → X → Type 0) (Rest Whole : State → List Kept → Y → Type 0)

@@ -1,26 +1,56 @@
-use Rattle.std.proofs.Common.{arith}
+use Rattle.std.proofs.Common.{inl, inr, Err, arith}
 use Rattle.sqlite.specs.Held.{state}
 use Rattle.sqlite.specs.State.{HasCleanDisk}
+use Rattle.tables.specs.Calls.{Leaves}
+use Rattle.tables.specs.Cells.{ca_cells, office_cells}
 use Rattle.tables.specs.Changes.{with_ca, with_office}
+use Rattle.tables.specs.Refusals.{RefusesCa, RefusesOffice}
+use Rattle.tables.proofs.Refused.{causes}
 use Rattle.rows.specs.Transactions.{Has}
+use Rattle.rows.proofs.Causes.{fails_then, fails_weaker}
 use Rattle.rows.proofs.Steps.{leads, makes, makes_then, waits, waits_then}
+use Rattle.store.specs.Creating.{RefusesFirst}
 use Rattle.store.proofs.creating.fill.Goals as goal
 
-pub returns-clause-makes : goal.returns-clause-makes
-returns-clause-makes g c clean =
+pub returns-in-Ok-clause-makes : goal.returns-in-Ok-clause-makes
+returns-in-Ok-clause-makes g c clean =
     let old = state g.S.Store c.args.conn.now in
     let mid = state g.S.Store c.insert_office.new.conn in
     let new = state g.S.Store c.insert_ca.new.conn in
     let still : HasCleanDisk mid = omega (arith, c.insert_ca.ensures.survives.clean) in
     makes_then (with_office c.args.office.now) (with_ca c.args.ca.now) old mid new c.insert_ca.result
-    (c.in_ok-insert_office.ensures.changes still) (makes (with_ca c.args.ca.now) mid new c.insert_ca.result (c.insert_ca.ensures.changes clean))
+    (c.in-Ok.ensures.changes still) (makes (with_ca c.args.ca.now) mid new c.insert_ca.result (c.insert_ca.ensures.changes clean))
 
-pub returns-clause-survives : goal.returns-clause-survives
-returns-clause-survives g c =
+pub returns-in-Err-clause-fails : goal.returns-in-Err-clause-fails
+returns-in-Err-clause-fails g c clean =
+    let old = state g.S.Store c.args.conn.now in
+    let new = state g.S.Store c.insert_office.new.conn in
+    let office = c.args.office.now in
+    let ca = c.args.ca.now in
+    let fault = c.in-Err.fault in
+    fails_weaker {X = Unit {0}} Has Has (RefusesOffice office) (RefusesFirst office ca) (λ d. d) old new (Err fault)
+    (λ d means. means) (λ d means why. inl why)
+    (causes {X = Unit {0}} _ (office_cells office) old new (Err fault) (c.in-Err.ensures.fault clean))
+
+pub returns-in-Ok-clause-fails : goal.returns-in-Ok-clause-fails
+returns-in-Ok-clause-fails g c clean =
+    let old = state g.S.Store c.args.conn.now in
+    let mid = state g.S.Store c.insert_office.new.conn in
+    let new = state g.S.Store c.insert_ca.new.conn in
+    let still : HasCleanDisk mid = omega (arith, c.insert_ca.ensures.survives.clean) in
+    let office = c.args.office.now in
+    let ca = c.args.ca.now in
+    fails_then Has Has (RefusesCa ca) (RefusesFirst office ca) (with_office office) (Leaves (with_office office) old) old mid new
+    c.insert_ca.result (leads (with_office office) old mid (c.in-Ok.ensures.changes still)) (λ d means why. inr why)
+    c.insert_office.ensures.survives still c.insert_ca.ensures.survives.counts
+    (causes _ (ca_cells ca) mid new c.insert_ca.result (c.insert_ca.ensures.fault clean))
+
+pub returns-in-Ok-clause-survives : goal.returns-in-Ok-clause-survives
+returns-in-Ok-clause-survives g c =
     let old = state g.S.Store c.args.conn.now in
     let mid = state g.S.Store c.insert_office.new.conn in
     let new = state g.S.Store c.insert_ca.new.conn in
     waits_then Has Has (with_office c.args.office.now) old mid new
-    (λ clean. leads (with_office c.args.office.now) old mid (c.in_ok-insert_office.ensures.changes clean))
+    (λ clean. leads (with_office c.args.office.now) old mid (c.in-Ok.ensures.changes clean))
     (waits (with_office c.args.office.now) old mid c.insert_office.ensures.survives)
     (waits (with_ca c.args.ca.now) mid new c.insert_ca.ensures.survives)

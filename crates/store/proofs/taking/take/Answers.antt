@@ -2,9 +2,10 @@ use Rattle.std.proofs.Common.{arith}
 use Rattle.sqlite.specs.Held.{state}
 use Rattle.sqlite.specs.State.{HasCleanDisk}
 use Rattle.rows.specs.Transactions.{Waits}
+use Rattle.rows.proofs.Causes.{stops_for}
 use Rattle.rows.proofs.Steps.{ends, left}
-use Rattle.store.specs.Arriving.{IsAfter, IsAnswered, IsAny, contents_with}
-use Rattle.store.proofs.Taken.{statement_caused, taken_for}
+use Rattle.store.specs.Arriving.{IsAfter, IsAnswered, IsAny, RefusesArrival, contents_with}
+use Rattle.store.proofs.Taken.{statement_caused}
 use Rattle.store.proofs.taking.take.Goals as goal
 
 pub returns-in-Ok-clause-ends : goal.returns-in-Ok-clause-ends
@@ -27,7 +28,8 @@ returns-in-Ok-clause-cause g c clean =
     let new = state g.S.Store c.conclude.new.conn in
     let late : HasCleanDisk last = omega (arith, c.conclude.ensures.survives.clean) in
     let early : HasCleanDisk first = omega (arith, c.conclude.ensures.survives.clean, c.settle-settled.ensures.survives.clean) in
-    taken_for c.args.arrival.now (Waits (IsAfter IsAny) first) old first last new c.begin.ensures.survives
+    let a = c.args.arrival.now in
+    stops_for (IsAfter IsAny) (IsAnswered a) (contents_with a) (RefusesArrival a) (Waits (IsAfter IsAny) first) old first last new c.begin.ensures.survives
     c.settle-settled.ensures.survives early late c.conclude.ensures.survives.counts c.settle-settled.result c.conclude.result
     (c.in-Ok.ensures.begins early) (c.settle-settled.ensures.settles late) (c.settle-settled.ensures.fails late)
     (c.conclude.ensures.concludes clean) (c.conclude.ensures.cause clean)

@@ -2,7 +2,8 @@ use Rattle.std.proofs.Common.{arith}
 use Rattle.sqlite.specs.Held.{state}
 use Rattle.sqlite.specs.State.{HasCleanDisk}
 use Rattle.tables.specs.Schema.{with_cert, request}
-use Rattle.tables.proofs.Growth.{completes_then, completes_waits}
+use Rattle.tables.specs.Calls.{Waits}
+use Rattle.tables.proofs.Growth.{completes_fails, completes_then, completes_waits}
 use Rattle.tables.proofs.creation.complete_request.Goals as goal
 
 pub returns-clause-completes : goal.returns-clause-completes
@@ -13,6 +14,15 @@ returns-clause-completes g c clean =
     let still : HasCleanDisk mid = omega (arith, c.complete_run.ensures.survives.clean) in
     completes_then with_cert request old mid new c.complete_run.result
     (λ bare. c.in_ok-create_request.ensures.creates still bare.0) (c.complete_run.ensures.completes clean)
+
+pub returns-clause-fault : goal.returns-clause-fault
+returns-clause-fault g c clean =
+    let old = state g.S.Store c.args.conn.now in
+    let mid = state g.S.Store c.create_request.new.conn in
+    let new = state g.S.Store c.complete_run.new.conn in
+    let still : HasCleanDisk mid = omega (arith, c.complete_run.ensures.survives.clean) in
+    completes_fails with_cert request (Waits with_cert old) old mid new c.complete_run.result c.create_request.ensures.survives
+    (λ bare. c.in_ok-create_request.ensures.creates still bare.0) (c.complete_run.ensures.fault clean)
 
 pub returns-clause-survives : goal.returns-clause-survives
 returns-clause-survives g c =

@@ -2,7 +2,8 @@ use Rattle.std.proofs.Common.{arith}
 use Rattle.sqlite.specs.Held.{state}
 use Rattle.sqlite.specs.State.{HasCleanDisk}
 use Rattle.tables.specs.Schema.{with_run, revoked_keyid}
-use Rattle.tables.proofs.Growth.{completes_then, completes_waits, ca_completes}
+use Rattle.tables.specs.Calls.{Waits}
+use Rattle.tables.proofs.Growth.{completes_fails, completes_then, completes_waits, ca_completes}
 use Rattle.tables.proofs.creation.complete_revoked.Goals as goal
 
 pub returns-clause-completes : goal.returns-clause-completes
@@ -14,6 +15,15 @@ returns-clause-completes g c clean =
     completes_then with_run revoked_keyid old mid new c.create_ca.result
     (λ bare. c.in_ok-create_revoked.ensures.creates still bare.0)
     (ca_completes mid new c.create_ca.result (c.create_ca.ensures.creates clean))
+
+pub returns-clause-fault : goal.returns-clause-fault
+returns-clause-fault g c clean =
+    let old = state g.S.Store c.args.conn.now in
+    let mid = state g.S.Store c.create_revoked.new.conn in
+    let new = state g.S.Store c.create_ca.new.conn in
+    let still : HasCleanDisk mid = omega (arith, c.create_ca.ensures.survives.clean) in
+    completes_fails with_run revoked_keyid (Waits with_run old) old mid new c.create_ca.result c.create_revoked.ensures.survives
+    (λ bare. c.in_ok-create_revoked.ensures.creates still bare.0) (λ bare. c.create_ca.ensures.fault clean bare.0)
 
 pub returns-clause-survives : goal.returns-clause-survives
 returns-clause-survives g c =

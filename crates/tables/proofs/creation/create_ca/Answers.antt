@@ -3,6 +3,7 @@ use Rattle.tables.specs.Schema.{without_ca, ca}
 use Rattle.tables.proofs.Statements.{survives_as}
 use Rattle.tables.specs.Faults.{HasCause}
 use Rattle.tables.proofs.CreateFaults.{create_faults}
+use Rattle.tables.proofs.Makeable.{ca_made}
 use Rattle.tables.proofs.DoneLemmas.{creates_done, fault_done}
 use Rattle.tables.proofs.Makes.{creates, creates_left, ca_text}
 use Rattle.tables.proofs.Growth.{adds_ca}
@@ -19,7 +20,7 @@ returns g c =
           (creates_done old new without_ca ca c.execute.result c.done.result c.done.ensures.is
           (creates ca_text old new c.execute.result (c.execute.ensures.runs clean)));
       fault = λ clean has. fault_done (HasCause old new) c.execute.result c.done.result c.done.ensures.is
-          (create_faults old new has c.execute.result (c.execute.ensures.runs clean));
+          (create_faults ca_made old new has c.execute.result (c.execute.ensures.runs clean));
       undamaged = c.done.ensures.undamaged;
       survives = survives_as old new _ _ (creates_left ca_text old) c.execute.ensures.survives;
     }

@@ -1,7 +1,10 @@
 use Rattle.sqlite.specs.Held.{state}
 use Rattle.tables.specs.Schema.{with_cert, request}
 use Rattle.tables.proofs.Statements.{survives_as}
-use Rattle.tables.proofs.DoneLemmas.{creates_done}
+use Rattle.tables.specs.Faults.{HasCause}
+use Rattle.tables.proofs.CreateFaults.{create_faults}
+use Rattle.tables.proofs.Makeable.{request_made}
+use Rattle.tables.proofs.DoneLemmas.{creates_done, fault_done}
 use Rattle.tables.proofs.Makes.{creates, creates_left, request_text}
 use Rattle.tables.proofs.creation.create_request.Goals as goal
 
@@ -12,6 +15,8 @@ returns g c =
     record {
       creates = λ clean. creates_done old new with_cert request c.execute.result c.done.result c.done.ensures.is
           (creates request_text old new c.execute.result (c.execute.ensures.runs clean));
+      fault = λ clean has. fault_done (HasCause old new) c.execute.result c.done.result c.done.ensures.is
+          (create_faults request_made old new has c.execute.result (c.execute.ensures.runs clean));
       undamaged = c.done.ensures.undamaged;
       survives = survives_as old new _ _ (creates_left request_text old) c.execute.ensures.survives;
     }

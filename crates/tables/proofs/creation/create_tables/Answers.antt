@@ -2,7 +2,8 @@ use Rattle.std.proofs.Common.{arith}
 use Rattle.sqlite.specs.Held.{state}
 use Rattle.sqlite.specs.State.{HasCleanDisk}
 use Rattle.tables.specs.Schema.{no_schema, office}
-use Rattle.tables.proofs.Growth.{completes_then, completes_waits}
+use Rattle.tables.specs.Calls.{Waits}
+use Rattle.tables.proofs.Growth.{completes_fails, completes_then, completes_waits}
 use Rattle.tables.proofs.creation.create_tables.Goals as goal
 
 pub returns-clause-completes : goal.returns-clause-completes
@@ -13,6 +14,15 @@ returns-clause-completes g c clean =
     let still : HasCleanDisk mid = omega (arith, c.complete_department.ensures.survives.clean) in
     completes_then no_schema office old mid new c.complete_department.result
     (λ bare. c.in_ok-create_office.ensures.creates still bare.0) (c.complete_department.ensures.completes clean)
+
+pub returns-clause-fault : goal.returns-clause-fault
+returns-clause-fault g c clean =
+    let old = state g.S.Store c.args.conn.now in
+    let mid = state g.S.Store c.create_office.new.conn in
+    let new = state g.S.Store c.complete_department.new.conn in
+    let still : HasCleanDisk mid = omega (arith, c.complete_department.ensures.survives.clean) in
+    completes_fails no_schema office (Waits no_schema old) old mid new c.complete_department.result c.create_office.ensures.survives
+    (λ bare. c.in_ok-create_office.ensures.creates still bare.0) (c.complete_department.ensures.fault clean)
 
 pub returns-clause-survives : goal.returns-clause-survives
 returns-clause-survives g c =

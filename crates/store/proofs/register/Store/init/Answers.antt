@@ -1,10 +1,16 @@
-use Rattle.std.proofs.Common.{[], arith}
+use Rattle.std.proofs.Common.{◌≡◌, [], false, sym, ap, ◌∙◌, arith}
+use Rattle.std.specs.List.{list_any}
+use Rattle.std.proofs.lemmas.Bool.{both_ways}
+use Rattle.sqlite.specs.Schema.{Schema}
+use Rattle.tables.specs.Look.{is_office_name}
 use Rattle.sqlite.specs.Held.{state}
 use Rattle.tables.specs.Schema.{no_schema}
 use Rattle.tables.specs.Calls.{IsBare}
 use Rattle.rows.specs.Rows.{office_contents}
 use Rattle.rows.specs.Transactions.{Leaves}
 use Rattle.views.proofs.Showing.{survives_still}
+use Rattle.store.specs.Creating.{RefusesOpening}
+use Rattle.store.proofs.OfficeRows.{excused_for}
 use Rattle.store.proofs.register.Store.init.Goals as goal
 
 pub returns-in-Ok-clause-made : goal.returns-in-Ok-clause-made
@@ -26,3 +32,15 @@ pub returns-then-has_any_table-clause-crash_back : goal.returns-then-has_any_tab
 returns-then-has_any_table-clause-crash_back g c =
     let old = state g.S.Store c.args.conn in
     survives_still old (Leaves (λ _. IsBare no_schema) (λ (_ : Unit {0}). office_contents c.args.opening.now []) old)
+
+pub returns-then-has_any_table-clause-only : goal.returns-then-has_any_table-clause-only
+returns-then-has_any_table-clause-only g c clean blank =
+    let none : list_any is_office_name (state g.S.Store c.args.conn).now.schema.tables ≡ false =
+    ap (λ (s : Schema). list_any is_office_name s.tables) blank.now.0 in
+    absurd (both_ways _ none (sym c.has_any_table.ensures ∙ c.if-has_any_table.true))
+
+pub returns-in-Err-clause-only : goal.returns-in-Err-clause-only
+returns-in-Err-clause-only g c clean blank =
+    let old = state g.S.Store c.args.conn in
+    let new = state g.S.Store c.create.new.conn in
+    rw c.fault_of.ensures (excused_for old new (RefusesOpening c.args.opening.now) c.in-Err.fault (c.in-Err.ensures.cause clean blank))
