@@ -4,6 +4,7 @@ pub mod Histories
 pub mod Growth
 pub mod Issuable
 pub mod Decisions
+pub mod Parts
 pub mod Ranges
 pub mod Sizes
 pub mod Examples

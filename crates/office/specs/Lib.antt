@@ -5,6 +5,7 @@ pub mod Permissions
 pub mod Refusals
 pub mod Certificates
 pub mod Machine
+pub mod Parts
 pub mod Publication
 pub mod Concerns
 pub mod Messages

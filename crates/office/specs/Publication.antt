@@ -41,21 +41,28 @@ issued_row c = record { key_id = c.fields.key_id; certificate = option_map (λ s
 abbrev pub issued_of : State → ℕ → Option Issued
 issued_of s serial = option_map issued_row (certificate_of s serial)
 
-abbrev pub standing_of : State → Certificate → Standing
-standing_of s c =
-    if is_certificate_revoked s c then standing.Revoked
+-- where it is revoked or not
+abbrev pub standing_as : Bool → Certificate → Standing
+standing_as is_revoked c =
+    if is_revoked then standing.Revoked
     else if is_none c.signature then standing.Pending
     else standing.Signed
 
-abbrev pub entry_of : State → Certificate → Entry
-entry_of s c = record {
+abbrev pub standing_of : State → Certificate → Standing
+standing_of s c = standing_as (is_certificate_revoked s c) c
+
+abbrev pub entry_as : Standing → Certificate → Entry
+entry_as standing c = record {
   serial = c.fields.serial;
   kind = c.fields.kind;
-  standing = standing_of s c;
+  standing = standing;
   after = c.fields.after;
   before = c.fields.before;
   key_id = c.fields.key_id;
 }
+
+abbrev pub entry_of : State → Certificate → Entry
+entry_of s c = entry_as (standing_of s c) c
 
 -- by serial
 abbrev pub entries_of : State → List Entry

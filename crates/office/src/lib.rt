@@ -26,6 +26,7 @@ mod renewing;
 mod replies;
 mod revoking;
 mod rolling;
+mod showing;
 mod view;
 
 pub use arrival::{Arrival, Kept, Outcome};
@@ -38,4 +39,5 @@ pub use laws::{refusals_ascend, replies_are_short};
 pub use opening::{Opening, OpeningFault};
 pub use publication::{Entry, Issued, Pending, Revoked, Standing};
 pub use registry::Registry;
+pub use showing::parts_of;
 pub use view::{Change, Decision, Stop, View};

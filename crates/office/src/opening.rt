@@ -1,7 +1,7 @@
 //! What an office begins with.
 
-ghost use Rattle.std.specs.Prelude.{◌≡◌, string_bytes};
-ghost use Rattle.office.specs.Openings.{made_opening};
+ghost use Rattle.std.specs.Prelude.{◌≡◌, IfOk, string_bytes};
+ghost use Rattle.office.specs.Openings.{IsOpening, made_opening};
 
 use profile::{LAST_SERIAL, is_name};
 use text::Text;
@@ -42,7 +42,8 @@ impl Opening {
         first: u64,
         last: u64,
     ) -> Result<Opening, OpeningFault>
-        ensures { result ≡ made_opening ca (string_bytes root) (string_bytes station) first last }
+        ensures made { result ≡ made_opening ca (string_bytes root) (string_bytes station) first last }
+        ensures lawful { IfOk result IsOpening }
     {
         let root = Text::from_vec(root.into_bytes());
         let station = Text::from_vec(station.into_bytes());

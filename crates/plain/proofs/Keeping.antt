@@ -15,7 +15,8 @@ use Rattle.office.specs.declared.certificate.Certificate.{Certificate}
 use Rattle.office.specs.Certificates.{IsCertificate}
 use Rattle.office.specs.Machine.{signed_at, certificate_of}
 use Rattle.plain.specs.Departments.{entries}
-use Rattle.plain.specs.Contents.{Contents, AreKept, numbers, state_of}
+use Rattle.office.specs.Parts.{numbers}
+use Rattle.plain.specs.Contents.{Contents, AreKept, state_of}
 use Rattle.plain.proofs.Places.{all_after_put}
 
 -- an element that is there has what all have

@@ -1,5 +1,5 @@
 -- What the plain store holds.
-use Rattle.std.specs.Prelude.{◌≡◌, ℕ, ◌+◌, ◌≤◌, List, [], ◌∷◌, ◌++◌, length, map, All, IsTrue, IsOkAnd, Result, Ok, Err}
+use Rattle.std.specs.Prelude.{◌≡◌, ℕ, ◌+◌, ◌≤◌, List, [], ◌∷◌, ◌++◌, length, All, IsTrue, IsOkAnd, Result, Ok, Err}
 use Rattle.std.specs.List.{list_all}
 use Rattle.std.specs.List.Sorted.{IsNonDecreasing}
 use Rattle.message.specs.declared.department.Department.{Department}
@@ -8,6 +8,7 @@ use Rattle.krl.specs.declared.run.Run.{Run}
 use Rattle.krl.specs.Sets.{contains}
 use Rattle.office.specs.Openings.{IsOpening}
 use Rattle.office.specs.Certificates.{IsCertificate}
+use Rattle.office.specs.Parts.{numbers}
 use Rattle.office.specs.declared.opening.Opening.{Opening}
 use Rattle.office.specs.declared.ca.Ca.{Ca}
 use Rattle.office.specs.declared.certificate.Certificate.{Certificate}
@@ -64,10 +65,6 @@ Judges (Err stop.NoMemory) t a = Unit {0}
 pub record Writes (old : Contents) (a : Arrival) (d : Decision) (new : Contents) : Type 0 where
   pub kept : new.kept ≡ old.kept ++ row_of a d.reply ∷ []
   pub state : state_of new ≡ written d (state_of old)
-
--- each CA serves from its number on, and none from an earlier one than the CA before it
-abbrev pub numbers : List Ca → List ℕ
-numbers cas = map (λ ca. ca.since) cas
 
 -- what the lists keep: serials in range, rows as they may be, and CAs in order that serve from handed out serials on
 pub record AreKept (t : Contents) : Type 0 where

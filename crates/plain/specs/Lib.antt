@@ -1,4 +1,3 @@
 pub mod Departments
 pub mod KeyIds
 pub mod Contents
-pub mod Parts

@@ -1,70 +1,18 @@
 //! What the store shows.
 
 ghost use Rattle.std.specs.Prelude.{◌≡◌, IfOk};
-ghost use Rattle.std.specs.Option.{option_map};
-ghost use Rattle.cert.specs.Certificates.{certificate_text};
-ghost use Rattle.office.specs.Publication.{entries_of, entry_of, is_certificate_revoked, is_pending, issued_row, pending_of, pending_row, standing_of};
-ghost use Rattle.plain.specs.Contents.{numbers, state_of};
-ghost use Rattle.plain.specs.Parts.{AreParts, zipped};
+ghost use Rattle.office.specs.Parts.{AreParts};
+ghost use Rattle.office.specs.Publication.{entries_of, entry_of, is_certificate_revoked, is_pending, pending_of};
+ghost use Rattle.plain.specs.Contents.{state_of};
 
 use crate::copying::copied;
 use crate::key_ids::has_key_id;
 use crate::store::PlainStore;
-use cert::join_signature;
-use krl::{CaPart, Runs};
-use lines::body_digest;
+use krl::CaPart;
 use message::Department;
-use office::{Ca, Certificate, Entry, Issued, Pending, Standing};
-use std::alloc::{AllocError, Global};
-use text::{NoMemory, Text, Texts};
-
-fn pending_row(certificate: &Certificate) -> Pending
-    ensures { result ≡ pending_row certificate.now }
-{
-    Pending {
-        serial: certificate.fields.serial,
-        digest: body_digest(certificate.body.as_slice()),
-    }
-}
-
-// The body with its signature, if there is one.
-fn joined(alloc: Global, certificate: &Certificate) -> Result<Option<Text>, NoMemory>
-    ensures { IfOk result (λ joined. joined ≡ option_map (λ signature. certificate_text certificate.now.body signature.bytes) certificate.now.signature) }
-{
-    match &certificate.signature {
-        Some(signature) => {
-            let bytes = join_signature(alloc, certificate.body.as_slice(), signature)?;
-            Ok(Some(Text::from_vec(bytes)))
-        }
-        None => Ok(None),
-    }
-}
-
-/// What is shown of a certificate.
-pub(crate) fn issued_row(alloc: Global, certificate: &Certificate) -> Result<Issued, NoMemory>
-    ensures { IfOk result (λ issued. issued ≡ issued_row certificate.now) }
-{
-    Ok(Issued {
-        key_id: certificate.fields.key_id.copied(alloc)?,
-        certificate: joined(alloc, certificate)?,
-    })
-}
-
-fn numbers(alloc: Global, cas: &[Ca]) -> Result<Vec<u64>, AllocError>
-    ensures { IfOk result (λ v. v.items ≡ numbers cas.now) }
-{
-    cas.iter().map(|ca| ca.since).collect(alloc)
-}
-
-// A part for each CA, with its runs.
-fn zipped(alloc: Global, cas: &[Ca], split: Vec<Runs>) -> Result<Vec<CaPart>, AllocError>
-    ensures { IfOk result (λ v. v.items ≡ zipped cas.now split.items) }
-{
-    cas.iter()
-        .zip(split)
-        .map(|(ca, runs)| CaPart { ca: ca.key, runs })
-        .collect(alloc)
-}
+use office::{Ca, Certificate, Entry, Pending, parts_of};
+use std::alloc::Global;
+use text::{NoMemory, Texts};
 
 impl PlainStore {
     fn is_certificate_revoked(&self, certificate: &Certificate) -> bool
@@ -88,36 +36,16 @@ impl PlainStore {
         let mut rows = Vec::new(alloc);
         for certificate in &self.certificates {
             if self.is_pending(certificate) {
-                rows.push(pending_row(certificate))?;
+                rows.push(certificate.pending_row())?;
             }
         }
         Ok(rows)
     }
 
-    fn standing(&self, certificate: &Certificate) -> Standing
-        ensures { result ≡ standing_of (state_of self.now) certificate.now }
-    {
-        if self.is_certificate_revoked(certificate) {
-            Standing::Revoked
-        } else if certificate.signature.is_none() {
-            Standing::Pending
-        } else {
-            Standing::Signed
-        }
-    }
-
     fn entry(&self, alloc: Global, certificate: &Certificate) -> Result<Entry, NoMemory>
         ensures { IfOk result (λ entry. entry ≡ entry_of (state_of self.now) certificate.now) }
     {
-        let fields = &certificate.fields;
-        Ok(Entry {
-            serial: fields.serial,
-            kind: fields.kind,
-            standing: self.standing(certificate),
-            after: fields.after,
-            before: fields.before,
-            key_id: fields.key_id.copied(alloc)?,
-        })
+        certificate.entry(alloc, self.is_certificate_revoked(certificate))
     }
 
     /// Every certificate.
@@ -133,11 +61,9 @@ impl PlainStore {
 
     /// The revoked serials of each CA.
     pub(crate) fn parts(&self, alloc: Global) -> Result<Vec<CaPart>, NoMemory>
-        ensures { IfOk result (λ parts. AreParts parts.items self.now) }
+        ensures { IfOk result (λ parts. AreParts parts.items self.now.cas self.now.runs) }
     {
-        let since = numbers(alloc, self.cas.as_slice())?;
-        let split = self.revoked.split(alloc, since.as_slice())?;
-        Ok(zipped(alloc, self.cas.as_slice(), split)?)
+        parts_of(alloc, self.cas.as_slice(), &self.revoked)
     }
 
     /// The revoked key ids.

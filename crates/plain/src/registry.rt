@@ -7,7 +7,6 @@ ghost use Rattle.office.specs.Publication.{departments_of};
 ghost use Rattle.plain.specs.Contents.{state_of};
 
 use crate::judging::kept_reply;
-use crate::reading::issued_row;
 use crate::store::PlainStore;
 use krl::KrlHead;
 use message::Department;
@@ -56,7 +55,7 @@ impl Registry for PlainStore {
 
     fn certificate(&mut self, alloc: Global, serial: u64) -> Result<Option<Issued>, StoreFault> {
         match self.issued(serial) {
-            Some(certificate) => Ok(Some(issued_row(alloc, certificate)?)),
+            Some(certificate) => Ok(Some(certificate.issued_row(alloc)?)),
             None => Ok(None),
         }
     }

@@ -18,7 +18,8 @@ use Rattle.std.specs.declared.alloc.Global.{Global}
 use Rattle.sqlite.specs.State.{State as Connection}
 use Rattle.tables.specs.declared.fault.Fault.{Fault}
 use Rattle.tables.specs.declared.fault.Fault.TheVariants.{Damaged, Device, NoMemory}
-use Rattle.store.specs.Parts.{AreOrdered, numbers}
+use Rattle.office.specs.Parts.{numbers}
+use Rattle.store.specs.Parts.{AreOrdered}
 use Rattle.store.specs.Showing.{ShowsOffice}
 use Rattle.office.proofs.Histories.{IsKept, holds_after}
 

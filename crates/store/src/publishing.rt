@@ -6,17 +6,18 @@ ghost use Rattle.sqlite.specs.Held.{state};
 ghost use Rattle.sqlite.specs.State.{HasCleanDisk, Survives};
 ghost use Rattle.tables.specs.Calls.{WasOpen};
 ghost use Rattle.office.specs.Publication.{AreRevoked};
-ghost use Rattle.store.specs.Parts.{AreOrdered, AreParts, AreShown, IsMadeOf, are_ordered, numbers, zipped};
+ghost use Rattle.office.specs.Parts.{numbers};
+ghost use Rattle.store.specs.Parts.{AreOrdered, AreShown, IsMadeOf, are_ordered};
 ghost use Rattle.store.specs.Showing.{Never, ShowsOffice};
 
 use crate::answer::made;
 use crate::listing::read_revocations;
 use crate::revocations::Revocations;
-use krl::{CaPart, KrlHead, Runs};
-use office::{Ca, Revoked};
+use krl::KrlHead;
+use office::{Ca, Revoked, parts_of};
 use rows::{read_cas, read_office};
 use sqlite::{Alter, Connection};
-use std::alloc::{AllocError, Global};
+use std::alloc::Global;
 use tables::Fault;
 use text::{NoMemory, Texts};
 
@@ -57,32 +58,6 @@ fn read_serving_cas<S: Alter>(alloc: Global, conn: &mut Connection<S>) -> Result
         Ok(cas) => ordered(cas),
         Err(fault) => Err(fault),
     }
-}
-
-fn numbers(alloc: Global, cas: &[Ca]) -> Result<Vec<u64>, AllocError>
-    ensures { IfOk result (λ v. v.items ≡ numbers cas.now) }
-{
-    cas.iter().map(|ca| ca.since).collect(alloc)
-}
-
-// A part for each CA, with its runs.
-fn zipped(alloc: Global, cas: &[Ca], split: Vec<Runs>) -> Result<Vec<CaPart>, AllocError>
-    ensures { IfOk result (λ v. v.items ≡ zipped cas.now split.items) }
-{
-    cas.iter()
-        .zip(split)
-        .map(|(ca, runs)| CaPart { ca: ca.key, runs })
-        .collect(alloc)
-}
-
-/// The serials of each CA.
-fn parts_of(alloc: Global, cas: &[Ca], serials: &Runs) -> Result<Vec<CaPart>, NoMemory>
-    requires { IsNonDecreasing (numbers cas.now) }
-    ensures { IfOk result (λ parts. AreParts parts.items cas.now serials.now) }
-{
-    let since = numbers(alloc, cas)?;
-    let split = serials.split(alloc, since.as_slice())?;
-    Ok(zipped(alloc, cas, split)?)
 }
 
 fn revoked_of(

@@ -3,12 +3,11 @@
 ghost use Rattle.std.specs.Prelude.{◌≡◌, IfOk, filter, map};
 ghost use Rattle.std.specs.List.{list_any};
 ghost use Rattle.std.specs.Str.{bytes_eq};
-ghost use Rattle.office.specs.Publication.{entry_of, is_certificate_revoked, is_pending, pending_row, standing_of};
+ghost use Rattle.office.specs.Publication.{entry_of, is_certificate_revoked, is_pending, pending_row};
 ghost use Rattle.store.specs.Revocations.{state_with};
 
 use krl::Runs;
-use lines::body_digest;
-use office::{Certificate, Entry, Pending, Standing};
+use office::{Certificate, Entry, Pending};
 use std::alloc::Global;
 use text::{NoMemory, Text};
 
@@ -23,15 +22,6 @@ fn is_among(key_ids: &[Text], key_id: &[u8]) -> bool
     ensures { result ≡ list_any (λ k. bytes_eq k key_id.now) key_ids.now }
 {
     key_ids.iter().any(|other| other.is(key_id))
-}
-
-fn pending_row(certificate: &Certificate) -> Pending
-    ensures { result ≡ pending_row certificate.now }
-{
-    Pending {
-        serial: certificate.fields.serial,
-        digest: body_digest(certificate.body.as_slice()),
-    }
 }
 
 impl Revocations {
@@ -60,36 +50,16 @@ impl Revocations {
         let mut rows = Vec::new(alloc);
         for certificate in certificates {
             if self.is_pending(certificate) {
-                rows.push(pending_row(certificate))?;
+                rows.push(certificate.pending_row())?;
             }
         }
         Ok(rows)
     }
 
-    fn standing(&self, certificate: &Certificate) -> Standing
-        ensures { result ≡ standing_of (state_with self.now) certificate.now }
-    {
-        if self.is_certificate_revoked(certificate) {
-            Standing::Revoked
-        } else if certificate.signature.is_none() {
-            Standing::Pending
-        } else {
-            Standing::Signed
-        }
-    }
-
     fn entry(&self, alloc: Global, certificate: &Certificate) -> Result<Entry, NoMemory>
         ensures { IfOk result (λ entry. entry ≡ entry_of (state_with self.now) certificate.now) }
     {
-        let fields = &certificate.fields;
-        Ok(Entry {
-            serial: fields.serial,
-            kind: fields.kind,
-            standing: self.standing(certificate),
-            after: fields.after,
-            before: fields.before,
-            key_id: fields.key_id.copied(alloc)?,
-        })
+        certificate.entry(alloc, self.is_certificate_revoked(certificate))
     }
 
     /// What a report lists of the certificates.

@@ -2,7 +2,6 @@
 
 ghost use Rattle.std.specs.Prelude.{◌≡◌, IfOk};
 ghost use Rattle.std.specs.Option.{option_map};
-ghost use Rattle.cert.specs.Certificates.{certificate_text};
 ghost use Rattle.sqlite.specs.Held.{state};
 ghost use Rattle.sqlite.specs.State.{HasCleanDisk, Survives};
 ghost use Rattle.tables.specs.Calls.{WasOpen};
@@ -11,7 +10,6 @@ ghost use Rattle.office.specs.Publication.{issued_of, issued_row};
 ghost use Rattle.store.specs.Showing.{Never, ShowsOffice};
 
 use crate::answer::made;
-use cert::join_signature;
 use office::{Certificate, Issued};
 use sqlite::{Alter, Connection};
 use std::alloc::Global;
@@ -46,33 +44,11 @@ pub(crate) fn read_body_of<S: Alter>(
     }
 }
 
-// The body with its signature, if there is one.
-fn joined(alloc: Global, certificate: &Certificate) -> Result<Option<Text>, NoMemory>
-    ensures { IfOk result (λ joined. joined ≡ option_map (λ signature. certificate_text certificate.now.body signature.bytes) certificate.now.signature) }
-{
-    match &certificate.signature {
-        Some(signature) => {
-            let bytes = join_signature(alloc, certificate.body.as_slice(), signature)?;
-            Ok(Some(Text::from_vec(bytes)))
-        }
-        None => Ok(None),
-    }
-}
-
-fn issued_row(alloc: Global, certificate: &Certificate) -> Result<Issued, NoMemory>
-    ensures { IfOk result (λ issued. issued ≡ issued_row certificate.now) }
-{
-    Ok(Issued {
-        key_id: certificate.fields.key_id.copied(alloc)?,
-        certificate: joined(alloc, certificate)?,
-    })
-}
-
 fn issued_in(alloc: Global, found: Option<Certificate>) -> Result<Option<Issued>, NoMemory>
     ensures { IfOk result (λ issued. issued ≡ option_map issued_row found) }
 {
     match found {
-        Some(certificate) => Ok(Some(issued_row(alloc, &certificate)?)),
+        Some(certificate) => Ok(Some(certificate.issued_row(alloc)?)),
         None => Ok(None),
     }
 }

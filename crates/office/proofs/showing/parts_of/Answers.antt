@@ -2,8 +2,8 @@ use Rattle.std.proofs.Common.{◌≡◌, ◌&&◌, ℕ, List, length, sym, ap, �
 use Rattle.std.proofs.lemmas.List.{length-map}
 use Rattle.krl.specs.Sets.{contains, is_last_reached}
 use Rattle.office.specs.declared.ca.Ca.{Ca}
-use Rattle.store.specs.Parts.{numbers}
-use Rattle.store.proofs.publishing.parts_of.Goals as goal
+use Rattle.office.specs.Parts.{numbers}
+use Rattle.office.proofs.showing.parts_of.Goals as goal
 
 pub returns : goal.returns
 returns c =
