@@ -5,7 +5,6 @@
 #![tactic(auto)]
 
 mod fault;
-mod filling;
 mod serve;
 mod taking;
 #[cfg(test)]

@@ -7,10 +7,9 @@ ghost use Rattle.serving.specs.Requests.{IsFront, TakesMore, IsOneRequest};
 ghost use Rattle.serving.specs.Nonces.{FailsBy};
 
 use crate::fault::ServeFault;
-use crate::filling::fill;
 use requests::{MAX_HEAD, Progress, Routes, body_size, progress_of, read_head};
 use std::alloc::Global;
-use wire::{Failed, Source};
+use wire::{Source, read_full};
 
 /// Takes bytes one at a time, up to the first that tells whether a head comes.
 fn take_front<R: Source>(source: &mut R, alloc: Global) -> Result<Vec<u8>, ServeFault>
@@ -56,7 +55,7 @@ fn take_more<R: Source>(
     let Ok(mut room) = vec![in alloc; 0; size] else {
         return Err(ServeFault::NoMemory);
     };
-    let Ok(n) = fill(source, &mut room) else {
+    let Ok(n) = read_full(source, &mut room) else {
         return Err(ServeFault::Read);
     };
     match taken.extend_from_slice(&room[..n]) {
@@ -95,7 +94,7 @@ pub(crate) fn take_nonce<N: Source>(source: &mut N) -> Result<[u8; 32], ServeFau
     ensures only { IfErr result (λ e. e ≡ ServeFault.Nonces) }
 {
     let mut nonce = [0; 32];
-    match fill(source, &mut nonce) {
+    match read_full(source, &mut nonce) {
         Ok(n) if n == nonce.len() => Ok(nonce),
         _ => Err(ServeFault::Nonces),
     }
