@@ -2,7 +2,6 @@ pub mod Applied
 pub mod Blank
 pub mod RecordFiles
 pub mod Listed
-pub mod Openings
 pub mod Printed
 pub mod Records
 pub mod Whole

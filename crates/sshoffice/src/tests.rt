@@ -11,6 +11,7 @@ mod files;
 mod heads;
 mod issues;
 mod messages;
+mod registers;
 mod replies;
 mod reports;
 mod revocations;

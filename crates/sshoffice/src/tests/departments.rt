@@ -2,10 +2,10 @@
 
 use super::fields::BODY;
 use super::messages::*;
+use super::registers::Serials;
 use super::replies::*;
 use super::script::{Row, run, run_over};
 use super::*;
-use crate::trial::opening_of;
 use office::{Opening, OpeningFault};
 
 const SENDERS: [Row; 4] = [
@@ -48,9 +48,8 @@ const LAST: [Row; 3] = [
 
 #[test]
 fn serials_run_out(rt: HostRuntime) -> Result<(), Fail> {
-    let alloc = rt.alloc();
     let last = 9223372036854775806;
-    run_over(&rt, &opening_of(alloc, last, last)?, LAST.as_slice())
+    run_over(&rt, Serials { first: last, last }, LAST.as_slice())
 }
 
 #[test]

@@ -192,14 +192,34 @@ fn created<S: Alter + Drop>(
     }
 }
 
+// A new office on new disks, of which none fails.
+fn founded_on(alloc: Global, opening: &Opening) -> Option<FusedOffice>
+    requires { IsOpening opening.now }
+{
+    let (log, db) = (Vec::new(alloc), Vec::new(alloc));
+    let disks = disks_of(alloc, &Saved { log, db }, ALL)?;
+    created(alloc, connected(alloc, disks).ok()?, opening)
+}
+
 /// A new office with its department, in files that are closed.
 pub fn founded(alloc: Global) -> Result<Saved, Fail> {
-    let (log, db) = (Vec::new(alloc), Vec::new(alloc));
     let opening = opening_of(alloc, 1, 9223372036854775806)?;
     let department = exchanges(alloc, FOUNDED.as_slice())?;
-    let disks = disks_of(alloc, &Saved { log, db }, ALL).ok_or("the disks")?;
-    let conn = connected(alloc, disks).ok().ok_or("the database")?;
-    let office = created(alloc, conn, &opening).ok_or("the office")?;
+    let office = founded_on(alloc, &opening).ok_or("the office")?;
     let met = run_and_closed(alloc, office, department.as_slice()).ok_or("memory")?;
     Ok(saved_on(alloc, &met.disks).ok_or("memory")?)
+}
+
+/// What exchanges are given by a new office in files, and what others are given once the files were closed and opened.
+pub fn given_in_files(
+    alloc: Global,
+    opening: &Opening,
+    asked: &[Exchange],
+    then: &[Exchange],
+) -> Option<(Vec<Given>, Vec<Given>)>
+    requires { IsOpening opening.now }
+{
+    let met = run_and_closed(alloc, founded_on(alloc, opening)?, asked)?;
+    let after = met_on(alloc, met.disks, then)?;
+    Some((met.given, after.given))
 }

@@ -5,6 +5,7 @@ use super::disks::{
 };
 use super::fields::SERIAL_1;
 use super::messages::{DELIVERY, ISSUE};
+use super::registers::{are_same, is_same};
 use super::replies::*;
 use super::script::{Row, response_of};
 use super::*;
@@ -61,19 +62,6 @@ impl Play {
             telling: exchanges(alloc, TELLING.as_slice())?,
         })
     }
-}
-
-// Whether both are the same answer.
-fn is_same(one: &Given, other: &Given) -> bool {
-    match (one, other) {
-        (Given::Answer(one), Given::Answer(other)) => one.is(other.as_slice()),
-        _ => false,
-    }
-}
-
-fn are_same(some: &[Given], others: &[Given]) -> bool {
-    let mut pairs = some.iter().zip(others);
-    some.len() == others.len() && pairs.all(|(one, other)| is_same(one, other))
 }
 
 // The first of the faults after the last answer.

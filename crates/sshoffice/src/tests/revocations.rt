@@ -2,10 +2,10 @@
 
 use super::fields::*;
 use super::messages::*;
+use super::registers::Serials;
 use super::replies::*;
 use super::script::{Row, run, run_over};
 use super::*;
-use crate::trial::opening_of;
 
 const SERIAL: [Row; 4] = [
     ("/v1/krl", 1000, 0x33, "", OK, NOTHING_REVOKED),
@@ -123,14 +123,11 @@ pub const LAST_TWO: [Row; 6] = [
 
 #[test]
 fn the_last_serials_are_listed(rt: HostRuntime) -> Result<(), Fail> {
-    let alloc = rt.alloc();
     let last = 9223372036854775806;
-    run_over(&rt, &opening_of(alloc, last, last)?, LAST_ALONE.as_slice())?;
-    run_over(
-        &rt,
-        &opening_of(alloc, last - 1, last)?,
-        LAST_TWO.as_slice(),
-    )
+    let first = last;
+    run_over(&rt, Serials { first, last }, LAST_ALONE.as_slice())?;
+    let first = last - 1;
+    run_over(&rt, Serials { first, last }, LAST_TWO.as_slice())
 }
 
 const KEY_IDS: [Row; 5] = [

@@ -2,10 +2,10 @@
 
 use super::fields::*;
 use super::messages::*;
+use super::registers::Serials;
 use super::replies::*;
 use super::script::{Row, run, run_over};
 use super::*;
-use crate::trial::opening_of;
 
 const ROLLED: [Row; 8] = [
     ("ana/i1", 1000, 0x33, ISSUE, OK, ISSUED_1),
@@ -85,11 +85,7 @@ const NO_SERIAL_LEFT: [Row; 3] = [
 
 #[test]
 fn a_ca_may_have_no_serial_left(rt: HostRuntime) -> Result<(), Fail> {
-    let alloc = rt.alloc();
     let last = 9223372036854775806;
-    run_over(
-        &rt,
-        &opening_of(alloc, last, last)?,
-        NO_SERIAL_LEFT.as_slice(),
-    )
+    let first = last;
+    run_over(&rt, Serials { first, last }, NO_SERIAL_LEFT.as_slice())
 }

@@ -1,12 +1,11 @@
 //! Exchange files, with the responses that are wanted.
 
-ghost use Rattle.office.specs.Openings.{IsOpening};
-
+use super::disks::FOUNDED;
+use super::registers::{Serials, are_alike};
 use super::*;
 use crate::applying::{apply_exchanges, apply_to_trial};
 use crate::exchanges::read_exchanges;
-use crate::trial::{MemoryOffice, office_in_memory};
-use office::Opening;
+use crate::trial::{MemoryOffice, office_in_memory, opening_of};
 
 /// An exchange: a path `caller/key` or a target that is asked for, the moment, the byte of the nonce, and the message; then
 /// the status and the reply that are wanted. Bytes are written in hexadecimal.
@@ -109,13 +108,17 @@ impl Script {
         assert!(rt; rest.is_empty());
     }
 
-    /// The exchange file is run over the trial office.
-    pub fn run(&self, rt: &impl Abort) -> Result<(), Fail> {
+    /// The exchange file is run over the trial office, and then over other registers.
+    pub fn run<R: AllocGlobal + Abort>(&self, rt: &R) -> Result<(), Fail> {
         let mut out = Vec::new(self.alloc);
         let done = apply_to_trial(self.alloc, self.file.as_slice(), &mut out);
         assert!(rt; done.is_ok());
         self.is_met(rt, out.as_slice());
-        Ok(())
+        let serials = Serials {
+            first: 1,
+            last: 9223372036854775806,
+        };
+        are_alike(rt, serials, FOUNDED.as_slice(), self.file.as_slice())
     }
 }
 
@@ -142,12 +145,18 @@ pub fn run_on<R: AllocGlobal + Abort>(
     Ok(())
 }
 
-/// Runs exchanges over the office of another opening.
-pub fn run_over<R: AllocGlobal + Abort>(rt: &R, opening: &Opening, rows: &[Row]) -> Result<(), Fail>
-    requires { IsOpening opening.now }
-{
-    let mut office = office_in_memory(rt.alloc(), opening)?;
+/// Runs exchanges over offices with other serials.
+pub fn run_over<R: AllocGlobal + Abort>(
+    rt: &R,
+    serials: Serials,
+    rows: &[Row],
+) -> Result<(), Fail> {
+    let opening = opening_of(rt.alloc(), serials.first, serials.last)?;
+    let mut office = office_in_memory(rt.alloc(), &opening)?;
     let ran = run_on(rt, &mut office, rows);
     let _ = office.into_connection();
-    ran
+    ran?;
+    let mut script = Script::new(rt.alloc());
+    script.send_rows(rows)?;
+    are_alike(rt, serials, [].as_slice(), script.file.as_slice())
 }
