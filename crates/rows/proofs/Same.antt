@@ -36,11 +36,13 @@ means_same db c d same m =
           offices = lists_same office_cells office_places (t 0) c.offices d.offices same.offices h.offices;
           departments = lists_same department_cells department_places (t 1) c.departments d.departments
               same.departments h.departments;
-          numbered = h.numbered;
+          departments_numbered = h.departments_numbered;
           certs = lists_same cert_cells cert_places (t 3) c.certs d.certs same.certs h.certs;
           requests = lists_same request_cells request_places (t 4) c.requests d.requests same.requests h.requests;
+          requests_numbered = h.requests_numbered;
           runs = lists_same run_cells run_places (t 6) c.runs d.runs same.runs h.runs;
           revoked = lists_same key_id_cells key_id_places (t 7) c.revoked d.revoked same.revoked h.revoked;
+          revoked_numbered = h.revoked_numbered;
           cas = lists_same ca_cells ca_places (t 9) c.cas d.cas same.cas h.cas;
         };
       };

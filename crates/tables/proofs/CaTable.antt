@@ -33,24 +33,24 @@ use Rattle.tables.proofs.Rising.{AscendBy}
 
 -- ---- INSERT
 
-abbrev insert_sql : List ℕ
+abbrev pub insert_sql : List ℕ
 insert_sql = INSERT_CA.now
 
-abbrev terms : List Term
+abbrev pub terms : List Term
 terms = col 0 0 ∷ lit Null ∷ col 0 1 ∷ col 0 2 ∷ []
 
-insert_is : (command_of (understood whole insert_sql) ≡ Insert 6 (Values terms 4))
+pub insert_is : (command_of (understood whole insert_sql) ≡ Insert 6 (Values terms 4))
     × IsPlain (understood whole insert_sql) × IsWhole insert_sql 3 (understood whole insert_sql)
 unfolding understood everything
 insert_is = (refl, (refl, refl), (refl, refl))
 
-abbrev source : CaRow → Row
+abbrev pub source : CaRow → Row
 source a = Int (pos a.number) ∷ Null ∷ Blob a.ca ∷ Int (pos a.since) ∷ []
 
 pub put : (a : CaRow) → Write insert_sql (ca_cells a) (with_ca a)
 put = insert.put insert_sql ca_cells ca_places 6 ca_at terms 4 source with_ca (λ c. c.cas)
     refl insert_is.0 insert_is.1 (λ x. insert_is.2) (λ x. refl) (λ x rows. simp cast_int) (λ db c h. h.cas)
-    (λ x db after c h o now. in_ca db after c h (x ∷ c.cas) o now)
+    (λ x db after c h o put now. in_ca db after c h (x ∷ c.cas) o now)
 
 -- ---- SELECT of all
 

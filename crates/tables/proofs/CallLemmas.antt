@@ -24,11 +24,11 @@ use Rattle.tables.specs.Schema.{whole}
 use Rattle.tables.specs.Contents.{Contents, Holds, Means}
 use Rattle.tables.specs.Calls.{Changes, Finds, FindsOne, FailsBy, Leaves, Never, WasOpen}
 use Rattle.tables.specs.Done.{IsDone, IsRead, IsFirstRead}
-use Rattle.tables.specs.Faults.{fault_of, HasCause, HasWriteCause}
+use Rattle.tables.specs.Faults.{fault_of, HasCause}
 use Rattle.tables.proofs.Statements.{mode, survives_as}
 use Rattle.tables.proofs.Queries.{answers_open}
 use Rattle.tables.proofs.Texts.{Shows, changes, leaves, finds, never}
-use Rattle.tables.proofs.FaultLemmas.{IsWhole, faults, write_faults}
+use Rattle.tables.proofs.FaultLemmas.{HasWriteCause, IsWhole, faults, write_faults}
 use Rattle.tables.proofs.DoneLemmas.{changes_done, fault_done}
 use Rattle.tables.proofs.FoundLemmas.{finds_read, finds_first, causes_read, causes_first, open_read, open_first}
 

@@ -49,24 +49,24 @@ use Rattle.tables.proofs.Updates.{lists_changed}
 
 -- ---- INSERT
 
-abbrev insert_sql : List ℕ
+abbrev pub insert_sql : List ℕ
 insert_sql = INSERT_CERT.now
 
-abbrev terms : List Term
+abbrev pub terms : List Term
 terms = col 0 0 ∷ lit Null ∷ col 0 1 ∷ col 0 2 ∷ col 0 3 ∷ col 0 4 ∷ []
 
-insert_is : (command_of (understood whole insert_sql) ≡ Insert 2 (Values terms 6))
+pub insert_is : (command_of (understood whole insert_sql) ≡ Insert 2 (Values terms 6))
     × IsPlain (understood whole insert_sql) × IsWhole insert_sql 5 (understood whole insert_sql)
 unfolding understood everything
 insert_is = (refl, (refl, refl), (refl, refl))
 
-abbrev source : CertRow → Row
+abbrev pub source : CertRow → Row
 source c = Int (pos c.serial) ∷ Null ∷ Text c.department ∷ Text c.key_id ∷ Blob c.body ∷ or_null Blob c.signature ∷ []
 
 pub put : (c : CertRow) → Write insert_sql (cert_cells c) (with_cert c)
 put = insert.put insert_sql cert_cells cert_places 2 cert_at terms 6 source with_cert (λ c. c.certs)
     refl insert_is.0 insert_is.1 (λ x. insert_is.2) (λ x. refl) (λ x rows. simp cast_int) (λ db c h. h.certs)
-    (λ x db after c h o now. in_cert db after c h (x ∷ c.certs) o now)
+    (λ x db after c h o put now. in_cert db after c h (x ∷ c.certs) o now)
 
 -- ---- SELECT of one
 
@@ -143,23 +143,23 @@ every = record {
 
 -- ---- UPDATE of the signature
 
-abbrev sign_sql : List ℕ
+abbrev pub sign_sql : List ℕ
 sign_sql = SIGN_CERT.now
 
-abbrev sign_query : Query
+abbrev pub sign_query : Query
 sign_query = on_table 3 (op2 (Compare Eq Binary) (col 1 0) (col 0 0) ∷ [])
     (col 1 0 ∷ col 1 0 ∷ lit Null ∷ col 1 2 ∷ col 1 3 ∷ col 1 4 ∷ col 0 1 ∷ []) []
 
-sign_is : (command_of (understood whole sign_sql) ≡ Update 2 (record { lets = []; body = sign_query }))
+pub sign_is : (command_of (understood whole sign_sql) ≡ Update 2 (record { lets = []; body = sign_query }))
     × IsPlain (understood whole sign_sql) × IsWhole sign_sql 2 (understood whole sign_sql)
 unfolding understood everything
 sign_is = (refl, (refl, refl), (refl, refl))
 
 module _ (serial : ℕ) (signature : List ℕ) where
-  abbrev sign_params : Row
+  abbrev pub sign_params : Row
   sign_params = Int (pos serial) ∷ Blob signature ∷ []
 
-  abbrev sign_row : Row → Row
+  abbrev pub sign_row : Row → Row
   sign_row r = column r 0 ∷ Null ∷ column r 2 ∷ column r 3 ∷ column r 4 ∷ Blob signature ∷ []
 
   abbrev sign_change : Row → Row

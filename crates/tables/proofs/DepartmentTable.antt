@@ -1,5 +1,5 @@
 -- The statements on the table of departments.
-use Rattle.std.proofs.Common.{◌≡◌, ℕ, List, [], ◌∷◌, ◌++◌, codes, map, Bool, true, false, not, Option, None, Some, Ok, refl, sym, ap, ap₂, subst, subst₂, ◌∙◌, inl, inr, is_eq}
+use Rattle.std.proofs.Common.{◌≡◌, ℕ, pos, ◌+◌, length, List, [], ◌∷◌, ◌++◌, codes, map, Bool, true, false, not, Option, None, Some, Ok, refl, sym, ap, ap₂, subst, subst₂, ◌∙◌, inl, inr, is_eq, arith}
 use Rattle.std.specs.Prelude.{◌&&◌, ◌||◌, bytes_eq, filter}
 use Rattle.std.specs.List.Sorted.{IsPermutation}
 use Rattle.std.proofs.Math.Bool.{and-true}
@@ -37,7 +37,11 @@ use Rattle.sqlite.specs.Source.TheVariants.{Values}
 use Rattle.sqlite.specs.Command.TheVariants.{InsertOr, Select}
 use Rattle.sqlite.specs.Tree.{Trees, rowid, IsTable}
 use Rattle.sqlite_trees.specs.View.{is_int}
-use Rattle.sqlite.specs.Edit.{edit_of, Applies, with_rowid, id_in, have_rowids}
+use Rattle.sqlite.specs.Edit.{edit_of, Applies, with_rowid, id_in}
+use Rattle.sqlite_rules.specs.Edit.{next_rowid}
+use Rattle.std.proofs.lemmas.List.Filters.{length-filter_both}
+use Rattle.std.proofs.lemmas.List.Sorted.{length_permutation}
+use Rattle.tables.proofs.Numbering.{ints_of, more_numbered, next_number, still_numbered}
 use Rattle.sqlite.specs.Rowids.TheVariants.{Chosen, Given}
 use Rattle.sqlite.specs.Cast.{cast_row}
 use Rattle.sqlite_schema.specs.declared.schema.Keys.TheVariants.{Enforced}
@@ -52,7 +56,7 @@ use Rattle.sqlite.specs.Listing.{understood, reads_listing}
 use Rattle.sqlite.proofs.Callers.{IsPlain, command_of, statement_of}
 use Rattle.tables.specs.Schema.{whole, department_at}
 use Rattle.tables.specs.Cells.{department_cells}
-use Rattle.tables.specs.Contents.{Contents, Holds, Kept, Means, at_places, department_places}
+use Rattle.tables.specs.Contents.{Contents, Holds, IsNumber, Kept, Means, at_places, department_places}
 use Rattle.tables.specs.Changes.{has_name, departments_named, with_department}
 use Rattle.tables.specs.declared.sql.TheConstants.{PUT_DEPARTMENT, FIND_DEPARTMENT, EVERY_DEPARTMENT}
 use Rattle.tables.specs.declared.departments.DepartmentRow.{DepartmentRow}
@@ -145,42 +149,29 @@ every = record {
 
 -- ---- the upsert
 
-abbrev put_sql : List ℕ
+abbrev pub put_sql : List ℕ
 put_sql = PUT_DEPARTMENT.now
 
-abbrev terms : List Term
+abbrev pub terms : List Term
 terms = lit Null ∷ col 0 0 ∷ col 0 1 ∷ col 0 2 ∷ col 0 3 ∷ col 0 4 ∷ col 0 5 ∷ col 0 6 ∷ col 0 7 ∷ []
 
 -- the parameters, the rowid of the row that is there at 8, the rowid of the new row at 9, and its columns from 10
-abbrev put_query : Query
+abbrev pub put_query : Query
 put_query = on_table 1 (op2 (Compare Eq Binary) (col 1 0) (col 0 8) ∷ [])
     (col 1 0 ∷ col 1 0 ∷ col 1 1 ∷ col 0 11 ∷ col 0 12 ∷ col 0 13 ∷ col 0 14 ∷ col 0 15 ∷ col 0 16 ∷ col 0 17 ∷ []) []
 
-put_is : (command_of (understood whole put_sql) ≡ InsertOr 1 Abort (Values terms 9)
+pub put_is : (command_of (understood whole put_sql) ≡ InsertOr 1 Abort (Values terms 9)
     (record { target = Some (1 ∷ []); update = Some (record { lets = []; body = put_query }) } ∷ []))
     × IsPlain (understood whole put_sql) × IsWhole put_sql 8 (understood whole put_sql)
 unfolding understood everything
 put_is = (refl, (refl, refl), (refl, refl))
 
-and_both : {a b : Bool} → (a && b) ≡ true → (a ≡ true) × (b ≡ true)
+pub and_both : {a b : Bool} → (a && b) ≡ true → (a ≡ true) × (b ≡ true)
 and_both {a} {b} h = go a b h
   where
     go : (a b : Bool) → (a && b) ≡ true → (a ≡ true) × (b ≡ true)
     go true b h = (refl, h)
     go false b h = absurd cc
-
--- integers for rowids, as a test and as a fact of each
-ids_of_each : (rows : List Row) → have_rowids rows ≡ true → AllByRecursion (λ r. is_int (rowid r) ≡ true) rows
-ids_of_each [] h = tt
-ids_of_each (r ∷ rows) h = let parts = and_both h in (parts.0, ids_of_each rows parts.1)
-
-each_of_ids : (rows : List Row) → AllByRecursion (λ r. is_int (rowid r) ≡ true) rows → have_rowids rows ≡ true
-each_of_ids [] h = refl
-each_of_ids (r ∷ rows) h = rw h.0 (each_of_ids rows h.1)
-
-rest_numbered : (p : Row → Bool) (rows : List Row) → have_rowids rows ≡ true → have_rowids (filter p rows) ≡ true
-rest_numbered p rows all = each_of_ids (filter p rows)
-    (all_from _ (filter p rows) (λ r here. all_has _ rows r (ids_of_each rows all) (has_filtered p rows r here).0))
 
 not_true : {b : Bool} → not b ≡ true → b ≡ false
 not_true {b} h = go b h
@@ -188,12 +179,6 @@ not_true {b} h = go b h
     go : (b : Bool) → not b ≡ true → b ≡ false
     go true h = absurd cc
     go false h = refl
-
--- they stay where a row is added or replaced
-all_numbered : (new : Row) (rows after : List Row) → is_int (rowid new) ≡ true → have_rowids rows ≡ true
-    → IsPermutation (new ∷ rows) after → have_rowids after ≡ true
-all_numbered new rows after one all put = each_of_ids after
-    (all-permutation (λ r. is_int (rowid r) ≡ true) (new ∷ rows) after put (one, ids_of_each rows all))
 
 -- tests of two integers, as their order
 eq_tie : (a b : Value) → is_int a ≡ true → is_int b ≡ true
@@ -211,20 +196,20 @@ not_ne Less h = absurd cc
 not_ne Equal h = refl
 not_ne Greater h = absurd cc
 
-same_text : (a b : List ℕ) → bytes_eq a b ≡ true → a ≡ b
+pub same_text : (a b : List ℕ) → bytes_eq a b ≡ true → a ≡ b
 same_text a b e = (bytes_eq-Decides a b).0 e
 
-own_text : (a : List ℕ) → is_true (binary (Compare Eq Binary) (Text a) (Text a)) ≡ true
+pub own_text : (a : List ℕ) → is_true (binary (Compare Eq Binary) (Text a) (Text a)) ≡ true
 own_text a = text_test a a ∙ sym (is_eq-slice_cmp a a) ∙ ap is_eq (sym (value_cmp-Text a a))
     ∙ ap is_eq (tied_itself value_cmp_total (Text a))
 
 -- a test that no element passes
-none_passes : {X : Type 0} (p : X → Bool) (xs : List X) → list_any p xs ≡ false → (x : X) → Has xs x → p x ≡ false
+pub none_passes : {X : Type 0} (p : X → Bool) (xs : List X) → list_any p xs ≡ false → (x : X) → Has xs x → p x ≡ false
 none_passes p xs none x here = elim (cases_Bool (p x))
     [ inl hit ↦ absurd (let some : true ≡ false = sym (some_from p xs x here hit) ∙ none in cc) | inr miss ↦ miss ]
 
 -- the one row of a table that passes a test
-only_one : (p : Row → Bool) (rows : List Row) (r : Row) → IsTable rows → Has rows r → p r ≡ true
+pub only_one : (p : Row → Bool) (rows : List Row) (r : Row) → IsTable rows → Has rows r → p r ≡ true
     → ((s : Row) → Has rows s → p s ≡ true → s ≡ r) → filter p rows ≡ r ∷ []
 only_one p (x ∷ rows) r up here hit only = elim (cases_Bool (p x)) [
   | inl first ↦ rw first (ap₂ ◌∷◌ (only x (inl refl) first) (none_pass rows (λ s later. go s later first)))
@@ -251,14 +236,14 @@ only_one p (x ∷ rows) r up here hit only = elim (cases_Bool (p x)) [
 only_one p [] r up here hit only = absurd here
 
 -- whether the row has the name
-abbrev named : List ℕ → Row → Bool
+abbrev pub named : List ℕ → Row → Bool
 named name r = is_true (binary (Compare Eq Binary) (column r 1) (Text name)) && true
 
 module _ (d : DepartmentRow) where
-  abbrev source : Row
+  abbrev pub source : Row
   source = Null ∷ department_cells d
 
-  abbrev fresh_row : List Row → Row
+  abbrev pub fresh_row : List Row → Row
   fresh_row rows = with_rowid Chosen rows (cast_row department_at source)
 
   or_none : (b : Bool) → (b || false) ≡ b
@@ -266,13 +251,13 @@ module _ (d : DepartmentRow) where
   or_none false = refl
 
   -- the rows that conflict are those of the name
-  conflict_is : (rows : List Row) (r : Row) → conflicts (Some (1 ∷ [])) whole.indexes department_at (fresh_row rows) r
+  pub conflict_is : (rows : List Row) (r : Row) → conflicts (Some (1 ∷ [])) whole.indexes department_at (fresh_row rows) r
       ≡ named d.name r
   unfolding first_key
   conflict_is rows r = rw cast_null (or_none _)
 
   -- what the row is after an update, where the new row that was refused is this one
-  abbrev next_row : Row → Row → Row
+  abbrev pub next_row : Row → Row → Row
   next_row new r = column r 0 ∷ column r 1 ∷ column new 2 ∷ column new 3 ∷ column new 4 ∷ column new 5 ∷ column new 6
       ∷ column new 7 ∷ column new 8 ∷ []
 
@@ -285,7 +270,7 @@ module _ (d : DepartmentRow) where
   put_over rows r is = rw (cast_null, is) (simp cast_int)
 
   -- no row has the name where none conflicts
-  none_named : (rows : List Row) → AreConflicts (Some (1 ∷ [])) whole.indexes department_at rows (fresh_row rows) []
+  pub none_named : (rows : List Row) → AreConflicts (Some (1 ∷ [])) whole.indexes department_at rows (fresh_row rows) []
       → (r : Row) → Has rows r → named d.name r ≡ false
   none_named rows none r here = elim (cases_Bool (named d.name r))
       [ inl hit ↦ absurd (none.complete r here (conflict_is rows r ∙ hit)) | inr miss ↦ miss ]
@@ -326,7 +311,8 @@ module _ (d : DepartmentRow) where
             (subst (λ l. IsPermutation (new ∷ l) (after 1)) (sym left) put);
         apart = subst IsTable (sym did.rows) (IsTable-put_row new (db 1) h.departments.apart);
       })
-      (all_numbered new (db 1) (after 1) (and_both did.keyed).0 h.numbered put)
+      (more_numbered (db 1) (after 1) new put
+      (rw (cast_null, cast_int (next_rowid (db 1))) (next_number (db 1) h.departments_numbered)) h.departments_numbered)
 
   -- where a row of the name is there
   module _ (c : Contents) (db : Trees) (kept : Kept db c) (r0 : Row) (here0 : Has (db 1) r0)
@@ -338,9 +324,9 @@ module _ (d : DepartmentRow) where
     new = fresh_row (db 1)
 
     ints : (r : Row) → Has (db 1) r → is_int (rowid r) ≡ true
-    ints r here = all_has (λ r. is_int (rowid r) ≡ true) (db 1) r (ids_of_each (db 1) h.numbered) here
+    ints r here = all_has (λ r. is_int (rowid r) ≡ true) (db 1) r (ints_of (db 1) h.departments_numbered) here
 
-    name_is : (r : Row) → Has (db 1) r → named d.name r ≡ true → column r 1 ≡ Text d.name
+    pub name_is : (r : Row) → Has (db 1) r → named d.name r ≡ true → column r 1 ≡ Text d.name
     name_is r here hit =
         let it = of_record department_cells department_places (db 1) c.departments r h.departments here in
         let name : column r 1 ≡ Text it.0.name = ap (λ v. column v 0) it.2 in
@@ -349,7 +335,7 @@ module _ (d : DepartmentRow) where
         name ∙ ap Text (same_text it.0.name d.name (sym (text_test it.0.name d.name) ∙ test))
 
     -- another row of the name would break the rule that names are unique
-    unique : (r : Row) → Has (db 1) r → named d.name r ≡ true → is_eq (value_cmp (rowid r) (rowid r0)) ≡ true
+    pub unique : (r : Row) → Has (db 1) r → named d.name r ≡ true → is_eq (value_cmp (rowid r) (rowid r0)) ≡ true
     unfolding first_key
     unique r here hit =
         let rule = all_has _ (db 1) r0 (kept.sound.obeys.rules Unique).1.0 here0 in
@@ -364,16 +350,16 @@ module _ (d : DepartmentRow) where
         (sym (ne_tie (rowid r) (rowid r0) (ints r here) (ints r0 here0)) ∙ apart)
 
     -- whether the row has the rowid of that row
-    abbrev has_id : Row → Bool
+    abbrev pub has_id : Row → Bool
     has_id r = is_true (binary (Compare Eq Binary) (column r 0) (rowid r0)) && true
 
     id_is : (r : Row) → Has (db 1) r → has_id r ≡ is_eq (value_cmp (rowid r) (rowid r0))
     id_is r here = and-true _ ∙ eq_tie (rowid r) (rowid r0) (ints r here) (ints r0 here0)
 
-    the_row : (r : Row) → Has (db 1) r → has_id r ≡ true → r ≡ r0
+    pub the_row : (r : Row) → Has (db 1) r → has_id r ≡ true → r ≡ r0
     the_row r here hit = tied_same (db 1) r r0 h.departments.apart here here0 (equal_is _ (sym (id_is r here) ∙ hit))
 
-    own_row : has_id r0 ≡ true
+    pub own_row : has_id r0 ≡ true
     own_row = id_is r0 here0 ∙ ap is_eq (tied_itself value_cmp_total (rowid r0))
 
     same_rows : (r : Row) → Has (db 1) r → has_id r ≡ named d.name r
@@ -401,16 +387,28 @@ module _ (d : DepartmentRow) where
         let put : IsPermutation (next ∷ filter (λ r. not (named d.name r)) (db 1)) (after 1) =
         subst₂ (λ f l. IsPermutation (map (λ r. cast_row department_at (next_row new r)) f ++ l) (after 1)) one left
         moved in
-        let id : is_int (rowid next) ≡ true = rw (int_is (rowid r0) (ints r0 here0))
-        (ap is_int (cast_int (id_in (rowid r0)))) in
+        let rest = filter (λ r. not (named d.name r)) (db 1) in
+        let was = all_has (λ r. IsNumber (length (db 1)) (rowid r)) (db 1) r0 h.departments_numbered here0 in
+        let id : IsNumber (length (db 1)) (rowid next) = rw was.1 (rw (cast_int (pos was.0)) (was.0, refl, was.2)) in
+        let count : length (after 1) ≡ length (db 1) =
+        let all_of = length_permutation (next ∷ rest) (after 1) put in
+        let others = ap (λ (l : List Row). length l) left in
+        let alone = ap (λ (l : List Row). length l) one in
+        let both = length-filter_both has_id (λ r. not (has_id r)) (λ r. refl) (db 1) in
+        omega (arith, all_of, others, alone, both) in
         in_department db after c h _ (spares (edit_of db department_at (ids_of rows) Given 1 rows) db after did)
         (record {
           same = replaced c db after next h (put_over (db 1) r0 (name_is r0 here0 hit0)) put;
           apart = updated_apart whole department_at db after rows has_id (next_row new) h.departments.apart ints all
               did;
         })
-        (all_numbered next (filter (λ r. not (named d.name r)) (db 1)) (after 1) id
-        (rest_numbered (λ r. not (named d.name r)) (db 1) h.numbered) put)
+        (still_numbered (db 1) (after 1) count
+        (all-permutation (λ r. IsNumber (length (db 1)) (rowid r)) (next ∷ rest) (after 1) put (
+          id,
+          all_from (λ r. IsNumber (length (db 1)) (rowid r)) rest (λ r here.
+              all_has (λ r. IsNumber (length (db 1)) (rowid r)) (db 1) r h.departments_numbered
+              (has_filtered (λ r. not (named d.name r)) (db 1) r here).0),
+        )))
 
   put_does : (limit : Option ℕ) (db next : Database) (tally : Tally) (c : Contents) → Means db c
       → Does limit mode (department_cells d) db (statement_of put_sql (understood whole put_sql)) None

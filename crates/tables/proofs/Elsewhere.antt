@@ -3,7 +3,7 @@ use Rattle.std.proofs.Common.{◌≡◌, ◌≢◌, true, ℕ, List, subst, sym,
 use Rattle.sqlite_schema.specs.declared.schema.Keys.TheVariants.{Enforced}
 use Rattle.sqlite.specs.Order.{Row}
 use Rattle.sqlite.specs.Tree.{Trees}
-use Rattle.sqlite.specs.Edit.{Edit, Applies, have_rowids}
+use Rattle.sqlite.specs.Edit.{Edit, Applies}
 use Rattle.tables.specs.declared.offices.OfficeRow.{OfficeRow}
 use Rattle.tables.specs.declared.departments.DepartmentRow.{DepartmentRow}
 use Rattle.tables.specs.declared.certs.CertRow.{CertRow}
@@ -12,7 +12,7 @@ use Rattle.tables.specs.declared.runs.RunRow.{RunRow}
 use Rattle.tables.specs.declared.cas.CaRow.{CaRow}
 use Rattle.tables.specs.Schema.{whole}
 use Rattle.tables.specs.Cells.{office_cells, department_cells, cert_cells, request_cells, run_cells, key_id_cells, ca_cells}
-use Rattle.tables.specs.Contents.{Contents, Holds, Lists, office_places, department_places, cert_places, request_places, run_places, key_id_places, ca_places}
+use Rattle.tables.specs.Contents.{AreNumbered, Contents, Holds, Lists, office_places, department_places, cert_places, request_places, run_places, key_id_places, ca_places}
 
 -- the trees of the tables, but for this one, are as they were
 pub record Spares (tree : ℕ) (db after : Trees) : Type 0 where
@@ -48,27 +48,31 @@ module _ (db after : Trees) (c : Contents) (h : Holds db c) where
     offices = now;
     departments = stays department_cells department_places db after 1 c.departments
         (o.department (λ e. absurd (omega arith))) h.departments;
-    numbered = subst (λ rows. have_rowids rows ≡ true) (sym (o.department (λ e. absurd (omega arith)))) h.numbered;
+    departments_numbered = subst AreNumbered (sym (o.department (λ e. absurd (omega arith)))) h.departments_numbered;
     certs = stays cert_cells cert_places db after 3 c.certs (o.cert (λ e. absurd (omega arith))) h.certs;
     requests = stays request_cells request_places db after 4 c.requests (o.request (λ e. absurd (omega arith)))
         h.requests;
+    requests_numbered = subst AreNumbered (sym (o.request (λ e. absurd (omega arith)))) h.requests_numbered;
     runs = stays run_cells run_places db after 6 c.runs (o.run (λ e. absurd (omega arith))) h.runs;
     revoked = stays key_id_cells key_id_places db after 7 c.revoked (o.revoked (λ e. absurd (omega arith))) h.revoked;
+    revoked_numbered = subst AreNumbered (sym (o.revoked (λ e. absurd (omega arith)))) h.revoked_numbered;
     cas = stays ca_cells ca_places db after 9 c.cas (o.ca (λ e. absurd (omega arith))) h.cas;
   }
 
   pub in_department : (xs : List DepartmentRow) → Spares 1 db after
-      → Lists department_cells department_places (after 1) xs → have_rowids (after 1) ≡ true
+      → Lists department_cells department_places (after 1) xs → AreNumbered (after 1)
       → Holds after (record c { departments = xs })
   in_department xs o now ids = record {
     offices = stays office_cells office_places db after 0 c.offices (o.office (λ e. absurd (omega arith))) h.offices;
     departments = now;
-    numbered = ids;
+    departments_numbered = ids;
     certs = stays cert_cells cert_places db after 3 c.certs (o.cert (λ e. absurd (omega arith))) h.certs;
     requests = stays request_cells request_places db after 4 c.requests (o.request (λ e. absurd (omega arith)))
         h.requests;
+    requests_numbered = subst AreNumbered (sym (o.request (λ e. absurd (omega arith)))) h.requests_numbered;
     runs = stays run_cells run_places db after 6 c.runs (o.run (λ e. absurd (omega arith))) h.runs;
     revoked = stays key_id_cells key_id_places db after 7 c.revoked (o.revoked (λ e. absurd (omega arith))) h.revoked;
+    revoked_numbered = subst AreNumbered (sym (o.revoked (λ e. absurd (omega arith)))) h.revoked_numbered;
     cas = stays ca_cells ca_places db after 9 c.cas (o.ca (λ e. absurd (omega arith))) h.cas;
   }
 
@@ -78,26 +82,30 @@ module _ (db after : Trees) (c : Contents) (h : Holds db c) where
     offices = stays office_cells office_places db after 0 c.offices (o.office (λ e. absurd (omega arith))) h.offices;
     departments = stays department_cells department_places db after 1 c.departments
         (o.department (λ e. absurd (omega arith))) h.departments;
-    numbered = subst (λ rows. have_rowids rows ≡ true) (sym (o.department (λ e. absurd (omega arith)))) h.numbered;
+    departments_numbered = subst AreNumbered (sym (o.department (λ e. absurd (omega arith)))) h.departments_numbered;
     certs = now;
     requests = stays request_cells request_places db after 4 c.requests (o.request (λ e. absurd (omega arith)))
         h.requests;
+    requests_numbered = subst AreNumbered (sym (o.request (λ e. absurd (omega arith)))) h.requests_numbered;
     runs = stays run_cells run_places db after 6 c.runs (o.run (λ e. absurd (omega arith))) h.runs;
     revoked = stays key_id_cells key_id_places db after 7 c.revoked (o.revoked (λ e. absurd (omega arith))) h.revoked;
+    revoked_numbered = subst AreNumbered (sym (o.revoked (λ e. absurd (omega arith)))) h.revoked_numbered;
     cas = stays ca_cells ca_places db after 9 c.cas (o.ca (λ e. absurd (omega arith))) h.cas;
   }
 
   pub in_request : (xs : List RequestRow) → Spares 4 db after → Lists request_cells request_places (after 4) xs
-      → Holds after (record c { requests = xs })
-  in_request xs o now = record {
+      → AreNumbered (after 4) → Holds after (record c { requests = xs })
+  in_request xs o now ids = record {
     offices = stays office_cells office_places db after 0 c.offices (o.office (λ e. absurd (omega arith))) h.offices;
     departments = stays department_cells department_places db after 1 c.departments
         (o.department (λ e. absurd (omega arith))) h.departments;
-    numbered = subst (λ rows. have_rowids rows ≡ true) (sym (o.department (λ e. absurd (omega arith)))) h.numbered;
+    departments_numbered = subst AreNumbered (sym (o.department (λ e. absurd (omega arith)))) h.departments_numbered;
     certs = stays cert_cells cert_places db after 3 c.certs (o.cert (λ e. absurd (omega arith))) h.certs;
     requests = now;
+    requests_numbered = ids;
     runs = stays run_cells run_places db after 6 c.runs (o.run (λ e. absurd (omega arith))) h.runs;
     revoked = stays key_id_cells key_id_places db after 7 c.revoked (o.revoked (λ e. absurd (omega arith))) h.revoked;
+    revoked_numbered = subst AreNumbered (sym (o.revoked (λ e. absurd (omega arith)))) h.revoked_numbered;
     cas = stays ca_cells ca_places db after 9 c.cas (o.ca (λ e. absurd (omega arith))) h.cas;
   }
 
@@ -107,27 +115,31 @@ module _ (db after : Trees) (c : Contents) (h : Holds db c) where
     offices = stays office_cells office_places db after 0 c.offices (o.office (λ e. absurd (omega arith))) h.offices;
     departments = stays department_cells department_places db after 1 c.departments
         (o.department (λ e. absurd (omega arith))) h.departments;
-    numbered = subst (λ rows. have_rowids rows ≡ true) (sym (o.department (λ e. absurd (omega arith)))) h.numbered;
+    departments_numbered = subst AreNumbered (sym (o.department (λ e. absurd (omega arith)))) h.departments_numbered;
     certs = stays cert_cells cert_places db after 3 c.certs (o.cert (λ e. absurd (omega arith))) h.certs;
     requests = stays request_cells request_places db after 4 c.requests (o.request (λ e. absurd (omega arith)))
         h.requests;
+    requests_numbered = subst AreNumbered (sym (o.request (λ e. absurd (omega arith)))) h.requests_numbered;
     runs = now;
     revoked = stays key_id_cells key_id_places db after 7 c.revoked (o.revoked (λ e. absurd (omega arith))) h.revoked;
+    revoked_numbered = subst AreNumbered (sym (o.revoked (λ e. absurd (omega arith)))) h.revoked_numbered;
     cas = stays ca_cells ca_places db after 9 c.cas (o.ca (λ e. absurd (omega arith))) h.cas;
   }
 
   pub in_revoked : (xs : List (List ℕ)) → Spares 7 db after → Lists key_id_cells key_id_places (after 7) xs
-      → Holds after (record c { revoked = xs })
-  in_revoked xs o now = record {
+      → AreNumbered (after 7) → Holds after (record c { revoked = xs })
+  in_revoked xs o now ids = record {
     offices = stays office_cells office_places db after 0 c.offices (o.office (λ e. absurd (omega arith))) h.offices;
     departments = stays department_cells department_places db after 1 c.departments
         (o.department (λ e. absurd (omega arith))) h.departments;
-    numbered = subst (λ rows. have_rowids rows ≡ true) (sym (o.department (λ e. absurd (omega arith)))) h.numbered;
+    departments_numbered = subst AreNumbered (sym (o.department (λ e. absurd (omega arith)))) h.departments_numbered;
     certs = stays cert_cells cert_places db after 3 c.certs (o.cert (λ e. absurd (omega arith))) h.certs;
     requests = stays request_cells request_places db after 4 c.requests (o.request (λ e. absurd (omega arith)))
         h.requests;
+    requests_numbered = subst AreNumbered (sym (o.request (λ e. absurd (omega arith)))) h.requests_numbered;
     runs = stays run_cells run_places db after 6 c.runs (o.run (λ e. absurd (omega arith))) h.runs;
     revoked = now;
+    revoked_numbered = ids;
     cas = stays ca_cells ca_places db after 9 c.cas (o.ca (λ e. absurd (omega arith))) h.cas;
   }
 
@@ -137,11 +149,13 @@ module _ (db after : Trees) (c : Contents) (h : Holds db c) where
     offices = stays office_cells office_places db after 0 c.offices (o.office (λ e. absurd (omega arith))) h.offices;
     departments = stays department_cells department_places db after 1 c.departments
         (o.department (λ e. absurd (omega arith))) h.departments;
-    numbered = subst (λ rows. have_rowids rows ≡ true) (sym (o.department (λ e. absurd (omega arith)))) h.numbered;
+    departments_numbered = subst AreNumbered (sym (o.department (λ e. absurd (omega arith)))) h.departments_numbered;
     certs = stays cert_cells cert_places db after 3 c.certs (o.cert (λ e. absurd (omega arith))) h.certs;
     requests = stays request_cells request_places db after 4 c.requests (o.request (λ e. absurd (omega arith)))
         h.requests;
+    requests_numbered = subst AreNumbered (sym (o.request (λ e. absurd (omega arith)))) h.requests_numbered;
     runs = stays run_cells run_places db after 6 c.runs (o.run (λ e. absurd (omega arith))) h.runs;
     revoked = stays key_id_cells key_id_places db after 7 c.revoked (o.revoked (λ e. absurd (omega arith))) h.revoked;
+    revoked_numbered = subst AreNumbered (sym (o.revoked (λ e. absurd (omega arith)))) h.revoked_numbered;
     cas = now;
   }

@@ -19,11 +19,23 @@ use Rattle.sqlite.specs.State.{State, FailsToQuery, IsNotRun, Fails, Executes, E
 use Rattle.sqlite.proofs.Callers.{IsPlain, command_of}
 use Rattle.tables.specs.Schema.{whole}
 use Rattle.tables.specs.Contents.{Contents, Means}
-use Rattle.tables.specs.Faults.{is_out_of_memory, fault_of, HasCause, IsRefused, HasWriteCause}
+use Rattle.tables.specs.Faults.{is_out_of_memory, fault_of, HasCause, HasFailed}
 use Rattle.tables.specs.declared.fault.Fault.TheVariants.{Device, Damaged, NoMemory}
 use Rattle.sqlite.specs.Command.{Command}
 use Rattle.sqlite.specs.Does.{Does}
 use Rattle.tables.specs.declared.fault.Fault.{Fault}
+
+-- the rules of the tables refuse the statement, as for a key that is taken, or a row of it is too big
+abbrev pub IsRefused : List ℕ → Row → State → Type 0
+IsRefused sql params s =
+    IfOk (understood whole sql) (λ c. (stop : Option Error)
+    × Does s.step_limit (mode_of s) params s.now (text_of sql c) None c.command (Err stop))
+
+-- the cause of each fault of a write on tables that mean something
+abbrev pub HasWriteCause : List ℕ → Row → State → State → Fault → Type 0
+HasWriteCause sql params old new NoMemory = Unit {0}
+HasWriteCause sql params old new Device = HasFailed old new ⊎ IsRefused sql params old
+HasWriteCause sql params old new Damaged = ⊥
 
 -- the text is one statement with so many parameters
 abbrev pub IsWhole : List ℕ → ℕ → Result Compiled CompileError → Type 0

@@ -110,11 +110,13 @@ ca_completes a b (Ok x) one = λ bare.
           holds = record {
             offices = lists_none office_cells office_places (b.now.trees 0) all.0;
             departments = lists_none department_cells department_places (b.now.trees 1) all.1.0;
-            numbered = rw all.1.0 refl;
+            departments_numbered = rw all.1.0 tt;
             certs = lists_none cert_cells cert_places (b.now.trees 3) all.1.1.0;
             requests = lists_none request_cells request_places (b.now.trees 4) all.1.1.1.0;
+            requests_numbered = rw all.1.1.1.0 tt;
             runs = lists_none run_cells run_places (b.now.trees 6) all.1.1.1.1.0;
             revoked = lists_none key_id_cells key_id_places (b.now.trees 7) all.1.1.1.1.1.0;
+            revoked_numbered = rw all.1.1.1.1.1.0 tt;
             cas = lists_none ca_cells ca_places (b.now.trees 9) all.1.1.1.1.1.1.0;
           };
         };
@@ -142,11 +144,13 @@ adds_ca a b (Ok x) one = λ c means.
           holds = record {
             offices = rw o.0 h.offices;
             departments = rw o.1.0 h.departments;
-            numbered = rw o.1.0 h.numbered;
+            departments_numbered = rw o.1.0 h.departments_numbered;
             certs = rw o.1.1.0 h.certs;
             requests = rw o.1.1.1.0 h.requests;
+            requests_numbered = rw o.1.1.1.0 h.requests_numbered;
             runs = rw o.1.1.1.1.0 h.runs;
             revoked = rw o.1.1.1.1.1.0 h.revoked;
+            revoked_numbered = rw o.1.1.1.1.1.0 h.revoked_numbered;
             cas = rw p.empty h.cas;
           };
         };

@@ -21,7 +21,8 @@ use Rattle.sqlite.proofs.Callers.{IsPlain, command_of, statement_of}
 use Rattle.tables.specs.Schema.{whole}
 use Rattle.tables.specs.Contents.{Contents, Holds, Means, Lists, at_places}
 use Rattle.tables.proofs.Statements.{mode, inserts, uncounted}
-use Rattle.tables.proofs.Rows.{lists_more}
+use Rattle.std.specs.List.Sorted.{IsPermutation}
+use Rattle.tables.proofs.Rows.{inserted, lists_more}
 use Rattle.tables.proofs.Elsewhere.{Spares, spares}
 use Rattle.tables.proofs.FaultLemmas.{IsWhole}
 use Rattle.tables.proofs.CallLemmas.{Write}
@@ -46,6 +47,7 @@ module _ {X : Type 0} (sql : List ℕ) (cells : X → Row) (places : List ℕ) (
     (with_rowid Chosen rows (cast_row (uncounted table) (source x))) ≡ cells x)
     (listed : (db : Trees) (c : Contents) → Holds db c → Lists cells places (db table.tree) (of c))
     (held : (x : X) (db after : Trees) (c : Contents) → Holds db c → Spares table.tree db after
+    → IsPermutation (with_rowid Chosen (db table.tree) (cast_row (uncounted table) (source x)) ∷ db table.tree) (after table.tree)
     → Lists cells places (after table.tree) (x ∷ of c) → Holds after (with_x x c)) where
   does : (x : X) (limit : Option ℕ) (db next : Database) (tally : Tally) (c : Contents) → Means db c
       → Does limit mode (cells x) db (statement_of sql (understood whole sql)) None (Insert at (Values terms width))
@@ -60,6 +62,7 @@ module _ {X : Type 0} (sql : List ℕ) (cells : X → Row) (places : List ℕ) (
         did.1,
         held x db.trees next.trees c means.kept.holds
             (spares (edit_of db.trees (uncounted table) [] Chosen 0 (source x ∷ [])) db.trees next.trees put)
+            (inserted whole (uncounted table) db.trees next.trees (source x) put)
             (lists_more cells places (uncounted table) db.trees next.trees (of c) x (source x)
             (listed db.trees c means.kept.holds) (read_back x (db.trees table.tree)) put),
       )

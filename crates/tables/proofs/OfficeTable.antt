@@ -49,26 +49,26 @@ use Rattle.tables.proofs.Updates.{lists_changed}
 
 -- ---- INSERT
 
-abbrev insert_sql : List ℕ
+abbrev pub insert_sql : List ℕ
 insert_sql = INSERT_OFFICE.now
 
-abbrev terms : List Term
+abbrev pub terms : List Term
 terms = col 0 0 ∷ lit Null ∷ col 0 1 ∷ col 0 2 ∷ col 0 3 ∷ col 0 4 ∷ col 0 5 ∷ col 0 6 ∷ col 0 7 ∷ col 0 8 ∷ col 0 9
     ∷ []
 
-insert_is : (command_of (understood whole insert_sql) ≡ Insert 0 (Values terms 11))
+pub insert_is : (command_of (understood whole insert_sql) ≡ Insert 0 (Values terms 11))
     × IsPlain (understood whole insert_sql) × IsWhole insert_sql 10 (understood whole insert_sql)
 unfolding understood everything
 insert_is = (refl, (refl, refl), (refl, refl))
 
-abbrev source : OfficeRow → Row
+abbrev pub source : OfficeRow → Row
 source o = Int (pos o.id) ∷ Null ∷ Int (pos o.schema) ∷ Blob o.ca ∷ Text o.root ∷ Text o.station ∷ Int (pos o.first)
     ∷ Int (pos o.last) ∷ Int (pos o.next) ∷ Int (pos o.version) ∷ Int (pos o.date) ∷ []
 
 pub put : (o : OfficeRow) → Write insert_sql (office_cells o) (with_office o)
 put = insert.put insert_sql office_cells office_places 0 office_at terms 11 source with_office (λ c. c.offices)
     refl insert_is.0 insert_is.1 (λ x. insert_is.2) (λ x. refl) (λ x rows. simp cast_int) (λ db c h. h.offices)
-    (λ x db after c h o now. in_office db after c h (x ∷ c.offices) o now)
+    (λ x db after c h o put now. in_office db after c h (x ∷ c.offices) o now)
 
 -- ---- SELECT of all
 
@@ -109,24 +109,24 @@ every = record {
 
 -- ---- UPDATE of the counters
 
-abbrev count_sql : List ℕ
+abbrev pub count_sql : List ℕ
 count_sql = COUNT_OFFICE.now
 
-abbrev count_query : Query
+abbrev pub count_query : Query
 count_query = on_table 0 (op2 (Compare Eq Binary) (col 1 0) (lit (Int (pos 1))) ∷ [])
     (col 1 0 ∷ col 1 0 ∷ lit Null ∷ col 1 2 ∷ col 1 3 ∷ col 1 4 ∷ col 1 5 ∷ col 1 6 ∷ col 1 7 ∷ col 0 0 ∷ col 0 1
     ∷ col 0 2 ∷ []) []
 
-count_is : (command_of (understood whole count_sql) ≡ Update 0 (record { lets = []; body = count_query }))
+pub count_is : (command_of (understood whole count_sql) ≡ Update 0 (record { lets = []; body = count_query }))
     × IsPlain (understood whole count_sql) × IsWhole count_sql 3 (understood whole count_sql)
 unfolding understood everything
 count_is = (refl, (refl, refl), (refl, refl))
 
 module _ (k : Counters) where
-  abbrev count_params : Row
+  abbrev pub count_params : Row
   count_params = Int (pos k.next) ∷ Int (pos k.version) ∷ Int (pos k.date) ∷ []
 
-  abbrev count_row : Row → Row
+  abbrev pub count_row : Row → Row
   count_row r = column r 0 ∷ Null ∷ column r 2 ∷ column r 3 ∷ column r 4 ∷ column r 5 ∷ column r 6 ∷ column r 7
       ∷ count_params
 
@@ -178,24 +178,24 @@ module _ (k : Counters) where
 
 -- ---- UPDATE of the number of the schema
 
-abbrev number_sql : List ℕ
+abbrev pub number_sql : List ℕ
 number_sql = NUMBER_OFFICE.now
 
-abbrev number_query : Query
+abbrev pub number_query : Query
 number_query = on_table 0 (op2 (Compare Eq Binary) (col 1 0) (lit (Int (pos 1))) ∷ [])
     (col 1 0 ∷ col 1 0 ∷ lit Null ∷ col 0 0 ∷ col 1 3 ∷ col 1 4 ∷ col 1 5 ∷ col 1 6 ∷ col 1 7 ∷ col 1 8 ∷ col 1 9
     ∷ col 1 10 ∷ []) []
 
-number_is : (command_of (understood whole number_sql) ≡ Update 0 (record { lets = []; body = number_query }))
+pub number_is : (command_of (understood whole number_sql) ≡ Update 0 (record { lets = []; body = number_query }))
     × IsPlain (understood whole number_sql) × IsWhole number_sql 1 (understood whole number_sql)
 unfolding understood everything
 number_is = (refl, (refl, refl), (refl, refl))
 
 module _ (n : ℕ) where
-  abbrev number_params : Row
+  abbrev pub number_params : Row
   number_params = Int (pos n) ∷ []
 
-  abbrev number_row : Row → Row
+  abbrev pub number_row : Row → Row
   number_row r = column r 0 ∷ Null ∷ Int (pos n) ∷ column r 3 ∷ column r 4 ∷ column r 5 ∷ column r 6 ∷ column r 7
       ∷ column r 8 ∷ column r 9 ∷ column r 10 ∷ []
 

@@ -31,28 +31,30 @@ use Rattle.tables.proofs.FaultLemmas.{IsWhole, none_overflows}
 use Rattle.tables.proofs.Inserts.{no_works}
 use Rattle.tables.proofs.Inserts as insert
 use Rattle.tables.proofs.Queries.{on_table, selected, chosen, text_test}
+use Rattle.tables.proofs.Numbering.{more_numbered, next_number}
 use Rattle.tables.proofs.Rows.{cast_null}
 
 -- ---- INSERT
 
-abbrev insert_sql : List ℕ
+abbrev pub insert_sql : List ℕ
 insert_sql = INSERT_REQUEST.now
 
-abbrev terms : List Term
+abbrev pub terms : List Term
 terms = lit Null ∷ col 0 0 ∷ col 0 1 ∷ col 0 2 ∷ col 0 3 ∷ []
 
-insert_is : (command_of (understood whole insert_sql) ≡ Insert 3 (Values terms 5))
+pub insert_is : (command_of (understood whole insert_sql) ≡ Insert 3 (Values terms 5))
     × IsPlain (understood whole insert_sql) × IsWhole insert_sql 4 (understood whole insert_sql)
 unfolding understood everything
 insert_is = (refl, (refl, refl), (refl, refl))
 
-abbrev source : RequestRow → Row
+abbrev pub source : RequestRow → Row
 source r = Null ∷ request_cells r
 
 pub put : (r : RequestRow) → Write insert_sql (request_cells r) (with_request r)
 put = insert.put insert_sql request_cells request_places 3 request_at terms 5 source with_request (λ c. c.requests)
     refl insert_is.0 insert_is.1 (λ x. insert_is.2) (λ x. refl) (λ x rows. rw cast_null refl) (λ db c h. h.requests)
-    (λ x db after c h o now. in_request db after c h (x ∷ c.requests) o now)
+    (λ x db after c h o put now. in_request db after c h (x ∷ c.requests) o now
+    (more_numbered (db 4) (after 4) _ put (rw cast_null (next_number (db 4) h.requests_numbered)) h.requests_numbered))
 
 -- ---- SELECT of one
 

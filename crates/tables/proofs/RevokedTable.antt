@@ -32,29 +32,31 @@ use Rattle.tables.proofs.FaultLemmas.{IsWhole, none_overflows}
 use Rattle.tables.proofs.Inserts.{no_works}
 use Rattle.tables.proofs.Inserts as insert
 use Rattle.tables.proofs.Queries.{on_table, in_order, selected, chosen, text_test}
+use Rattle.tables.proofs.Numbering.{more_numbered, next_number}
 use Rattle.tables.proofs.Rows.{cast_null}
 use Rattle.tables.proofs.Rising.{AscendBy}
 
 -- ---- INSERT
 
-abbrev insert_sql : List ℕ
+abbrev pub insert_sql : List ℕ
 insert_sql = INSERT_REVOKED.now
 
-abbrev terms : List Term
+abbrev pub terms : List Term
 terms = lit Null ∷ col 0 0 ∷ []
 
-insert_is : (command_of (understood whole insert_sql) ≡ Insert 5 (Values terms 2))
+pub insert_is : (command_of (understood whole insert_sql) ≡ Insert 5 (Values terms 2))
     × IsPlain (understood whole insert_sql) × IsWhole insert_sql 1 (understood whole insert_sql)
 unfolding understood everything
 insert_is = (refl, (refl, refl), (refl, refl))
 
-abbrev source : (List ℕ) → Row
+abbrev pub source : (List ℕ) → Row
 source k = Null ∷ key_id_cells k
 
 pub put : (k : (List ℕ)) → Write insert_sql (key_id_cells k) (with_revoked k)
 put = insert.put insert_sql key_id_cells key_id_places 5 revoked_at terms 2 source with_revoked (λ c. c.revoked)
     refl insert_is.0 insert_is.1 (λ x. insert_is.2) (λ x. refl) (λ x rows. rw cast_null refl) (λ db c h. h.revoked)
-    (λ x db after c h o now. in_revoked db after c h (x ∷ c.revoked) o now)
+    (λ x db after c h o put now. in_revoked db after c h (x ∷ c.revoked) o now
+    (more_numbered (db 7) (after 7) _ put (rw cast_null (next_number (db 7) h.revoked_numbered)) h.revoked_numbered))
 
 -- ---- SELECT of one
 

@@ -50,24 +50,24 @@ use Rattle.tables.proofs.Numbers.{le_number, ge_number}
 
 -- ---- INSERT
 
-abbrev insert_sql : List ℕ
+abbrev pub insert_sql : List ℕ
 insert_sql = INSERT_RUN.now
 
-abbrev terms : List Term
+abbrev pub terms : List Term
 terms = col 0 0 ∷ lit Null ∷ col 0 1 ∷ []
 
-insert_is : (command_of (understood whole insert_sql) ≡ Insert 4 (Values terms 3))
+pub insert_is : (command_of (understood whole insert_sql) ≡ Insert 4 (Values terms 3))
     × IsPlain (understood whole insert_sql) × IsWhole insert_sql 2 (understood whole insert_sql)
 unfolding understood everything
 insert_is = (refl, (refl, refl), (refl, refl))
 
-abbrev source : RunRow → Row
+abbrev pub source : RunRow → Row
 source r = Int (pos r.lo) ∷ Null ∷ Int (pos r.hi) ∷ []
 
 pub put : (r : RunRow) → Write insert_sql (run_cells r) (with_run r)
 put = insert.put insert_sql run_cells run_places 4 run_at terms 3 source with_run (λ c. c.runs)
     refl insert_is.0 insert_is.1 (λ x. insert_is.2) (λ x. refl) (λ x rows. simp cast_int) (λ db c h. h.runs)
-    (λ x db after c h o now. in_run db after c h (x ∷ c.runs) o now)
+    (λ x db after c h o put now. in_run db after c h (x ∷ c.runs) o now)
 
 -- ---- SELECT of all
 
@@ -105,10 +105,10 @@ every = record {
 
 -- ---- the runs between two ends
 
-abbrev tests : List Term
+abbrev pub tests : List Term
 tests = op2 (Compare Ge Binary) (col 1 2) (col 0 0) ∷ op2 (Compare Le Binary) (col 1 0) (col 0 1) ∷ []
 
-abbrev passes : RunRow → Row → Bool
+abbrev pub passes : RunRow → Row → Bool
 passes ends v = is_true (binary (Compare Ge Binary) (column v 1) (Int (pos ends.lo))) &&
     (is_true (binary (Compare Le Binary) (column v 0) (Int (pos ends.hi))) && true)
 
@@ -153,18 +153,18 @@ find ends = record {
 
 -- ---- DELETE
 
-abbrev delete_sql : List ℕ
+abbrev pub delete_sql : List ℕ
 delete_sql = DELETE_RUNS.now
 
-abbrev delete_query : Query
+abbrev pub delete_query : Query
 delete_query = on_table 6 tests (col 1 0 ∷ []) []
 
-delete_is : (command_of (understood whole delete_sql) ≡ Delete 4 (record { lets = []; body = delete_query }))
+pub delete_is : (command_of (understood whole delete_sql) ≡ Delete 4 (record { lets = []; body = delete_query }))
     × IsPlain (understood whole delete_sql) × IsWhole delete_sql 2 (understood whole delete_sql)
 unfolding understood everything
 delete_is = (refl, (refl, refl), (refl, refl))
 
-abbrev hit : RunRow → Row → Bool
+abbrev pub hit : RunRow → Row → Bool
 hit ends r = passes ends (at_places run_places r)
 
 left_runs : (ends : RunRow) (c : Contents) (db after : Trees) (rows : List Row) → Holds db c

@@ -85,7 +85,7 @@ module _ (limit : Option ℕ) (db after : Database) (tally : Tally) (schema : Sc
   judged new one None h = meets new one h.0 h.1 h.2
   judged new one (Some why) h = absurd (let e = h in cc)
 
-  tries : (new : Row) (one : Written) → Tries task Abort (clause ∷ []) new db.trees (Ok one) → Upserted new one.trees
+  pub tries : (new : Row) (one : Written) → Tries task Abort (clause ∷ []) new db.trees (Ok one) → Upserted new one.trees
   tries new one (inl bad) = absurd (let e = bad.1 in cc)
   tries new one (inr it) = judged new one it.0 it.2
 

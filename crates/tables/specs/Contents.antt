@@ -1,8 +1,10 @@
 -- What the tables hold: the structs of each table's rows, in no order.
-use Rattle.std.specs.Prelude.{◌≡◌, true, ℕ, List, [], ◌∷◌, map, IsPermutation}
+use Rattle.std.specs.Prelude.{◌≡◌, ◌≤◌, ℕ, pos, List, [], ◌∷◌, length, map, IsPermutation}
+use Rattle.std.specs.List.{AllByRecursion}
 use Rattle.sqlite.specs.Order.{Row, column}
-use Rattle.sqlite.specs.Tree.{Trees, IsTable, with_tree}
-use Rattle.sqlite.specs.Edit.{have_rowids}
+use Rattle.sqlite.specs.Tree.{Trees, IsTable, rowid, with_tree}
+use Rattle.sqlite.specs.declared.types.Value.{Value}
+use Rattle.sqlite.specs.declared.types.Value.TheVariants.{Int}
 use Rattle.sqlite.specs.Effect.{Database}
 use Rattle.sqlite_catalog.specs.Listing.{IsSound}
 use Rattle.tables.specs.declared.offices.OfficeRow.{OfficeRow}
@@ -59,16 +61,25 @@ key_id_places = 1 ∷ []
 abbrev pub ca_places : List ℕ
 ca_places = 0 ∷ 2 ∷ 3 ∷ []
 
+-- a number up to this one
+abbrev pub IsNumber : ℕ → Value → Type 0
+IsNumber most v = (n : ℕ) × (v ≡ Int (pos n)) × (n ≤ most)
+
+-- where the rowid is no column: it is at most as high as there are rows
+abbrev pub AreNumbered : List Row → Type 0
+AreNumbered rows = AllByRecursion (λ r. IsNumber (length rows) (rowid r)) rows
+
 -- the trees of the tables hold these contents
 pub record Holds (trees : Trees) (c : Contents) : Type 0 where
   pub offices : Lists office_cells office_places (trees 0) c.offices
   pub departments : Lists department_cells department_places (trees 1) c.departments
-  -- each rowid is an integer, which the columns of the other tables that are changed say themselves
-  pub numbered : have_rowids (trees 1) ≡ true
+  pub departments_numbered : AreNumbered (trees 1)
   pub certs : Lists cert_cells cert_places (trees 3) c.certs
   pub requests : Lists request_cells request_places (trees 4) c.requests
+  pub requests_numbered : AreNumbered (trees 4)
   pub runs : Lists run_cells run_places (trees 6) c.runs
   pub revoked : Lists key_id_cells key_id_places (trees 7) c.revoked
+  pub revoked_numbered : AreNumbered (trees 7)
   pub cas : Lists ca_cells ca_places (trees 9) c.cas
 
 -- what is enough to find the contents again after an open

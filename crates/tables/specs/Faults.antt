@@ -30,18 +30,6 @@ HasCause old new NoMemory = Unit {0}
 HasCause old new Device = HasFailed old new
 HasCause old new Damaged = ⊥
 
--- the rules of the tables refuse the statement, as for a key that is taken, or a row of it is too big
-abbrev pub IsRefused : List ℕ → Row → State → Type 0
-IsRefused sql params s =
-    IfOk (understood whole sql) (λ c. (stop : Option Error)
-    × Does s.step_limit (mode_of s) params s.now (text_of sql c) None c.command (Err stop))
-
--- the cause of each fault of a write on tables that mean something
-abbrev pub HasWriteCause : List ℕ → Row → State → State → Fault → Type 0
-HasWriteCause sql params old new NoMemory = Unit {0}
-HasWriteCause sql params old new Device = HasFailed old new ⊎ IsRefused sql params old
-HasWriteCause sql params old new Damaged = ⊥
-
 -- why reading fails: memory was refused, or this holds
 abbrev pub Misread : Type 0 → Fault → Type 0
 Misread P NoMemory = Unit {0}

@@ -1,13 +1,9 @@
--- When the rules of the tables refuse what is to be written.
-use Rattle.std.specs.Prelude.{◌⊎◌, ℕ, pos, false, List, [], ◌∷◌, IfOk, Option, None, Err}
-use Rattle.sqlite_schema.specs.declared.schema.Keys.TheVariants.{Enforced}
-use Rattle.sqlite.specs.Does.{Does}
-use Rattle.sqlite.specs.Effect.{Database}
-use Rattle.sqlite.specs.Listing.{understood}
+-- When the tables refuse what is to be written.
+use Rattle.std.specs.Prelude.{◌≡◌, ◌⊎◌, ◌<◌, ◌≤◌, ◌+◌, ◌^◌, ℕ, List, length, sum_by, IfErr, Result}
 use Rattle.sqlite.specs.Order.{Row}
-use Rattle.sqlite.specs.State.{State, text_of}
-use Rattle.sqlite.specs.declared.error.Error.{Error}
-use Rattle.sqlite.specs.declared.types.Value.TheVariants.{Blob, Int}
+use Rattle.sqlite.specs.State.{State}
+use Rattle.sqlite_value.specs.Order.{bytes}
+use Rattle.sqlite_rules.specs.Lists.{Has}
 use Rattle.tables.specs.declared.cas.CaRow.{CaRow}
 use Rattle.tables.specs.declared.certs.CertRow.{CertRow}
 use Rattle.tables.specs.declared.departments.DepartmentRow.{DepartmentRow}
@@ -17,55 +13,70 @@ use Rattle.tables.specs.declared.requests.RequestRow.{RequestRow}
 use Rattle.tables.specs.declared.runs.RunRow.{RunRow}
 use Rattle.tables.specs.declared.fault.Fault.{Fault}
 use Rattle.tables.specs.declared.fault.Fault.TheVariants.{Device, Damaged, NoMemory}
-use Rattle.tables.specs.declared.sql.TheConstants.{COUNT_OFFICE, DELETE_RUNS, INSERT_CA, INSERT_CERT, INSERT_OFFICE, INSERT_REQUEST, INSERT_REVOKED, INSERT_RUN, NUMBER_OFFICE, PUT_DEPARTMENT, SIGN_CERT}
-use Rattle.tables.specs.Schema.{whole}
-use Rattle.tables.specs.Cells.{ca_cells, cert_cells, counter_cells, department_cells, key_id_cells, office_cells, request_cells, run_cells}
+use Rattle.tables.specs.Cells.{ca_cells, cert_cells, department_cells, key_id_cells, office_cells, request_cells}
+use Rattle.tables.specs.Changes.{counted, renumbered, signed}
 use Rattle.tables.specs.Contents.{Contents, Means}
 use Rattle.tables.specs.Faults.{HasFailed}
 
--- on some tables with these contents the rules refuse the statement, or a row of it is too big
-abbrev pub Refuses : List ℕ → Row → Contents → Type 0
-Refuses sql params c =
-    IfOk (understood whole sql) (λ k. (limit : Option ℕ) × (db : Database) × Means db c × (stop : Option Error)
-    × Does limit (record { keys = Enforced; in_doubt = false; may_wait = false }) params db (text_of sql k) None k.command
-    (Err stop))
+-- ---- what a table can't hold
+
+-- A row of these values is over a billion bytes, where each counts 18 more than its text or bytes, and so does the number
+-- of the row.
+abbrev pub IsTooLong : Row → Type 0
+IsTooLong values = 10 ^ 9 < 18 + sum_by (λ v. 18 + length (bytes v)) values
+
+-- there are as many rows as there are numbers for them
+abbrev pub IsFull : {X : Type 0} → List X → Type 0
+IsFull xs = 2 ^ 63 ≤ length xs + 1
+
+-- one of these is such that this holds of it
+abbrev pub HasOne : {X : Type 0} → (X → Type 0) → List X → Type 0
+HasOne {X} P xs = (x : X) × Has xs x × P x
 
 -- ---- beside these contents
 
+-- its number is taken, or it is too long
 abbrev pub RefusesOffice : OfficeRow → Contents → Type 0
-RefusesOffice o c = Refuses INSERT_OFFICE.now (office_cells o) c
+RefusesOffice o c = HasOne (λ p. p.id ≡ o.id) c.offices ⊎ IsTooLong (office_cells o)
 
+-- it is too long, or there is no room for one more
 abbrev pub RefusesDepartment : DepartmentRow → Contents → Type 0
-RefusesDepartment d c = Refuses PUT_DEPARTMENT.now (department_cells d) c
+RefusesDepartment d c = IsTooLong (department_cells d) ⊎ IsFull c.departments
 
+-- its serial is taken, or its department is missing, or it is too long
 abbrev pub RefusesCert : CertRow → Contents → Type 0
-RefusesCert cert c = Refuses INSERT_CERT.now (cert_cells cert) c
+RefusesCert cert c =
+    HasOne (λ d. d.serial ≡ cert.serial) c.certs
+    ⊎ ((HasOne (λ d. d.name ≡ cert.department) c.departments → ⊥) ⊎ IsTooLong (cert_cells cert))
 
+-- the certificate of this serial is too long with the signature
 abbrev pub RefusesSignature : (serial : ℕ) → (signature : List ℕ) → Contents → Type 0
-RefusesSignature serial signature c = Refuses SIGN_CERT.now (Int (pos serial) ∷ Blob signature ∷ []) c
+RefusesSignature serial signature c = HasOne (λ d. (d.serial ≡ serial) × IsTooLong (cert_cells (signed signature d))) c.certs
 
+-- its caller has used its key, or it is too long, or there is no room for one more
 abbrev pub RefusesRequest : RequestRow → Contents → Type 0
-RefusesRequest r c = Refuses INSERT_REQUEST.now (request_cells r) c
+RefusesRequest r c =
+    HasOne (λ k. (k.caller ≡ r.caller) × (k.key ≡ r.key)) c.requests ⊎ (IsTooLong (request_cells r) ⊎ IsFull c.requests)
 
+-- its first serial is that of another
 abbrev pub RefusesRun : RunRow → Contents → Type 0
-RefusesRun r c = Refuses INSERT_RUN.now (run_cells r) c
+RefusesRun r c = HasOne (λ k. k.lo ≡ r.lo) c.runs
 
--- that the runs with a serial between these ends are taken out
-abbrev pub RefusesDeletion : RunRow → Contents → Type 0
-RefusesDeletion ends c = Refuses DELETE_RUNS.now (run_cells ends) c
-
+-- it is there, or it is too long, or there is no room for one more
 abbrev pub RefusesKeyId : List ℕ → Contents → Type 0
-RefusesKeyId key_id c = Refuses INSERT_REVOKED.now (key_id_cells key_id) c
+RefusesKeyId key_id c = HasOne (λ k. k ≡ key_id) c.revoked ⊎ (IsTooLong (key_id_cells key_id) ⊎ IsFull c.revoked)
 
+-- the office is too long with these counters
 abbrev pub RefusesCounters : Counters → Contents → Type 0
-RefusesCounters k c = Refuses COUNT_OFFICE.now (counter_cells k) c
+RefusesCounters k c = HasOne (λ o. (o.id ≡ 1) × IsTooLong (office_cells (counted k o))) c.offices
 
+-- its number or its key is taken, or it is too long
 abbrev pub RefusesCa : CaRow → Contents → Type 0
-RefusesCa a c = Refuses INSERT_CA.now (ca_cells a) c
+RefusesCa a c = HasOne (λ d. (d.number ≡ a.number) ⊎ (d.ca ≡ a.ca)) c.cas ⊎ IsTooLong (ca_cells a)
 
--- the number of the schema is refused
+-- the office is too long with this number of its schema
 abbrev pub RefusesNumber : ℕ → Contents → Type 0
-RefusesNumber n c = Refuses NUMBER_OFFICE.now (Int (pos n) ∷ []) c
+RefusesNumber n c = HasOne (λ o. (o.id ≡ 1) × IsTooLong (office_cells (renumbered n o))) c.offices
 
 -- ---- causes
 
@@ -74,3 +85,7 @@ abbrev pub HasCauseOr : Type 0 → State → State → Fault → Type 0
 HasCauseOr refused old new NoMemory = Unit {0}
 HasCauseOr refused old new Device = HasFailed old new ⊎ refused
 HasCauseOr refused old new Damaged = ⊥
+
+-- on tables that mean something a fault is want of memory, or a failure of the database, or what these contents refuse
+abbrev pub RefusedFor : {X : Type 0} → (Contents → Type 0) → State → State → Result X Fault → Type 0
+RefusedFor Refuses old new r = IfErr r (λ f. (c : Contents) → Means old.now c → HasCauseOr (Refuses c) old new f)

@@ -7,7 +7,8 @@ ghost use Rattle.sqlite.specs.State.{HasCleanDisk, Survives};
 ghost use Rattle.tables.specs.Cells.{ca_cells};
 ghost use Rattle.tables.specs.Changes.{with_ca};
 ghost use Rattle.tables.specs.Calls.{Changes, FailsBy, Finds, Leaves, Never, Rises, WasOpen};
-ghost use Rattle.tables.specs.Faults.{HasCause, HasWriteCause};
+ghost use Rattle.tables.specs.Faults.{HasCause};
+ghost use Rattle.tables.specs.Refusals.{RefusedFor, RefusesCa};
 
 use crate::columns::{Columns, found};
 use crate::fault::{Fault, done};
@@ -31,11 +32,13 @@ pub struct CaRow {
 }
 
 impl CaRow {
+    ghost use Rattle.std.specs.Prelude.{◌<◌, ◌^◌};
     ghost use Rattle.sqlite.specs.Values.{bound};
     ghost use Rattle.tables.specs.Cells.{ca_cells};
 
     fn values(&self) -> [ValueRef<'_>; 3]
-        ensures { bound result ≡ ca_cells self.now }
+        ensures is { bound result ≡ ca_cells self.now }
+        ensures low { self.now.number < 2 ^ 63 }
     {
         [
             self.number.value(),
@@ -74,7 +77,7 @@ pub fn insert_ca<S: Alter>(conn: &mut Connection<S>, ca: &CaRow) -> Result<(), F
     ensures changes { HasCleanDisk (state S.Store conn.new) →
         Changes (with_ca ca.now) (state S.Store conn.old) (state S.Store conn.new) result }
     ensures fault { HasCleanDisk (state S.Store conn.new) →
-        FailsBy (HasWriteCause INSERT_CA.now (ca_cells ca.now)) (state S.Store conn.old) (state S.Store conn.new)
+        RefusedFor (RefusesCa ca.now) (state S.Store conn.old) (state S.Store conn.new)
         result }
     ensures survives { Survives (state S.Store conn.old) (state S.Store conn.new)
         (Leaves (with_ca ca.now) (state S.Store conn.old)) }

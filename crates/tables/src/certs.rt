@@ -8,7 +8,8 @@ ghost use Rattle.sqlite.specs.declared.types.Value.TheVariants.{Int, Blob};
 ghost use Rattle.tables.specs.Cells.{cert_cells};
 ghost use Rattle.tables.specs.Changes.{certs_numbered, with_cert, with_signature};
 ghost use Rattle.tables.specs.Calls.{Changes, FailsBy, Finds, FindsOne, Leaves, Never, Rises, WasOpen};
-ghost use Rattle.tables.specs.Faults.{HasCause, HasWriteCause};
+ghost use Rattle.tables.specs.Faults.{HasCause};
+ghost use Rattle.tables.specs.Refusals.{RefusedFor, RefusesCert, RefusesSignature};
 
 use crate::columns::{Columns, found, found_first};
 use crate::fault::{Fault, done};
@@ -34,11 +35,13 @@ pub struct CertRow {
 }
 
 impl CertRow {
+    ghost use Rattle.std.specs.Prelude.{◌<◌, ◌^◌};
     ghost use Rattle.sqlite.specs.Values.{bound};
     ghost use Rattle.tables.specs.Cells.{cert_cells};
 
     fn values(&self) -> [ValueRef<'_>; 5]
-        ensures { bound result ≡ cert_cells self.now }
+        ensures is { bound result ≡ cert_cells self.now }
+        ensures low { self.now.serial < 2 ^ 63 }
     {
         [
             self.serial.value(),
@@ -91,7 +94,7 @@ pub fn insert_cert<S: Alter>(conn: &mut Connection<S>, cert: &CertRow) -> Result
     ensures changes { HasCleanDisk (state S.Store conn.new) →
         Changes (with_cert cert.now) (state S.Store conn.old) (state S.Store conn.new) result }
     ensures fault { HasCleanDisk (state S.Store conn.new) →
-        FailsBy (HasWriteCause INSERT_CERT.now (cert_cells cert.now)) (state S.Store conn.old)
+        RefusedFor (RefusesCert cert.now) (state S.Store conn.old)
         (state S.Store conn.new) result }
     ensures survives { Survives (state S.Store conn.old) (state S.Store conn.new)
         (Leaves (with_cert cert.now) (state S.Store conn.old)) }
@@ -140,7 +143,7 @@ pub fn update_signature<S: Alter>(
     ensures changes { HasCleanDisk (state S.Store conn.new) →
         Changes (with_signature serial signature.now) (state S.Store conn.old) (state S.Store conn.new) result }
     ensures fault { HasCleanDisk (state S.Store conn.new) →
-        FailsBy (HasWriteCause SIGN_CERT.now (Int (pos serial) ∷ Blob signature.now ∷ [])) (state S.Store conn.old)
+        RefusedFor (RefusesSignature serial signature.now) (state S.Store conn.old)
         (state S.Store conn.new) result }
     ensures survives { Survives (state S.Store conn.old) (state S.Store conn.new)
         (Leaves (with_signature serial signature.now) (state S.Store conn.old)) }

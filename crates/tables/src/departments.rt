@@ -8,7 +8,8 @@ ghost use Rattle.sqlite.specs.State.{HasCleanDisk, Survives};
 ghost use Rattle.tables.specs.Cells.{department_cells};
 ghost use Rattle.tables.specs.Changes.{departments_named, with_department};
 ghost use Rattle.tables.specs.Calls.{Changes, FailsBy, Finds, FindsOne, Leaves, Never, Rises, WasOpen};
-ghost use Rattle.tables.specs.Faults.{HasCause, HasWriteCause};
+ghost use Rattle.tables.specs.Faults.{HasCause};
+ghost use Rattle.tables.specs.Refusals.{RefusedFor, RefusesDepartment};
 
 use crate::columns::{Columns, found, found_first};
 use crate::fault::{Fault, done};
@@ -105,7 +106,7 @@ pub fn put_department<S: Alter>(
     ensures changes { HasCleanDisk (state S.Store conn.new) →
         Changes (with_department department.now) (state S.Store conn.old) (state S.Store conn.new) result }
     ensures fault { HasCleanDisk (state S.Store conn.new) →
-        FailsBy (HasWriteCause PUT_DEPARTMENT.now (department_cells department.now)) (state S.Store conn.old)
+        RefusedFor (RefusesDepartment department.now) (state S.Store conn.old)
         (state S.Store conn.new) result }
     ensures survives { Survives (state S.Store conn.old) (state S.Store conn.new)
         (Leaves (with_department department.now) (state S.Store conn.old)) }

@@ -57,7 +57,8 @@ impl Number {
 
     /// The number as a value of SQL.
     pub(crate) fn value(self) -> ValueRef<'static>
-        ensures { owned result ≡ Int (pos self) }
+        ensures is { owned result ≡ Int (pos self) }
+        ensures low { self < 2 ^ 63 }
     {
         ValueRef::Int(self.value as i64)
     }

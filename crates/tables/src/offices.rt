@@ -8,7 +8,8 @@ ghost use Rattle.sqlite.specs.declared.types.Value.TheVariants.{Int};
 ghost use Rattle.tables.specs.Cells.{office_cells, counter_cells};
 ghost use Rattle.tables.specs.Changes.{with_office, with_counters, with_schema};
 ghost use Rattle.tables.specs.Calls.{Changes, FailsBy, Finds, Leaves, Never, Rises, WasOpen};
-ghost use Rattle.tables.specs.Faults.{HasCause, HasWriteCause};
+ghost use Rattle.tables.specs.Faults.{HasCause};
+ghost use Rattle.tables.specs.Refusals.{RefusedFor, RefusesCounters, RefusesNumber, RefusesOffice};
 
 use crate::columns::{Columns, found};
 use crate::fault::{Fault, done};
@@ -65,11 +66,13 @@ impl Counters {
 }
 
 impl OfficeRow {
+    ghost use Rattle.std.specs.Prelude.{◌<◌, ◌^◌};
     ghost use Rattle.sqlite.specs.Values.{bound};
     ghost use Rattle.tables.specs.Cells.{office_cells};
 
     fn values(&self) -> [ValueRef<'_>; 10]
-        ensures { bound result ≡ office_cells self.now }
+        ensures is { bound result ≡ office_cells self.now }
+        ensures low { self.now.id < 2 ^ 63 }
     {
         [
             self.id.value(),
@@ -136,7 +139,7 @@ pub fn insert_office<S: Alter>(conn: &mut Connection<S>, office: &OfficeRow) -> 
     ensures changes { HasCleanDisk (state S.Store conn.new) →
         Changes (with_office office.now) (state S.Store conn.old) (state S.Store conn.new) result }
     ensures fault { HasCleanDisk (state S.Store conn.new) →
-        FailsBy (HasWriteCause INSERT_OFFICE.now (office_cells office.now)) (state S.Store conn.old)
+        RefusedFor (RefusesOffice office.now) (state S.Store conn.old)
         (state S.Store conn.new) result }
     ensures survives { Survives (state S.Store conn.old) (state S.Store conn.new)
         (Leaves (with_office office.now) (state S.Store conn.old)) }
@@ -167,7 +170,7 @@ pub fn update_office<S: Alter>(conn: &mut Connection<S>, counters: &Counters) ->
     ensures changes { HasCleanDisk (state S.Store conn.new) →
         Changes (with_counters counters.now) (state S.Store conn.old) (state S.Store conn.new) result }
     ensures fault { HasCleanDisk (state S.Store conn.new) →
-        FailsBy (HasWriteCause COUNT_OFFICE.now (counter_cells counters.now)) (state S.Store conn.old)
+        RefusedFor (RefusesCounters counters.now) (state S.Store conn.old)
         (state S.Store conn.new) result }
     ensures survives { Survives (state S.Store conn.old) (state S.Store conn.new)
         (Leaves (with_counters counters.now) (state S.Store conn.old)) }
@@ -180,7 +183,7 @@ pub fn update_schema<S: Alter>(conn: &mut Connection<S>, schema: Number) -> Resu
     ensures changes { HasCleanDisk (state S.Store conn.new) →
         Changes (with_schema schema) (state S.Store conn.old) (state S.Store conn.new) result }
     ensures fault { HasCleanDisk (state S.Store conn.new) →
-        FailsBy (HasWriteCause NUMBER_OFFICE.now (Int (pos schema) ∷ [])) (state S.Store conn.old)
+        RefusedFor (RefusesNumber schema) (state S.Store conn.old)
         (state S.Store conn.new) result }
     ensures survives { Survives (state S.Store conn.old) (state S.Store conn.new)
         (Leaves (with_schema schema) (state S.Store conn.old)) }

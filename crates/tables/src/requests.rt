@@ -6,7 +6,8 @@ ghost use Rattle.sqlite.specs.State.{HasCleanDisk, Survives};
 ghost use Rattle.tables.specs.Cells.{request_cells};
 ghost use Rattle.tables.specs.Changes.{requests_for, with_request};
 ghost use Rattle.tables.specs.Calls.{Changes, FailsBy, FindsOne, Leaves, Never, WasOpen};
-ghost use Rattle.tables.specs.Faults.{HasCause, HasWriteCause};
+ghost use Rattle.tables.specs.Faults.{HasCause};
+ghost use Rattle.tables.specs.Refusals.{RefusedFor, RefusesRequest};
 
 use crate::columns::{Columns, found_first};
 use crate::fault::{Fault, done};
@@ -73,7 +74,7 @@ pub fn insert_request<S: Alter>(conn: &mut Connection<S>, request: &RequestRow) 
     ensures changes { HasCleanDisk (state S.Store conn.new) →
         Changes (with_request request.now) (state S.Store conn.old) (state S.Store conn.new) result }
     ensures fault { HasCleanDisk (state S.Store conn.new) →
-        FailsBy (HasWriteCause INSERT_REQUEST.now (request_cells request.now)) (state S.Store conn.old)
+        RefusedFor (RefusesRequest request.now) (state S.Store conn.old)
         (state S.Store conn.new) result }
     ensures survives { Survives (state S.Store conn.old) (state S.Store conn.new)
         (Leaves (with_request request.now) (state S.Store conn.old)) }

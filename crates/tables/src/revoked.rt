@@ -7,7 +7,8 @@ ghost use Rattle.sqlite.specs.State.{HasCleanDisk, Survives};
 ghost use Rattle.tables.specs.Cells.{key_id_cells};
 ghost use Rattle.tables.specs.Changes.{revoked_as, with_revoked};
 ghost use Rattle.tables.specs.Calls.{Changes, FailsBy, Finds, FindsOne, Leaves, Never, Rises, WasOpen};
-ghost use Rattle.tables.specs.Faults.{HasCause, HasWriteCause};
+ghost use Rattle.tables.specs.Faults.{HasCause};
+ghost use Rattle.tables.specs.Refusals.{RefusedFor, RefusesKeyId};
 
 use crate::columns::{Columns, found, found_first};
 use crate::fault::{Fault, done};
@@ -43,7 +44,7 @@ pub fn insert_revoked<S: Alter>(conn: &mut Connection<S>, key_id: &[u8]) -> Resu
     ensures changes { HasCleanDisk (state S.Store conn.new) →
         Changes (with_revoked key_id.now) (state S.Store conn.old) (state S.Store conn.new) result }
     ensures fault { HasCleanDisk (state S.Store conn.new) →
-        FailsBy (HasWriteCause INSERT_REVOKED.now (key_id_cells key_id.now)) (state S.Store conn.old)
+        RefusedFor (RefusesKeyId key_id.now) (state S.Store conn.old)
         (state S.Store conn.new) result }
     ensures survives { Survives (state S.Store conn.old) (state S.Store conn.new)
         (Leaves (with_revoked key_id.now) (state S.Store conn.old)) }

@@ -7,7 +7,8 @@ ghost use Rattle.sqlite.specs.State.{HasCleanDisk, Survives};
 ghost use Rattle.tables.specs.Cells.{run_cells};
 ghost use Rattle.tables.specs.Changes.{runs_meeting, with_run, without_runs};
 ghost use Rattle.tables.specs.Calls.{Changes, FailsBy, Finds, Leaves, Never, Rises, WasOpen};
-ghost use Rattle.tables.specs.Faults.{HasCause, HasWriteCause};
+ghost use Rattle.tables.specs.Faults.{HasCause};
+ghost use Rattle.tables.specs.Refusals.{RefusedFor, RefusesRun};
 
 use crate::columns::{Columns, found};
 use crate::fault::{Fault, done};
@@ -27,11 +28,13 @@ pub struct RunRow {
 }
 
 impl RunRow {
+    ghost use Rattle.std.specs.Prelude.{◌<◌, ◌^◌};
     ghost use Rattle.sqlite.specs.Values.{bound};
     ghost use Rattle.tables.specs.Cells.{run_cells};
 
     fn values(&self) -> [ValueRef<'_>; 2]
-        ensures { bound result ≡ run_cells self.now }
+        ensures is { bound result ≡ run_cells self.now }
+        ensures low { self.now.lo < 2 ^ 63 }
     {
         [self.lo.value(), self.hi.value()]
     }
@@ -65,7 +68,7 @@ pub fn insert_run<S: Alter>(conn: &mut Connection<S>, run: &RunRow) -> Result<()
     ensures changes { HasCleanDisk (state S.Store conn.new) →
         Changes (with_run run.now) (state S.Store conn.old) (state S.Store conn.new) result }
     ensures fault { HasCleanDisk (state S.Store conn.new) →
-        FailsBy (HasWriteCause INSERT_RUN.now (run_cells run.now)) (state S.Store conn.old) (state S.Store conn.new)
+        RefusedFor (RefusesRun run.now) (state S.Store conn.old) (state S.Store conn.new)
         result }
     ensures survives { Survives (state S.Store conn.old) (state S.Store conn.new)
         (Leaves (with_run run.now) (state S.Store conn.old)) }
@@ -112,7 +115,7 @@ pub fn delete_runs<S: Alter>(conn: &mut Connection<S>, ends: &RunRow) -> Result<
     ensures changes { HasCleanDisk (state S.Store conn.new) →
         Changes (without_runs ends.now) (state S.Store conn.old) (state S.Store conn.new) result }
     ensures fault { HasCleanDisk (state S.Store conn.new) →
-        FailsBy (HasWriteCause DELETE_RUNS.now (run_cells ends.now)) (state S.Store conn.old) (state S.Store conn.new)
+        FailsBy HasCause (state S.Store conn.old) (state S.Store conn.new)
         result }
     ensures survives { Survives (state S.Store conn.old) (state S.Store conn.new)
         (Leaves (without_runs ends.now) (state S.Store conn.old)) }

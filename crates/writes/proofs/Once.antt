@@ -1,5 +1,5 @@
 -- A key id put in once.
-use Rattle.std.proofs.Common.{◌≡◌, ℕ, List, [], ◌∷◌, Bool, true, false, cond, refl, ap, subst, arith, IsPermutation, Ordering, Less}
+use Rattle.std.proofs.Common.{◌≡◌, ℕ, List, [], ◌∷◌, Bool, true, false, cond, inl, inr, refl, sym, ap, subst, ◌∙◌, arith, IsPermutation, Ordering, Less}
 use Rattle.std.specs.Prelude.{◌||◌, filter}
 use Rattle.std.specs.List.{AllByRecursion, list_any}
 use Rattle.std.specs.declared.cmp.Ordering.TheVariants.{Equal, Greater}
@@ -10,7 +10,9 @@ use Rattle.std.proofs.lemmas.Cmp.{nat_list_cmp_total}
 use Rattle.std.proofs.lemmas.List.Sorted.{IsPermutation-refl, length_permutation}
 use Rattle.sqlite.specs.Tree.{IsAscending}
 use Rattle.office.specs.Machine.{put_text}
+use Rattle.std.proofs.lemmas.Slice.Eq.{bytes_eq-Decides}
 use Rattle.tables.specs.Changes.{is_key_id}
+use Rattle.tables.specs.Refusals.{HasOne}
 use Rattle.writes.proofs.Spans.{moved}
 use Rattle.writes.proofs.Named.{apart, swapped, tied}
 
@@ -78,3 +80,13 @@ one_found t x us others same = go (list_any (is_key_id t) us) refl
     go false is =
         let some : IsPermutation [] (x ∷ others) = subst (λ (l : List (List ℕ)). IsPermutation l (x ∷ others)) (none_passes t us is) same in
         absurd (let many = length_permutation [] (x ∷ others) some in omega arith)
+
+-- what is missing isn't one of these
+pub not_there : (t : List ℕ) (us : List (List ℕ)) → list_any (is_key_id t) us ≡ false → HasOne (λ k. k ≡ t) us → ⊥
+not_there t [] none (x, here, is) = here
+not_there t (u ∷ us) none (x, inl same, is) =
+    let hit : bytes_eq u t ≡ true = (bytes_eq-Decides u t).1 (sym same ∙ is) in
+    let two = none_of_two (bytes_eq u t) (list_any (is_key_id t) us) none in
+    let wrong : true ≡ false = sym hit ∙ two.0 in cc
+not_there t (u ∷ us) none (x, inr here, is) =
+    not_there t us (none_of_two (bytes_eq u t) (list_any (is_key_id t) us) none).1 (x, here, is)

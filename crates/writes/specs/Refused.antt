@@ -8,26 +8,27 @@ use Rattle.office.specs.declared.view.Change.TheVariants as change
 use Rattle.office.specs.declared.view.Decision.{Decision}
 use Rattle.tables.specs.declared.offices.Counters.{Counters}
 use Rattle.tables.specs.declared.requests.RequestRow.{RequestRow}
+use Rattle.tables.specs.Cells.{key_id_cells}
 use Rattle.tables.specs.Contents.{Contents}
 use Rattle.tables.specs.Changes.{with_counters, with_request, without_runs}
-use Rattle.tables.specs.Refusals.{RefusesCa, RefusesCert, RefusesCounters, RefusesDeletion, RefusesDepartment, RefusesKeyId, RefusesRequest, RefusesRun, RefusesSignature}
+use Rattle.tables.specs.Refusals.{IsFull, IsTooLong, RefusesCa, RefusesCert, RefusesCounters, RefusesDepartment, RefusesRequest, RefusesRun, RefusesSignature}
 use Rattle.rows.specs.Rows.{cert_row, department_row, request_row}
 use Rattle.writes.specs.Changing.{ca_from}
 use Rattle.writes.specs.Due.{counters_of, kept_of}
 use Rattle.writes.specs.Ranges.{around, joined_run}
 
--- the runs that touch or overlap the range are not taken out, or then the joined one is not put in
+-- the runs that touch or overlap the range are taken out, but the joined one is not put in
 abbrev pub RefusesRange : SerialRange → Contents → Type 0
-RefusesRange r c = RefusesDeletion (around r) c ⊎ RefusesRun (joined_run r c) (without_runs (around r) c)
+RefusesRange r c = RefusesRun (joined_run r c) (without_runs (around r) c)
 
--- the change is refused, of which a CA gets this number and serves from this serial on
+-- the change is refused, of which a CA gets this number and serves from this serial on; a key id that is there is left
 abbrev pub RefusesChange : (number since : ℕ) → Change → Contents → Type 0
 RefusesChange number since change.Nothing c = ⊥
 RefusesChange number since (change.Department d) c = RefusesDepartment (department_row d) c
 RefusesChange number since (change.Certificate cert) c = RefusesCert (cert_row cert) c
 RefusesChange number since (change.Signature serial signature) c = RefusesSignature serial signature.bytes c
 RefusesChange number since (change.Range r) c = RefusesRange r c
-RefusesChange number since (change.KeyId key_id) c = RefusesKeyId key_id c
+RefusesChange number since (change.KeyId key_id) c = IsTooLong (key_id_cells key_id) ⊎ IsFull c.revoked
 RefusesChange number since (change.Ca ca) c = RefusesCa (ca_from number since ca) c
 
 -- the counters are refused, or then the row of the request

@@ -7,7 +7,7 @@ ghost use Rattle.message.specs.Values.{is_department};
 ghost use Rattle.office.specs.declared.view.Change.TheVariants as change;
 ghost use Rattle.office.specs.Certificates.{IsCertificate};
 ghost use Rattle.office.specs.Decided.{IsLawfulChange};
-ghost use Rattle.tables.specs.Refusals.{RefusesCa, RefusesCert, RefusesDepartment, RefusesKeyId};
+ghost use Rattle.tables.specs.Refusals.{RefusesCa, RefusesCert, RefusesDepartment};
 ghost use Rattle.rows.specs.Rows.{cert_row, department_row};
 ghost use Rattle.rows.specs.Transactions.{FailsFor, Has, Makes, Waits};
 ghost use Rattle.writes.specs.Changing.{ca_from, with_change, with_key_id};
@@ -61,7 +61,7 @@ fn add_certificate<S: Alter>(
 fn add_key_id<S: Alter>(alloc: Global, conn: &mut Connection<S>, key_id: &Text) -> Result<(), Fault>
     ensures makes { HasCleanDisk (state S.Store conn.new) → Makes Has (with_key_id key_id.now)
         (state S.Store conn.old) (state S.Store conn.new) result }
-    ensures fault { HasCleanDisk (state S.Store conn.new) → FailsFor Has (RefusesKeyId key_id.now)
+    ensures fault { HasCleanDisk (state S.Store conn.new) → FailsFor Has (RefusesChange 0 0 (change.KeyId key_id.now))
         (state S.Store conn.old) (state S.Store conn.new) result }
     ensures survives { Survives (state S.Store conn.old) (state S.Store conn.new) (Waits Has (state S.Store conn.old)) }
 {

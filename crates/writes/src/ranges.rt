@@ -1,11 +1,11 @@
 //! Ranges of serials among the runs.
 
-ghost use Rattle.std.specs.Prelude.{◌≡◌, ◌⊎◌, ◌<◌, ◌≤◌, ◌^◌, IsTrue};
+ghost use Rattle.std.specs.Prelude.{◌≡◌, ◌<◌, ◌≤◌, ◌^◌, IsTrue};
 ghost use Rattle.sqlite.specs.Held.{state};
 ghost use Rattle.sqlite.specs.State.{HasCleanDisk, Survives};
 ghost use Rattle.message.specs.Values.{is_range};
 ghost use Rattle.tables.specs.Changes.{with_run, without_runs};
-ghost use Rattle.tables.specs.Refusals.{RefusesDeletion, RefusesRun};
+ghost use Rattle.tables.specs.Refusals.{RefusesRun};
 ghost use Rattle.rows.specs.Transactions.{FailsFor, Has, Makes, Waits};
 ghost use Rattle.writes.specs.Ranges.{around, joined_run, spanning, with_range};
 ghost use Rattle.writes.specs.Refused.{RefusesRange};
@@ -47,7 +47,7 @@ fn spanning(range: SerialRange, rows: &[RunRow]) -> RunRow
 fn replace<S: Alter>(conn: &mut Connection<S>, ends: &RunRow, run: &RunRow) -> Result<(), Fault>
     ensures makes { HasCleanDisk (state S.Store conn.new) → Makes Has (λ c. with_run run.now (without_runs ends.now c))
         (state S.Store conn.old) (state S.Store conn.new) result }
-    ensures fault { HasCleanDisk (state S.Store conn.new) → FailsFor Has (λ c. RefusesDeletion ends.now c ⊎ RefusesRun run.now (without_runs ends.now c))
+    ensures fault { HasCleanDisk (state S.Store conn.new) → FailsFor Has (λ c. RefusesRun run.now (without_runs ends.now c))
         (state S.Store conn.old) (state S.Store conn.new) result }
     ensures survives { Survives (state S.Store conn.old) (state S.Store conn.new) (Waits Has (state S.Store conn.old)) }
 {

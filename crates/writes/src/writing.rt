@@ -53,8 +53,10 @@ fn write_rows<S: Alter>(
         (state S.Store conn.old) (state S.Store conn.new) result }
     ensures survives { Survives (state S.Store conn.old) (state S.Store conn.new) (Waits Has (state S.Store conn.old)) }
 {
-    record(conn, counters, request)?;
-    make(alloc, conn, number, counters.next, change)
+    match record(conn, counters, request) {
+        Ok(()) => make(alloc, conn, number, counters.next, change),
+        Err(fault) => Err(fault),
+    }
 }
 
 /// Writes what was decided of an arrival, inside a transaction: the change, the counters and a row for the request.

@@ -1,14 +1,11 @@
-use Rattle.std.proofs.Common.{arith, Err, [], ◌∷◌}
-use Rattle.std.specs.Prelude.{pos}
-use Rattle.sqlite.specs.declared.types.Value.TheVariants.{Int}
-use Rattle.tables.specs.Cells.{ca_cells}
+use Rattle.std.proofs.Common.{ℕ, arith, subst}
+use Rattle.tables.specs.Refusals.{RefusedFor, RefusesNumber}
 use Rattle.sqlite.specs.Held.{state}
 use Rattle.sqlite.specs.State.{HasCleanDisk}
 use Rattle.tables.specs.Calls.{Leaves}
 use Rattle.tables.specs.Changes.{with_ca, with_schema}
 use Rattle.rows.specs.Transactions.{Has}
 use Rattle.rows.proofs.Steps.{leads, makes, makes_then, waits, waits_then}
-use Rattle.tables.proofs.Refused.{causes}
 use Rattle.migration.proofs.Moves.{put_first, put_second}
 use Rattle.migration.proofs.moving.put.Goals as goal
 
@@ -30,7 +27,8 @@ returns-in-Ok-clause-fault g c clean =
     let still : HasCleanDisk mid = omega (arith, c.update_schema.ensures.survives.clean) in
     put_second (Leaves (with_ca c.args.ca.now) old) c.args.ca.now old mid new c.update_schema.result
     c.insert_ca.ensures.survives still c.update_schema.ensures.survives.counts (c.in-Ok.ensures.changes still)
-    (causes _ (Int (pos 2) ∷ []) mid new c.update_schema.result (rw c.number.ensures at c.update_schema.ensures.fault clean))
+    (subst (λ (n : ℕ). RefusedFor (RefusesNumber n) mid new c.update_schema.result) c.number.ensures
+    (c.update_schema.ensures.fault clean))
 
 pub returns-in-Ok-clause-survives : goal.returns-in-Ok-clause-survives
 returns-in-Ok-clause-survives g c =
@@ -47,4 +45,4 @@ returns-in-Err-clause-fault g c clean =
     let old = state g.S.Store c.args.conn.now in
     let new = state g.S.Store c.insert_ca.new.conn in
     put_first c.args.ca.now old new c.in-Err.fault
-    (causes {X = Unit {0}} _ (ca_cells c.args.ca.now) old new (Err c.in-Err.fault) (c.in-Err.ensures.fault clean))
+    (c.in-Err.ensures.fault clean)

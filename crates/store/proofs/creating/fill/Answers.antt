@@ -2,10 +2,8 @@ use Rattle.std.proofs.Common.{inl, inr, Err, arith}
 use Rattle.sqlite.specs.Held.{state}
 use Rattle.sqlite.specs.State.{HasCleanDisk}
 use Rattle.tables.specs.Calls.{Leaves}
-use Rattle.tables.specs.Cells.{ca_cells, office_cells}
 use Rattle.tables.specs.Changes.{with_ca, with_office}
 use Rattle.tables.specs.Refusals.{RefusesCa, RefusesOffice}
-use Rattle.tables.proofs.Refused.{causes}
 use Rattle.rows.specs.Transactions.{Has}
 use Rattle.rows.proofs.Causes.{fails_then, fails_weaker}
 use Rattle.rows.proofs.Steps.{leads, makes, makes_then, waits, waits_then}
@@ -30,7 +28,7 @@ returns-in-Err-clause-fails g c clean =
     let fault = c.in-Err.fault in
     fails_weaker {X = Unit {0}} Has Has (RefusesOffice office) (RefusesFirst office ca) (λ d. d) old new (Err fault)
     (λ d means. means) (λ d means why. inl why)
-    (causes {X = Unit {0}} _ (office_cells office) old new (Err fault) (c.in-Err.ensures.fault clean))
+    (c.in-Err.ensures.fault clean)
 
 pub returns-in-Ok-clause-fails : goal.returns-in-Ok-clause-fails
 returns-in-Ok-clause-fails g c clean =
@@ -43,7 +41,7 @@ returns-in-Ok-clause-fails g c clean =
     fails_then Has Has (RefusesCa ca) (RefusesFirst office ca) (with_office office) (Leaves (with_office office) old) old mid new
     c.insert_ca.result (leads (with_office office) old mid (c.in-Ok.ensures.changes still)) (λ d means why. inr why)
     c.insert_office.ensures.survives still c.insert_ca.ensures.survives.counts
-    (causes _ (ca_cells ca) mid new c.insert_ca.result (c.insert_ca.ensures.fault clean))
+    (c.insert_ca.ensures.fault clean)
 
 pub returns-in-Ok-clause-survives : goal.returns-in-Ok-clause-survives
 returns-in-Ok-clause-survives g c =

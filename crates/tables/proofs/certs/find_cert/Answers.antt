@@ -10,11 +10,11 @@ returns g c =
     let query = find c.args.serial in
     let q = c.query_all.ensures in
     record {
-      finds = λ clean. find_one query old new c.query_all.result (rw c.value.ensures at (q.ok clean))
-          (rw c.value.ensures at (q.err clean)) c.found_first.result c.found_first.ensures;
-      was_open = λ clean. find_one_open query old new c.query_all.result (rw c.value.ensures at (q.ok clean))
-          (rw c.value.ensures at (q.err clean)) c.found_first.result c.found_first.ensures;
-      fault = λ clean. find_one_fails query old new c.query_all.result (rw c.value.ensures at (q.ok clean))
-          (rw c.value.ensures at (q.err clean)) c.found_first.result c.found_first.ensures;
-      survives = find_survives query old new (rw c.value.ensures at q.survives);
+      finds = λ clean. find_one query old new c.query_all.result (rw c.value.ensures.is at (q.ok clean))
+          (rw c.value.ensures.is at (q.err clean)) c.found_first.result c.found_first.ensures;
+      was_open = λ clean. find_one_open query old new c.query_all.result (rw c.value.ensures.is at (q.ok clean))
+          (rw c.value.ensures.is at (q.err clean)) c.found_first.result c.found_first.ensures;
+      fault = λ clean. find_one_fails query old new c.query_all.result (rw c.value.ensures.is at (q.ok clean))
+          (rw c.value.ensures.is at (q.err clean)) c.found_first.result c.found_first.ensures;
+      survives = find_survives query old new (rw c.value.ensures.is at q.survives);
     }

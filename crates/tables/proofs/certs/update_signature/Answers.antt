@@ -1,4 +1,5 @@
 use Rattle.sqlite.specs.Held.{state}
+use Rattle.tables.proofs.CertReasons.{signature_fails}
 use Rattle.tables.proofs.CallLemmas.{write_changes, write_fails, write_survives}
 use Rattle.tables.proofs.CertTable.{sign}
 use Rattle.tables.proofs.certs.update_signature.Goals as goal
@@ -10,8 +11,7 @@ returns g c =
     let write = sign c.args.serial c.args.signature.now in
     record {
       changes = λ clean. write_changes write old new c.execute.result c.done.result c.done.ensures.is
-          (rw c.value.ensures at (c.execute.ensures.runs clean));
-      fault = λ clean. write_fails write old new c.execute.result c.done.result c.done.ensures.is
-          (rw c.value.ensures at (c.execute.ensures.runs clean));
-      survives = write_survives write old new (rw c.value.ensures at c.execute.ensures.survives);
+          (rw c.value.ensures.is at (c.execute.ensures.runs clean));
+      fault = λ clean. signature_fails c.args.serial c.args.signature.now c.value.ensures.low old new c.done.result (write_fails write old new c.execute.result c.done.result c.done.ensures.is (rw c.value.ensures.is at (c.execute.ensures.runs clean)));
+      survives = write_survives write old new (rw c.value.ensures.is at c.execute.ensures.survives);
     }

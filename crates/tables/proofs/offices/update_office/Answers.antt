@@ -1,4 +1,5 @@
 use Rattle.sqlite.specs.Held.{state}
+use Rattle.tables.proofs.NumberReasons.{counters_fail}
 use Rattle.tables.proofs.CallLemmas.{write_changes, write_fails, write_survives}
 use Rattle.tables.proofs.OfficeTable.{count}
 use Rattle.tables.proofs.offices.update_office.Goals as goal
@@ -11,7 +12,6 @@ returns g c =
     record {
       changes = λ clean. write_changes write old new c.execute.result c.done.result c.done.ensures.is
           (rw c.values.ensures at (c.execute.ensures.runs clean));
-      fault = λ clean. write_fails write old new c.execute.result c.done.result c.done.ensures.is
-          (rw c.values.ensures at (c.execute.ensures.runs clean));
+      fault = λ clean. counters_fail c.args.counters.now old new c.done.result (write_fails write old new c.execute.result c.done.result c.done.ensures.is (rw c.values.ensures at (c.execute.ensures.runs clean)));
       survives = write_survives write old new (rw c.values.ensures at c.execute.ensures.survives);
     }

@@ -13,14 +13,14 @@ returns g c =
     let query = find c.args.ends.now in
     let q = c.query_all.ensures in
     record {
-      finds = λ clean. find_all query old new c.query_all.result (rw c.values.ensures at (q.ok clean))
-          (rw c.values.ensures at (q.err clean)) c.found.result c.found.ensures;
+      finds = λ clean. find_all query old new c.query_all.result (rw c.values.ensures.is at (q.ok clean))
+          (rw c.values.ensures.is at (q.err clean)) c.found.result c.found.ensures;
       sorted = λ clean. find_sorted query 0 (λ (r : RunRow). r.lo) (nat_cmp) (find_rises c.args.ends.now)
-          (λ x y. number_cmp x.lo y.lo) old new c.query_all.result (rw c.values.ensures at (q.ok clean))
+          (λ x y. number_cmp x.lo y.lo) old new c.query_all.result (rw c.values.ensures.is at (q.ok clean))
           c.found.result c.found.ensures;
-      was_open = λ clean. find_all_open query old new c.query_all.result (rw c.values.ensures at (q.ok clean))
-          (rw c.values.ensures at (q.err clean)) c.found.result c.found.ensures;
-      fault = λ clean. find_all_fails query old new c.query_all.result (rw c.values.ensures at (q.ok clean))
-          (rw c.values.ensures at (q.err clean)) c.found.result c.found.ensures;
-      survives = find_survives query old new (rw c.values.ensures at q.survives);
+      was_open = λ clean. find_all_open query old new c.query_all.result (rw c.values.ensures.is at (q.ok clean))
+          (rw c.values.ensures.is at (q.err clean)) c.found.result c.found.ensures;
+      fault = λ clean. find_all_fails query old new c.query_all.result (rw c.values.ensures.is at (q.ok clean))
+          (rw c.values.ensures.is at (q.err clean)) c.found.result c.found.ensures;
+      survives = find_survives query old new (rw c.values.ensures.is at q.survives);
     }

@@ -1,7 +1,5 @@
 use Rattle.sqlite.specs.Held.{state}
 use Rattle.tables.specs.Changes.{with_ca}
-use Rattle.tables.specs.Cells.{ca_cells}
-use Rattle.tables.proofs.Refused.{causes}
 use Rattle.rows.proofs.Steps.{makes}
 use Rattle.writes.proofs.changing.add_ca.Goals as goal
 
@@ -12,5 +10,4 @@ returns-clause-makes g c clean =
 
 pub returns-clause-fault : goal.returns-clause-fault
 returns-clause-fault g c clean =
-    rw (c.in_ok-row.ensures) at (causes _ (ca_cells c.in_ok-row.row) (state g.S.Store c.args.conn.now) (state g.S.Store c.insert_ca.new.conn)
-    c.insert_ca.result (c.insert_ca.ensures.fault clean))
+    rw (c.in_ok-row.ensures) at (c.insert_ca.ensures.fault clean)

@@ -1,14 +1,18 @@
-use Rattle.std.proofs.Common.{◌≡◌, arith, sym, ap, subst, Bool, cond, true, false, Some}
+use Rattle.std.proofs.Common.{◌≡◌, inl, inr, arith, sym, ap, subst, Bool, cond, true, false, Some}
 use Rattle.std.specs.List.{list_any}
 use Rattle.sqlite.specs.Held.{state}
 use Rattle.sqlite.specs.State.{HasCleanDisk}
 use Rattle.tables.specs.Changes.{is_key_id, revoked_as, with_revoked}
-use Rattle.tables.specs.Calls.{IsOneOf}
+use Rattle.office.specs.declared.view.Change.TheVariants as change
+use Rattle.tables.specs.Calls.{IsOneOf, Never}
+use Rattle.tables.specs.Refusals.{RefusesKeyId}
+use Rattle.rows.proofs.Causes.{fails_then}
+use Rattle.writes.specs.Refused.{RefusesChange}
 use Rattle.rows.proofs.Steps.{goes_still, makes}
-use Rattle.rows.specs.Transactions.{Goes}
+use Rattle.rows.specs.Transactions.{Goes, Has}
 use Rattle.writes.specs.Changing.{with_key_id}
-use Rattle.writes.proofs.Once.{none_found, one_found}
-use Rattle.writes.proofs.Parts.{found_then}
+use Rattle.writes.proofs.Once.{none_found, not_there, one_found}
+use Rattle.writes.proofs.Parts.{found_leads, found_then}
 use Rattle.writes.proofs.changing.add_key_id.Goals as goal
 
 pub returns-in-Ok-None-clause-makes : goal.returns-in-Ok-None-clause-makes
@@ -36,3 +40,24 @@ returns-in-Ok-Some-clause-makes g c clean d means =
     subst (IsOneOf (revoked_as key_id d)) c.in-Ok-Some.field-0-is found.1 in
     let there : list_any (is_key_id key_id) d.revoked ≡ true = one_found key_id c.in-Ok-Some.field-0-0 d.revoked one.0 one.1 in
     (tt, subst (Goes old new) (sym (ap (λ (b : Bool). cond b d (with_revoked key_id d)) there)) (goes_still old new d found.0 means))
+
+-- a key id that is not there is refused for its size, or for want of room
+pub returns-in-Ok-None-clause-fault : goal.returns-in-Ok-None-clause-fault
+returns-in-Ok-None-clause-fault g c clean =
+    let old = state g.S.Store c.args.conn.now in
+    let mid = state g.S.Store c.find_revoked.new.conn in
+    let new = state g.S.Store c.insert_revoked.new.conn in
+    let still : HasCleanDisk mid = omega (arith, c.insert_revoked.ensures.survives.clean) in
+    let key_id = c.args.key_id.now in
+    let finds = rw c.as_slice.ensures at c.in-Ok-None.ensures.finds still in
+    fails_then Has Has (RefusesKeyId key_id) (RefusesChange 0 0 (change.KeyId key_id)) (λ d. d) (Never old) old mid new
+    c.insert_revoked.result (found_leads old mid (λ d means. (finds d means).0))
+    (λ d means why.
+    let none : list_any (is_key_id key_id) d.revoked ≡ false = none_found key_id d.revoked
+    (subst (IsOneOf (revoked_as key_id d)) c.in-Ok-None.field-0-is (finds d means).1) in
+    elim why [
+      | inl there ↦ absurd (not_there key_id d.revoked none there)
+      | inr more ↦ more
+    ])
+    c.find_revoked.ensures.survives still c.insert_revoked.ensures.survives.counts
+    (rw c.as_slice-in-Ok-None.ensures at c.insert_revoked.ensures.fault clean)

@@ -4,7 +4,7 @@ use Rattle.sqlite.specs.State.{HasCleanDisk}
 use Rattle.tables.specs.declared.runs.RunRow.{RunRow}
 use Rattle.tables.specs.Changes.{runs_meeting, with_run, without_runs}
 use Rattle.tables.specs.Calls.{Never}
-use Rattle.tables.specs.Refusals.{RefusesDeletion, RefusesRun}
+use Rattle.tables.specs.Refusals.{RefusesRun}
 use Rattle.rows.specs.Transactions.{Has}
 use Rattle.rows.proofs.Causes.{fails_then}
 use Rattle.writes.specs.Refused.{RefusesRange}
@@ -42,7 +42,7 @@ returns-in-Ok-clause-fault g c clean =
     let range = c.args.range in
     let ends = c.around-ends.result in
     let run = c.spanning.result in
-    fails_then Has Has (λ d. RefusesDeletion ends d ⊎ RefusesRun run (without_runs ends d)) (RefusesRange range) (λ d. d)
+    fails_then Has Has (λ d. RefusesRun run (without_runs ends d)) (RefusesRange range) (λ d. d)
     (Never old) old mid new c.replace.result (found_leads old mid (λ d means. (c.in-Ok.ensures.finds still d means).0))
     (λ d means why.
     let found = c.in-Ok.ensures.finds still d means in
@@ -51,6 +51,6 @@ returns-in-Ok-clause-fault g c clean =
     let is : run ≡ joined_run range d =
     c.spanning.ensures ∙ ap (spanning range.lo range.hi) c.as_slice.ensures.value
     ∙ sym (spanning_same range.lo range.hi (runs_meeting (around range) d) c.in-Ok.rows.items same) in
-    subst (λ (e : RunRow). RefusesDeletion e d ⊎ RefusesRun (joined_run range d) (without_runs e d)) c.around-ends.ensures
-    (subst (λ (r : RunRow). RefusesDeletion ends d ⊎ RefusesRun r (without_runs ends d)) is why))
+    subst (λ (e : RunRow). RefusesRun (joined_run range d) (without_runs e d)) c.around-ends.ensures
+    (subst (λ (r : RunRow). RefusesRun r (without_runs ends d)) is why))
     c.find_runs.ensures.survives still c.replace.ensures.survives.counts (c.replace.ensures.fault clean)

@@ -4,9 +4,7 @@ use Rattle.sqlite.specs.State.{HasCleanDisk}
 use Rattle.tables.specs.Changes.{with_run, without_runs}
 use Rattle.rows.specs.Transactions.{Has}
 use Rattle.tables.specs.Calls.{Leaves}
-use Rattle.tables.specs.Refusals.{RefusesDeletion, RefusesRun}
-use Rattle.tables.specs.Cells.{run_cells}
-use Rattle.tables.proofs.Refused.{causes}
+use Rattle.tables.specs.Refusals.{RefusesRun}
 use Rattle.rows.proofs.Causes.{fails_then, fails_weaker}
 use Rattle.rows.proofs.Steps.{leads, makes, makes_then, waits, waits_then}
 use Rattle.writes.proofs.ranges.replace.Goals as goal
@@ -28,11 +26,11 @@ returns-clause-fault g c clean =
     let still : HasCleanDisk mid = omega (arith, c.insert_run.ensures.survives.clean) in
     let run = c.args.run.now in
     let ends = c.args.ends.now in
-    fails_then Has Has (RefusesRun run) (λ d. RefusesDeletion ends d ⊎ RefusesRun run (without_runs ends d)) (without_runs ends)
+    fails_then Has Has (RefusesRun run) (λ d. RefusesRun run (without_runs ends d)) (without_runs ends)
     (Leaves (without_runs ends) old) old mid new c.insert_run.result
-    (leads (without_runs ends) old mid (c.in_ok-delete_runs.ensures.changes still)) (λ d means why. inr why)
+    (leads (without_runs ends) old mid (c.in_ok-delete_runs.ensures.changes still)) (λ d means why. why)
     c.delete_runs.ensures.survives still c.insert_run.ensures.survives.counts
-    (causes _ (run_cells run) mid new c.insert_run.result (c.insert_run.ensures.fault clean))
+    (c.insert_run.ensures.fault clean)
 
 pub returns-clause-survives : goal.returns-clause-survives
 returns-clause-survives g c =

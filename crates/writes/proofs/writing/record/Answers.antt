@@ -5,8 +5,6 @@ use Rattle.tables.specs.Changes.{with_counters, with_request}
 use Rattle.rows.specs.Transactions.{Has}
 use Rattle.tables.specs.Calls.{Leaves}
 use Rattle.tables.specs.Refusals.{RefusesCounters, RefusesRequest}
-use Rattle.tables.specs.Cells.{counter_cells, request_cells}
-use Rattle.tables.proofs.Refused.{causes}
 use Rattle.writes.specs.Refused.{RefusesRecord}
 use Rattle.rows.proofs.Causes.{fails_then, fails_weaker}
 use Rattle.rows.proofs.Steps.{leads, makes, makes_then, waits, waits_then}
@@ -32,7 +30,7 @@ returns-in-Ok-clause-fault g c clean =
     fails_then Has Has (RefusesRequest row) (RefusesRecord k row) (with_counters k) (Leaves (with_counters k) old) old mid new
     c.insert_request.result (leads (with_counters k) old mid (c.in-Ok.ensures.changes still)) (λ d means why. inr why)
     c.update_office.ensures.survives still c.insert_request.ensures.survives.counts
-    (causes _ (request_cells row) mid new c.insert_request.result (c.insert_request.ensures.fault clean))
+    (c.insert_request.ensures.fault clean)
 
 pub returns-in-Ok-clause-survives : goal.returns-in-Ok-clause-survives
 returns-in-Ok-clause-survives g c =
@@ -52,4 +50,4 @@ returns-in-Err-clause-fault g c clean =
     let row = c.args.request.now in
     fails_weaker {X = Unit {0}} Has Has (RefusesCounters k) (RefusesRecord k row) (λ d. d) old new (Err c.in-Err.fault)
     (λ d means. means) (λ d means why. inl why)
-    (causes {X = Unit {0}} _ (counter_cells k) old new (Err c.in-Err.fault) (c.in-Err.ensures.fault clean))
+    (c.in-Err.ensures.fault clean)
