@@ -93,7 +93,7 @@ accepted p a d cas h is = shows_written p a d (judged (state_at p) (kept_at p) a
 small : LATEST_MOMENT < 2 ^ 63
 small = omega arith
 
-last_small : (o : Opening) → IsOpening o → o.last ≤ 9223372036854775806
+pub last_small : (o : Opening) → IsOpening o → o.last ≤ 9223372036854775806
 last_small o is =
     leb-true _ _ (and_parts (nat_le o.first o.last) (nat_le o.last 9223372036854775806)
     (and_parts (nat_le 1 o.first) (nat_le o.first o.last && nat_le o.last 9223372036854775806) is.serials).1).1

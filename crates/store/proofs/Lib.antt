@@ -6,6 +6,7 @@ pub mod Bare
 pub mod Dates
 pub mod Histories
 pub mod Lawful
+pub mod Limits
 pub mod Listed
 pub mod OfficeRows
 pub mod Parts

@@ -1,6 +1,6 @@
 -- Reading calls over the tables of an office, one after the other.
-use Rattle.std.proofs.Common.{◌≡◌, inl, inr, Bool, true, false, List, Ok, Err, Result, IsTrue, sym, subst, ◌∙◌, arith}
-use Rattle.std.specs.Prelude.{IfOk, IsSome, Option}
+use Rattle.std.proofs.Common.{◌≡◌, inl, List, Ok, Err, Result, sym, subst, arith}
+use Rattle.std.specs.Prelude.{IfOk}
 use Rattle.sqlite.specs.Effect.{Database}
 use Rattle.sqlite.specs.Tree.{Trees}
 use Rattle.sqlite.specs.State.{State as Connection, HasCleanDisk, Survives, IsUnchanged}
@@ -8,9 +8,7 @@ use Rattle.sqlite.proofs.StateLemmas.{survives_then, survives_weaker}
 use Rattle.text.specs.declared.memory.NoMemory.{NoMemory as Refusal}
 use Rattle.tables.specs.Contents.{Means}
 use Rattle.tables.specs.Calls as table
-use Rattle.tables.specs.Faults.{HasCause, HasFailed}
 use Rattle.tables.specs.declared.fault.Fault.{Fault}
-use Rattle.tables.specs.declared.fault.Fault.TheVariants.{Damaged, Device, NoMemory}
 use Rattle.tables.proofs.Later.{cause_then, stops_then, unchanged_then}
 use Rattle.office.specs.declared.opening.Opening.{Opening}
 use Rattle.office.specs.declared.arrival.Arrival.{Arrival}

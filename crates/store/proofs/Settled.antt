@@ -42,7 +42,7 @@ use Rattle.rows.proofs.Steps.{Leads, answers_then, goes_still, stops, waits_then
 use Rattle.views.specs.Finding.{NeverOfOffice}
 use Rattle.store.specs.Meaning.{IsHistory}
 use Rattle.store.specs.Showing.{ShowsOffice}
-use Rattle.store.specs.Arriving.{FailsAt, IsAfter, IsAnswered, IsNew, Past, RefusesArrival, Settles, contents_with, kept_at, state_at, stopped}
+use Rattle.store.specs.Arriving.{FailsAt, IsAfter, IsAnswered, IsNew, Past, ExceedsTables, Settles, contents_with, kept_at, state_at, stopped}
 use Rattle.store.proofs.Lawful.{all_push, lawful_after}
 use Rattle.store.proofs.Reading.{still_means}
 
@@ -167,7 +167,7 @@ settles_weaker a Known Later old new (Err f) less settles = λ p after inside.
 pub fails_less : (a : Arrival) (Known Later : Past → Type 0) (old new : Connection) (r : Result Outcome Fault)
     → ((p : Past) → IsHistory p.0 p.1 → Known p → Later p) → FailsAt a Later old new r → FailsAt a Known old new r
 fails_less a Known Later old new r less fails =
-    fails_weaker (IsAfter Known) (IsAfter Later) (RefusesArrival a) (RefusesArrival a) (λ p. p) old new r
+    fails_weaker (IsAfter Known) (IsAfter Later) (ExceedsTables a) (ExceedsTables a) (λ p. p) old new r
     (λ p after. record { history = after.history; means = after.means; known = less p after.history after.known })
     (λ p after why. why) fails
 
@@ -224,7 +224,7 @@ module _ {X : Type 0} (First : State → List Kept → X → Type 0) (Known Late
       → ShowsOffice First a b (Ok x) → Survives a b P → HasCleanDisk b → b.faults ≤ c.faults → FailsAt arrival Later b c r
       → FailsAt arrival Known a c r
   fails_after arrival c P r first one clean le rest =
-      fails_then (IsAfter Known) (IsAfter Later) (RefusesArrival arrival) (RefusesArrival arrival) (λ p. p) P a b c r
+      fails_then (IsAfter Known) (IsAfter Later) (ExceedsTables arrival) (ExceedsTables arrival) (λ p. p) P a b c r
       (leads_later first) (λ p after why. why) one clean le rest
 
   pub waits_read : (c : Connection) → (HasCleanDisk b → ShowsOffice First a b (Ok x))
@@ -240,7 +240,7 @@ module _ {X : Type 0} (First : State → List Kept → X → Type 0) (Known : Pa
 
   pub fails_read : (arrival : Arrival) → ShowsOffice First a b (Err f) → FailsAt arrival Known a b (Err f)
   fails_read arrival first = λ p after.
-      cause_of (RefusesArrival arrival p) a b f (first p.0 p.1 after.history after.means).1
+      cause_of (ExceedsTables arrival p) a b f (first p.0 p.1 after.history after.means).1
 
 -- ---- crashes
 

@@ -1,9 +1,7 @@
 -- What an arrival leaves of what the tables tell.
-use Rattle.std.proofs.Common.{◌≡◌, inl, inr, Bool, false, List, [], ◌∷◌, ◌++◌, true, Ok, Err, Result, IsTrue, refl, sym, subst, ◌∙◌, ◌≤◌, arith}
+use Rattle.std.proofs.Common.{◌≡◌, inl, inr, Bool, false, List, [], ◌∷◌, ◌++◌, true, Ok, Err, Result, IsTrue, refl, sym, subst}
 use Rattle.std.specs.Prelude.{IfErr, IfOk, OnErr, OnOk}
-use Rattle.sqlite.specs.Tree.{Trees}
-use Rattle.sqlite.specs.State.{State as Connection, HasCleanDisk, Survives}
-use Rattle.tables.specs.Calls.{Begins}
+use Rattle.sqlite.specs.State.{State as Connection, HasCleanDisk}
 use Rattle.tables.specs.Faults as table
 use Rattle.tables.specs.Refusals.{HasCauseOr}
 use Rattle.tables.specs.declared.fault.Fault.{Fault}
@@ -15,10 +13,9 @@ use Rattle.office.specs.declared.fault.StoreFault.{StoreFault}
 use Rattle.office.specs.Faults.{HasCause, IsOfARegister}
 use Rattle.office.specs.History.{due}
 use Rattle.rows.specs.Rows.{office_contents}
-use Rattle.rows.specs.Transactions.{Concludes, Ends, EndsFor, Has, Rests}
-use Rattle.rows.proofs.Causes.{cause_early, cause_late, cause_of}
+use Rattle.rows.specs.Transactions.{Ends, Has, Rests}
 use Rattle.store.specs.Meaning.{Tells, told}
-use Rattle.store.specs.Arriving.{FailsAt, IsAfter, IsAnswered, IsAny, IsCaused, IsStopped, Past, RefusesArrival, Settles, contents_with, of_statement}
+use Rattle.store.specs.Arriving.{IsAfter, IsAnswered, IsAny, IsCaused, IsStopped, ExceedsTables, contents_with, of_statement}
 
 -- ---- why it fails
 
@@ -26,7 +23,7 @@ use Rattle.store.specs.Arriving.{FailsAt, IsAfter, IsAnswered, IsAny, IsCaused, 
 pub statement_caused : (a : Arrival) (old new : Connection) (f g : Fault) → g ≡ of_statement f
     → (old.in_transaction ≡ false → table.HasCause old new f) → IsCaused a old new g
 statement_caused a old new f g is cause =
-    subst (λ h. IsCaused a old new h) (sym is) (λ p resting. go (RefusesArrival a p) f cause (λ is_open. (resting is_open).autocommit) old.is_open refl)
+    subst (λ h. IsCaused a old new h) (sym is) (λ p resting. go (ExceedsTables a p) f cause (λ is_open. (resting is_open).autocommit) old.is_open refl)
   where
     go : (R : Type 0) (f : Fault) → (old.in_transaction ≡ false → table.HasCause old new f)
         → (IsTrue old.is_open → old.in_transaction ≡ false) → (b : Bool) → old.is_open ≡ b → HasCauseOr R old new (of_statement f)

@@ -1,5 +1,5 @@
 -- One arrival more, in one transaction.
-use Rattle.std.specs.Prelude.{◌≡◌, ◌⊎◌, ◌<◌, false, nat_lt, Bool, List, [], ◌∷◌, ◌++◌, find, IsOkAnd, IsTrue, Option, Some, None, Result, Ok, Err}
+use Rattle.std.specs.Prelude.{◌≡◌, ◌⊎◌, ◌<◌, false, nat_lt, Bool, List, [], ◌∷◌, ◌++◌, find, IsOkAnd, Option, Some, None, Result, Ok, Err}
 use Rattle.std.specs.List.{list_any}
 use Rattle.profile.specs.declared.limits.TheConstants.{LATEST_MOMENT}
 use Rattle.sqlite.specs.Effect.{Database}
@@ -9,7 +9,8 @@ use Rattle.tables.specs.declared.fault.Fault.{Fault}
 use Rattle.tables.specs.declared.fault.Fault.TheVariants.{Damaged, Device, NoMemory}
 use Rattle.tables.specs.Contents.{Contents, Means}
 use Rattle.tables.specs.Faults.{HasFailed}
-use Rattle.tables.specs.Refusals.{HasCauseOr}
+use Rattle.tables.specs.Cells.{cert_cells, request_cells}
+use Rattle.tables.specs.Refusals.{IsFull, IsTooLong, RefusesDepartment, RefusesSignature}
 use Rattle.office.specs.declared.opening.Opening.{Opening}
 use Rattle.office.specs.declared.arrival.Arrival.{Arrival}
 use Rattle.office.specs.declared.arrival.Kept.{Kept}
@@ -19,17 +20,19 @@ use Rattle.office.specs.declared.ca.Ca.{Ca}
 use Rattle.office.specs.declared.view.Stop.{Stop}
 use Rattle.office.specs.declared.view.Stop.TheVariants as stop
 use Rattle.office.specs.declared.view.Stop.TheVariants.{Refused}
+use Rattle.office.specs.declared.view.Change.{Change}
+use Rattle.office.specs.declared.view.Change.TheVariants as change
 use Rattle.office.specs.declared.view.Decision.{Decision}
 use Rattle.office.specs.Decided.{HasRoom, written}
 use Rattle.office.specs.Messages.{message_with_text}
 use Rattle.office.specs.State.{State, next_serial}
-use Rattle.office.specs.History.{change, due, first_accepted, has_key, judged, kept_by, reply_kept, state}
-use Rattle.rows.specs.Rows.{office_contents}
+use Rattle.office.specs.History.{change as change_by, due, first_accepted, has_key, judged, kept_by, reply_kept, state}
+use Rattle.rows.specs.Rows.{cert_row, department_row, office_contents, request_row}
 use Rattle.rows.specs.Transactions.{Answers, FailsFor, StopsFor}
 use Rattle.views.specs.declared.concerning.Concerned.{Concerned}
 use Rattle.views.specs.Concerning.{AreConcerned}
 use Rattle.views.specs.Histories.{is_for}
-use Rattle.writes.specs.Refused.{RefusesDecision}
+use Rattle.writes.specs.Due.{kept_of}
 use Rattle.store.specs.Meaning.{IsHistory, Tells}
 
 -- ---- an office after a history
@@ -106,7 +109,7 @@ pub record IsWeighed (a : Arrival) (m : Message) (found : Concerned) (p : Past) 
 pub record IsAccepted (a : Arrival) (d : Decision) (serving : List Ca) (p : Past) : Type 0 where
   pub new : reply_kept (kept_at p) a ≡ None
   pub judged : IsOkAnd (judged (state_at p) (kept_at p) a)
-      (λ f. (f.arrival ≡ a) × (f.reply ≡ d.reply) × (written d (state_at p) ≡ change (state_at p) f))
+      (λ f. (f.arrival ≡ a) × (f.reply ≡ d.reply) × (written d (state_at p) ≡ change_by (state_at p) f))
   pub room : HasRoom d.change (state_at p)
   pub next : d.next ≡ next_serial (written d (state_at p))
   pub cas : serving ≡ (state_at p).cas
@@ -114,15 +117,30 @@ pub record IsAccepted (a : Arrival) (d : Decision) (serving : List Ca) (p : Past
 
 -- ---- why it fails
 
--- the rules of the tables refuse what is decided of the arrival, which is a first acceptance
-abbrev pub RefusesArrival : Arrival → Past → Type 0
-RefusesArrival a p =
-    (d : Decision) × (serving : List Ca) × IsAccepted a d serving p
-    × RefusesDecision d a serving (office_contents p.0 p.1)
+-- A row of the change is too long, or there is no room for one more. Runs, key ids and CAs are short, and whatever is put in
+-- has a number and a key of its own.
+abbrev pub IsTooMuchToChange : Change → Contents → Type 0
+IsTooMuchToChange change.Nothing c = ⊥
+IsTooMuchToChange (change.Department d) c = RefusesDepartment (department_row d) c
+IsTooMuchToChange (change.Certificate cert) c = IsTooLong (cert_cells (cert_row cert))
+IsTooMuchToChange (change.Signature serial signature) c = RefusesSignature serial signature.bytes c
+IsTooMuchToChange (change.Range r) c = ⊥
+IsTooMuchToChange (change.KeyId key_id) c = IsFull c.revoked
+IsTooMuchToChange (change.Ca ca) c = ⊥
 
--- of tables as these a fault is want of memory, or the database failed, or its rules refuse what is decided
+-- the same of the row of the request, or of the change
+abbrev pub IsTooMuch : Decision → Arrival → Contents → Type 0
+IsTooMuch d a c =
+    (IsTooLong (request_cells (request_row (kept_of a d.reply))) ⊎ IsFull c.requests) ⊎ IsTooMuchToChange d.change c
+
+-- what is decided of the arrival, which is a first acceptance, is more than tables hold
+abbrev pub ExceedsTables : Arrival → Past → Type 0
+ExceedsTables a p =
+    (d : Decision) × (serving : List Ca) × IsAccepted a d serving p × IsTooMuch d a (office_contents p.0 p.1)
+
+-- of tables as these a fault is want of memory, or the database failed, or what is decided is more than they hold
 abbrev pub FailsAt : Arrival → (Past → Type 0) → Connection → Connection → Result Outcome Fault → Type 0
-FailsAt a Known old new r = FailsFor (IsAfter Known) (RefusesArrival a) old new r
+FailsAt a Known old new r = FailsFor (IsAfter Known) (ExceedsTables a) old new r
 
 -- ---- the whole
 
@@ -134,10 +152,10 @@ of_statement NoMemory = NoMemory
 
 -- of tables that tell a history, if the connection is open, a fault has its cause
 abbrev pub IsCaused : Arrival → Connection → Connection → Fault → Type 0
-IsCaused a old new f = StopsFor (IsAfter IsAny) (RefusesArrival a) old new f
+IsCaused a old new f = StopsFor (IsAfter IsAny) (ExceedsTables a) old new f
 
--- Of an honest disk and of tables that tell a history: the database failed, or its rules refuse what is decided of the
--- arrival.
+-- Of an honest disk and of tables that tell a history: the database failed, or what is decided of the arrival is more than
+-- tables hold.
 abbrev pub IsStopped : Connection → Connection → Arrival → Type 0
 IsStopped old new a =
-    HasCleanDisk new → (o : Opening) (l : List Arrival) → Tells old o l → HasFailed old new ⊎ RefusesArrival a (o, l)
+    HasCleanDisk new → (o : Opening) (l : List Arrival) → Tells old o l → HasFailed old new ⊎ ExceedsTables a (o, l)

@@ -1,6 +1,6 @@
 -- Why a certificate is refused.
-use Rattle.std.proofs.Common.{◌≡◌, ◌≢◌, inl, inr, ℕ, ℤ, pos, map, ◌<◌, ◌^◌, ◌≤◌, List, [], ◌∷◌, drop, Bool, true, false, not, None, Some, Option, Result, refl, sym, ap, subst, ◌∙◌, arith}
-use Rattle.std.specs.Prelude.{◌||◌, ◌&&◌, bytes_eq, length}
+use Rattle.std.proofs.Common.{◌≡◌, inl, inr, ℕ, ℤ, pos, ◌<◌, ◌^◌, List, [], ◌∷◌, drop, Bool, true, false, not, None, Some, Result, refl, sym, ap, subst, ◌∙◌, arith}
+use Rattle.std.specs.Prelude.{◌||◌, ◌&&◌}
 use Rattle.std.specs.List.{AllByRecursion, list_any}
 use Rattle.std.proofs.Math.Bool.{and-true}
 use Rattle.std.proofs.lemmas.Bool.{eqb-true}
@@ -25,7 +25,6 @@ use Rattle.sqlite_value.specs.Keys.{first_key, joined, plain}
 use Rattle.sqlite_schema.specs.Names.{same_name}
 use Rattle.sqlite_schema.specs.declared.schema.Among.TheVariants.{All}
 use Rattle.sqlite_schema.specs.declared.schema.Constraint.TheVariants.{Unique, ForeignKey}
-use Rattle.sqlite_schema.specs.declared.schema.Index.{Index}
 use Rattle.sqlite_schema.specs.declared.schema.Keys.TheVariants.{Enforced}
 use Rattle.sqlite_schema.specs.Rules.{Refers, references_fit}
 use Rattle.sqlite_rules.specs.Lists.{Has}
@@ -34,7 +33,7 @@ use Rattle.tables.specs.Schema.{whole, cert_at}
 use Rattle.tables.specs.Cells.{cert_cells}
 use Rattle.tables.specs.Contents.{Contents, Means, at_places, cert_places}
 use Rattle.tables.specs.Changes.{signed}
-use Rattle.tables.specs.Refusals.{HasOne, IsTooLong, RefusedFor, RefusesCert, RefusesSignature}
+use Rattle.tables.specs.Refusals.{HasOne, RefusedFor, RefusesCert, RefusesSignature}
 use Rattle.tables.specs.declared.certs.CertRow.{CertRow}
 use Rattle.tables.proofs.CertTable.{insert_is, insert_sql, sign_is, sign_params, sign_query, sign_row, sign_sql, source, terms}
 use Rattle.sqlite.specs.Collation.TheVariants.{Binary}

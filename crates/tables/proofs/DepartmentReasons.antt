@@ -1,6 +1,6 @@
 -- Why a department is refused.
-use Rattle.std.proofs.Common.{◌≡◌, ◌⊎◌, inl, inr, ℕ, ℤ, pos, ◌<◌, ◌^◌, ◌≤◌, ◌+◌, ◌++◌, List, [], ◌∷◌, drop, length, map, Bool, true, false, not, None, Some, Option, Result, refl, sym, ap, subst, ◌∙◌, is_eq, arith}
-use Rattle.std.specs.Prelude.{◌&&◌, ◌||◌, filter}
+use Rattle.std.proofs.Common.{◌≡◌, inl, inr, ℕ, ℤ, pos, ◌^◌, ◌++◌, List, [], ◌∷◌, length, map, Bool, true, false, not, Some, Result, refl, sym, ap, subst, ◌∙◌, is_eq, arith}
+use Rattle.std.specs.Prelude.{◌&&◌, filter}
 use Rattle.std.specs.List.{AllByRecursion, list_any}
 use Rattle.std.specs.List.Sorted.{IsPermutation}
 use Rattle.std.proofs.lemmas.Bool.{cases_Bool, ltb-false, or_cases, or_left, or_right}
@@ -19,7 +19,6 @@ use Rattle.sqlite.specs.Source.TheVariants.{Values}
 use Rattle.sqlite.specs.Command.TheVariants.{InsertOr}
 use Rattle.sqlite.specs.Listing.{understood}
 use Rattle.sqlite.proofs.Callers.{statement_of}
-use Rattle.sqlite_sql.specs.Ops.{fits_i64}
 use Rattle.sqlite_rules.specs.Calls.{ids_of}
 use Rattle.sqlite_rules.specs.Edit.{is_referred, next_rowid}
 use Rattle.sqlite_rules.specs.Keys.{AreConflicts}
@@ -33,12 +32,12 @@ use Rattle.sqlite_schema.specs.declared.command.Conflict.TheVariants.{Abort}
 use Rattle.sqlite_schema.specs.declared.schema.Among.TheVariants.{All}
 use Rattle.sqlite_schema.specs.declared.schema.Constraint.TheVariants.{Datatype, NotNull, Check, PrimaryKey, Unique, ForeignKey}
 use Rattle.sqlite_schema.specs.declared.schema.Keys.TheVariants.{Enforced}
-use Rattle.sqlite_schema.specs.Rules.{Refers, agree, equal, guards, has_null, references_fit}
+use Rattle.sqlite_schema.specs.Rules.{Refers, agree, equal, guards, references_fit}
 use Rattle.sqlite_typing.specs.Types.{accepts_program}
 use Rattle.tables.specs.Schema.{whole, department_at}
 use Rattle.tables.specs.Cells.{department_cells}
 use Rattle.tables.specs.Contents.{Contents, IsNumber, Means, department_places}
-use Rattle.tables.specs.Refusals.{IsTooLong, IsFull, RefusedFor, RefusesDepartment}
+use Rattle.tables.specs.Refusals.{RefusedFor, RefusesDepartment}
 use Rattle.tables.specs.declared.departments.DepartmentRow.{DepartmentRow}
 use Rattle.tables.proofs.DepartmentTable.{conflict_is, fresh_row, has_id, name_is, named, next_row, none_named, only_one, own_row, put_is, put_query, put_sql, source, terms, the_row, unique}
 use Rattle.tables.specs.declared.fault.Fault.{Fault}

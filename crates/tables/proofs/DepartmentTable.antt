@@ -1,5 +1,5 @@
 -- The statements on the table of departments.
-use Rattle.std.proofs.Common.{◌≡◌, ℕ, pos, ◌+◌, length, List, [], ◌∷◌, ◌++◌, codes, map, Bool, true, false, not, Option, None, Some, Ok, refl, sym, ap, ap₂, subst, subst₂, ◌∙◌, inl, inr, is_eq, arith}
+use Rattle.std.proofs.Common.{◌≡◌, ℕ, pos, length, List, [], ◌∷◌, ◌++◌, codes, map, Bool, true, false, not, Option, None, Some, Ok, refl, sym, ap, ap₂, subst, subst₂, ◌∙◌, inl, inr, is_eq, arith}
 use Rattle.std.specs.Prelude.{◌&&◌, ◌||◌, bytes_eq, filter}
 use Rattle.std.specs.List.Sorted.{IsPermutation}
 use Rattle.std.proofs.Math.Bool.{and-true}
@@ -10,7 +10,7 @@ use Rattle.sqlite_value.specs.Keys.{ascending, first_key}
 use Rattle.sqlite_value.proofs.OrderLemmas.{value_cmp_total}
 use Rattle.std.proofs.lemmas.Cmp.{tied_itself}
 use Rattle.std.proofs.lemmas.Bool.{cases_Bool}
-use Rattle.std.specs.List.{AllByRecursion, list_any}
+use Rattle.std.specs.List.{list_any}
 use Rattle.std.specs.declared.cmp.Ordering.TheVariants.{Less, Equal, Greater}
 use Rattle.std.specs.declared.cmp.Ordering.{Ordering}
 use Rattle.sqlite_trees.proofs.TreeLemmas.{IsTable-put_row}

@@ -1,5 +1,5 @@
 -- A statement on one table leaves what the others hold.
-use Rattle.std.proofs.Common.{◌≡◌, ◌≢◌, true, ℕ, List, subst, sym, arith}
+use Rattle.std.proofs.Common.{◌≡◌, ◌≢◌, ℕ, List, subst, sym, arith}
 use Rattle.sqlite_schema.specs.declared.schema.Keys.TheVariants.{Enforced}
 use Rattle.sqlite.specs.Order.{Row}
 use Rattle.sqlite.specs.Tree.{Trees}

@@ -1,9 +1,8 @@
 -- Why INSERT of one struct is refused.
-use Rattle.std.proofs.Common.{◌≡◌, ◌≢◌, inl, inr, ℕ, ℤ, pos, ◌/◌, List, [], ◌∷◌, length, map, slice_get, Bool, true, false, None, Some, Option, refl, sym, ap, subst, ◌∙◌, is_eq}
+use Rattle.std.proofs.Common.{◌≡◌, ◌≢◌, inl, inr, ℕ, pos, ◌/◌, List, [], ◌∷◌, length, map, slice_get, Bool, true, Some, refl, sym, ap, subst, ◌∙◌, is_eq}
 use Rattle.std.specs.Prelude.{◌||◌, ◌==◌}
 use Rattle.std.specs.List.{AllByRecursion, list_any}
 use Rattle.std.specs.Ordering.{int_cmp}
-use Rattle.std.specs.List.Sorted.{IsPermutation}
 use Rattle.std.proofs.lemmas.List.Sorted.{IsPermutation-sym}
 use Rattle.std.proofs.lemmas.Bool.{eqb-true}
 use Rattle.sqlite_value.proofs.OrderLemmas.{value_cmp-Int}
@@ -21,7 +20,7 @@ use Rattle.sqlite.specs.State.{State}
 use Rattle.sqlite.specs.Rows.{stamped}
 use Rattle.sqlite.specs.Effect.{value_rows}
 use Rattle.sqlite.specs.Listing.{understood}
-use Rattle.sqlite.proofs.Callers.{command_of, statement_of}
+use Rattle.sqlite.proofs.Callers.{statement_of}
 use Rattle.sqlite_schema.specs.declared.schema.Among.TheVariants.{All}
 use Rattle.sqlite_schema.specs.declared.schema.Constraint.TheVariants.{ForeignKey}
 use Rattle.sqlite_schema.specs.declared.schema.Keys.TheVariants.{Enforced}

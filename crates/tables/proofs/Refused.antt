@@ -1,5 +1,5 @@
 -- Why a row is not written.
-use Rattle.std.proofs.Common.{◌≡◌, inl, inr, ℕ, List, [], length, None, Some, Option, Ok, Err, Result, IfErr, refl, sym, subst}
+use Rattle.std.proofs.Common.{◌≡◌, inl, inr, ℕ, List, length, None, Some, Option, Ok, Err, Result, refl, sym, subst}
 use Rattle.sqlite.specs.Command.{Command}
 use Rattle.sqlite.specs.Does.{Does}
 use Rattle.sqlite.specs.Listing.{understood}

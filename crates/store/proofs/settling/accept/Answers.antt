@@ -6,8 +6,9 @@ use Rattle.rows.specs.Rows.{contents_of}
 use Rattle.rows.proofs.Causes.{fails_weaker}
 use Rattle.writes.specs.Due.{IsDue}
 use Rattle.writes.specs.Refused.{RefusesDecision}
-use Rattle.store.specs.Arriving.{IsAccepted, IsAfter, RefusesArrival, Settles, kept_at, state_at}
+use Rattle.store.specs.Arriving.{IsAccepted, IsAfter, ExceedsTables, Settles, kept_at, state_at}
 use Rattle.store.proofs.Accepted.{is_due, settles_unwritten, settles_written, waits_written}
+use Rattle.store.proofs.Limits.{limited}
 use Rattle.store.proofs.settling.accept.Goals as goal
 
 pub returns-in-Ok-write-clause-settles : goal.returns-in-Ok-write-clause-settles
@@ -37,9 +38,9 @@ returns-in-Err-clause-fails g c clean =
     let cas = c.args.cas.now in
     let old = state g.S.Store c.args.conn.now in
     let new = state g.S.Store c.write.new.conn in
-    fails_weaker {X = Outcome} (IsAfter (IsAccepted a d cas)) (IsDue d cas) (λ x. RefusesDecision d a cas (contents_of x.0 x.1)) (RefusesArrival a)
+    fails_weaker {X = Outcome} (IsAfter (IsAccepted a d cas)) (IsDue d cas) (λ x. RefusesDecision d a cas (contents_of x.0 x.1)) (ExceedsTables a)
     (λ p. (state_at p, kept_at p)) old new (Err c.in-Err.fault) (λ p after. is_due p a d cas old.now after)
-    (λ p after why. (d, cas, after.known, why)) (c.in-Err.ensures.fault clean)
+    (λ p after why. (d, cas, after.known, limited p a d cas after.history after.known c.requires.lawful why)) (c.in-Err.ensures.fault clean)
 
 pub returns-in-Err-clause-survives : goal.returns-in-Err-clause-survives
 returns-in-Err-clause-survives g c =

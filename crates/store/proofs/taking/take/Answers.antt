@@ -4,7 +4,7 @@ use Rattle.sqlite.specs.State.{HasCleanDisk}
 use Rattle.rows.specs.Transactions.{Waits}
 use Rattle.rows.proofs.Causes.{stops_for}
 use Rattle.rows.proofs.Steps.{ends, left}
-use Rattle.store.specs.Arriving.{IsAfter, IsAnswered, IsAny, RefusesArrival, contents_with}
+use Rattle.store.specs.Arriving.{IsAfter, IsAnswered, IsAny, ExceedsTables, contents_with}
 use Rattle.store.proofs.Taken.{statement_caused}
 use Rattle.store.proofs.taking.take.Goals as goal
 
@@ -29,7 +29,7 @@ returns-in-Ok-clause-cause g c clean =
     let late : HasCleanDisk last = omega (arith, c.conclude.ensures.survives.clean) in
     let early : HasCleanDisk first = omega (arith, c.conclude.ensures.survives.clean, c.settle-settled.ensures.survives.clean) in
     let a = c.args.arrival.now in
-    stops_for (IsAfter IsAny) (IsAnswered a) (contents_with a) (RefusesArrival a) (Waits (IsAfter IsAny) first) old first last new c.begin.ensures.survives
+    stops_for (IsAfter IsAny) (IsAnswered a) (contents_with a) (ExceedsTables a) (Waits (IsAfter IsAny) first) old first last new c.begin.ensures.survives
     c.settle-settled.ensures.survives early late c.conclude.ensures.survives.counts c.settle-settled.result c.conclude.result
     (c.in-Ok.ensures.begins early) (c.settle-settled.ensures.settles late) (c.settle-settled.ensures.fails late)
     (c.conclude.ensures.concludes clean) (c.conclude.ensures.cause clean)

@@ -1,11 +1,11 @@
-use Rattle.std.proofs.Common.{◌⊎◌, inl, inr, Err, arith}
+use Rattle.std.proofs.Common.{arith}
 use Rattle.sqlite.specs.Held.{state}
 use Rattle.sqlite.specs.State.{HasCleanDisk}
 use Rattle.tables.specs.Changes.{with_run, without_runs}
 use Rattle.rows.specs.Transactions.{Has}
 use Rattle.tables.specs.Calls.{Leaves}
 use Rattle.tables.specs.Refusals.{RefusesRun}
-use Rattle.rows.proofs.Causes.{fails_then, fails_weaker}
+use Rattle.rows.proofs.Causes.{fails_then}
 use Rattle.rows.proofs.Steps.{leads, makes, makes_then, waits, waits_then}
 use Rattle.writes.proofs.ranges.replace.Goals as goal
 

@@ -1,4 +1,3 @@
-use Rattle.sqlite.specs.Held.{state}
 use Rattle.store.proofs.register.Store.migrate.Goals as goal
 
 pub returns-in-Ok-clause-carried : goal.returns-in-Ok-clause-carried
