@@ -16,6 +16,7 @@ mod replies;
 mod reports;
 mod revocations;
 mod rollovers;
+mod rows;
 mod script;
 mod served;
 mod stored;

@@ -3,6 +3,7 @@
 ghost use Rattle.office.specs.Openings.{IsOpening};
 
 use super::messages::DEPARTMENT;
+use super::rows::rows_of;
 use super::script::request_of;
 use super::*;
 use crate::trial::opening_of;
@@ -210,16 +211,26 @@ pub fn founded(alloc: Global) -> Result<Saved, Fail> {
     Ok(saved_on(alloc, &met.disks).ok_or("memory")?)
 }
 
-/// What exchanges are given by a new office in files, and what others are given once the files were closed and opened.
+// What exchanges are given by the office on the disks, and each of its rows.
+fn seen_on(alloc: Global, disks: Disks, exchanges: &[Exchange]) -> Option<(Vec<Given>, Vec<u8>)> {
+    let mut office = office_on(alloc, disks).ok()?;
+    let given = run(&mut office, alloc, exchanges).ok();
+    let rows = rows_of(&mut office, alloc).ok();
+    let _ = closed(office.into_connection());
+    Some((given?, rows?))
+}
+
+/// What exchanges are given by a new office in files; what others are given once the files were closed and opened, and each
+/// of its rows.
 pub fn given_in_files(
     alloc: Global,
     opening: &Opening,
     asked: &[Exchange],
     then: &[Exchange],
-) -> Option<(Vec<Given>, Vec<Given>)>
+) -> Option<(Vec<Given>, Vec<Given>, Vec<u8>)>
     requires { IsOpening opening.now }
 {
     let met = run_and_closed(alloc, founded_on(alloc, opening)?, asked)?;
-    let after = met_on(alloc, met.disks, then)?;
-    Some((met.given, after.given))
+    let (shown, rows) = seen_on(alloc, met.disks, then)?;
+    Some((met.given, shown, rows))
 }

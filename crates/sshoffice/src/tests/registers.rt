@@ -1,15 +1,15 @@
 //! The same exchanges over three registers: tables in memory, tables in files, and the plain store.
 
 use super::disks::{Asked, exchanges, given_in_files};
+use super::rows::rows_of;
 use super::*;
 use crate::exchanges::read_exchanges;
 use crate::trial::{office_in_memory, opening_of};
 use office::Registry;
 use plain::PlainStore;
-use text::NoMemory;
 use web::{Given, run};
 
-// What shows all rows that an office keeps, but for its requests.
+// The lists and tables that an office publishes.
 const SHOWN: [Asked; 5] = [
     ("/v1/pending", 0, 0, ""),
     ("/v1/krl", 0, 0, ""),
@@ -25,11 +25,12 @@ pub struct Serials {
     pub last: u64,
 }
 
-/// What a register gave, and then showed.
+/// What a register gave, what it then showed, and its rows.
 #[derive(Drop)]
 struct Seen {
     given: Vec<Given>,
     shown: Vec<Given>,
+    rows: Vec<u8>,
 }
 
 /// Whether both are the same answer.
@@ -67,21 +68,24 @@ fn seen_of<R: Registry>(
     alloc: Global,
     asked: &[Exchange],
     then: &[Exchange],
-) -> Result<Seen, NoMemory> {
+) -> Result<Seen, Fail> {
     Ok(Seen {
         given: run(registry, alloc, asked)?,
         shown: run(registry, alloc, then)?,
+        rows: rows_of(registry, alloc)?,
     })
 }
 
-// The same was given, and is shown.
+// The same was given, the same is shown, and each row is the same.
 fn are_met(rt: &impl Abort, seen: &Seen, due: &Seen) {
     assert!(rt; are_same(seen.given.as_slice(), due.given.as_slice()));
     assert!(rt; are_same(seen.shown.as_slice(), due.shown.as_slice()));
+    assert!(rt; seen.rows.as_slice() == due.rows.as_slice());
 }
 
 /// Three new offices answer the same to what goes before, to the exchanges of a file and to each of these again, and then
-/// show the same; one of them after its files were closed and opened.
+/// show the same, and have the same rows; one of them after its files were closed and opened. The rows of requests are seen
+/// by the repeats.
 pub fn are_alike<R: AllocGlobal + Abort>(
     rt: &R,
     serials: Serials,
@@ -96,10 +100,10 @@ pub fn are_alike<R: AllocGlobal + Abort>(
     let seen = seen_of(&mut office, alloc, asked.as_slice(), then.as_slice());
     let _ = office.into_connection();
     let in_files = given_in_files(alloc, &opening, asked.as_slice(), then.as_slice());
-    let (given, shown) = in_files.ok_or("the files")?;
+    let (given, shown, rows) = in_files.ok_or("the files")?;
     let mut plain = PlainStore::new(alloc, opening)?;
     let due = seen_of(&mut plain, alloc, asked.as_slice(), then.as_slice())?;
     are_met(rt, &seen?, &due);
-    are_met(rt, &Seen { given, shown }, &due);
+    are_met(rt, &Seen { given, shown, rows }, &due);
     Ok(())
 }
