@@ -35,6 +35,8 @@ use Rattle.writes.specs.Due.{counters_of, kept_of}
 use Rattle.writes.specs.Ranges.{around, joined_run}
 use Rattle.writes.specs.Refused.{RefusesChange, RefusesDecision}
 use Rattle.writes.proofs.Joined.{rows_joined}
+use Rattle.office.specs.Openings.{IsOpening}
+use Rattle.store.specs.Creating.{RefusesOpening}
 use Rattle.store.specs.Arriving.{IsTooMuch, IsTooMuchToChange}
 use Rattle.store.specs.Meaning.{IsHistory}
 use Rattle.store.proofs.Accepted.{last_small}
@@ -112,6 +114,17 @@ counters_fit k s kept lawful (o, inl same, (id, long)) =
     let station = name_short s.opening.station lawful.opening.station in
     omega (arith, long_row, blob, lawful.opening.ca, root, station)
 counters_fit k s kept lawful (o, inr none, rest) = none
+
+-- so does what an office begins with
+pub opening_fits : (o : Opening) → IsOpening o → RefusesOpening o → ⊥
+opening_fits o is (inl (inl (p, none, same))) = none
+opening_fits o is (inl (inr long)) =
+    let blob = length-key_blob o.ca in
+    let root = name_short o.root is.root in
+    let station = name_short o.station is.station in
+    omega (arith, long, blob, is.ca, root, station)
+opening_fits o is (inr (inl (c, none, same))) = none
+opening_fits o is (inr (inr long)) = let blob = length-key_blob o.ca in omega (arith, long, blob, is.ca)
 
 -- ---- the request
 

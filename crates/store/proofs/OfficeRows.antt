@@ -1,5 +1,5 @@
 -- A look at the tables of an office.
-use Rattle.std.proofs.Common.{◌≡◌, ◌⊎◌, Bool, true, false, List, [], ◌∷◌, refl, sym, ◌∙◌, arith}
+use Rattle.std.proofs.Common.{inl, inr, ◌≡◌, ◌⊎◌, Bool, true, false, List, [], ◌∷◌, refl, sym, ◌∙◌, arith}
 use Rattle.std.specs.Prelude.{◌==◌, if◌then◌else◌, Result, Ok, Err, IsPermutation, All}
 use Rattle.std.specs.List.{list_any}
 use Rattle.std.proofs.lemmas.List.Sorted.{length_permutation, All-permutation}
@@ -78,8 +78,9 @@ not_missed c failed Damaged is h = absurd cc
 not_missed c failed AlreadyAnOffice is h = absurd cc
 
 -- a fault that has its cause is excused by it
-pub excused_for : (old new : State) (refused : Type 0) (f : Fault) → HasCauseOr refused old new f
-    → IsExcused (HasFailed old new ⊎ refused) (fault_of f)
-excused_for old new refused table_fault.NoMemory cause = tt
-excused_for old new refused table_fault.Device cause = cause
-excused_for old new refused table_fault.Damaged cause = absurd cause
+pub excused_unless : (old new : State) (refused : Type 0) (f : Fault) → (refused → ⊥) → HasCauseOr refused old new f
+    → IsExcused (HasFailed old new) (fault_of f)
+excused_unless old new refused table_fault.NoMemory never cause = tt
+excused_unless old new refused table_fault.Device never (inl failed) = failed
+excused_unless old new refused table_fault.Device never (inr why) = absurd (never why)
+excused_unless old new refused table_fault.Damaged never cause = absurd cause

@@ -1,6 +1,6 @@
 //! The register, from its connection and back.
 
-ghost use Rattle.std.specs.Prelude.{◌≡◌, ◌⊎◌, false, [], List, IfErr, IfOk, IsTrue, true};
+ghost use Rattle.std.specs.Prelude.{◌≡◌, false, [], List, IfErr, IfOk, IsTrue, true};
 ghost use Rattle.std.specs.List.{list_any};
 ghost use Rattle.sqlite.specs.Held.{state};
 ghost use Rattle.sqlite.specs.State.{HasCleanDisk, Survives};
@@ -15,7 +15,6 @@ ghost use Rattle.migration.specs.Migrating.{HasStopped, IsExcused};
 ghost use Rattle.office.specs.declared.opening.Opening.{Opening};
 ghost use Rattle.office.specs.declared.arrival.Arrival.{Arrival};
 ghost use Rattle.office.specs.Openings.{IsOpening};
-ghost use Rattle.store.specs.Creating.{RefusesOpening};
 ghost use Rattle.store.specs.Meaning.{IsBlank, IsHistory, Tells};
 
 use crate::creating::create;
@@ -35,8 +34,8 @@ pub struct Store<S: Alter> {
 
 impl<S: Alter> Store<S> {
     /// An office in which nothing has happened yet, in a database without tables. `AlreadyAnOffice` where the database has
-    /// a table of a name that an office needs. All tables are made or, with a fault, which gives the connection back,
-    /// none.
+    /// a table of a name that an office needs, `Device` where the database fails, and `NoMemory` for want of memory. All
+    /// tables are made or, with a fault, which gives the connection back, none.
     pub fn init(
         alloc: Global,
         conn: Connection<S>,
@@ -51,10 +50,9 @@ impl<S: Alter> Store<S> {
         ensures blank { IfErr result (λ e. HasCleanDisk (state S.Store e.1) → IsBlank (state S.Store conn)
             → IsTrue (state S.Store e.1).is_open → IsBlank (state S.Store e.1)) }
 
-        // Of an empty database want of memory, a failure of the database and a refusal of the first rows are the only
-        // faults.
+        // Of an empty database want of memory and a failure of the database are the only faults.
         ensures only { IfErr result (λ e. HasCleanDisk (state S.Store e.1) → IsBlank (state S.Store conn)
-            → IsExcused (HasFailed (state S.Store conn) (state S.Store e.1) ⊎ RefusesOpening opening.now) e.0) }
+            → IsExcused (HasFailed (state S.Store conn) (state S.Store e.1)) e.0) }
 
         // A crash in its midst leaves the database without tables, or with the whole office.
         ensures crash { IfOk result (λ s. Survives (state S.Store conn) (state S.Store s.conn)

@@ -212,25 +212,30 @@ pub fn founded(alloc: Global) -> Result<Saved, Fail> {
 }
 
 // What exchanges are given by the office on the disks, and each of its rows.
-fn seen_on(alloc: Global, disks: Disks, exchanges: &[Exchange]) -> Option<(Vec<Given>, Vec<u8>)> {
-    let mut office = office_on(alloc, disks).ok()?;
-    let given = run(&mut office, alloc, exchanges).ok();
-    let rows = rows_of(&mut office, alloc).ok();
+fn seen_on(
+    alloc: Global,
+    disks: Disks,
+    exchanges: &[Exchange],
+) -> Result<(Vec<Given>, Vec<u8>), Fail> {
+    let mut office = office_on(alloc, disks).ok().ok_or("the office")?;
+    let given = run(&mut office, alloc, exchanges)?;
+    let rows = rows_of(&mut office, alloc)?;
     let _ = closed(office.into_connection());
-    Some((given?, rows?))
+    Ok((given, rows))
 }
 
-/// What exchanges are given by a new office in files; what others are given once the files were closed and opened, and each
-/// of its rows.
+/// What exchanges are given by a new office in files; what others are given once the files were closed and opened, and
+/// each of its rows.
 pub fn given_in_files(
     alloc: Global,
     opening: &Opening,
     asked: &[Exchange],
     then: &[Exchange],
-) -> Option<(Vec<Given>, Vec<Given>, Vec<u8>)>
+) -> Result<(Vec<Given>, Vec<Given>, Vec<u8>), Fail>
     requires { IsOpening opening.now }
 {
-    let met = run_and_closed(alloc, founded_on(alloc, opening)?, asked)?;
+    let office = founded_on(alloc, opening).ok_or("the office")?;
+    let met = run_and_closed(alloc, office, asked).ok_or("memory")?;
     let (shown, rows) = seen_on(alloc, met.disks, then)?;
-    Some((met.given, shown, rows))
+    Ok((met.given, shown, rows))
 }

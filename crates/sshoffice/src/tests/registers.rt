@@ -97,13 +97,12 @@ pub fn are_alike<R: AllocGlobal + Abort>(
     let then = exchanges(alloc, SHOWN.as_slice())?;
     let opening = opening_of(alloc, serials.first, serials.last)?;
     let mut office = office_in_memory(alloc, &opening)?;
-    let seen = seen_of(&mut office, alloc, asked.as_slice(), then.as_slice());
+    let seen = seen_of(&mut office, alloc, asked.as_slice(), then.as_slice())?;
     let _ = office.into_connection();
-    let in_files = given_in_files(alloc, &opening, asked.as_slice(), then.as_slice());
-    let (given, shown, rows) = in_files.ok_or("the files")?;
+    let (given, shown, rows) = given_in_files(alloc, &opening, asked.as_slice(), then.as_slice())?;
     let mut plain = PlainStore::new(alloc, opening)?;
     let due = seen_of(&mut plain, alloc, asked.as_slice(), then.as_slice())?;
-    are_met(rt, &seen?, &due);
+    are_met(rt, &seen, &due);
     are_met(rt, &Seen { given, shown, rows }, &due);
     Ok(())
 }

@@ -10,7 +10,8 @@ use Rattle.rows.specs.Rows.{office_contents}
 use Rattle.rows.specs.Transactions.{Leaves}
 use Rattle.views.proofs.Showing.{survives_still}
 use Rattle.store.specs.Creating.{RefusesOpening}
-use Rattle.store.proofs.OfficeRows.{excused_for}
+use Rattle.store.proofs.Limits.{opening_fits}
+use Rattle.store.proofs.OfficeRows.{excused_unless}
 use Rattle.store.proofs.register.Store.init.Goals as goal
 
 pub returns-in-Ok-clause-made : goal.returns-in-Ok-clause-made
@@ -43,4 +44,5 @@ pub returns-in-Err-clause-only : goal.returns-in-Err-clause-only
 returns-in-Err-clause-only g c clean blank =
     let old = state g.S.Store c.args.conn in
     let new = state g.S.Store c.create.new.conn in
-    rw c.fault_of.ensures (excused_for old new (RefusesOpening c.args.opening.now) c.in-Err.fault (c.in-Err.ensures.cause clean blank))
+    rw c.fault_of.ensures (excused_unless old new (RefusesOpening c.args.opening.now) c.in-Err.fault
+    (opening_fits c.args.opening.now c.requires.lawful) (c.in-Err.ensures.cause clean blank))
