@@ -16,7 +16,7 @@ mod replies;
 mod reports;
 mod revocations;
 mod rollovers;
-mod rows;
+mod row_texts;
 mod script;
 mod served;
 mod stored;

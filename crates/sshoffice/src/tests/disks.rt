@@ -3,7 +3,7 @@
 ghost use Rattle.office.specs.Openings.{IsOpening};
 
 use super::messages::DEPARTMENT;
-use super::rows::rows_of;
+use super::row_texts::rows_of;
 use super::script::request_of;
 use super::*;
 use crate::trial::opening_of;

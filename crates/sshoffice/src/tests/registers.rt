@@ -1,7 +1,7 @@
 //! The same exchanges over three registers: tables in memory, tables in files, and the plain store.
 
 use super::disks::{Asked, exchanges, given_in_files};
-use super::rows::rows_of;
+use super::row_texts::rows_of;
 use super::*;
 use crate::exchanges::read_exchanges;
 use crate::trial::{office_in_memory, opening_of};
