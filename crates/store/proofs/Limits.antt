@@ -1,6 +1,6 @@
 -- Why the rows of an accepted arrival are kept out: one is too long, or there is no room for one more.
 use Rattle.std.proofs.Common.{◌≡◌, ◌⊎◌, inl, inr, ℕ, suc, ◌+◌, ◌-◌, ◌<◌, ◌≤◌, List, [], ◌∷◌, ◌++◌, length, length-append, map, drop, Bool, true, false, cond, not, Option, Some, None, Result, Ok, Err, refl, sym, ap, subst, ◌∙◌, arith}
-use Rattle.std.specs.Prelude.{◌||◌, ◌==◌, ◌^◌, IsOkAnd, filter, nat_le}
+use Rattle.std.specs.Prelude.{◌==◌, ◌^◌, IsOkAnd, filter, nat_le}
 use Rattle.std.specs.List.Sorted.{IsPermutation}
 use Rattle.std.proofs.lemmas.Bool.Decides.{nat_tests}
 use Rattle.std.proofs.lemmas.List.{length-drop}
@@ -40,6 +40,7 @@ use Rattle.store.specs.Creating.{RefusesOpening}
 use Rattle.store.specs.Arriving.{IsTooMuch, IsTooMuchToChange}
 use Rattle.store.specs.Meaning.{IsHistory}
 use Rattle.store.proofs.Accepted.{last_small}
+use Rattle.store.proofs.Apart.{neither}
 use Rattle.store.proofs.Lawful.{lawful_after}
 use Rattle.std.specs.List.{AllByRecursion, list_all, list_any}
 use Rattle.std.specs.Ordering.{eq_by_cmp, nat_cmp}
@@ -92,10 +93,6 @@ no_longer : {X : Type 0} (xs : List X) (a : X) → xs ++ a ∷ [] ≡ xs → ⊥
 no_longer xs a e =
     let n = ap length e in
     let m = length-append xs (a ∷ []) in omega (arith, n, m)
-
-neither : (a b : Bool) → (a || b) ≡ false → (a ≡ false) × (b ≡ false)
-neither true b e = absurd cc
-neither false b e = (refl, e)
 
 -- ---- the office
 

@@ -36,7 +36,7 @@ use Rattle.sqlite_rules.proofs.RuleLemmas.{refers_from}
 use Rattle.sqlite_trees.proofs.ListLemmas.{all-permutation}
 use Rattle.tables.specs.Schema.{whole, cert_at, to_department}
 use Rattle.tables.specs.Contents.{Contents, Lists, Means, at_places}
-use Rattle.tables.proofs.Edits.{of_record}
+use Rattle.tables.proofs.Edits.{mapped_from, of_record}
 use Rattle.tables.proofs.Inserts.{no_works}
 use Rattle.tables.proofs.Numbers.{same_number}
 use Rattle.tables.proofs.Reasons.{one}
@@ -46,16 +46,11 @@ use Rattle.tables.proofs.Stops.{IsHalted, insert_halts}
 
 -- ---- rows and their structs
 
-mapped_of : {X Y : Type 0} (f : X → Y) (xs : List X) (y : Y) → Has (map f xs) y → (x : X) × Has xs x × (y ≡ f x)
-mapped_of f [] y h = absurd h
-mapped_of f (x ∷ xs) y (inl e) = (x, inl refl, e)
-mapped_of f (x ∷ xs) y (inr h) = let it = mapped_of f xs y h in (it.0, inr it.1, it.2)
-
 -- each struct has a row
 pub row_of : {X : Type 0} (cells : X → Row) (places : List ℕ) (rows : List Row) (xs : List X) (x : X)
     → Lists cells places rows xs → Has xs x → (r : Row) × Has rows r × (at_places places r ≡ cells x)
 row_of cells places rows xs x h here =
-    let it = mapped_of (at_places places) rows (cells x)
+    let it = mapped_from (at_places places) rows (cells x)
     (all_has (Has (map (at_places places) rows)) (map cells xs) (cells x)
     (all-permutation (Has (map (at_places places) rows)) (map (at_places places) rows) (map cells xs)
     (IsPermutation-sym _ _ h.same) (all_from (Has (map (at_places places) rows)) (map (at_places places) rows) (λ e k. k)))
