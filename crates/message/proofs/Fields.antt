@@ -4,7 +4,7 @@ use Rattle.std.specs.List.{list_all, slice_split, join_with_byte, AllByRecursion
 use Rattle.std.specs.Option.{option_and_then}
 use Rattle.std.specs.Str.{bytes_eq}
 use Rattle.std.proofs.Math.Seq.{take-append_seam, drop-append_seam}
-use Rattle.std.proofs.lemmas.Bool.{cases_Bool, cond-true, cond-false, and_parts, eqb-true}
+use Rattle.std.proofs.lemmas.Bool.{cases_Bool, cond-true, cond-false, and_parts, eqb-true, not-true}
 use Rattle.std.proofs.lemmas.List.{take-append-drop}
 use Rattle.std.proofs.lemmas.List.Elements.{All-append, All-cons, All-nil}
 use Rattle.std.proofs.lemmas.List.Splits.{
@@ -27,11 +27,7 @@ use Rattle.message.proofs.Readings.{IsField, IsLine}
 
 -- a text of which this can be computed
 pub lacks_by : (byte : ℕ) (t : List ℕ) → list_all (λ b. not (eqb b byte)) t ≡ true → Lacks byte t
-lacks_by byte t all = λ k d inside. turned _ (AllPass-from_list_all (λ b. not (eqb b byte)) t all k d inside)
-  where
-    turned : (b : Bool) → not b ≡ true → b ≡ false
-    turned true e = absurd cc
-    turned false e = refl
+lacks_by byte t all = λ k d inside. not-true _ (AllPass-from_list_all (λ b. not (eqb b byte)) t all k d inside)
 
 -- texts, none of which has the byte
 abbrev pub AllLack : ℕ → List (List ℕ) → Type 0

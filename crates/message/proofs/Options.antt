@@ -4,11 +4,11 @@ use Rattle.std.specs.Prelude.{codes}
 use Rattle.std.specs.List.{list_all, list_any}
 use Rattle.std.specs.Str.{bytes_eq}
 use Rattle.std.proofs.lemmas.Bool.{cases_Bool, and_parts, and_from, or_parts, or_from, cond-true, cond-false, eqb-true, not-true, not_from_false}
+use Rattle.std.proofs.lemmas.Cmp.{nat_list_eq_equiv}
 use Rattle.std.proofs.lemmas.List.{nil_from_length}
 use Rattle.std.proofs.lemmas.List.Elements.{All-append, All-cons, recursion_from_All}
 use Rattle.std.proofs.lemmas.List.Folds.{list_any-append}
 use Rattle.std.proofs.lemmas.Option.{same_Some}
-use Rattle.std.proofs.lemmas.Slice.Eq.{bytes_eq-Decides}
 use Rattle.text.specs.declared.pair.Pair.{Pair}
 use Rattle.profile.specs.Lists.{are_distinct}
 use Rattle.profile.specs.Networks.{Network, IsNetwork, network_text, are_networks}
@@ -171,12 +171,6 @@ names ps = map (λ p. p.name) ps
 abbrev none_before : List Pair → List Pair → Bool
 none_before before ps = list_all (λ p. not (has_name before p.name)) ps
 
-same_way : (a b : List ℕ) → bytes_eq a b ≡ false → bytes_eq b a ≡ false
-same_way a b other = elim (cases_Bool (bytes_eq b a)) [
-  | inl same ↦ absurd (cc (sym other ∙ (bytes_eq-Decides a b).1 (sym ((bytes_eq-Decides b a).0 same))))
-  | inr so ↦ so
-]
-
 one_more : (before : List Pair) (p : Pair) (name : List ℕ) → has_name (before ++ p ∷ []) name
     ≡ (has_name before name || (bytes_eq p.name name || false))
 one_more before p name = list_any-append (λ q. bytes_eq q.name name) before (p ∷ [])
@@ -191,7 +185,7 @@ apart before p (q ∷ ps) e =
     let parts = or_parts _ _ (sym (one_more before p q.name) ∙ other) in
     let first = or_parts _ _ parts.1 in
     let rest = apart before p ps both.1 in
-    (and_from _ _ (not_from_false _ parts.0) rest.0, or_from _ _ (same_way p.name q.name first.0) rest.1)
+    (and_from _ _ (not_from_false _ parts.0) rest.0, or_from _ _ (nat_list_eq_equiv.symm q.name p.name ∙ first.0) rest.1)
 
 together : (before : List Pair) (p : Pair) (ps : List Pair) → none_before before ps ≡ true
     → list_any (λ u. bytes_eq u p.name) (names ps) ≡ false
@@ -202,7 +196,7 @@ together before p (q ∷ ps) none other =
     let parts = or_parts _ _ other in
     let other : has_name (before ++ p ∷ []) q.name ≡ false =
     one_more before p q.name
-    ∙ or_from _ _ (not-true _ both.0) (or_from _ false (same_way q.name p.name parts.0) refl) in
+    ∙ or_from _ _ (not-true _ both.0) (or_from _ false (nat_list_eq_equiv.symm p.name q.name ∙ parts.0) refl) in
     and_from _ _ (not_from_false _ other) (together before p ps both.1 parts.1)
 
 -- options that follow one another are lawful and of distinct names
