@@ -1,7 +1,6 @@
 -- Lists read one element after another.
-use Rattle.std.proofs.Common.{◌≡◌, ℕ, zero, suc, ◌+◌, ◌-◌, ◌<◌, ◌≤◌, Bool, true, false, List, [], ◌∷◌, ◌++◌, Option, Some, None, refl, sym, ap, ◌∙◌, append_assoc, arith}
+use Rattle.std.proofs.Common.{◌≡◌, ℕ, suc, ◌+◌, ◌-◌, ◌<◌, ◌≤◌, Bool, true, false, List, [], ◌∷◌, ◌++◌, Option, Some, None, refl, sym, ap, ◌∙◌, append_assoc, arith}
 use Rattle.std.specs.Option.{option_map}
-use Rattle.std.proofs.lemmas.List.{append-nil}
 use Rattle.text.specs.declared.pair.Pair.{Pair}
 use Rattle.wire.specs.Reading.{string_at}
 use Rattle.profile.specs.declared.option_field.OptionField.{OptionField}
@@ -15,11 +14,6 @@ regroup : {X : Type 0} (front : List X) (x : X) (r : Option (List X))
     → with_front front (option_map (λ xs. x ∷ xs) r) ≡ with_front (front ++ x ∷ []) r
 regroup front x (Some xs) = ap (λ l. Some l) (sym (append_assoc front (x ∷ []) xs))
 regroup front x None = refl
-
--- nothing stands in front
-pub no_front : {X : Type 0} (r : Option (List X)) → with_front [] r ≡ r
-no_front (Some xs) = refl
-no_front None = refl
 
 -- ---- strings
 
@@ -40,45 +34,6 @@ string_goes_on test front i bytes name after total lt h t so_far =
     let k : 16 - i ≡ suc (16 - (i + 1)) = omega arith in
     sym (one_string test front (16 - (i + 1)) bytes name after h t)
     ∙ ap (λ (n : ℕ). with_front front (strings_within n test bytes)) (sym k) ∙ so_far
-
--- nothing is left of the strings
-pub strings_end : (test : List ℕ → Bool) (front : List (List ℕ)) (k : ℕ) (bytes : List ℕ) (total : Option (List
-    (List ℕ))) → bytes ≡ []
-    → with_front front (strings_within k test bytes) ≡ total → total ≡ Some front
-strings_end test front k bytes total none so_far = sym so_far
-    ∙ ap (λ (b : List ℕ). with_front front (strings_within k test b)) none ∙ ended k
-  where
-    ended : (k : ℕ) → with_front front (strings_within k test []) ≡ Some front
-    ended zero = ap (λ l. Some l) (append-nil front)
-    ended (suc k) = ap (λ l. Some l) (append-nil front)
-
--- what is left begins with no string
-pub string_cut : (test : List ℕ → Bool) (front : List (List ℕ)) (i : ℕ) (bytes : List ℕ) (total : Option (List
-    (List ℕ))) → i < 16 → ¬ (bytes ≡ []) → string_at bytes ≡ None
-    → with_front front (strings_within (16 - i) test bytes) ≡ total → total ≡ None
-string_cut test front i [] total lt some h so_far = absurd (some refl)
-string_cut test front i (b ∷ bytes) total lt some h so_far =
-    let k : 16 - i ≡ suc (16 - (i + 1)) = omega arith in
-    sym so_far ∙ ap (λ (n : ℕ). with_front front (strings_within n test (b ∷ bytes))) k ∙ rw h refl
-
--- what is left begins with a string that doesn't pass
-pub string_fails : (test : List ℕ → Bool) (front : List (List ℕ)) (i : ℕ) (bytes name after : List ℕ)
-    (total : Option (List (List ℕ))) → i < 16
-    → string_at bytes ≡ Some (name, after) → test name ≡ false
-    → with_front front (strings_within (16 - i) test bytes) ≡ total → total ≡ None
-string_fails test front i [] name after total lt h t so_far = absurd cc
-string_fails test front i (b ∷ bytes) name after total lt h t so_far =
-    let k : 16 - i ≡ suc (16 - (i + 1)) = omega arith in
-    sym so_far ∙ ap (λ (n : ℕ). with_front front (strings_within n test (b ∷ bytes))) k ∙ rw (h, t) refl
-
--- more is left than so many strings
-pub strings_left : (test : List ℕ → Bool) (front : List (List ℕ)) (i : ℕ) (bytes : List ℕ) (total : Option (List
-    (List ℕ))) → 16 ≤ i → ¬ (bytes ≡ [])
-    → with_front front (strings_within (16 - i) test bytes) ≡ total → total ≡ None
-strings_left test front i [] total le some so_far = absurd (some refl)
-strings_left test front i (b ∷ bytes) total le some so_far =
-    let k : 16 - i ≡ 0 = omega arith in
-    sym so_far ∙ ap (λ (n : ℕ). with_front front (strings_within n test (b ∷ bytes))) k
 
 -- ---- options
 
@@ -102,17 +57,6 @@ option_goes_on field previous front i bytes p after total lt h t so_far =
     let k : 6 - i ≡ suc (6 - (i + 1)) = omega arith in
     sym (one_option field previous front (6 - (i + 1)) bytes p after h t)
     ∙ ap (λ (n : ℕ). with_front front (options_within n field previous bytes)) (sym k) ∙ so_far
-
--- nothing is left of the options
-pub options_end : (field : OptionField) (previous : List ℕ) (front : List Pair) (k : ℕ) (bytes : List ℕ)
-    (total : Option (List Pair)) → bytes ≡ []
-    → with_front front (options_within k field previous bytes) ≡ total → total ≡ Some front
-options_end field previous front k bytes total none so_far = sym so_far
-    ∙ ap (λ (b : List ℕ). with_front front (options_within k field previous b)) none ∙ ended k
-  where
-    ended : (k : ℕ) → with_front front (options_within k field previous []) ≡ Some front
-    ended zero = ap (λ l. Some l) (append-nil front)
-    ended (suc k) = ap (λ l. Some l) (append-nil front)
 
 -- what is left begins with no pair
 pub option_cut : (field : OptionField) (previous : List ℕ) (front : List Pair) (i : ℕ) (bytes : List ℕ)

@@ -23,7 +23,10 @@ ghost use Rattle.cert.specs.Reading.{
 
 use crate::cert_fault::CertFault;
 use crate::options::comes_before;
-use profile::{Kind, OptionField, are_distinct, is_flag, is_known, is_option_value, is_principal};
+use profile::{
+    Kind, MOST_PRINCIPALS, OptionField, are_distinct, is_flag, is_known, is_option_value,
+    is_principal,
+};
 use std::alloc::Global;
 use text::{Pair, Pairs, Text, Texts};
 use wire::Cursor;
@@ -34,7 +37,7 @@ fn listed_principals(alloc: Global, text: &[u8]) -> Result<Texts, CertFault>
 {
     let mut principals = Texts::new(alloc);
     let mut inner = Cursor::new(text);
-    for _ in 0u8..16 {
+    for _ in 0..MOST_PRINCIPALS {
         if inner.at_end() {
             return Ok(principals);
         }
