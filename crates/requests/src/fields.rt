@@ -71,7 +71,7 @@ fn capped(digits: &[u8]) -> Option<usize>
 }
 
 /// The length that the lines state, if they may state it.
-pub fn stated_length(bytes: &[u8], headers: &[HeaderSpan]) -> Option<Option<usize>>
+pub(crate) fn stated_length(bytes: &[u8], headers: &[HeaderSpan]) -> Option<Option<usize>>
     requires { All (IsHeaderWithin (length bytes.now)) headers.now }
     ensures lawful { OnSome result (AreLawful (covered (codes "content-length") bytes.now headers.now)) }
     ensures some { IfSome result (λ n. States n (covered (codes "content-length") bytes.now headers.now)) }
@@ -88,7 +88,7 @@ pub fn stated_length(bytes: &[u8], headers: &[HeaderSpan]) -> Option<Option<usiz
 }
 
 /// Whether a line states a coding.
-pub fn states_coding(bytes: &[u8], headers: &[HeaderSpan]) -> bool
+pub(crate) fn states_coding(bytes: &[u8], headers: &[HeaderSpan]) -> bool
     requires { All (IsHeaderWithin (length bytes.now)) headers.now }
     ensures { result ≡ nat_lt 0 (length (covered (codes "transfer-encoding") bytes.now headers.now)) }
 {

@@ -110,7 +110,7 @@ fn body_of(path: &[u8]) -> Option<u64>
 }
 
 /// Where the path leads.
-pub fn route_of<'p>(routes: &Routes, path: &'p str) -> Option<Route<'p>>
+pub(crate) fn route_of<'p>(routes: &Routes, path: &'p str) -> Option<Route<'p>>
     ensures path { IfSome result (λ r. IsPath (path_of r)) }
     ensures text { IfSome result (λ r. path.now ≡ path_text (path_of r)) }
     ensures none { IfNone result ((p : Path) → IsPath p → path.now ≢ path_text p) }
