@@ -5,4 +5,3 @@ pub mod NameLemmas
 pub mod NetworkLaws
 pub mod ListLemmas
 pub mod OptionLemmas
-pub mod AlphabetLemmas

@@ -1,19 +1,14 @@
 -- Rules and key ids, by how they are spelled.
-use Rattle.std.proofs.Common.{false, ◌≡◌, ◌<◌, ◌≤◌, ◌-◌, inl, inr, ℕ, List, [], ◌∷◌, ◌++◌, length, take, drop, true, ◌&&◌, not, ◌==◌, nat_lt, nat_le, arith, ap, sym, ◌∙◌, refl, subst, length-append, length-take, take-append-drop}
+use Rattle.std.proofs.Common.{false, ◌≡◌, ◌<◌, ◌-◌, inl, inr, ℕ, List, [], ◌∷◌, ◌++◌, length, take, drop, true, ◌&&◌, not, ◌==◌, nat_lt, arith, ap, sym, ◌∙◌, refl, subst, length-append, length-take, take-append-drop}
 use Rattle.std.specs.List.{list_all, prefix_len}
 use Rattle.std.specs.Str.{bytes_eq}
-use Rattle.std.proofs.lemmas.Bool.{and_parts, and_from, or_cases, or_left, or_right, eqb-true, ltb-true, lt-ltb, leb-true}
+use Rattle.std.proofs.lemmas.Bool.{and_parts, and_from, or_cases, or_left, or_right, eqb-true, ltb-true, lt-ltb}
 use Rattle.std.proofs.lemmas.List.Folds.{length-prefix_len}
 use Rattle.std.proofs.lemmas.Slice.Eq.{bytes_eq-Decides}
 use Rattle.std.proofs.Math.Seq.{drop-append_seam}
 use Rattle.profile.proofs.Lacking.{Lacks, lacks_from, before_first-append}
 use Rattle.profile.specs.Laws.{Meets, MeetsSuffix, IsKeyId}
 use Rattle.profile.specs.Names.{has_size, is_name, is_name_byte, meets, meets_suffix, ends_longer, department_of, is_key_id, is_key_id_end, is_key_id_byte}
-
--- a text of a size has no fewer and no more bytes
-pub within-has_size : (low high : ℕ) (t : List ℕ) → has_size low high t ≡ true → (low ≤ length t) × (length t ≤ high)
-within-has_size low high t h =
-    let p = and_parts (nat_le low (length t)) (nat_le (length t) high) h in (leb-true _ _ p.0, leb-true _ _ p.1)
 
 ends_longer_found : (t suffix : List ℕ) → ends_longer t suffix ≡ true → MeetsSuffix t (42 ∷ suffix)
 ends_longer_found t suffix h =

@@ -27,7 +27,7 @@ pub use laws::{
 };
 pub use limits::{
     LAST_SERIAL, LATEST_MOMENT, LONGEST_LIFE, MOST_ADMINISTRATORS, MOST_NAMESPACES,
-    MOST_PRINCIPALS, MOST_RULES, NONCE_SIZE,
+    MOST_PRINCIPALS, MOST_RULES,
 };
 pub use lists::{are_distinct, is_member};
 pub use names::{department_of, is_key_id, is_name, is_namespace, is_principal};

@@ -20,6 +20,3 @@ pub const MOST_ADMINISTRATORS: usize = 16;
 
 /// The most namespaces of a department, which may have none.
 pub const MOST_NAMESPACES: usize = 8;
-
-/// The bytes of a nonce (PROTOCOL.certkeys, "nonce").
-pub const NONCE_SIZE: usize = 32;
