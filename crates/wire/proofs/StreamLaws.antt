@@ -3,7 +3,7 @@ use Rattle.std.proofs.Common.{◌≡◌, ℕ, ◌+◌, ◌≤◌, List, ◌++◌
 use Rattle.std.proofs.Math.Seq.{take-add, take-append-add, take-append_seam}
 use Rattle.std.proofs.lemmas.List.{length-take-le, take-take, take-append-drop}
 use Rattle.std.specs.Io.KnownBytes.{Appends, Consumes}
-use Rattle.std.proofs.KnownBytes.{Appends-nil, Appends-trans, Consumes-trans}
+use Rattle.std.proofs.KnownBytes.{Appends-trans, Consumes-trans}
 use Rattle.wire.specs.Streams.{AppendsBeginning}
 
 -- a piece that was taken, and then a beginning of the next
@@ -31,16 +31,6 @@ begins_longer old new a b x =
         sym (take-append_seam (take n xs) (drop n xs ++ ys))
         ∙ ap (take (length (take n xs))) (sym (append_assoc (take n xs) (drop n xs) ys))
         ∙ ap (λ t. take (length (take n xs)) (t ++ ys)) (take-append-drop n xs)
-
--- a piece that was taken begins what goes on after it
-pub appends_begins : (old new : Option (List ℕ)) (a b : List ℕ) → Appends old new a → AppendsBeginning old new (a ++ b)
-appends_begins old new a b x =
-    let P : List ℕ → Type 0 = Appends old new in
-    record { count = length a; grown = subst P (sym (take-append_seam a b)) x }
-
--- where nothing changes, a beginning was taken
-pub begins_none : (old : Option (List ℕ)) (a : List ℕ) → AppendsBeginning old old a
-begins_none old a = record { count = 0; grown = Appends-nil old }
 
 -- so many bytes, and then so many of the rest, are that many bytes together
 pub piece_more : (at n k : ℕ) (xs : List ℕ) → at ≤ length xs → n ≤ k
