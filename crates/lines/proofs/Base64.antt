@@ -1,8 +1,8 @@
 -- The standard engine of base64: what it writes is read again, nothing else is read, and no space is written.
-use Rattle.std.proofs.Common.{◌≡◌, ℕ, zero, suc, ◌+◌, ◌*◌, ◌/◌, ◌%◌, ◌<◌, true, false, not, eqb, List, [], ◌∷◌, ◌++◌, length, take, drop, replicate, get_or, slice_index, Option, Some, None, Result, Ok, Err, refl, sym, subst, ◌∙◌, ◌⊎◌, arith, inl, inr}
+use Rattle.std.proofs.Common.{◌≡◌, ℕ, zero, suc, ◌+◌, ◌*◌, ◌/◌, ◌%◌, ◌<◌, true, false, not, eqb, List, [], ◌∷◌, ◌++◌, length, drop, replicate, get_or, slice_index, Option, Some, None, Result, Ok, Err, refl, sym, subst, ◌∙◌, ◌⊎◌, arith, inl, inr}
 use Rattle.std.specs.List.{AllByRecursion, list_all}
-use Rattle.std.proofs.lemmas.Bool.{cases_lt, and_parts, not-true}
-use Rattle.std.proofs.lemmas.List.{get_or-drop, get_or-take, get_or_past, length-take, length-append, length-replicate}
+use Rattle.std.proofs.lemmas.Bool.{and_parts, not-true}
+use Rattle.std.proofs.lemmas.List.{length-append, length-replicate}
 use Rattle.base64.specs.Engines.{standard}
 use Rattle.base64.specs.GeneralPurpose.{IsBytes, IsConsistent, IsStrict, decode_of, encode_of, encoded_size_of}
 use Rattle.base64.specs.Rfc4648.{encode_symbols, padding_len}
@@ -13,6 +13,7 @@ use Rattle.base64.proofs.Decoding.{IsLeftover, IsLeftover_next, scan-cons_err, s
 use Rattle.base64.proofs.EngineFacts.{decode_of-encode_of, decode_of_strict}
 use Rattle.base64.proofs.RoundTrip.{length-encode_symbols}
 use Rattle.base64.proofs.Tables.{IsDecodeTable_from, are_tables_inverse}
+pub use Rattle.wire.proofs.Laws.{IsBytes-take, IsBytes-drop}
 
 -- The standard engine accepts what it writes.
 pub is_consistent : IsConsistent standard
@@ -44,17 +45,6 @@ length-encode_of bytes =
     )
 
 -- ---- bytes
-
--- The front of bytes is bytes.
-pub IsBytes-take : (n : ℕ) (bytes : List ℕ) → IsBytes bytes → IsBytes (take n bytes)
-IsBytes-take n bytes fits i = elim (cases_lt i n) [
-  | inl lt ↦ rw (get_or-take n bytes i 0 lt) (fits i)
-  | inr le ↦ rw (get_or_past (take n bytes) i 0 (omega (arith, length-take n bytes))) (omega arith)
-]
-
--- The back of bytes is bytes.
-pub IsBytes-drop : (n : ℕ) (bytes : List ℕ) → IsBytes bytes → IsBytes (drop n bytes)
-IsBytes-drop n bytes fits i = rw get_or-drop (fits (n + i))
 
 -- Bytes behind bytes are bytes.
 pub IsBytes-append : (a b : List ℕ) → IsBytes a → IsBytes b → IsBytes (a ++ b)
@@ -176,7 +166,7 @@ IsBytes-decode_of engine s b fits e =
 -- ---- no space is written
 
 -- what no element of a list is, what stands past its end is not either, unless it is 0
-free_at : (c : ℕ) (xs : List ℕ) (i : ℕ) → eqb 0 c ≡ false → list_all (λ x. not (eqb x c)) xs ≡ true
+pub free_at : (c : ℕ) (xs : List ℕ) (i : ℕ) → eqb 0 c ≡ false → list_all (λ x. not (eqb x c)) xs ≡ true
     → eqb (get_or xs i 0) c ≡ false
 free_at c [] i zero_free e = zero_free
 free_at c (x ∷ xs) zero zero_free e = not-true _ (and_parts _ _ e).0
