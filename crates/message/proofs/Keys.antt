@@ -1,8 +1,7 @@
 -- Key lines in lines: none has a line feed, and each is read from its text alone.
-use Rattle.std.proofs.Common.{◌≡◌, ℕ, zero, suc, ◌+◌, ◌*◌, ◌/◌, ◌%◌, List, [], ◌∷◌, ◌++◌, length, replicate, get_or, slice_index, true, false, not, eqb, Option, Some, None, Result, Ok, Err, refl, ap}
-use Rattle.std.specs.List.{list_all}
+use Rattle.std.proofs.Common.{◌≡◌, ℕ, ◌+◌, ◌*◌, ◌/◌, ◌%◌, List, [], ◌∷◌, ◌++◌, length, replicate, slice_index, true, false, eqb, Option, Some, None, Result, Ok, Err, refl, ap}
 use Rattle.std.specs.Result.{result_ok}
-use Rattle.std.proofs.lemmas.Bool.{and_parts, not-true}
+use Rattle.std.proofs.lemmas.Bool.{and_parts}
 use Rattle.std.proofs.lemmas.List.Elements.{All-append, All-cons, All-nil, All-replicate}
 use Rattle.base64.specs.Engines.{standard}
 use Rattle.base64.specs.GeneralPurpose.{encode_of}
@@ -20,23 +19,17 @@ use Rattle.lines.specs.KeyLines.{
 use Rattle.lines.specs.Reading.{key_line_at}
 use Rattle.lines.specs.declared.key_line.KeyLine.{KeyLine}
 use Rattle.lines.specs.declared.key_line.LineFault.{LineFault}
+use Rattle.lines.proofs.Base64.{free_at}
 use Rattle.lines.proofs.KeyLineLaws.{found_from, key_line_again}
 use Rattle.message.specs.Reading.{after, key_line_after}
 use Rattle.message.proofs.Readings.{IsField, IsLine}
 use Rattle.message.proofs.Fields.{lacks_by, value_after}
 
--- what no element of a list is, what stands past its end is not either, unless it is 0
-lacks_at : (byte : ℕ) (xs : List ℕ) (i : ℕ) → eqb 0 byte ≡ false → list_all (λ x. not (eqb x byte)) xs ≡ true
-    → eqb (get_or xs i 0) byte ≡ false
-lacks_at byte [] i other e = other
-lacks_at byte (x ∷ xs) zero other e = not-true _ (and_parts _ _ e).0
-lacks_at byte (x ∷ xs) (suc i) other e = lacks_at byte xs i other (and_parts _ _ e).1
-
 no_bytes : IsLine []
 no_bytes = All-nil (λ x. eqb x 10 ≡ false)
 
 symbol_line : (i : ℕ) → eqb (slice_index standard.encode_table i) 10 ≡ false
-symbol_line i = lacks_at 10 standard.encode_table i refl refl
+symbol_line i = free_at 10 standard.encode_table i refl refl
 
 -- one more byte in front
 more : (b : ℕ) (t : List ℕ) → eqb b 10 ≡ false → IsLine t → IsLine (b ∷ t)
