@@ -37,10 +37,6 @@ differs p q qs h =
 others : (p q : Pair) (qs : List Pair) → Lacks (q ∷ qs) p.name → Lacks qs p.name
 others p q qs h = (or_parts (bytes_eq q.name p.name) _ h).1
 
--- where a pair comes among others that lack its name
-pub place : Pair → List Pair → ℕ
-place p qs = position_or_len (λ q. comes_before p.name q.name) qs
-
 insert_by : (o : Ordering) (p q : Pair) (qs : List Pair) (k : ℕ) → is_eq o ≡ false → with_pair qs p ≡ insert qs k p
     → match_ordering o (p ∷ q ∷ qs) (p ∷ qs) (q ∷ with_pair qs p) ≡ insert (q ∷ qs) (cond (not (is_lt o)) (1 + k) 0) p
 insert_by Less p q qs k h e = refl
@@ -103,10 +99,6 @@ pub record IsListedSoFar (field : OptionField) (listed earlier rest : List Pair)
   pub is_listing : listed ≡ listing earlier
   pub alike : (t : Pair → Bool) → list_any t listed ≡ list_any t earlier
   pub left : first_fault field earlier rest ≡ None
-
--- nothing is listed
-pub starts : (field : OptionField) (ps : List Pair) → first_fault field [] ps ≡ None → IsListedSoFar field [] [] ps
-starts field ps e = record { is_listing = refl; alike = λ t. refl; left = e }
 
 turned : (a b : Bool) → (a || b) ≡ (b || (a || false))
 turned true true = refl
