@@ -71,16 +71,6 @@ range_says flag s (message.RevokeRange x) r none is says = let same : x ≡ r = 
 range_says flag s (message.RevokeKeyId key_id) r none is says = tt
 range_says flag s (message.Rollover k) r none is says = tt
 
-pub no_serial_says : (flag : Bool) (s : State) (m : Message) → named_serial m ≡ None → named_range m ≡ None → SaysRevoked flag s m
-no_serial_says flag s (message.Department d) none is = tt
-no_serial_says flag s (message.Issue i) none is = tt
-no_serial_says flag s (message.Renew x) none is = absurd cc
-no_serial_says flag s (message.Deliver d) none is = absurd cc
-no_serial_says flag s (message.RevokeSerial serial) none is = absurd cc
-no_serial_says flag s (message.RevokeRange x) none is = absurd cc
-no_serial_says flag s (message.RevokeKeyId key_id) none is = tt
-no_serial_says flag s (message.Rollover k) none is = tt
-
 bool_is : (a b : Bool) → (a ≡ true → b ≡ true) → (b ≡ true → a ≡ true) → a ≡ b
 bool_is true true f g = refl
 bool_is false false f g = refl

@@ -42,16 +42,6 @@ unpublished_decided v s m ch reply x caller moment nonce a is allowed state repl
     let date = a.date in
     rw is (decided s m (record { reply = reply; next = v.next; version = v.version; date = v.date; change = ch }) caller moment nonce allowed (rw (version, date) state) replied (a.next ∙ next))
 
--- and where it has its next version
-pub published_decided : (v : View) (s : State) (m : Message) (ch : Change) (reply : List ℕ) (x : Decision) (caller : List ℕ) (moment : ℕ) (nonce : List ℕ) → Agrees v s m
-    → x ≡ record { reply = reply; next = v.next; version = v.version + 1; date = moment; change = ch }
-    → first_holding (refusals s caller m moment) ≡ None
-    → record (changed ch s) { version = s.version + 1; date = moment } ≡ after s m moment nonce → reply ≡ reply_to s m moment nonce → next_serial s ≡ next_serial (after s m moment nonce)
-    → Decided (Ok x) s caller m moment nonce
-published_decided v s m ch reply x caller moment nonce a is allowed state replied next =
-    let version = a.version in
-    rw is (decided s m (record { reply = reply; next = v.next; version = v.version + 1; date = moment; change = ch }) caller moment nonce allowed (rw version state) replied (a.next ∙ next))
-
 -- one serial more is handed out
 next-certificate : (s : State) (c : Certificate) (next : ℕ) → next ≡ next_serial s + 1 → next ≡ next_serial (with_certificate s c)
 next-certificate s c next e = omega (arith, e, length-append s.certificates (c ∷ []))
