@@ -1,8 +1,9 @@
 -- What an allowed issue asks for makes a lawful certificate.
-use Rattle.std.proofs.Common.{◌≡◌, ℕ, ◌-◌, ◌≤◌, List, [], ◌∷◌, ◌++◌, length, map, Bool, true, false, not, ◌&&◌, ◌||◌, leb, ltb, eqb, None, refl, sym, ap, subst, inl, inr, arith}
+use Rattle.std.proofs.Common.{◌≡◌, ℕ, ◌-◌, ◌≤◌, List, [], ◌∷◌, ◌++◌, length, map, Bool, true, false, ◌&&◌, leb, ltb, eqb, None, refl, ap, subst, ◌∙◌, inl, inr, arith}
 use Rattle.std.specs.List.{list_any, list_all, AllByRecursion}
 use Rattle.std.specs.Str.{bytes_eq}
-use Rattle.std.proofs.lemmas.Bool.{and_parts, or_cases, leb-true, le-leb, lt-ltb, eqb-true}
+use Rattle.std.proofs.lemmas.Bool.{and_parts, and_from, or_parts, or_cases, not-true, leb-true, le-leb, lt-ltb, eqb-true}
+use Rattle.std.proofs.lemmas.Cmp.{nat_list_eq_equiv}
 use Rattle.std.proofs.lemmas.Slice.Eq.{bytes_eq-Decides}
 use Rattle.std.proofs.lemmas.List.{nil_from_length}
 use Rattle.text.specs.declared.pair.Pair.{Pair}
@@ -31,13 +32,6 @@ use Rattle.office.specs.Certificates.{IsCertificate, certificate_for, certificat
 same_bytes : (xs ys : List ℕ) → bytes_eq xs ys ≡ true → xs ≡ ys
 same_bytes xs ys e = (bytes_eq-Decides xs ys).0 e
 
-both_and : (a b : Bool) → a ≡ true → b ≡ true → (a && b) ≡ true
-both_and a b p q = rw (p, q) refl
-
-not_true : (b : Bool) → not b ≡ true → b ≡ false
-not_true true e = absurd cc
-not_true false e = refl
-
 -- ---- options without a fault
 
 -- no pair has the name of one of the earlier ones
@@ -48,34 +42,18 @@ apart_nil : (ps : List Pair) → AreApart [] ps
 apart_nil [] = tt
 apart_nil (p ∷ ps) = (refl, apart_nil ps)
 
-bytes_eq-swap_false : (xs ys : List ℕ) → bytes_eq xs ys ≡ false → bytes_eq ys xs ≡ false
-bytes_eq-swap_false xs ys e = by_test (bytes_eq ys xs) refl
-  where
-    by_test : (b : Bool) → bytes_eq ys xs ≡ b → b ≡ false
-    by_test false is = refl
-    by_test true is =
-        let back : bytes_eq xs ys ≡ true = (bytes_eq-Decides xs ys).1 (sym (same_bytes ys xs is)) in absurd cc
-
 any-push : (name : List ℕ) (earlier : List Pair) (p : Pair) → list_any (λ q. bytes_eq q.name name) earlier ≡ false → bytes_eq p.name name ≡ false
     → list_any (λ q. bytes_eq q.name name) (earlier ++ p ∷ []) ≡ false
 any-push name [] p e f = rw f refl
 any-push name (q ∷ earlier) p e f =
-    let parts = none_of (bytes_eq q.name name) (list_any (λ q. bytes_eq q.name name) earlier) e in
+    let parts = or_parts (bytes_eq q.name name) (list_any (λ q. bytes_eq q.name name) earlier) e in
     rw (parts.0, any-push name earlier p parts.1 f) refl
-  where
-    none_of : (a b : Bool) → (a || b) ≡ false → (a ≡ false) × (b ≡ false)
-    none_of true b e = absurd cc
-    none_of false b e = (refl, e)
-
-none_of_any : (a b : Bool) → (a || b) ≡ false → (a ≡ false) × (b ≡ false)
-none_of_any true b e = absurd cc
-none_of_any false b e = (refl, e)
 
 apart_push : (earlier : List Pair) (p : Pair) (ps : List Pair) → AreApart earlier ps → list_any (λ u. bytes_eq u p.name) (map (λ q. q.name) ps) ≡ false → AreApart (earlier ++ p ∷ []) ps
 apart_push earlier p [] a e = tt
 apart_push earlier p (q ∷ ps) a e =
-    let parts = none_of_any (bytes_eq q.name p.name) (list_any (λ u. bytes_eq u p.name) (map (λ q. q.name) ps)) e in
-    (any-push q.name earlier p a.0 (bytes_eq-swap_false q.name p.name parts.0), apart_push earlier p ps a.1 parts.1)
+    let parts = or_parts (bytes_eq q.name p.name) (list_any (λ u. bytes_eq u p.name) (map (λ q. q.name) ps)) e in
+    (any-push q.name earlier p a.0 (nat_list_eq_equiv.symm p.name q.name ∙ parts.0), apart_push earlier p ps a.1 parts.1)
 
 first_fault-none : (field : OptionField) (earlier ps : List Pair) → list_all (is_option field) ps ≡ true → are_distinct (map (λ p. p.name) ps) ≡ true → AreApart earlier ps
     → first_fault field earlier ps ≡ None
@@ -84,7 +62,7 @@ first_fault-none field earlier (p ∷ ps) all distinct apart =
     let a = and_parts _ _ all in
     let lawful = and_parts (is_known field p.name) (is_option_value p.name p.value) a.0 in
     let d = and_parts _ _ distinct in
-    rw (lawful.0, lawful.1, apart.0) (first_fault-none field (earlier ++ p ∷ []) ps a.1 d.1 (apart_push earlier p ps apart.1 (not_true _ d.0)))
+    rw (lawful.0, lawful.1, apart.0) (first_fault-none field (earlier ++ p ∷ []) ps a.1 d.1 (apart_push earlier p ps apart.1 (not-true _ d.0)))
 
 -- lawful pairs of distinct names have no fault
 pub no_fault : (field : OptionField) (kind : Kind) (ps : List Pair) → are_for_kind kind ps ≡ true → list_all (is_option field) ps ≡ true → are_distinct (map (λ p. p.name) ps) ≡ true
@@ -106,8 +84,8 @@ flags_lawful [] e = refl
 flags_lawful (n ∷ names) e =
     let parts = and_parts (is_known Extensions n) (list_all (is_known Extensions) names) e in
     let value : is_option_value n [] ≡ true = flag_value (known_names Extensions) n (refl, (refl, (refl, (refl, (refl, (refl, tt)))))) parts.0 in
-    both_and (is_known Extensions n && is_option_value n []) (list_all (is_option Extensions) (flags names))
-    (both_and (is_known Extensions n) (is_option_value n []) parts.0 value) (flags_lawful names parts.1)
+    and_from (is_known Extensions n && is_option_value n []) (list_all (is_option Extensions) (flags names))
+    (and_from (is_known Extensions n) (is_option_value n []) parts.0 value) (flags_lawful names parts.1)
 
 pub flags-names : (names : List (List ℕ)) → map (λ p. p.name) (flags names) ≡ names
 flags-names [] = refl
@@ -129,7 +107,7 @@ flags_listed : (known names : List (List ℕ)) → list_all (λ e. is_listed kno
 flags_listed known [] e = refl
 flags_listed known (n ∷ names) e =
     let parts = and_parts (is_listed known n) (list_all (λ e. is_listed known e) names) e in
-    both_and (is_listed known n) (list_all (λ o. is_listed known o.name) (flags names)) parts.0 (flags_listed known names parts.1)
+    and_from (is_listed known n) (list_all (λ o. is_listed known o.name) (flags names)) parts.0 (flags_listed known names parts.1)
 
 -- ---- an allowed issue
 
@@ -222,7 +200,7 @@ serial_left v is =
     let last = and_parts (leb o.first o.last) (leb o.last 9223372036854775806) ends.1 in
     let low : 1 ≤ v.next = omega (arith, leb-true _ _ ends.0, is.next) in
     let high : v.next ≤ 9223372036854775806 = omega (arith, leb-true _ _ last.1, is.left) in
-    both_and _ _ (le-leb _ _ low) (le-leb _ _ high)
+    and_from _ _ (le-leb _ _ low) (le-leb _ _ high)
 
 -- and its fields are a certificate's
 pub issuable_fields : (v : View) (d : Department) (i : Issue) (ca nonce : List ℕ) → IsIssuable v d i → length ca ≡ 32 → length nonce ≡ 32 → IsCertFields (fields_for i v.next d.kind ca nonce)
@@ -237,8 +215,8 @@ issuable_fields v d i ca nonce is ca_size nonce_size =
       key = eqb-true _ _ p.key;
       serial = serial_left v is.serial;
       key_id = p.key_id;
-      principals = both_and (few && each) (are_distinct i.principals) (both_and few each ps.0 qs.0) qs.1;
-      validity = both_and _ _ p.life p.before;
+      principals = and_from (few && each) (are_distinct i.principals) (and_from few each ps.0 qs.0) qs.1;
+      validity = and_from _ _ p.life p.before;
       options = is_options-listing CriticalOptions d.kind i.options (issuable_options v d i is);
       extensions = is_options-listing Extensions d.kind (flags i.extensions) (issuable_extensions v d i is);
       ca = ca_size;
@@ -263,7 +241,7 @@ renewable_fields v old r ca nonce is ca_size nonce_size =
       serial = serial_left v is.serial;
       key_id = f.key_id;
       principals = f.principals;
-      validity = both_and _ _ (lt-ltb _ _ is.order) ends.1;
+      validity = and_from _ _ (lt-ltb _ _ is.order) ends.1;
       options = f.options;
       extensions = f.extensions;
       ca = ca_size;

@@ -1,7 +1,7 @@
 -- Ranges of serials that are revoked, and what was handed out of them.
-use Rattle.std.proofs.Common.{◌≡◌, ℕ, zero, suc, ◌+◌, ◌-◌, ◌<◌, ◌≤◌, List, [], ◌∷◌, Bool, true, false, cond, ◌&&◌, ◌||◌, ◌⊎◌, leb, ltb, Option, Some, None, refl, sym, subst, inl, inr, arith, length-append}
+use Rattle.std.proofs.Common.{◌≡◌, ℕ, zero, suc, ◌+◌, ◌-◌, ◌<◌, ◌≤◌, List, [], ◌∷◌, Bool, true, false, cond, ◌&&◌, ◌⊎◌, leb, ltb, Option, Some, None, refl, sym, subst, inl, inr, arith, length-append}
 use Rattle.std.specs.Prelude.{◌↔◌, IsTrue, IsSome, is_none}
-use Rattle.std.proofs.lemmas.Bool.{and_parts, or_cases, leb-true, leb-false, ltb-false}
+use Rattle.std.proofs.lemmas.Bool.{and_parts, or_cases, or_parts, leb-true, leb-false, ltb-false}
 use Rattle.krl.specs.Sets.{HasAll}
 use Rattle.message.specs.declared.serial_range.SerialRange.{SerialRange}
 use Rattle.message.specs.declared.kinds.Message.TheVariants as message
@@ -16,6 +16,7 @@ use Rattle.office.proofs.Judged.{none_holds}
 use Rattle.office.proofs.Histories.{IsKept, holds_after}
 use Rattle.office.proofs.Growth.{length-signed_at}
 use Rattle.office.proofs.Decisions.{serial_of_one}
+use Rattle.office.proofs.Parts.{AreIssued}
 
 -- ---- a range is revoked just where each of its serials is
 
@@ -55,9 +56,6 @@ range_flag false s r order says = by_test (is_range_revoked s r) refl
 
 -- ---- revoked serials were handed out
 
-abbrev pub AreIssued : State → Type 0
-AreIssued s = (n : ℕ) → s.revoked n ≡ true → (s.opening.first ≤ n) × (n < next_serial s)
-
 range_issued : (s : State) (r : SerialRange) → s.opening.first ≤ r.lo → r.hi < next_serial s → AreIssued s → AreIssued (with_range s r)
 range_issued s r low high before n e = elim (or_cases (leb r.lo n && leb n r.hi) (s.revoked n) e) [
   | inl within ↦ let ends = and_parts (leb r.lo n) (leb n r.hi) within in (omega (arith, low, leb-true _ _ ends.0), omega (arith, high, leb-true _ _ ends.1))
@@ -77,10 +75,6 @@ some_of : (o : Option Certificate) → is_none o ≡ false → IsSome o
 some_of (Some c) e = refl
 some_of None e = absurd cc
 
-neither : (a b : Bool) → (a || b) ≡ false → (a ≡ false) × (b ≡ false)
-neither true b e = absurd cc
-neither false b e = (refl, e)
-
 keeps_issued : IsKept AreIssued
 keeps_issued s caller (message.Department d) moment nonce lawful allowed before = before
 keeps_issued s caller (message.Issue i) moment nonce lawful allowed before = one_more_issued s (Some (issued s i nonce)) before
@@ -94,7 +88,7 @@ keeps_issued s caller (message.RevokeSerial serial) moment nonce lawful allowed 
     changed_issued s (republished (with_range s r) moment) (s.revoked serial) before (range_issued s r is.0 is.1 before)
 keeps_issued s caller (message.RevokeRange r) moment nonce lawful allowed before =
     let tests = none_holds (refusals s caller (message.RevokeRange r) moment) allowed in
-    let ends = neither (ltb r.lo s.opening.first) (leb (next_serial s) r.hi) tests.1.0 in
+    let ends = or_parts (ltb r.lo s.opening.first) (leb (next_serial s) r.hi) tests.1.0 in
     changed_issued s (republished (with_range s r) moment) (is_range_revoked s r) before (range_issued s r (ltb-false _ _ ends.0) (leb-false _ _ ends.1) before)
 keeps_issued s caller (message.RevokeKeyId key_id) moment nonce lawful allowed before =
     changed_issued s (republished (with_key_id s key_id) moment) (is_key_id_revoked s key_id) before before
