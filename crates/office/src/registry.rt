@@ -23,16 +23,16 @@ use text::Text;
 /// leaves what the register means as it is. `Device` is answered only where the database failed, or refused what was to be
 /// kept of an arrival, and a register that means a history answers no other fault but want of memory.
 pub trait Registry {
-    // So far every answer of the disk was true.
+    /// So far every answer of the disk was true.
     ghost is_honest: { Self → Type 0 };
 
-    // Between the two the database failed, or it was shut before.
+    /// Between the two the database failed, or it was shut before.
     ghost fails: { Self → Self → Type 0 };
 
-    // So it was, or the rules of the database refused what was to be kept of this arrival.
+    /// So it was, or the rules of the database refused what was to be kept of this arrival.
     ghost stops: { Self → Self → Arrival → Type 0 };
 
-    // Where no failed disk has shut it, it shows the office of this lawful opening after this history.
+    /// Where no failed disk has shut it, it shows the office of this lawful opening after this history.
     ghost means: { Self → Opening → List Arrival → Type 0 };
 
     /// One arrival after those before it: the kept reply, a first acceptance or a refusal, as is due. After a fault the
@@ -101,6 +101,6 @@ pub trait Registry {
         ensures cause { IfErr result (λ e. HasCause e (fails self.old self.new)) }
         ensures only { is_honest self.new → IfErr result (λ e. (o : Opening) (l : List Arrival) → means self.old o l → IsOfARegister e) };
 
-    // It shows no office whose opening isn't lawful, nor one whose version has none after it.
+    /// It shows no office whose opening isn't lawful, nor one whose version has none after it.
     ghost lawful: { (s : Self) (o : Opening) (l : List Arrival) → means s o l → IsOffice o l };
 }

@@ -17,8 +17,9 @@ pub struct View<'a> {
     pub opening: &'a Opening,
     /// The serial to be handed out next, at most the last and one.
     pub next: u64,
-    /// The version and the date of the published list.
+    /// The version of the published list.
     pub version: u64,
+    /// The date of the published list, in seconds since 1970-01-01 00:00:00 UTC.
     pub date: u64,
     /// The CAs by number.
     pub cas: &'a [Ca],
@@ -60,8 +61,9 @@ pub struct Decision {
     pub reply: Text,
     /// The serial to be handed out next, from then on.
     pub next: u64,
-    /// The version and the date of the published list, from then on.
+    /// The version of the published list, from then on.
     pub version: u64,
+    /// The date of the published list, from then on, in seconds since 1970-01-01 00:00:00 UTC.
     pub date: u64,
     pub change: Change,
 }
