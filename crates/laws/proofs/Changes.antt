@@ -1,8 +1,8 @@
 -- What accepted messages do to the state: so an invariant is one proof for each change.
-use Rattle.std.proofs.Common.{◌≡◌, ℕ, ◌<◌, ◌≤◌, List, length, Bool, true, false, cond, ◌||◌, leb, ltb, eqb, Option, Some, None, refl}
+use Rattle.std.proofs.Common.{◌≡◌, ℕ, ◌<◌, ◌≤◌, List, length, Bool, true, false, cond, leb, ltb, eqb, Option, Some, None, refl}
 use Rattle.std.specs.Prelude.{IsSome, is_none}
 use Rattle.std.specs.Option.{option_map}
-use Rattle.std.proofs.lemmas.Bool.{and_parts, eqb-true, leb-false, ltb-false}
+use Rattle.std.proofs.lemmas.Bool.{and_parts, or_parts, eqb-true, leb-false, ltb-false}
 use Rattle.lines.specs.declared.key_line.KeyLine.{KeyLine}
 use Rattle.lines.specs.KeyLines.{is_key, is_comment_or_none, is_key_line}
 use Rattle.lines.specs.declared.signature.Signature.{Signature}
@@ -69,10 +69,6 @@ key_length k e =
     let is = (and_parts (is_key k.key) (is_comment_or_none k.comment) e).0 in
     eqb-true (length k.key) 32 (and_parts (eqb (length k.key) 32) _ is).0
 
-neither : (a b : Bool) → (a || b) ≡ false → (a ≡ false) × (b ≡ false)
-neither true b e = absurd cc
-neither false b e = (refl, e)
-
 holds_then : (Q : State → Type 0) (s : State) (caller : List ℕ) (m : Message) (moment : ℕ) (nonce : List ℕ)
     → is_message m ≡ true → first_holding (refusals s caller m moment) ≡ None → Q s → HoldsAfter Q s moment → Q (after s m moment nonce)
 holds_then Q s caller (message.Department d) moment nonce lawful allowed q h = h.department d
@@ -86,7 +82,7 @@ holds_then Q s caller (message.RevokeSerial serial) moment nonce lawful allowed 
     same_or Q s (republished (with_range s r) moment) (s.revoked serial) q (h.range r (record { low = is.0; high = is.1 }))
 holds_then Q s caller (message.RevokeRange r) moment nonce lawful allowed q h =
     let tests = none_holds (refusals s caller (message.RevokeRange r) moment) allowed in
-    let ends = neither (ltb r.lo s.opening.first) (leb (next_serial s) r.hi) tests.1.0 in
+    let ends = or_parts (ltb r.lo s.opening.first) (leb (next_serial s) r.hi) tests.1.0 in
     same_or Q s (republished (with_range s r) moment) (is_range_revoked s r) q
     (h.range r (record { low = ltb-false _ _ ends.0; high = leb-false _ _ ends.1 }))
 holds_then Q s caller (message.RevokeKeyId key_id) moment nonce lawful allowed q h =

@@ -1,8 +1,8 @@
 -- A later list revokes what an earlier one does.
-use Rattle.std.proofs.Common.{◌≡◌, ℕ, zero, suc, ◌-◌, ◌<◌, ◌≤◌, List, [], ◌∷◌, ◌++◌, Bool, true, false, ◌&&◌, ◌||◌, Some, refl, sym, ap, ◌∙◌, inl, inr, arith, length-append}
+use Rattle.std.proofs.Common.{◌≡◌, ℕ, zero, suc, ◌-◌, ◌<◌, ◌≤◌, List, [], ◌∷◌, ◌++◌, true, ◌&&◌, Some, sym, ap, ◌∙◌, inl, inr, arith, length-append}
 use Rattle.std.specs.Prelude.{slice_get}
 use Rattle.std.specs.Str.{bytes_eq}
-use Rattle.std.proofs.lemmas.Bool.{and_parts, or_cases}
+use Rattle.std.proofs.lemmas.Bool.{and_parts, and_from, or_cases, or_left, or_right}
 use Rattle.lines.specs.Keys.{key_blob}
 use Rattle.profile.specs.declared.limits.TheConstants.{LATEST_MOMENT}
 use Rattle.krl.specs.Format.{RevocationList, revokes}
@@ -53,18 +53,6 @@ signs_kept ca n s moment in_time is = record {
   ca_published = λ key new some. record { issued = is.issued; signs = ap (bytes_eq ca.key) (later_signs_not s key n is.issued) ∙ is.signs };
 }
 
-or_right : (a b : Bool) → b ≡ true → (a || b) ≡ true
-or_right true b e = refl
-or_right false b e = e
-
-or_left : (a b : Bool) → a ≡ true → (a || b) ≡ true
-or_left true b e = refl
-or_left false b e = absurd cc
-
-and_both : (a b : Bool) → a ≡ true → b ≡ true → (a && b) ≡ true
-and_both true b p q = q
-and_both false b p q = absurd cc
-
 pub later_revokes : (o : Opening) (l later : List Arrival) (old new : RevocationList) → IsExact o l old → IsExact o (l ++ later) new
     → (place : ℕ) (ca : Ca) → slice_get (state o l).cas place ≡ Some ca → (serial : ℕ) (key_id : List ℕ) → revokes (key_blob ca.key) serial key_id old ≡ true → revokes (key_blob ca.key) serial key_id new ≡ true
 later_revokes o l later old new is-old is-new place ca e serial key_id r =
@@ -77,6 +65,6 @@ later_revokes o l later old new is-old is-new place ca e serial key_id r =
           let parts = and_parts (is_serial_named o l serial) (is_signer ca (state o l) serial) both in
           let revoked = serials_are_named o l serial ∙ parts.0 in
           let signed = after_more (λ fs s. Signs ca serial s) (by_change (Signs ca serial) (signs_kept ca serial)) o l later (record { issued = (revoked_is_issued o l serial revoked).1; signs = parts.1 }) in
-          or_left (named && signs) key_named (and_both named signs (sym (serials_are_named o (l ++ later) serial) ∙ serials_stay o l later serial revoked) signed.signs)
+          or_left (named && signs) key_named (and_from named signs (sym (serials_are_named o (l ++ later) serial) ∙ serials_stay o l later serial revoked) signed.signs)
       | inr key ↦ or_right (named && signs) key_named (sym (key_ids_are_named o (l ++ later) key_id) ∙ key_ids_stay o l later key_id (key_ids_are_named o l key_id ∙ key))
     ]

@@ -1,7 +1,8 @@
 -- How the CAs of an office stand after every history.
-use Rattle.std.proofs.Common.{◌≡◌, ◌≢◌, ℕ, ◌+◌, ◌-◌, ◌≤◌, List, [], ◌∷◌, ◌++◌, length, Bool, true, false, ◌||◌, refl, sym, ap, ◌∙◌, arith, length-append}
+use Rattle.std.proofs.Common.{◌≡◌, ◌≢◌, ℕ, ◌+◌, ◌-◌, ◌≤◌, List, [], ◌∷◌, ◌++◌, length, Bool, true, false, refl, sym, ap, ◌∙◌, arith, length-append}
 use Rattle.std.specs.List.{AllByRecursion}
 use Rattle.std.specs.Str.{bytes_eq}
+use Rattle.std.proofs.lemmas.Bool.{or_parts}
 use Rattle.std.proofs.lemmas.Slice.Eq.{bytes_eq-Decides}
 use Rattle.profile.specs.declared.limits.TheConstants.{LATEST_MOMENT}
 use Rattle.office.specs.declared.opening.Opening.{Opening}
@@ -45,10 +46,6 @@ All-push : (P : Ca → Type 0) (cas : List Ca) (ca : Ca) → AllByRecursion P ca
 All-push P [] ca all p = (p, tt)
 All-push P (c ∷ cas) ca all p = (all.0, All-push P cas ca all.1 p)
 
-neither : (a b : Bool) → (a || b) ≡ false → (a ≡ false) × (b ≡ false)
-neither true b e = absurd cc
-neither false b e = (refl, e)
-
 key_other : (x y : List ℕ) → bytes_eq x y ≡ false → y ≢ x
 key_other x y apart e = absurd (clash (bytes_eq x y) ((bytes_eq-Decides x y).1 (sym e)) apart)
   where
@@ -58,7 +55,7 @@ key_other x y apart e = absurd (clash (bytes_eq x y) ((bytes_eq-Decides x y).1 (
 Distinct-push : (cas : List Ca) (ca : Ca) → is_ca cas ca.key ≡ false → AreDistinct cas → AreDistinct (cas ++ ca ∷ [])
 Distinct-push [] ca new d = (tt, tt)
 Distinct-push (c ∷ cas) ca new d =
-    let parts = neither (bytes_eq c.key ca.key) (is_ca cas ca.key) new in
+    let parts = or_parts (bytes_eq c.key ca.key) (is_ca cas ca.key) new in
     (All-push (λ x. x.key ≢ c.key) cas ca d.0 (key_other c.key ca.key parts.0), Distinct-push cas ca parts.1 d.1)
 
 -- the same CAs, while more serials are handed out

@@ -3,6 +3,7 @@ use Rattle.std.proofs.Common.{◌≡◌, ◌≢◌, ℕ, zero, suc, List, [], �
 use Rattle.std.specs.Prelude.{slice_get, slice_index, drop}
 use Rattle.std.specs.List.{fold, list_all, AllByRecursion}
 use Rattle.std.specs.Str.{bytes_eq}
+use Rattle.std.proofs.lemmas.Bool.{and_parts}
 use Rattle.std.proofs.lemmas.Bool.Decides.{nat_tests}
 use Rattle.std.proofs.lemmas.Slice.Eq.{bytes_eq-Decides}
 use Rattle.krl.specs.Sets.{is_last_reached}
@@ -20,15 +21,11 @@ not_reached n since e = grind (arith, nat_tests)
 reached : (n since : ℕ) → ltb n since ≡ false → leb since n ≡ true
 reached n since e = grind (arith, nat_tests)
 
-both : (a b : Bool) → (a && b) ≡ true → (a ≡ true) × (b ≡ true)
-both true b e = (refl, e)
-both false b e = absurd cc
-
 -- CAs that came later sign nothing
 later_sign_nothing : (n : ℕ) (key : List ℕ) (cas : List Ca) → are_later n cas ≡ true → fold (key_at n) key cas ≡ key
 later_sign_nothing n key [] e = refl
 later_sign_nothing n key (ca ∷ cas) e =
-    let parts = both (ltb n ca.since) (are_later n cas) e in
+    let parts = and_parts (ltb n ca.since) (are_later n cas) e in
     rw (not_reached n ca.since parts.0) (later_sign_nothing n key cas parts.1)
 
 key_not : (x key : List ℕ) (ca : Ca) (n : ℕ) → key ≢ x → ca.key ≢ x → key_at n key ca ≢ x
