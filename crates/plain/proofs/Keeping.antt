@@ -1,5 +1,5 @@
 -- What the lists keep, after each change.
-use Rattle.std.proofs.Common.{◌≡◌, ℕ, zero, suc, ◌+◌, ◌-◌, ◌≤◌, ◌<◌, List, [], ◌∷◌, ◌++◌, length, true, false, cond, None, refl, ap, arith, length-append}
+use Rattle.std.proofs.Common.{◌≡◌, ℕ, zero, suc, ◌+◌, ◌-◌, ◌≤◌, ◌<◌, List, [], ◌∷◌, ◌++◌, length, true, false, cond, None, arith, length-append}
 use Rattle.std.specs.Prelude.{All, IfSome, nat_lt, slice_get, slice_index_or}
 use Rattle.std.specs.FinMap.Entries.{put}
 use Rattle.std.specs.Cmp.Lexicographic.{slice_cmp}
@@ -16,6 +16,7 @@ use Rattle.office.specs.Certificates.{IsCertificate}
 use Rattle.office.specs.Machine.{signed_at, certificate_of}
 use Rattle.plain.specs.Departments.{entries}
 use Rattle.office.specs.Parts.{numbers}
+use Rattle.office.proofs.Growth.{length-signed_at}
 use Rattle.plain.specs.Contents.{Contents, AreKept, state_of}
 use Rattle.plain.proofs.Places.{all_after_put}
 
@@ -64,11 +65,6 @@ with_certificate t c k lawful room =
       served = rw longer (λ i d there. later (slice_index_or (numbers t.cas) i d) (t.opening.first + length t.certificates) (t.opening.first + (length t.certificates + 1)) (omega arith) (k.served i d there));
     }
 
-signed_length : (cs : List Certificate) (place : ℕ) (s : Signature) → length (signed_at cs place s) ≡ length cs
-signed_length [] place s = refl
-signed_length (c ∷ cs) zero s = refl
-signed_length (c ∷ cs) (suc place) s = ap suc (signed_length cs place s)
-
 signed_lawful : (cs : List Certificate) (place i : ℕ) (s : Signature) → All IsCertificate cs → (d : Certificate) → i < length (signed_at cs place s) → IsCertificate (slice_index_or (signed_at cs place s) i d)
 signed_lawful [] place i s all d there = absurd (omega (arith, there))
 signed_lawful (c ∷ cs) zero zero s all d there = let old = All-head IsCertificate c cs all in record { department = old.department; fields = old.fields; body = old.body }
@@ -78,7 +74,7 @@ signed_lawful (c ∷ cs) (suc place) (suc i) s all d there = signed_lawful cs pl
 
 pub with_signature : (t : Contents) (place : ℕ) (s : Signature) → AreKept t → AreKept (record t { certificates = signed_at t.certificates place s })
 with_signature t place s k =
-    let same = signed_length t.certificates place s in
+    let same = length-signed_at t.certificates place s in
     record {
       opening = k.opening;
       serials = rw same k.serials;

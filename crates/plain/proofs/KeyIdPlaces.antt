@@ -7,10 +7,11 @@ use Rattle.std.specs.declared.cmp.Ordering.TheVariants.{Less, Equal, Greater}
 use Rattle.std.specs.Cmp.Lexicographic.{slice_cmp}
 use Rattle.std.specs.Ordering.{is_gt, nat_cmp}
 use Rattle.std.specs.Str.{bytes_eq}
+use Rattle.std.proofs.lemmas.Cmp.{nat_list_eq_equiv}
 use Rattle.std.proofs.lemmas.List.Sums.{take_while-cons}
 use Rattle.office.specs.Machine.{put_text}
 use Rattle.plain.specs.KeyIds.{comes_after, place_among, is_at}
-use Rattle.plain.proofs.Places.{tie_is, bytes_eq-swap}
+use Rattle.plain.proofs.Places.{tie_is}
 
 place-cons : (u : List ℕ) (us : List (List ℕ)) (t : List ℕ) → place_among (u ∷ us) t ≡ cond (comes_after t u) (suc (place_among us t)) 0
 place-cons u us t =
@@ -30,7 +31,7 @@ put_again t (u ∷ us) is = by_case (slice_cmp nat_cmp t u) (put_again t us) ref
   where
     by_case : (o : Ordering) → (is_at (slice_get us (place_among us t)) t ≡ true → put_text t us ≡ us) → slice_cmp nat_cmp t u ≡ o → put_text t (u ∷ us) ≡ u ∷ us
     by_case Less rest e =
-        let tied : bytes_eq t u ≡ true = bytes_eq-swap u t (rw (zero_where t u us Less e refl) at is) in
+        let tied : bytes_eq t u ≡ true = nat_list_eq_equiv.symm t u ∙ (rw (zero_where t u us Less e refl) at is) in
         let apart : bytes_eq t u ≡ false = tie_is t u Less e in
         absurd cc
     by_case Equal rest e = rw e refl
@@ -45,7 +46,7 @@ put_new t (u ∷ us) is = by_case (slice_cmp nat_cmp t u) (put_new t us) refl
         → insert (u ∷ us) (place_among (u ∷ us) t) t ≡ put_text t (u ∷ us)
     by_case Less rest e = rw (zero_where t u us Less e refl, e) refl
     by_case Equal rest e =
-        let tied : bytes_eq u t ≡ true = bytes_eq-swap t u (tie_is t u Equal e) in
+        let tied : bytes_eq u t ≡ true = nat_list_eq_equiv.symm u t ∙ tie_is t u Equal e in
         let apart : bytes_eq u t ≡ false = rw (zero_where t u us Equal e refl) at is in
         absurd cc
     by_case Greater rest e = rw (later_where t u us e, e) (ap (λ (ks : List (List ℕ)). u ∷ ks) (rest (rw (later_where t u us e) at is)))
