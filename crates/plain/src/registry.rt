@@ -12,7 +12,7 @@ use krl::KrlHead;
 use message::Department;
 use office::{Arrival, Ca, Entry, Issued, Outcome, Pending, Registry, Revoked, Stop, StoreFault};
 use std::alloc::Global;
-use text::{Text, Texts};
+use text::Text;
 
 impl Registry for PlainStore {
     ghost is_honest = { λ _. Unit {0} };

@@ -21,6 +21,7 @@ impl PlainStore {
         ensures is { option_copied result ≡ certificate_concerned (state_of self.now) message.now }
         ensures lawful { IfSome (option_copied result) IsCertificate }
     {
+        // What holds of the store is known to the proof only where a field of it is read.
         let _ = &self.opening;
         match concerned(message).serial {
             Some(serial) => self.issued(serial),
