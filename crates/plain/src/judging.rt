@@ -18,60 +18,60 @@ use text::Text;
 /// The last version of the published list.
 const LAST_VERSION: u64 = 9223372036854775806;
 
-fn is_for(a: &Arrival, k: &Kept) -> bool
-    ensures { result ≡ has_key a.now k.now }
+fn is_for(arrival: &Arrival, kept: &Kept) -> bool
+    ensures { result ≡ has_key arrival.now kept.now }
 {
-    k.caller.is(a.caller.as_slice()) && k.key.is(a.key.as_slice())
+    kept.caller.is(arrival.caller.as_slice()) && kept.key.is(arrival.key.as_slice())
 }
 
-fn is_again(a: &Arrival, k: &Kept) -> bool
-    ensures { result ≡ is_repeat a.now k.now }
+fn is_again(arrival: &Arrival, kept: &Kept) -> bool
+    ensures { result ≡ is_repeat arrival.now kept.now }
 {
-    is_for(a, k) && k.bytes.is(a.bytes.as_slice())
+    is_for(arrival, kept) && kept.bytes.is(arrival.bytes.as_slice())
 }
 
 /// The reply that the same message got.
-pub(crate) fn kept_reply<'a>(kept: &'a [Kept], a: &Arrival) -> Option<&'a Text>
-    ensures { option_copied result ≡ reply_kept kept.now a.now }
+pub(crate) fn kept_reply<'a>(kept: &'a [Kept], arrival: &Arrival) -> Option<&'a Text>
+    ensures { option_copied result ≡ reply_kept kept.now arrival.now }
 {
-    match kept.iter().find(|k| is_again(a, k)) {
-        Some(k) => Some(&k.reply),
+    match kept.iter().find(|row| is_again(arrival, row)) {
+        Some(row) => Some(&row.reply),
         None => None,
     }
 }
 
-fn is_known(kept: &[Kept], a: &Arrival) -> bool
-    ensures { result ≡ list_any (has_key a.now) kept.now }
+fn is_known(kept: &[Kept], arrival: &Arrival) -> bool
+    ensures { result ≡ list_any (has_key arrival.now) kept.now }
 {
-    kept.iter().any(|k| is_for(a, k))
+    kept.iter().any(|row| is_for(arrival, row))
 }
 
 impl PlainStore {
     /// What an arrival that is no repeat gives.
-    pub(crate) fn judge(&self, alloc: Global, a: &Arrival) -> Result<Decision, Stop>
-        ensures judges { Judges result self.now a.now }
+    pub(crate) fn judge(&self, alloc: Global, arrival: &Arrival) -> Result<Decision, Stop>
+        ensures judges { Judges result self.now arrival.now }
         ensures room { IfOk result (λ d. HasRoom d.change (state_of self.now)) }
         ensures change { IfOk result (λ d. IsLawfulChange d.change) }
         ensures version { OnOk result (self.now.version < LAST_VERSION) }
     {
-        let message = match read_message(alloc, a.bytes.as_slice()) {
+        let message = match read_message(alloc, arrival.bytes.as_slice()) {
             Ok(message) => message,
             Err(MessageFault::BadLine(_)) => return Err(Stop::Refused(Refusal::BadMessage)),
             Err(MessageFault::NoMemory) => return Err(Stop::NoMemory),
         };
-        if LATEST_MOMENT < a.moment {
+        if LATEST_MOMENT < arrival.moment {
             return Err(Stop::Refused(Refusal::BadMoment));
         }
-        if is_known(self.kept.as_slice(), a) {
+        if is_known(self.kept.as_slice(), arrival) {
             return Err(Stop::Refused(Refusal::KeyReused));
         }
-        self.decided(alloc, a, &message)
+        self.decided(alloc, arrival, &message)
     }
 
     /// What a message gives.
-    fn decided(&self, alloc: Global, a: &Arrival, message: &Message) -> Result<Decision, Stop>
+    fn decided(&self, alloc: Global, arrival: &Arrival, message: &Message) -> Result<Decision, Stop>
         requires { IsTrue (is_message message.now) }
-        ensures decided { Decided result (state_of self.now) a.now.caller message.now a.now.moment a.now.nonce }
+        ensures decided { Decided result (state_of self.now) arrival.now.caller message.now arrival.now.moment arrival.now.nonce }
         ensures room { IfOk result (λ d. HasRoom d.change (state_of self.now)) }
         ensures change { IfOk result (λ d. IsLawfulChange d.change) }
         ensures version { OnOk result (self.now.version < LAST_VERSION) }
@@ -84,10 +84,10 @@ impl PlainStore {
         decide(
             alloc,
             &view,
-            a.caller.as_slice(),
+            arrival.caller.as_slice(),
             message,
-            a.moment,
-            &a.nonce,
+            arrival.moment,
+            &arrival.nonce,
         )
     }
 }

@@ -8,21 +8,21 @@ use Rattle.plain.specs.Contents.{Contents}
 use Rattle.plain.proofs.Verdicts.{read_is, bad_moment, judges_by_decide}
 use Rattle.plain.proofs.store.PlainStore.judge.Goals as goal
 
-pub returns-then-a-gt-LATEST_MOMENT-clause-judges : goal.returns-then-a-gt-LATEST_MOMENT-clause-judges
-returns-then-a-gt-LATEST_MOMENT-clause-judges c =
+pub returns-then-arrival-gt-LATEST_MOMENT-clause-judges : goal.returns-then-arrival-gt-LATEST_MOMENT-clause-judges
+returns-then-arrival-gt-LATEST_MOMENT-clause-judges c =
     let m = c.in-Ok.message in
-    let is : message_with_text c.args.a.now.bytes ≡ Some m =
+    let is : message_with_text c.args.arrival.now.bytes ≡ Some m =
     subst (λ (b : List ℕ). message_with_text b ≡ Some m) c.as_slice.ensures (read_is c.as_slice.result.now m c.in-Ok.ensures.exact c.in-Ok.ensures.found.0 c.in-Ok.ensures.found.1) in
-    bad_moment c.args.self.now c.args.a.now m is (lt-ltb _ _ c.if-a-gt-LATEST_MOMENT.true)
+    bad_moment c.args.self.now c.args.arrival.now m is (lt-ltb _ _ c.if-arrival-gt-LATEST_MOMENT.true)
 
 pub returns-clause-judges : goal.returns-clause-judges
 returns-clause-judges c =
     let m = c.in-Ok.message in
     let t = c.args.self.now in
-    let a = c.args.a.now in
-    let is : message_with_text a.bytes ≡ Some m =
+    let arrival = c.args.arrival.now in
+    let is : message_with_text arrival.bytes ≡ Some m =
     subst (λ (b : List ℕ). message_with_text b ≡ Some m) c.as_slice.ensures (read_is c.as_slice.result.now m c.in-Ok.ensures.exact c.in-Ok.ensures.found.0 c.in-Ok.ensures.found.1) in
     let kept : c.as_slice-2.result.now ≡ t.kept = c.as_slice-2.ensures.value ∙ ap (λ (x : Contents). x.kept) c.self.view_is in
-    let new : list_any (has_key a) t.kept ≡ false =
-    ap (λ (ks : List Kept). list_any (has_key a) ks) (sym kept) ∙ sym c.is_known.ensures ∙ c.if-is_known.false in
-    judges_by_decide c.decided.result t a m is (le-ltb _ _ c.if-a-gt-LATEST_MOMENT.false) new c.decided.ensures.decided
+    let new : list_any (has_key arrival) t.kept ≡ false =
+    ap (λ (ks : List Kept). list_any (has_key arrival) ks) (sym kept) ∙ sym c.is_known.ensures ∙ c.if-is_known.false in
+    judges_by_decide c.decided.result t arrival m is (le-ltb _ _ c.if-arrival-gt-LATEST_MOMENT.false) new c.decided.ensures.decided
