@@ -9,7 +9,7 @@ use Rattle.std.specs.Ordering.{is_eq, nat_cmp}
 use Rattle.std.specs.Str.{bytes_eq}
 use Rattle.std.proofs.lemmas.Bool.{and_parts}
 use Rattle.std.proofs.lemmas.Bool.Decides.{nat_tests}
-use Rattle.std.proofs.lemmas.Cmp.{nat_list_cmp_total}
+use Rattle.std.proofs.lemmas.Cmp.{nat_list_cmp_total, nat_list_eq_equiv}
 use Rattle.std.proofs.lemmas.Map.Text.{is_eq-slice_cmp}
 use Rattle.std.proofs.lemmas.Slice.Eq.{bytes_eq-Decides}
 use Rattle.std.proofs.lemmas.List.Sorted.{IsPermutation-refl}
@@ -33,18 +33,8 @@ lacks name e = not (has_name name e)
 pub tied : (xs ys : List ℕ) (o : Ordering) → slice_cmp nat_cmp xs ys ≡ o → bytes_eq xs ys ≡ is_eq o
 tied xs ys o e = sym (is_eq-slice_cmp xs ys) ∙ ap is_eq e
 
-pub swapped : (xs ys : List ℕ) → bytes_eq xs ys ≡ true → bytes_eq ys xs ≡ true
-swapped xs ys e = (bytes_eq-Decides ys xs).1 (sym ((bytes_eq-Decides xs ys).0 e))
-
-pub apart : (xs ys : List ℕ) → bytes_eq xs ys ≡ false → bytes_eq ys xs ≡ false
-apart xs ys e = go (bytes_eq ys xs) refl
-  where
-    go : (b : Bool) → bytes_eq ys xs ≡ b → bytes_eq ys xs ≡ false
-    go false is = is
-    go true is = let same : bytes_eq xs ys ≡ true = swapped ys xs is in absurd cc
-
 lacks_one : (name other : List ℕ) → bytes_eq name other ≡ false → not (bytes_eq other name) ≡ true
-lacks_one name other e = ap not (apart name other e)
+lacks_one name other e = ap not (nat_list_eq_equiv.symm other name ∙ e)
 
 -- what is above a name has another
 all_lack : (name : List ℕ) (es : List (List ℕ × Department)) → AllByRecursion (λ e. slice_cmp nat_cmp name e.1.name ≡ Less) es
@@ -84,7 +74,8 @@ put_named d (e ∷ es) all up = by_case (put_named d es all.1 up.1) (slice_cmp n
         let others : filter (lacks d.name) (entries_rows es) ≡ entries_rows es =
         filter_all (lacks d.name) (entries_rows es)
         (all_lack d.name es (subst (λ (n : List ℕ). AllByRecursion (λ f. slice_cmp nat_cmp n f.1.name ≡ Less) es) (sym name) up.0)) in
-        rw (is, swapped d.name e.1.name same, others) (IsPermutation-refl _)
+        let there : bytes_eq e.1.name d.name ≡ true = nat_list_eq_equiv.symm e.1.name d.name ∙ same in
+        rw (is, there, others) (IsPermutation-refl _)
     by_case rest Greater is =
         let other : bytes_eq d.name e.1.name ≡ false =
         ap (bytes_eq d.name) (sym all.0.1) ∙ tied d.name e.0 Greater is in

@@ -7,7 +7,6 @@ use Rattle.tables.specs.Contents.{Contents, Means}
 use Rattle.tables.specs.declared.fault.Fault.{Fault}
 use Rattle.rows.specs.Transactions.{Goes, Has, Makes, Waits}
 use Rattle.rows.proofs.Same.{IsSame, means_same}
-use Rattle.tables.specs.Calls.{Never}
 use Rattle.rows.proofs.Steps.{Leads, goes_still, goes_then, stops_then}
 
 goes_same : (a b : State) (c d : Contents) → IsSame c d → Goes a b c → Goes a b d
@@ -61,6 +60,3 @@ found_then f g a b c (Err e) finds rest = λ d means.
 -- a query leads to what follows
 pub found_leads : (a b : State) → ((d : Contents) → Means a.now d → IsUnchanged a b) → Leads Has Has (λ d. d) a b
 found_leads a b finds d means = let p = goes_still a b d (finds d means) means in (d, p, p.means)
-
-pub found_waits : (a b : State) → Survives a b (Never a) → Survives a b (Waits Has a)
-found_waits a b one = survives_weaker a b (Never a) (Waits Has a) (λ clean trees h d means. absurd (h d means)) one

@@ -10,6 +10,7 @@ use Rattle.office.specs.declared.ca.Ca.{Ca}
 use Rattle.office.specs.declared.certificate.Certificate.{Certificate}
 use Rattle.office.specs.State.{State, certificate_of}
 use Rattle.office.specs.Machine.{signed_at}
+pub use Rattle.office.proofs.Growth.{length-signed_at as signed_length}
 use Rattle.tables.specs.declared.certs.CertRow.{CertRow}
 use Rattle.tables.specs.declared.cas.CaRow.{CaRow}
 use Rattle.tables.specs.Changes.{has_serial, signed}
@@ -46,12 +47,6 @@ signed_rows n serial zero (c ∷ cs) signature counted is =
 signed_rows n serial (suc place) (c ∷ cs) signature counted is =
     let other : eqb c.fields.serial serial ≡ false = ne_eqb c.fields.serial serial (λ e. omega (arith, counted.0, e)) in
     rw other (ap (λ (rows : List CertRow). cert_row c ∷ rows) (signed_rows (suc n) serial place cs signature counted.1 (omega arith)))
-
--- no certificate comes
-pub signed_length : (cs : List Certificate) (place : ℕ) (signature : Signature) → length (signed_at cs place signature) ≡ length cs
-signed_length [] place signature = refl
-signed_length (c ∷ cs) zero signature = refl
-signed_length (c ∷ cs) (suc place) signature = ap suc (signed_length cs place signature)
 
 -- a serial with a certificate is not below the first
 pub not_below : (s : State) (serial : ℕ) → IsSome (certificate_of s serial) → s.opening.first ≤ serial

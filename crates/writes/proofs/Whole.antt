@@ -29,11 +29,12 @@ use Rattle.rows.specs.Rows.{ca_row, ca_rows, cert_row, contents_of, request_row,
 use Rattle.rows.proofs.Same.{IsSame}
 use Rattle.writes.specs.Changing.{ca_from, with_change, with_key_id}
 use Rattle.writes.specs.Due.{IsDue, contents_after, counters_of, kept_of}
+use Rattle.office.proofs.Growth.{length-signed_at}
 use Rattle.writes.proofs.Joined.{rows_joined, runs_still}
 use Rattle.writes.proofs.Named.{put_named}
 use Rattle.writes.proofs.Once.{absent, present}
 use Rattle.writes.proofs.Parts.{Holds}
-use Rattle.writes.proofs.Serials.{ca_added, not_below, signed_length, signed_rows, to_front}
+use Rattle.writes.proofs.Serials.{ca_added, not_below, signed_rows, to_front}
 
 -- ---- the tables of changes
 
@@ -104,7 +105,7 @@ change_made number since os rs (change.Signature serial signature) s kept lawful
       certs = IsPermutation-same _ _
           (signed_rows s.opening.first serial (serial - s.opening.first) s.certificates signature lawful.serials place);
       runs = IsPermutation-same _ _ (ap (λ (k : ℕ). map run_row (runs_in s.revoked s.opening.first k))
-          (sym (signed_length s.certificates (serial - s.opening.first) signature)));
+          (sym (length-signed_at s.certificates (serial - s.opening.first) signature)));
       revoked = IsPermutation-refl _;
       cas = IsPermutation-refl _;
     }
