@@ -99,6 +99,40 @@ fn are_all_read() -> bool {
         && check(&list, &CA, 6, b"") == Ok(true)
 }
 
+/// `ONE_RANGE` with the ends of its range exchanged.
+fn answer_with_ends_exchanged(serial: u64) -> Result<bool, KrlFault> {
+    let mut list = *ONE_RANGE;
+    list[120] = 7;
+    list[128] = 5;
+    check(&list, &CA, serial, b"")
+}
+
+#[test]
+fn a_range_that_ends_before_it_begins_revokes_nothing(rt: HostRuntime) {
+    for (serial, _) in SERIALS {
+        assert_eq!(rt; answer_with_ends_exchanged(serial), Ok(false));
+    }
+}
+
+/// What follows the string of the CA's blob in a section: an empty reserved string, and a list of no serials.
+const NO_SERIALS: &[u8; 9] = b"\0\0\0\0\x20\0\0\0\0";
+
+/// `ONE_RANGE` with a list of no serials in place of its range.
+fn answer_without_serials(serial: u64) -> Result<bool, KrlFault> {
+    let mut list = [0; 113];
+    list[..104].copy_from_slice(&ONE_RANGE[..104]);
+    list[48] = 0x40;
+    list[104..].copy_from_slice(NO_SERIALS);
+    check(&list, &CA, serial, b"")
+}
+
+#[test]
+fn a_list_of_no_serials_revokes_nothing(rt: HostRuntime) {
+    for serial in [0, 1, 5, 6, 7, u64::MAX] {
+        assert_eq!(rt; answer_without_serials(serial), Ok(false));
+    }
+}
+
 #[test]
 fn every_section_is_read(rt: HostRuntime) {
     assert!(rt; are_all_read());
