@@ -132,7 +132,8 @@ fn section_len(part: &CaPart, ids: &[Text]) -> Option<u64>
 }
 
 /// The length in bytes of the list that is written for these CAs and key ids, whatever its version and date. `None`
-/// exactly where a section's data would have more than 4294967295 bytes. It takes no memory.
+/// exactly where a section's data would have more than 4294967295 bytes. At most 8 parts are taken. It takes no
+/// memory.
 pub fn krl_len(parts: &[CaPart], ids: &Texts) -> Option<u64>
     requires { length parts.now ≤ 8 }
     ensures { SomeIff result (IsTrue (fits parts.now ids.now)) (published_length parts.now ids.now) }

@@ -53,8 +53,7 @@ impl Runs {
         ensures kept { result.now ≡ self.now }
         ensures lawful { AreRuns result.now }
     {
-        let all = self.runs.as_slice();
-        all
+        self.runs.as_slice()
     }
 
     /// The length in bytes of the parts that a list writes for these serials, with types and lengths. `None` exactly
@@ -65,7 +64,7 @@ impl Runs {
         serials_len(self.runs.as_slice())
     }
 
-    /// Whether each serial from `lo` to `hi` is in the set.
+    /// Whether each serial from `lo` to `hi`, both included, is in the set. `lo` is at most `hi`.
     pub fn has_all(&self, lo: u64, hi: u64) -> bool
         requires { lo ≤ hi }
         ensures { IsTrue result ↔ HasAll (contains self.now) lo hi }
@@ -73,8 +72,12 @@ impl Runs {
         covers(self.runs.as_slice(), lo, hi)
     }
 
-    /// Adds the serials from `lo` to `hi`, both included. Answers whether the set changed. A refusal leaves it as it
-    /// was.
+    /// Adds the serials from `lo` to `hi`, both included, where 1 ≤ `lo` ≤ `hi` ≤ 9223372036854775806. Answers whether
+    /// the set changed.
+    ///
+    /// # Errors
+    ///
+    /// `NoMemory`, where a growth was refused. The set is as it was.
     pub fn add_range(&mut self, alloc: Global, lo: u64, hi: u64) -> Result<bool, NoMemory>
         requires low { 1 ≤ lo }
         requires order { lo ≤ hi }
