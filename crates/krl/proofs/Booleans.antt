@@ -26,10 +26,6 @@ pub or_true : (b : Bool) → (b || true) ≡ true
 or_true true = refl
 or_true false = refl
 
-pub or_left : (a b : Bool) → a ≡ true → (a || b) ≡ true
-or_left true b e = refl
-or_left false b e = absurd cc
-
 -- one of two holds, the first where both do
 pub or_cases : (a b : Bool) → (a || b) ≡ true → (a ≡ true) ⊎ ((a ≡ false) × (b ≡ true))
 or_cases true b e = inl refl
@@ -48,10 +44,3 @@ or_group false b c = refl
 pub clash : {P : Type 0} (b : Bool) → b ≡ true → b ≡ false → P
 clash true p q = absurd cc
 clash false p q = absurd cc
-
--- two tests that are true together are one
-pub same_tests : (a b : Bool) → (a ≡ true → b ≡ true) → (b ≡ true → a ≡ true) → a ≡ b
-same_tests true true p q = refl
-same_tests true false p q = absurd (clash false (p refl) refl)
-same_tests false true p q = absurd (clash false (q refl) refl)
-same_tests false false p q = refl

@@ -1,7 +1,8 @@
 -- Bytes with a cut that is supported have no fault, and no bytes have two first faults.
-use Rattle.std.proofs.Common.{◌≡◌, ◌≢◌, ℕ, List, [], ◌∷◌, ◌++◌, Bool, true, false, ◌&&◌, inl, inr, Option, Some, None, refl, sym, subst, ◌∙◌, append_assoc, lit<}
+use Rattle.std.proofs.Common.{◌≡◌, ◌≢◌, ℕ, List, [], ◌∷◌, ◌++◌, true, ◌&&◌, inl, inr, Option, Some, None, refl, sym, subst, ◌∙◌, append_assoc, lit<}
 use Rattle.std.specs.Prelude.{MatchOption}
 use Rattle.std.specs.List.{flat_map, list_all, AllByRecursion}
+use Rattle.std.proofs.lemmas.Bool.{and_parts}
 use Rattle.wire.specs.Texts.{u32_text, u64_text, string_text}
 use Rattle.krl.specs.declared.fault.KrlFault.{KrlFault}
 use Rattle.krl.specs.declared.fault.KrlFault.TheVariants.{Truncated, BadMagic, BadVersion, BadFlags, Unsupported, BadSection}
@@ -88,11 +89,7 @@ read_parts = record {
 
 pub supported_parts : (ps : List Part) → AllByRecursion IsPart ps → list_all is_supported_part ps ≡ true → AllByRecursion IsReadPart ps
 supported_parts [] h e = tt
-supported_parts (p ∷ ps) h e = let both = and_both (is_supported_part p) (list_all is_supported_part ps) e in (record { lawful = h.0; supported = both.0 }, supported_parts ps h.1 both.1)
-  where
-    and_both : (a b : Bool) → (a && b) ≡ true → (a ≡ true) × (b ≡ true)
-    and_both true b e = (refl, e)
-    and_both false b e = absurd cc
+supported_parts (p ∷ ps) h e = let both = and_parts (is_supported_part p) (list_all is_supported_part ps) e in (record { lawful = h.0; supported = both.0 }, supported_parts ps h.1 both.1)
 
 no_text : (ps : List Part) → ps ≢ [] → flat_map part_text ps ≢ []
 no_text [] some e = some refl
@@ -149,11 +146,7 @@ read_sections = record {
 
 pub supported_sections : (ss : List Section) → AllByRecursion IsSection ss → list_all is_supported_section ss ≡ true → AllByRecursion IsReadSection ss
 supported_sections [] h e = tt
-supported_sections (s ∷ ss) h e = let both = and_both (is_supported_section s) (list_all is_supported_section ss) e in (record { lawful = h.0; supported = both.0 }, supported_sections ss h.1 both.1)
-  where
-    and_both : (a b : Bool) → (a && b) ≡ true → (a ≡ true) × (b ≡ true)
-    and_both true b e = (refl, e)
-    and_both false b e = absurd cc
+supported_sections (s ∷ ss) h e = let both = and_parts (is_supported_section s) (list_all is_supported_section ss) e in (record { lawful = h.0; supported = both.0 }, supported_sections ss h.1 both.1)
 
 -- ---- the header
 

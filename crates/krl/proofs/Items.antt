@@ -1,17 +1,12 @@
 -- Items that are read one after the other.
 use Rattle.std.proofs.Common.{◌≡◌, ◌≢◌, ℕ, List, [], ◌∷◌, ◌++◌, Bool, true, false, ◌||◌, refl, sym, ap, ◌∙◌, append_assoc}
 use Rattle.std.specs.List.{list_any, flat_map, AllByRecursion}
-use Rattle.std.proofs.lemmas.List.{append-nil}
-use Rattle.krl.specs.Reading.{AreItems}
 use Rattle.krl.proofs.Booleans.{or_group}
 use Rattle.krl.proofs.Texts.{IsUnique, HasBytes}
 
 -- the bytes up to the rest are the joined texts of items, and the answer says whether one of them passes the test
 abbrev pub SoFar : {X : Type 0} → (X → List ℕ) → (X → Type 0) → (X → Bool) → List ℕ → List ℕ → Bool → Type 0
 SoFar {X} text Is test bytes rest b = (items : List X) × AllByRecursion Is items × (bytes ≡ flat_map text items ++ rest) × (b ≡ list_any test items)
-
-pub so_far_none : {X : Type 0} (text : X → List ℕ) (Is : X → Type 0) (test : X → Bool) (bytes : List ℕ) → SoFar text Is test bytes bytes false
-so_far_none text Is test bytes = ([], tt, refl, refl)
 
 all_more : {X : Type 0} (Is : X → Type 0) (xs : List X) (x : X) → AllByRecursion Is xs → Is x → AllByRecursion Is (xs ++ x ∷ [])
 all_more Is [] x h p = (p, tt)
@@ -33,10 +28,6 @@ any_more test (y ∷ xs) x = ap (λ b. test y || b) (any_more test xs x) ∙ sym
 pub so_far_more : {X : Type 0} (text : X → List ℕ) (Is : X → Type 0) (test : X → Bool) (bytes rest new : List ℕ) (b : Bool) (x : X) → SoFar text Is test bytes rest b → Is x → rest ≡ text x ++ new → SoFar text Is test bytes new (b || test x)
 so_far_more text Is test bytes rest new b x so is e =
     (so.0 ++ x ∷ [], all_more Is so.0 x so.1 is, so.2 ∙ ap (λ r. flat_map text so.0 ++ r) e ∙ sym (text_more text so.0 x new), ap (λ c. c || test x) so.3 ∙ sym (any_more test so.0 x))
-
--- where nothing is left, these are all
-pub so_far_all : {X : Type 0} (text : X → List ℕ) (Is : X → Type 0) (test : X → Bool) (bytes rest : List ℕ) (b : Bool) → SoFar text Is test bytes rest b → rest ≡ [] → AreItems text Is test bytes b
-so_far_all text Is test bytes rest b so e = (so.0, so.1, so.2 ∙ ap (λ r. flat_map text so.0 ++ r) e ∙ append-nil (flat_map text so.0), so.3)
 
 -- bytes that stop within an item are no items
 pub no_more : {X : Type 0} (text : X → List ℕ) (Is : X → Type 0) → IsUnique text Is → HasBytes text

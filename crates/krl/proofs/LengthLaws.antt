@@ -12,7 +12,7 @@ use Rattle.krl.specs.Format.{Serials, Range, KeyIds, part_text, section_data, se
 use Rattle.krl.specs.Published.{is_short, serials_of, listed, ranges, serial_list, serial_parts, serial_length, key_id_parts, is_idle, ca_section, published_sections}
 use Rattle.krl.specs.Lengths.{listed_text, listed_length, range_text, range_length, key_id_length, tagged_length, section_length}
 
-u64s_length : (ns : List ℕ) → length (flat_map u64_text ns) ≡ 8 * length ns
+pub u64s_length : (ns : List ℕ) → length (flat_map u64_text ns) ≡ 8 * length ns
 u64s_length [] = refl
 u64s_length (n ∷ ns) = let more = u64s_length ns in omega (arith, length-append (u64_text n) (flat_map u64_text ns))
 

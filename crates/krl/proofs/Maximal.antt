@@ -1,11 +1,11 @@
 -- The runs of a set are its intervals that can't be made longer.
 use Rattle.std.proofs.Common.{◌≡◌, ℕ, ◌+◌, ◌-◌, ◌<◌, ◌≤◌, List, [], ◌∷◌, Bool, true, false, ◌&&◌, ◌||◌, leb, refl, sym, ap, subst, ◌∙◌, arith, inl, inr}
 use Rattle.std.specs.List.{list_any}
-use Rattle.std.proofs.lemmas.Bool.{cases_lt}
+use Rattle.std.proofs.lemmas.Bool.{cases_lt, or_left}
 use Rattle.std.proofs.lemmas.Bool.Decides.{nat_tests}
 use Rattle.krl.specs.declared.run.Run.{Run}
 use Rattle.krl.specs.Sets.{is_within, contains, AreRunsFrom, IsRunOf, IsOneOf, HasAll}
-use Rattle.krl.proofs.Booleans.{is_in, is_under, is_over, ends, or_true, or_left, or_cases, clash}
+use Rattle.krl.proofs.Booleans.{is_in, is_under, is_over, ends, or_true, or_cases, clash}
 
 -- what stands before the runs is not in them
 pub none_below : (from n : ℕ) (rs : List Run) → AreRunsFrom from rs → n < from → contains rs n ≡ false

@@ -1,18 +1,16 @@
 -- Parts that are read.
-use Rattle.std.proofs.Common.{◌≡◌, ◌≢◌, ℕ, ◌<◌, ◌^◌, List, [], ◌++◌, Bool, false, Option, Some, None, Result, Ok, Err, inr, eqb, length, refl, sym, ap, subst, ◌∙◌, arith, length-append}
+use Rattle.std.proofs.Common.{◌≡◌, ◌≢◌, ℕ, ◌<◌, ◌^◌, List, [], ◌++◌, Bool, Option, Some, None, refl, sym, ap, subst, ◌∙◌, arith}
 use Rattle.std.specs.Prelude.{IfSome, IfNone, IfOk, IfErr, ◌==◌}
 use Rattle.std.specs.Option.{ok_or}
 use Rattle.std.specs.List.{flat_map, AllByRecursion}
 use Rattle.std.specs.Str.{bytes_eq}
-use Rattle.std.proofs.lemmas.Bool.Decides.{nat_tests}
 use Rattle.wire.specs.Texts.{string_text, u64_text}
 use Rattle.krl.specs.declared.run.Run.{Run}
-use Rattle.krl.specs.declared.fault.KrlFault.{KrlFault}
-use Rattle.krl.specs.declared.fault.KrlFault.TheVariants.{Unsupported, BadSection}
+use Rattle.krl.specs.declared.fault.KrlFault.TheVariants.{BadSection}
 use Rattle.krl.specs.Sets.{is_within}
-use Rattle.krl.specs.Format.{Serials, Range, KeyIds, OtherPart, tagged_text, IsString}
-use Rattle.krl.specs.Faults.{IsU64, NoPart, PartFault}
-use Rattle.krl.specs.Reading.{AreItems, ReadsPartData, RefusesPartData, ReadsPart}
+use Rattle.krl.specs.Format.{Serials, Range, KeyIds, OtherPart, IsString}
+use Rattle.krl.specs.Faults.{IsU64, NoPart}
+use Rattle.krl.specs.Reading.{AreItems, ReadsPartData, RefusesPartData}
 
 no_serials : (bytes : List ℕ) → ((ns : List ℕ) → AllByRecursion IsU64 ns → bytes ≢ flat_map u64_text ns) → NoPart (0x20, bytes)
 no_serials bytes none (Serials ns) h t e = none ns h.0 (sym e)
@@ -50,25 +48,3 @@ pub key_ids_read : (bytes : List ℕ) (serial : ℕ) (key_id : List ℕ) → IsS
 key_ids_read bytes serial key_id fits (Some b) some found none =
     ((KeyIds found.0, record { lawful = ((λ none. some (found.2 ∙ ap (flat_map string_text) none), found.1), subst IsString found.2 fits); supported = refl }, refl, sym found.2, found.3), tt)
 key_ids_read bytes serial key_id fits None some found none = (tt, (no_key_ids bytes none, refl))
-
-eqb-apart : (a b : ℕ) → a ≢ b → eqb a b ≡ false
-eqb-apart a b apart = grind (arith, nat_tests)
-
--- a type that is none of the three
-pub other_type : (kind : ℕ) (bytes : List ℕ) → kind ≢ 0x20 → kind ≢ 0x21 → kind ≢ 0x23 → RefusesPartData kind bytes (Unsupported kind)
-other_type kind bytes a b c = rw (eqb-apart kind 0x20 a, eqb-apart kind 0x21 b, eqb-apart kind 0x23 c) refl
-
--- what the part's reader answers
-pub part_read : (old new : List ℕ) (kind : ℕ) (bytes : List ℕ) (serial : ℕ) (key_id : List ℕ) (r : Result Bool KrlFault) → IsString bytes → old ≡ tagged_text kind bytes ++ new
-    → IfOk r (ReadsPartData kind bytes serial key_id) → IfOk r (ReadsPart old new serial key_id)
-part_read old new kind bytes serial key_id (Ok b) fits e p = (p.0, p.1, e ∙ (λ i. tagged_text (sym p.2 i) (sym p.3 i) ++ new), p.4)
-part_read old new kind bytes serial key_id (Err f) fits e p = tt
-
-pub part_refused : (old new : List ℕ) (kind : ℕ) (bytes : List ℕ) (r : Result Bool KrlFault) → IsString bytes → old ≡ tagged_text kind bytes ++ new
-    → IfErr r (RefusesPartData kind bytes) → IfErr r (PartFault old)
-part_refused old new kind bytes (Ok b) fits e p = tt
-part_refused old new kind bytes (Err f) fits e p = inr ((kind, bytes), new, fits, e, p)
-
--- what is behind a text is shorter
-pub tagged_shorter : (kind : ℕ) (bytes new old : List ℕ) → old ≡ tagged_text kind bytes ++ new → length new < length old
-tagged_shorter kind bytes new old e = let same = ap length e in let both = length-append bytes new in omega arith

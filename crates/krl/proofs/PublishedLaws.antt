@@ -1,17 +1,12 @@
 -- What is said of a list that was written.
-use Rattle.std.proofs.Common.{◌≡◌, ℕ, ◌<◌, ◌^◌, List, length, All, true, length-append}
-use Rattle.std.specs.List.{flat_map}
+use Rattle.std.proofs.Common.{◌≡◌, ℕ, ◌<◌, ◌^◌, List, All, true}
 use Rattle.std.proofs.lemmas.List.Elements.{recursion_from_All, All-weaker}
 use Rattle.krl.specs.declared.ca_part.CaPart.{CaPart}
 use Rattle.krl.specs.declared.krl_head.KrlHead.{KrlHead}
 use Rattle.krl.specs.Sets.{AreRuns}
-use Rattle.krl.specs.Format.{header_text, section_text}
-use Rattle.krl.specs.Published.{AreOnly, AreShortest, RevokesExactly, AreDistinctCas, fits, published_header, published_length, published_list, published_sections, published_text, serial_parts}
+use Rattle.krl.specs.Published.{AreOnly, AreShortest, RevokesExactly, AreDistinctCas, fits, published_list, published_text, serial_parts}
 use Rattle.krl.proofs.Publishing.{only_cut, revokes_exactly}
 use Rattle.krl.proofs.Shortest.{are_shortest}
-
-pub written_length : (head : KrlHead) (cas : List CaPart) (ids : List (List ℕ)) → length (published_text head cas ids) ≡ published_length cas ids
-written_length head cas ids = length-append (header_text (published_header head)) (flat_map section_text (published_sections cas ids))
 
 pub written_cut : (head : KrlHead) (cas : List CaPart) (ids : List (List ℕ)) → head.version < 2 ^ 64 → head.date < 2 ^ 64 → All (λ p. AreRuns p.runs) cas → fits cas ids ≡ true → AreOnly (published_text head cas ids) (published_list head cas ids)
 written_cut head cas ids v d h e = only_cut head cas ids v d (recursion_from_All (λ (p : CaPart). AreRuns p.runs) cas h) e

@@ -2,6 +2,7 @@
 use Rattle.std.proofs.Common.{◌≡◌, ◌≢◌, ℕ, suc, ◌+◌, ◌<◌, ◌≤◌, ◌^◌, List, [], ◌∷◌, ◌++◌, length, Bool, true, false, ◌&&◌, ◌||◌, cond, eqb, leb, inl, inr, refl, sym, ap, subst, ◌∙◌, arith, length-append}
 use Rattle.std.specs.List.{list_any, list_all, flat_map, AllByRecursion}
 use Rattle.std.specs.Str.{bytes_eq}
+use Rattle.std.proofs.lemmas.Bool.{and_parts}
 use Rattle.std.proofs.lemmas.Bool.Decides.{nat_tests}
 use Rattle.std.proofs.lemmas.Slice.Eq.{bytes_eq-Decides}
 use Rattle.wire.specs.Texts.{string_text}
@@ -123,10 +124,6 @@ lawful_section ids p h idle small =
     let inner = length-append (string_text []) (flat_map part_text ps) in
     let blob = length-append (string_text []) (key_blob p.ca) in
     ((omega arith, omega arith, some_parts ids p idle, lawful_parts p.runs ids h (omega arith)), small)
-
-and_parts : (a b : Bool) → (a && b) ≡ true → (a ≡ true) × (b ≡ true)
-and_parts true b e = (refl, e)
-and_parts false b e = absurd cc
 
 fits_part : (ids : List (List ℕ)) (p : CaPart) → is_idle ids p ≡ false → part_fits ids p ≡ true → IsString (section_data (ca_section ids p))
 fits_part ids p idle e = by_le (length (section_data (ca_section ids p))) (rw idle at e)

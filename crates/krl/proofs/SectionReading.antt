@@ -1,8 +1,8 @@
 -- Sections and lists that are read.
-use Rattle.std.proofs.Common.{◌≡◌, ◌≢◌, ℕ, ◌<◌, List, [], ◌∷◌, ◌++◌, length, Bool, true, false, ◌&&◌, eqb, Option, Some, None, Result, Ok, Err, inl, inr, refl, sym, ap, ◌∙◌, arith, length-append}
+use Rattle.std.proofs.Common.{◌≡◌, ◌≢◌, ℕ, ◌<◌, List, [], ◌∷◌, ◌++◌, Bool, true, ◌&&◌, Option, Some, None, Result, Ok, Err, inl, inr, refl, sym, ap, ◌∙◌, arith}
 use Rattle.std.specs.Prelude.{IfOk, IfErr, MatchOption}
 use Rattle.std.specs.List.{list_all, flat_map, AllByRecursion}
-use Rattle.std.proofs.lemmas.Bool.Decides.{nat_tests}
+use Rattle.std.proofs.lemmas.Bool.{ne_eqb}
 use Rattle.wire.specs.Texts.{string_text}
 use Rattle.krl.specs.declared.fault.KrlFault.{KrlFault}
 use Rattle.krl.specs.declared.fault.KrlFault.TheVariants.{Unsupported}
@@ -33,21 +33,14 @@ certificates_read bytes ca reserved mid rest blob serial key_id mine named p q e
       (λ i. is i && items.3 i),
     )
 
-eqb-apart : (a b : ℕ) → a ≢ b → eqb a b ≡ false
-eqb-apart a b apart = grind (arith, nat_tests)
-
 -- a section of another type
 pub other_section : (old new : List ℕ) (kind : ℕ) (bytes : List ℕ) → IsString bytes → old ≡ tagged_text kind bytes ++ new → kind ≢ 1 → SectionFault old (Unsupported kind)
-other_section old new kind bytes fits e apart = inr ((kind, bytes), new, fits, e, rw (eqb-apart kind 1 apart) refl)
+other_section old new kind bytes fits e apart = inr ((kind, bytes), new, fits, e, rw (ne_eqb kind 1 apart) refl)
 
 -- a certificates section whose data is refused
 pub section_refused : (old new : List ℕ) (kind : ℕ) (bytes : List ℕ) (r : Result Bool KrlFault) → IsString bytes → old ≡ tagged_text kind bytes ++ new → kind ≡ 1 → IfErr r (CertificatesFault bytes) → IfErr r (SectionFault old)
 section_refused old new kind bytes (Ok b) fits e one bad = tt
 section_refused old new kind bytes (Err f) fits e one bad = inr ((1, bytes), new, fits, e ∙ ap (λ (t : ℕ). tagged_text t bytes ++ new) one, bad)
-
--- what is behind a section is shorter
-pub section_shorter : (s : Section) (new old : List ℕ) → old ≡ section_text s ++ new → length new < length old
-section_shorter s new old e = let same = ap length e in omega (arith, same, length-append (section_text s) new)
 
 -- ---- fields of the header
 

@@ -5,12 +5,12 @@ use Rattle.std.specs.List.{flat_map}
 use Rattle.std.proofs.lemmas.Bool.{cases_lt, le-ltb, eqb-true}
 use Rattle.std.proofs.lemmas.Bool.Decides.{nat_tests}
 use Rattle.std.proofs.lemmas.List.{nil_from_length}
-use Rattle.wire.specs.Texts.{u64_text}
 use Rattle.krl.specs.declared.run.Run.{Run}
 use Rattle.krl.specs.Sets.{is_within, contains, is_among, AreRunsFrom, AreRuns, IsRunOf, IsOneOf}
 use Rattle.krl.specs.Format.{Part, Serials, Range, KeyIds, OtherPart, part_text}
 use Rattle.krl.specs.Published.{names_serial, named_set, parts_length, is_short, serials_of, listed, ranges, serial_list, serial_parts, AreShortest}
 use Rattle.krl.proofs.Booleans.{ltb-yes, is_in, or_true, or_cases, or_order, or_group, clash}
+use Rattle.krl.proofs.LengthLaws.{u64s_length}
 use Rattle.krl.proofs.Maximal.{run_of, each_is_run, none_below, member_contains}
 
 -- what parts cost at least; parts of key ids and others name no serial
@@ -349,10 +349,6 @@ shortest_cost rs ps h same =
     ]
 
 -- ---- in bytes
-
-u64s_length : (ns : List ℕ) → length (flat_map u64_text ns) ≡ 8 * length ns
-u64s_length [] = refl
-u64s_length (n ∷ ns) = let more = u64s_length ns in omega (arith, length-append (u64_text n) (flat_map u64_text ns))
 
 part_bytes : (p : Part) → part_len p ≤ length (part_text p)
 part_bytes (Serials ns) = let same = u64s_length ns in omega arith

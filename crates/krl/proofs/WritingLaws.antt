@@ -2,7 +2,7 @@
 use Rattle.std.proofs.Common.{◌≡◌, ◌≢◌, ℕ, zero, suc, ◌<◌, List, [], ◌∷◌, ◌++◌, length, get_or, true, false, eqb, Option, Some, None, refl, sym, ap, ◌∙◌, arith, append_assoc}
 use Rattle.std.specs.Option.{SomeIff}
 use Rattle.std.specs.List.{sum_by, flat_map}
-use Rattle.std.proofs.lemmas.Bool.Decides.{nat_tests}
+use Rattle.std.proofs.lemmas.Bool.{ne_eqb}
 use Rattle.std.proofs.lemmas.Grind.{flat_map-append}
 use Rattle.std.proofs.lemmas.List.{append-nil}
 use Rattle.std.proofs.lemmas.Option.{same_Some}
@@ -25,11 +25,8 @@ pub some_value : (o : Option ℕ) (P : Type 0) (v n : ℕ) → SomeIff o P v →
 some_value None P v n h e = absurd cc
 some_value (Some x) P v n h e = sym (same_Some _ _ e) ∙ h.1
 
-eqb-apart : (a b : ℕ) → a ≢ b → eqb a b ≡ false
-eqb-apart a b apart = grind (arith, nat_tests)
-
 pub short_two : (r : Run) → is_short r ≡ true → r.lo ≢ r.hi → u64_text r.lo ++ u64_text r.hi ≡ listed_text r
-short_two r short apart = rw (short, eqb-apart r.lo r.hi apart) refl
+short_two r short apart = rw (short, ne_eqb r.lo r.hi apart) refl
 
 pub long_one : (r : Run) → is_short r ≡ false → (0x21 ∷ u32_text 16) ++ (u64_text r.lo ++ u64_text r.hi) ≡ range_text r
 long_one r long = rw long refl
