@@ -4,20 +4,24 @@
 //!     krl_tool check LIST KEY SERIAL KEYID
 //!     krl_tool time RUNS
 //!     krl_tool add SERIALS STRIDE
+//!     krl_tool gather SERIAL..
 //!
 //! `list` writes the list of a specification to standard output. `check` prints whether a list revokes the certificate of
 //! this serial and key id under the CA of a public key, or why the list is refused. `time` writes a list of so many runs
-//! into memory and reads it again, and `add` adds so many serials to a set; how long that took goes to standard error. Files and the clock are the system's, and
-//! nothing is proved of them.
+//! into memory and reads it again, and `add` adds so many serials to a set; how long that took goes to standard error.
+//! `gather` prints the runs of the serials that it is given. Files and the clock are the system's, and nothing is proved
+//! of them.
 #![tactic(auto)]
 
 mod answer;
+mod gathering;
 mod listing;
 mod specification;
 mod timing;
 
 use answer::Answer;
 use anyhow::{Context, Result, bail};
+use gathering::gather;
 use krl::KrlHead;
 use listing::list_of;
 use specification::{read_key, read_specification};
@@ -61,8 +65,9 @@ fn run<R: Files + Clock + Print + Eprint + AllocGlobal>(rt: &R, words: &[&str]) 
         [_, "check", file, key, serial, key_id] => check(rt, file, key, serial.parse()?, key_id),
         [_, "time", runs] => timing::time(rt, runs.parse()?),
         [_, "add", serials, stride] => timing::add(rt, serials.parse()?, stride.parse()?),
+        [_, "gather", ref serials @ ..] => gather(rt, serials),
         _ => bail!(
-            "list FILE VERSION DATE, check LIST KEY SERIAL KEYID, time RUNS, or add SERIALS STRIDE"
+            "list FILE VERSION DATE, check LIST KEY SERIAL KEYID, time RUNS, add SERIALS STRIDE, or gather SERIAL.."
         ),
     }
 }

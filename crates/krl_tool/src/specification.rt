@@ -3,7 +3,7 @@
 use anyhow::{Result, bail};
 use krl::{CaPart, Run, Runs};
 use lines::read_key_line;
-use std::alloc::{AllocError, Global};
+use std::alloc::Global;
 use text::{Text, Texts};
 
 /// What a list is to revoke.
