@@ -16,7 +16,6 @@ ghost use Rattle.store.specs.Creating.{RefusesFirst, RefusesOpening};
 
 use lines::key_blob_of;
 use office::Opening;
-use profile::LAST_SERIAL;
 use rows::{conclude, number};
 use sqlite::{Alter, Connection};
 use std::alloc::Global;

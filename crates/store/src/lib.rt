@@ -22,9 +22,10 @@ mod tests;
 
 pub use crashes::a_crash_leaves_the_history;
 pub use krl::{CaPart, KrlHead, Run, Runs};
+pub use message::Department;
 pub use office::{
     Arrival, Ca, Entry, Issued, Opening, OpeningFault, Outcome, Pending, Registry, Revoked,
     Standing, StoreFault,
 };
-pub use profile::is_name;
+pub use profile::{Kind, Refusal, is_name};
 pub use register::Store;
