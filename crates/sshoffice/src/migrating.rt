@@ -1,13 +1,16 @@
 //! An office of the schema before, moved to this one.
 
-use crate::database::{close_database, open_database};
+use crate::database::{close_database, close_office, open_database};
 use crate::fault::JobFault;
 use std::io::Write;
+use store::Store;
 
 fn move_tables(rt: &HostRuntime, db: &str) -> Result<(), JobFault> {
-    let mut conn = open_database(rt, db)?;
-    let moved = migration::migrate(rt.alloc(), &mut conn);
-    close_database(conn, moved.map_err(JobFault::from))
+    let conn = open_database(rt, db)?;
+    match Store::migrate(rt.alloc(), conn) {
+        Ok(store) => close_office(store, Ok(())),
+        Err((fault, conn)) => close_database(conn, Err(JobFault::from(fault))),
+    }
 }
 
 /// Moves the office in a database, and prints from which schema to which.

@@ -76,6 +76,13 @@ pub fn write_files(rt: &HostRuntime, files: &[(&str, &[u8])]) -> bool {
     true
 }
 
+// The files of a test are no more.
+pub fn remove_files(rt: &HostRuntime, names: &[&str]) {
+    for name in names {
+        let _ = fs::remove_file(rt, *name);
+    }
+}
+
 // The database of a test, with its log, is no more.
 pub fn remove_database(rt: &HostRuntime, name: &str, log: &str) {
     let _ = fs::remove_file(rt, name);
@@ -116,6 +123,7 @@ fn an_office_is_founded_once(rt: HostRuntime) -> Result<(), Fail> {
     assert!(rt; fails(&rt, "migrate --db ready.db", "sshoffice: WrongSchema\n"));
     assert!(rt; does(&rt, "table --db ready.db", NO_TABLE.as_bytes()));
     remove_database(&rt, "ready.db", "ready.db-wal");
+    remove_files(&rt, ["ready.pub"].as_slice());
     Ok(())
 }
 
@@ -162,6 +170,7 @@ fn a_file_applied_twice_gives_the_same_bytes(rt: HostRuntime) -> Result<(), Fail
         )
     );
     remove_database(&rt, "twice.db", "twice.db-wal");
+    remove_files(&rt, ["twice.pub", "twice.exchange"].as_slice());
     Ok(())
 }
 
@@ -189,6 +198,7 @@ fn a_list_is_asked_about_a_certificate(rt: HostRuntime) -> Result<(), Fail> {
     assert!(rt; does(&rt, "check --ca ask.pub ask.krl 6 web/x", b"revoked\n"));
     assert!(rt; does(&rt, "check --ca ask.pub ask.krl 8 web/x", b"clear\n"));
     assert!(rt; does(&rt, "check --ca ask2.pub ask.krl 6 web/x", b"clear\n"));
+    remove_files(&rt, ["ask.pub", "ask2.pub", "ask.krl"].as_slice());
     Ok(())
 }
 
@@ -211,6 +221,7 @@ fn a_faulty_list_has_its_fault(rt: HostRuntime) -> Result<(), Fail> {
             "{named}"
         );
     }
+    remove_files(&rt, ["faulty.pub", "faulty.krl"].as_slice());
     Ok(())
 }
 
@@ -295,6 +306,7 @@ fn the_first_fault_is_named(rt: HostRuntime) -> Result<(), Fail> {
     assert!(rt; all_fail(&rt, APPLIED_IN_ORDER.as_slice()));
     assert!(rt; all_fail(&rt, READ_IN_ORDER.as_slice()));
     remove_database(&rt, "order.db", "order.db-wal");
+    remove_files(&rt, ["order.pub", "order.bad", "cut.exchange"].as_slice());
     Ok(())
 }
 
@@ -313,6 +325,13 @@ fn a_port_that_is_taken_is_a_fault(rt: HostRuntime) -> Result<(), Fail> {
     )?;
     assert!(rt; fails(&rt, text.as_str(), "sshoffice: Socket\n"));
     remove_database(&rt, "busy.db", "busy.db-wal");
+    remove_files(&rt, ["busy.pub"].as_slice());
+    Ok(())
+}
+
+#[test]
+fn an_empty_file_of_exchanges_prints_nothing(rt: HostRuntime) -> Result<(), Fail> {
+    assert!(rt; does(&rt, "apply /dev/null", b""));
     Ok(())
 }
 

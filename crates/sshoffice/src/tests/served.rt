@@ -1,6 +1,6 @@
 //! Offices that are served as a command, to clients that connect once its line is printed.
 
-use super::commands::{CA, READY, does, remove_database, words_of, write_files};
+use super::commands::{CA, READY, does, remove_database, remove_files, words_of, write_files};
 use super::fields::NOTHING_REVOKED;
 use super::script::response_of;
 use super::*;
@@ -99,6 +99,7 @@ fn forty_nonce_bytes_serve_one_of_two(rt: HostRuntime) -> Result<(), Fail> {
     let list = response_of(alloc, "/v1/krl", OK, NOTHING_REVOKED)?;
     assert!(rt; clients.answers()?.as_slice() == list.as_slice());
     remove_database(&rt, "forty.db", "forty.db-wal");
+    remove_files(&rt, ["forty.pub", "forty.nonces"].as_slice());
     Ok(())
 }
 

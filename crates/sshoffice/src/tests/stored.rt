@@ -9,7 +9,7 @@ use crate::trial::{MemoryOffice, office_in_memory, opening_of, trial_office};
 use office::StoreFault;
 use sqlite::Error;
 use store::Store;
-use web::{Given, run};
+use web::answer;
 
 const TWO: [Row; 2] = [
     ("ana/i1", 1000, 0x33, ISSUE, OK, ISSUED_1),
@@ -34,16 +34,11 @@ fn changed(alloc: Global, office: MemoryOffice, sql: &str) -> Result<MemoryOffic
     }
 }
 
-// Whether the office gives a fault for a message.
-fn is_fault(alloc: Global, office: &mut MemoryOffice, message: &str) -> Result<bool, Fail> {
-    let mut exchanges = Vec::new(alloc);
-    exchanges.push(Exchange {
-        request: Text::from_vec(post(alloc, "root", "n2", message.as_bytes())?),
-        moment: 1600,
-        nonce: [0x33; 32],
-    })?;
-    let given = run(office, alloc, exchanges.as_slice())?;
-    Ok(matches!(given.first(), Some(Given::Fault)))
+// Whether the office finds itself damaged at a message.
+fn is_damaged(alloc: Global, office: &mut MemoryOffice, message: &str) -> Result<bool, Fail> {
+    let request = post(alloc, "root", "n2", message.as_bytes())?;
+    let answered = answer(office, alloc, request.as_slice(), 1600, &[0x33; 32]);
+    Ok(matches!(answered, Err(StoreFault::Damaged)))
 }
 
 #[test]
@@ -53,7 +48,7 @@ fn a_cut_body_is_a_fault_where_it_is_read(rt: HostRuntime) -> Result<(), Fail> {
     run_on(&rt, &mut office, TWO.as_slice())?;
     let cut = "UPDATE cert SET body = x'010203' WHERE serial = 2";
     let mut office = changed(alloc, office, cut)?;
-    assert!(rt; is_fault(alloc, &mut office, RENEW_2)?);
+    assert!(rt; is_damaged(alloc, &mut office, RENEW_2)?);
     run_on(&rt, &mut office, BESIDE.as_slice())
 }
 
