@@ -29,7 +29,7 @@ impl OfRow<CaRow> for Ca {
     }
 }
 
-/// The CAs by number.
+/// The CAs by number. `Damaged` where a row is that of no CA.
 pub fn read_cas<S: Alter>(alloc: Global, conn: &mut Connection<S>) -> Result<Vec<Ca>, Fault>
     ensures shows { HasCleanDisk (state S.Store conn.new) → Shows (λ s kept cas. cas.items ≡ s.cas)
         (state S.Store conn.old) (state S.Store conn.new) result }

@@ -68,7 +68,7 @@ fn certificate_in(alloc: Global, row: &CertRow) -> Result<Certificate, Fault>
     })
 }
 
-/// The lawful certificate of a row, `Damaged` where there is none.
+/// The lawful certificate of a row, `Damaged` where there is none, `NoMemory` where a growth was refused.
 pub fn read_certificate(alloc: Global, row: &CertRow) -> Result<Certificate, Fault>
     ensures exact { IsRead (certificate_in row.now) result }
 

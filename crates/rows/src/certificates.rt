@@ -23,7 +23,7 @@ impl OfRow<CertRow> for Certificate {
     }
 }
 
-/// Every certificate, by serial.
+/// Every certificate, by serial. `Damaged` where a row is that of no lawful certificate.
 pub fn read_certificates<S: Alter>(
     alloc: Global,
     conn: &mut Connection<S>,

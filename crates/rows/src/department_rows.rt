@@ -101,7 +101,7 @@ fn is_department(department: &Department) -> bool
         && fits_kind(kind, namespaces)
 }
 
-/// The row of a department.
+/// The row of a department: 1 for users and 2 for hosts, and lists as texts joined by commas, in their order.
 pub fn department_row(alloc: Global, department: &Department) -> Result<DepartmentRow, NoMemory>
     requires { department.now.longest_life < 2 ^ 63 }
     ensures { IfOk result (λ row. row ≡ department_row department.now) }
@@ -147,7 +147,7 @@ fn lawful_in(alloc: Global, row: &DepartmentRow) -> Result<Department, Fault>
     }
 }
 
-/// The lawful department of a row, `Damaged` where there is none.
+/// The lawful department of a row, `Damaged` where there is none, `NoMemory` where a growth was refused.
 pub fn read_department(alloc: Global, row: &DepartmentRow) -> Result<Department, Fault>
     ensures exact { IsRead (department_in row.now) result }
 

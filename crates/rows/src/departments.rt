@@ -24,7 +24,7 @@ impl OfRow<DepartmentRow> for Department {
     }
 }
 
-/// The departments by name.
+/// The departments by name. `Damaged` where a row is that of no lawful department.
 pub fn read_departments<S: Alter>(
     alloc: Global,
     conn: &mut Connection<S>,

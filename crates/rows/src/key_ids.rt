@@ -11,7 +11,7 @@ use std::alloc::Global;
 use tables::{Fault, every_revoked};
 use text::Text;
 
-/// The revoked key ids in byte order.
+/// The revoked key ids in byte order. `Damaged` where a row has another form.
 pub fn read_key_ids<S: Alter>(alloc: Global, conn: &mut Connection<S>) -> Result<Vec<Text>, Fault>
     ensures shows { HasCleanDisk (state S.Store conn.new) → Shows (λ s kept ids. ids.items ≡ s.revoked_key_ids)
         (state S.Store conn.old) (state S.Store conn.new) result }

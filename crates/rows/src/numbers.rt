@@ -4,7 +4,7 @@ ghost use Rattle.std.specs.Prelude.{◌≡◌, ◌<◌, ◌^◌};
 
 use tables::Number;
 
-/// The number as a column holds it.
+/// The number as a column holds it. It has to be below 2^63, as serials, versions and moments are.
 pub fn number(value: u64) -> Number
     requires { value < 2 ^ 63 }
     ensures { result ≡ value }

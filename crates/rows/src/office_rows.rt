@@ -19,11 +19,13 @@ use tables::{Fault, OfficeRow, every_office};
 /// What the row of the office says.
 #[derive(Debug, Drop)]
 pub struct Office {
+    /// What it began with.
     pub opening: Opening,
     /// The serial to be handed out next.
     pub next: u64,
-    /// The version and the date of the published list.
+    /// The version of the published list.
     pub version: u64,
+    /// The moment of its last change, in seconds since 1970-01-01 00:00:00 UTC.
     pub date: u64,
 }
 
@@ -79,7 +81,7 @@ fn only_office(alloc: Global, rows: &[OfficeRow]) -> Result<Office, Fault>
     }
 }
 
-/// The office's opening and its counters.
+/// The office's opening and its counters. `Damaged` where its table has not one row, or that is of no lawful office.
 pub fn read_office<S: Alter>(alloc: Global, conn: &mut Connection<S>) -> Result<Office, Fault>
     ensures shows { HasCleanDisk (state S.Store conn.new) → Shows (λ s kept office. IsOfficeOf office s)
         (state S.Store conn.old) (state S.Store conn.new) result }

@@ -72,7 +72,7 @@ impl Columns for CaRow {
     }
 }
 
-/// Keeps a CA.
+/// Keeps a CA. `Device` also where its number or its key blob is taken, or the row is too long.
 pub fn insert_ca<S: Alter>(conn: &mut Connection<S>, ca: &CaRow) -> Result<(), Fault>
     ensures changes { HasCleanDisk (state S.Store conn.new) →
         Changes (with_ca ca.now) (state S.Store conn.old) (state S.Store conn.new) result }
@@ -85,7 +85,7 @@ pub fn insert_ca<S: Alter>(conn: &mut Connection<S>, ca: &CaRow) -> Result<(), F
     done(conn.execute(INSERT_CA, &ca.values()))
 }
 
-/// Each CA, by number.
+/// Each CA, by number. `Damaged` where a row has another form.
 pub fn every_ca<S: Alter>(alloc: Global, conn: &mut Connection<S>) -> Result<Vec<CaRow>, Fault>
     ensures finds { HasCleanDisk (state S.Store conn.new) →
         Finds (λ c. c.cas) (state S.Store conn.old) (state S.Store conn.new) result }

@@ -89,7 +89,7 @@ impl Columns for CertRow {
     }
 }
 
-/// Keeps a certificate.
+/// Keeps a certificate. `Device` also where its serial is taken, its department is missing, or the row is too long.
 pub fn insert_cert<S: Alter>(conn: &mut Connection<S>, cert: &CertRow) -> Result<(), Fault>
     ensures changes { HasCleanDisk (state S.Store conn.new) →
         Changes (with_cert cert.now) (state S.Store conn.old) (state S.Store conn.new) result }
@@ -102,7 +102,7 @@ pub fn insert_cert<S: Alter>(conn: &mut Connection<S>, cert: &CertRow) -> Result
     done(conn.execute(INSERT_CERT, &cert.values()))
 }
 
-/// The certificate of this serial, if it is there.
+/// The certificate of this serial, if it is there. `Damaged` where its row has another form.
 pub fn find_cert<S: Alter>(
     alloc: Global,
     conn: &mut Connection<S>,
@@ -119,7 +119,7 @@ pub fn find_cert<S: Alter>(
     found_first(alloc, conn.query_all(FIND_CERT, &[serial.value()]))
 }
 
-/// Each certificate, by serial.
+/// Each certificate, by serial. `Damaged` where a row has another form.
 pub fn every_cert<S: Alter>(alloc: Global, conn: &mut Connection<S>) -> Result<Vec<CertRow>, Fault>
     ensures finds { HasCleanDisk (state S.Store conn.new) →
         Finds (λ c. c.certs) (state S.Store conn.old) (state S.Store conn.new) result }
@@ -134,7 +134,7 @@ pub fn every_cert<S: Alter>(alloc: Global, conn: &mut Connection<S>) -> Result<V
     found(alloc, conn.query_all(EVERY_CERT, &[]))
 }
 
-/// Keeps the signature of the certificate of this serial.
+/// Keeps the signature of the certificate of this serial, if it is there. `Device` also where its row is then too long.
 pub fn update_signature<S: Alter>(
     conn: &mut Connection<S>,
     serial: Number,

@@ -98,7 +98,8 @@ impl Columns for DepartmentRow {
     }
 }
 
-/// Puts a department, in place of the one of its name if there is one.
+/// Puts a department, in place of the one of its name if there is one. `Device` also where the row is too long, or there are
+/// as many rows as numbers for them.
 pub fn put_department<S: Alter>(
     conn: &mut Connection<S>,
     department: &DepartmentRow,
@@ -114,7 +115,7 @@ pub fn put_department<S: Alter>(
     done(conn.execute(PUT_DEPARTMENT, &department.values()))
 }
 
-/// The department of this name, if it is there.
+/// The department of this name, if it is there. `Damaged` where its row has another form.
 pub fn find_department<S: Alter>(
     alloc: Global,
     conn: &mut Connection<S>,
@@ -134,7 +135,7 @@ pub fn find_department<S: Alter>(
     )
 }
 
-/// Each department, in byte order of the names.
+/// Each department, in byte order of the names. `Damaged` where a row has another form.
 pub fn every_department<S: Alter>(
     alloc: Global,
     conn: &mut Connection<S>,

@@ -3,6 +3,10 @@
 //! Rows go in and come out as structs of their columns, and a contract says what each call makes of the structs that the
 //! tables hold: all of it, or nothing, outside and inside of a transaction. What is found is what the tables hold, and a
 //! fault has its cause. Only this crate names SQL, and the layers above see the structs alone.
+//!
+//! A call that fails answers `NoMemory` where a growth was refused, `Device` where the database failed or was shut, and
+//! beside these what its own comment says. The rows are then as they were, or the transaction that was open is undone. A row
+//! is too long where it takes more than a billion bytes.
 #![tactic(auto)]
 
 mod cas;

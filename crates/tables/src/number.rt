@@ -28,6 +28,7 @@ impl Model for Number {
 impl Number {
     ghost use Rattle.tables.specs.Kinds.{number_in};
 
+    /// The number 0.
     pub const ZERO: Number = Number { value: 0 };
 
     /// The number, or `None` where it is 2^63 or more.

@@ -49,8 +49,11 @@ pub struct OfficeRow {
 /// What moves as the office works.
 #[derive(Clone, Copy, Debug, PartialEq, Eq)]
 pub struct Counters {
+    /// The serial that is handed out next.
     pub next: Number,
+    /// The version of the revocation list.
     pub version: Number,
+    /// The moment of its last change, in seconds since 1970-01-01 00:00:00 UTC.
     pub date: Number,
 }
 
@@ -134,7 +137,7 @@ impl Columns for OfficeRow {
     }
 }
 
-/// Puts the row of an office.
+/// Puts the row of an office. `Device` also where its id is taken, or the row is too long.
 pub fn insert_office<S: Alter>(conn: &mut Connection<S>, office: &OfficeRow) -> Result<(), Fault>
     ensures changes { HasCleanDisk (state S.Store conn.new) →
         Changes (with_office office.now) (state S.Store conn.old) (state S.Store conn.new) result }
@@ -147,7 +150,7 @@ pub fn insert_office<S: Alter>(conn: &mut Connection<S>, office: &OfficeRow) -> 
     done(conn.execute(INSERT_OFFICE, &office.values()))
 }
 
-/// Each row of the table of the office, by id. An office has one.
+/// Each row of the table of the office, by id. An office has one. `Damaged` where a row has another form.
 pub fn every_office<S: Alter>(
     alloc: Global,
     conn: &mut Connection<S>,
@@ -165,7 +168,7 @@ pub fn every_office<S: Alter>(
     found(alloc, conn.query_all(EVERY_OFFICE, &[]))
 }
 
-/// Moves the counters of the office, the row of id 1.
+/// Moves the counters of the office, the row of id 1, if it is there. `Device` also where the row is then too long.
 pub fn update_office<S: Alter>(conn: &mut Connection<S>, counters: &Counters) -> Result<(), Fault>
     ensures changes { HasCleanDisk (state S.Store conn.new) →
         Changes (with_counters counters.now) (state S.Store conn.old) (state S.Store conn.new) result }
@@ -178,7 +181,8 @@ pub fn update_office<S: Alter>(conn: &mut Connection<S>, counters: &Counters) ->
     done(conn.execute(COUNT_OFFICE, &counters.values()))
 }
 
-/// Sets the number of the schema in the office, the row of id 1.
+/// Sets the number of the schema in the office, the row of id 1, if it is there. `Device` also where the row is then too
+/// long.
 pub fn update_schema<S: Alter>(conn: &mut Connection<S>, schema: Number) -> Result<(), Fault>
     ensures changes { HasCleanDisk (state S.Store conn.new) →
         Changes (with_schema schema) (state S.Store conn.old) (state S.Store conn.new) result }

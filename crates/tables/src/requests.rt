@@ -69,7 +69,8 @@ impl Columns for RequestRow {
     }
 }
 
-/// Keeps a request that was accepted.
+/// Keeps a request that was accepted. `Device` also where its caller has used its key, the row is too long, or there are as
+/// many rows as numbers for them.
 pub fn insert_request<S: Alter>(conn: &mut Connection<S>, request: &RequestRow) -> Result<(), Fault>
     ensures changes { HasCleanDisk (state S.Store conn.new) →
         Changes (with_request request.now) (state S.Store conn.old) (state S.Store conn.new) result }
@@ -82,7 +83,7 @@ pub fn insert_request<S: Alter>(conn: &mut Connection<S>, request: &RequestRow) 
     done(conn.execute(INSERT_REQUEST, &request.values()))
 }
 
-/// The request of this caller and key, if one is kept.
+/// The request of this caller and key, if one is kept. `Damaged` where its row has another form.
 pub fn find_request<S: Alter>(
     alloc: Global,
     conn: &mut Connection<S>,

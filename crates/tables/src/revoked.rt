@@ -39,7 +39,8 @@ impl Columns for Text {
     }
 }
 
-/// Keeps a revoked key id.
+/// Keeps a revoked key id. `Device` also where it is there, the row is too long, or there are as many rows as numbers for
+/// them.
 pub fn insert_revoked<S: Alter>(conn: &mut Connection<S>, key_id: &[u8]) -> Result<(), Fault>
     ensures changes { HasCleanDisk (state S.Store conn.new) →
         Changes (with_revoked key_id.now) (state S.Store conn.old) (state S.Store conn.new) result }
@@ -52,7 +53,7 @@ pub fn insert_revoked<S: Alter>(conn: &mut Connection<S>, key_id: &[u8]) -> Resu
     done(conn.execute(INSERT_REVOKED, &[ValueRef::Text(key_id)]))
 }
 
-/// The key id, if it is revoked.
+/// The key id, if it is revoked. `Damaged` where its row has another form.
 pub fn find_revoked<S: Alter>(
     alloc: Global,
     conn: &mut Connection<S>,
@@ -72,7 +73,7 @@ pub fn find_revoked<S: Alter>(
     )
 }
 
-/// Each revoked key id, in byte order.
+/// Each revoked key id, in byte order. `Damaged` where a row has another form.
 pub fn every_revoked<S: Alter>(alloc: Global, conn: &mut Connection<S>) -> Result<Vec<Text>, Fault>
     ensures finds { HasCleanDisk (state S.Store conn.new) →
         Finds (λ c. c.revoked) (state S.Store conn.old) (state S.Store conn.new) result }

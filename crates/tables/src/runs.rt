@@ -63,7 +63,7 @@ impl Columns for RunRow {
     }
 }
 
-/// Keeps a run.
+/// Keeps a run. `Device` also where another begins with its first serial.
 pub fn insert_run<S: Alter>(conn: &mut Connection<S>, run: &RunRow) -> Result<(), Fault>
     ensures changes { HasCleanDisk (state S.Store conn.new) →
         Changes (with_run run.now) (state S.Store conn.old) (state S.Store conn.new) result }
@@ -76,7 +76,7 @@ pub fn insert_run<S: Alter>(conn: &mut Connection<S>, run: &RunRow) -> Result<()
     done(conn.execute(INSERT_RUN, &run.values()))
 }
 
-/// Each run, ascending.
+/// Each run, ascending. `Damaged` where a row has another form.
 pub fn every_run<S: Alter>(alloc: Global, conn: &mut Connection<S>) -> Result<Vec<RunRow>, Fault>
     ensures finds { HasCleanDisk (state S.Store conn.new) →
         Finds (λ c. c.runs) (state S.Store conn.old) (state S.Store conn.new) result }
@@ -91,7 +91,7 @@ pub fn every_run<S: Alter>(alloc: Global, conn: &mut Connection<S>) -> Result<Ve
     found(alloc, conn.query_all(EVERY_RUN, &[]))
 }
 
-/// The runs that have a serial between these ends, both included, ascending.
+/// The runs that have a serial between these ends, both included, ascending. `Damaged` where a row has another form.
 pub fn find_runs<S: Alter>(
     alloc: Global,
     conn: &mut Connection<S>,
@@ -110,7 +110,7 @@ pub fn find_runs<S: Alter>(
     found(alloc, conn.query_all(FIND_RUNS, &ends.values()))
 }
 
-/// Takes out the runs that have a serial between these ends, both included.
+/// Takes out the runs that have a serial between these ends, both included. The tables never refuse that.
 pub fn delete_runs<S: Alter>(conn: &mut Connection<S>, ends: &RunRow) -> Result<(), Fault>
     ensures changes { HasCleanDisk (state S.Store conn.new) →
         Changes (without_runs ends.now) (state S.Store conn.old) (state S.Store conn.new) result }

@@ -63,7 +63,7 @@ fn every_revoked_run<S: Alter>(alloc: Global, conn: &mut Connection<S>) -> Resul
     }
 }
 
-/// The maximal runs of the revoked serials.
+/// The maximal runs of the revoked serials. `Damaged` where the rows are no such runs.
 pub fn revoked_runs<S: Alter>(alloc: Global, conn: &mut Connection<S>) -> Result<Runs, Fault>
     ensures shows { HasCleanDisk (state S.Store conn.new) → Shows (λ s kept runs. AreRevokedRuns runs s kept)
         (state S.Store conn.old) (state S.Store conn.new) result }
@@ -92,7 +92,8 @@ fn runs_meeting<S: Alter>(
     }
 }
 
-/// Whether each serial from `lo` to `hi` is revoked. It reads what is between them alone.
+/// Whether each serial from `lo` to `hi`, both included and `lo` not above `hi`, is revoked. It reads what is between them
+/// alone.
 pub fn are_revoked<S: Alter>(
     alloc: Global,
     conn: &mut Connection<S>,
