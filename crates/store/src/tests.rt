@@ -157,7 +157,9 @@ fn an_office_of_schema_1_is_moved_and_tells_what_it_told(rt: HostRuntime) -> Res
         Ok(store) => store,
         Err((fault, _)) => return Err(Fail::from(fault)),
     };
-    let again = store.apply(alloc, arrival(alloc, b"ana", b"i1", ISSUE, 4000)?)?;
+    let mut repeat = arrival(alloc, b"ana", b"i1", ISSUE, 4000)?;
+    repeat.nonce = [0x34; 32];
+    let again = store.apply(alloc, repeat)?;
     assert!(rt; matches!(&again, Outcome::Repeated(reply) if reply.is(ISSUED)));
     let revoked = store.revoked(alloc)?;
     assert_eq!(rt; (revoked.head.version, revoked.head.date), (1, 3000));
