@@ -1,3 +1,5 @@
+//! Requests served from readers in memory, by a register that answers each arrival alike.
+
 mod register;
 
 use crate::{ServeFault, serve_one};
@@ -15,6 +17,15 @@ const LIST: &[u8] = b"GET /v1/krl HTTP/1.1\r\n\r\n";
 
 const BAD_HEAD: &[u8] = b"HTTP/1.1 400 Bad Request\r\ncontent-type: text/plain\r\n\
 content-length: 18\r\nconnection: close\r\n\r\nrefused 1 BadHead\n";
+
+const SHORT_BODY: &[u8] = b"HTTP/1.1 400 Bad Request\r\ncontent-type: text/plain\r\n\
+content-length: 20\r\nconnection: close\r\n\r\nrefused 6 ShortBody\n";
+
+const TOO_LONG: &[u8] = b"HTTP/1.1 413 Payload Too Large\r\ncontent-type: text/plain\r\n\
+content-length: 18\r\nconnection: close\r\n\r\nrefused 5 TooLong\n";
+
+const LENGTH_REQUIRED: &[u8] = b"HTTP/1.1 411 Length Required\r\ncontent-type: text/plain\r\n\
+content-length: 25\r\nconnection: close\r\n\r\nrefused 4 LengthRequired\n";
 
 /// `POST` and `LIST`.
 const BOTH: &[u8] = b"POST /v1/callers/ana/requests/i1 HTTP/1.1\r\ncontent-length: 162\r\n\r\n\
@@ -137,9 +148,39 @@ fn are_more_lines_refused(alloc: Global) -> bool {
 }
 
 #[test]
-fn header_lines_are_counted(rt: HostRuntime) {
+fn thirty_two_header_lines_are_served_and_no_more(rt: HostRuntime) {
     assert!(rt; are_most_lines_served(rt.alloc()));
     assert!(rt; are_more_lines_refused(rt.alloc()));
+}
+
+/// Whether these bytes, behind which nothing comes, are refused so and applied nowhere.
+fn is_refused(alloc: Global, bytes: &[u8], wanted: &[u8]) -> bool {
+    let served = serve_bytes(alloc, bytes, Ending::Ends, 32, 1000);
+    served.result == Ok(()) && served.written.as_slice() == wanted && served.applied == 0
+}
+
+/// The length of the first beginning of `POST`, short of the whole, that is answered otherwise: its head has 66 bytes.
+fn first_answered_otherwise(alloc: Global) -> Option<usize> {
+    for n in 0..POST.len() {
+        let wanted = if n < 66 { BAD_HEAD } else { SHORT_BODY };
+        if !is_refused(alloc, &POST[..n], wanted) {
+            return Some(n);
+        }
+    }
+    None
+}
+
+#[test]
+fn a_cut_request_is_refused(rt: HostRuntime) {
+    assert_eq!(rt; first_answered_otherwise(rt.alloc()), None);
+}
+
+#[test]
+fn a_head_is_judged_before_its_body(rt: HostRuntime) {
+    let long = b"POST /v1/callers/ana/requests/i1 HTTP/1.1\r\ncontent-length: 16385\r\n\r\n";
+    let unmeasured = b"POST /v1/callers/ana/requests/i1 HTTP/1.1\r\n\r\n";
+    assert!(rt; is_refused(rt.alloc(), long.as_slice(), TOO_LONG));
+    assert!(rt; is_refused(rt.alloc(), unmeasured.as_slice(), LENGTH_REQUIRED));
 }
 
 fn is_slow_post_served(alloc: Global) -> bool {
