@@ -1,11 +1,12 @@
 //! The register, from its connection and back.
 
-ghost use Rattle.std.specs.Prelude.{◌≡◌, false, [], List, IfErr, IfOk, IsTrue, true};
+ghost use Rattle.std.specs.Prelude.{◌≡◌, false, [], List, Err, IfErr, IfOk, IsTrue, Ok, true};
 ghost use Rattle.std.specs.List.{list_any};
 ghost use Rattle.sqlite.specs.Held.{state};
 ghost use Rattle.sqlite.specs.State.{HasCleanDisk, Survives};
 ghost use Rattle.tables.specs.Schema.{no_schema};
 ghost use Rattle.tables.specs.Calls.{IsBare};
+ghost use Rattle.tables.specs.Contents.{Contents, Means};
 ghost use Rattle.tables.specs.Faults.{HasFailed};
 ghost use Rattle.rows.specs.Rows.{office_contents};
 ghost use Rattle.rows.specs.Transactions.{Leaves};
@@ -15,7 +16,7 @@ ghost use Rattle.migration.specs.Migrating.{HasStopped, IsExcused};
 ghost use Rattle.office.specs.declared.opening.Opening.{Opening};
 ghost use Rattle.office.specs.declared.arrival.Arrival.{Arrival};
 ghost use Rattle.office.specs.Openings.{IsOpening};
-ghost use Rattle.store.specs.Meaning.{IsBlank, IsHistory, Tells};
+ghost use Rattle.store.specs.Meaning.{IsBlank, IsHistory, Looks, Tells, opened_by};
 
 use crate::creating::create;
 use crate::looking::look;
@@ -75,6 +76,11 @@ impl<S: Alter> Store<S> {
     /// connection back.
     pub fn open(alloc: Global, conn: Connection<S>) -> Result<Store<S>, (StoreFault, Connection<S>)>
         requires { (state S.Store conn).in_transaction ≡ false }
+        ensures opened { IfOk result (λ s. HasCleanDisk (state S.Store s.conn) → (c : Contents)
+            → Means (state S.Store conn).now c → opened_by c.offices ≡ Ok tt) }
+        ensures refused { IfErr result (λ e. HasCleanDisk (state S.Store e.1) → (c : Contents)
+            → Means (state S.Store conn).now c
+            → Looks c (HasFailed (state S.Store conn) (state S.Store e.1)) (Err e.0)) }
         ensures same { IfOk result (λ s. HasCleanDisk (state S.Store s.conn) → (o : Opening) (l : List Arrival)
             → Tells (state S.Store conn) o l → Tells (state S.Store s.conn) o l) }
         ensures back { IfErr result (λ e. HasCleanDisk (state S.Store e.1) → (o : Opening) (l : List Arrival)
