@@ -17,10 +17,6 @@ pub extended_by_none : (most : ℕ) (means : List Arrival → Type 0) (l : List 
 extended_by_none most means l m =
     record { more = []; count = (omega arith); timely = All-nil IsTimely; history = subst means (sym (append-nil l)) m }
 
--- Before the first connection nothing is added.
-pub extends_none : (before : Opening → List Arrival → Type 0) → Extends 0 before before
-extends_none before o l m = extended_by_none 0 (before o) l m
-
 -- What means the same is extended by nothing.
 pub extends_same : (before after : Opening → List Arrival → Type 0) → ((o : Opening) (l : List Arrival) → before o l → after o l) → Extends 1 before after
 extends_same before after same o l m = extended_by_none 1 (after o) l (same o l m)

@@ -80,7 +80,7 @@ use Rattle.tables.specs.Refusals.{HasOne, IsTooLong, RefusesCounters}
 use Rattle.rows.specs.Certificates.{AreCounted}
 use Rattle.rows.specs.Lawful.{IsLawful}
 use Rattle.rows.specs.Rows.{cert_row, contents_of, department_row, office_row, request_row}
-use Rattle.writes.proofs.Serials.{signed_length}
+use Rattle.office.proofs.Growth.{length-signed_at}
 use Rattle.store.specs.Arriving.{IsAccepted, Past, kept_at, state_at}
 
 -- ---- lists
@@ -263,7 +263,7 @@ module _ (s : State) (lawful : IsLawful s) (caller : List ℕ) (moment : ℕ) (n
       let tests = none_holds (refusals s caller (message.Renew r) moment) allowed in
       renewed_own r (certificate_of s r.serial) refl tests.1.0 same
   own_department (message.Deliver d) allowed same =
-      as_long same (signed_length s.certificates (d.serial - s.opening.first) d.signature)
+      as_long same (length-signed_at s.certificates (d.serial - s.opening.first) d.signature)
   own_department (message.RevokeSerial serial) allowed same =
       either_way (s.revoked serial) (republished (with_range s (record { lo = serial; hi = serial })) moment) refl same
   own_department (message.RevokeRange r) allowed same =

@@ -10,7 +10,6 @@ use Rattle.office.specs.declared.ca.Ca.{Ca}
 use Rattle.office.specs.declared.certificate.Certificate.{Certificate}
 use Rattle.office.specs.State.{State, certificate_of}
 use Rattle.office.specs.Machine.{signed_at}
-pub use Rattle.office.proofs.Growth.{length-signed_at as signed_length}
 use Rattle.tables.specs.declared.certs.CertRow.{CertRow}
 use Rattle.tables.specs.declared.cas.CaRow.{CaRow}
 use Rattle.tables.specs.Changes.{has_serial, signed}
