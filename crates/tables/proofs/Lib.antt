@@ -1,4 +1,3 @@
-pub mod Again
 pub mod Apart
 pub mod CallLemmas
 pub mod CaTable

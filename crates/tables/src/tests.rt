@@ -214,24 +214,26 @@ fn revoked_key_ids_come_in_byte_order(rt: HostRuntime) -> Result<(), Fail> {
     Ok(())
 }
 
+fn ca(alloc: Global, order: u64, blob: &[u8], since: u64) -> Result<CaRow, Fail> {
+    Ok(CaRow {
+        number: number(order)?,
+        ca: Text::from_slice(alloc, blob)?,
+        since: number(since)?,
+    })
+}
+
 #[test]
 fn cas_come_by_number_and_differ(rt: HostRuntime) -> Result<(), Fail> {
     let alloc = rt.alloc();
     let mut conn = ready(alloc)?;
-    let second = CaRow {
-        number: number(2)?,
-        ca: Text::from_slice(alloc, b"blob")?,
-        since: number(3)?,
-    };
-    insert_ca(&mut conn, &second)?;
-    let twice = CaRow {
-        number: number(3)?,
-        ..second
-    };
+    insert_ca(&mut conn, &ca(alloc, 2, b"second", 3)?)?;
+    insert_ca(&mut conn, &ca(alloc, 1, b"first", 1)?)?;
+    let twice = ca(alloc, 3, b"second", 4)?;
     assert_eq!(rt; insert_ca(&mut conn, &twice), Err(Fault::Device));
     let all = every_ca(alloc, &mut conn)?;
-    assert_eq!(rt; all.len(), 1);
-    assert_eq!(rt; all[0].since, number(3)?);
+    assert_eq!(rt; all.len(), 2);
+    assert_eq!(rt; all[0].since, number(1)?);
+    assert_eq!(rt; all[1].since, number(3)?);
     Ok(())
 }
 
