@@ -6,6 +6,7 @@ ghost use Rattle.sshoffice.specs.Checking.{verdict_text};
 
 use crate::fault::JobFault;
 use crate::files::{read_key_file, read_list_file};
+use crate::output::write_out;
 use std::io::Write;
 use std::rt::Files;
 
@@ -13,10 +14,7 @@ fn print_verdict<W: Write>(out: &mut W, revoked: bool) -> Result<(), JobFault>
     ensures { OnOk result (Appends (W.contents out.old) (W.contents out.new) (verdict_text revoked)) }
 {
     let verdict = if revoked { "revoked\n" } else { "clear\n" };
-    match out.write_all(verdict.as_bytes()) {
-        Ok(()) => Ok(()),
-        Err(_) => Err(JobFault::Write),
-    }
+    write_out(out, verdict.as_bytes())
 }
 
 /// Prints whether the list of a file revokes the certificate of this serial and key id, under the CA of a file.

@@ -1,13 +1,14 @@
 //! An office made in a new database.
 
-ghost use Rattle.std.specs.Prelude.{◌≡◌, IfOk};
+ghost use Rattle.std.specs.Prelude.{IfOk};
 ghost use Rattle.office.specs.Openings.{IsOpening};
 
 use crate::database::{close_database, close_office, open_database};
 use crate::fault::JobFault;
 use crate::files::read_key_file;
+use crate::output::write_out;
 use lines::{KeyLine, fingerprint};
-use office::{Opening, OpeningFault};
+use office::Opening;
 use std::alloc::Global;
 use std::io::Write;
 use store::Store;
@@ -29,10 +30,7 @@ fn opening_of(alloc: Global, ca: [u8; 32], founding: &Founding<'_>) -> Result<Op
 {
     let root = String::from_str(alloc, founding.root).map_err(NoMemory::from)?;
     let station = String::from_str(alloc, founding.station).map_err(NoMemory::from)?;
-    match Opening::new(ca, root, station, founding.first, founding.last) {
-        Ok(opening) => Ok(opening),
-        Err(fault) => Err(JobFault::Opening(fault)),
-    }
+    Ok(Opening::new(ca, root, station, founding.first, founding.last)?)
 }
 
 fn make(rt: &HostRuntime, db: &str, opening: &Opening) -> Result<(), JobFault>
@@ -51,9 +49,7 @@ fn report<W: Write>(out: &mut W, opening: &Opening, key: &KeyLine) -> Result<(),
         return Err(JobFault::Write);
     }
     for piece in [b"ca ".as_slice(), fingerprint(key).as_slice(), b"\n"] {
-        if out.write_all(piece).is_err() {
-            return Err(JobFault::Write);
-        }
+        write_out(out, piece)?;
     }
     Ok(())
 }

@@ -11,6 +11,7 @@ use crate::files::read_exchange_file;
 use crate::founding::{Founding, found};
 use crate::loopback::{Service, serve, test_itself};
 use crate::migrating::migrate;
+use crate::output::write_out;
 use crate::reporting::{Report, print_list, print_report};
 use std::io::{ErrorKind, Write};
 use words::{Job, WordsFault, read_words};
@@ -142,13 +143,6 @@ pub fn do_job<O: Write, E: Write>(rt: &HostRuntime, job: &Job, out: &mut O, err:
     status_of(flushed(done, out), err)
 }
 
-fn show<W: Write>(text: &str, out: &mut W) -> Result<(), JobFault> {
-    match out.write_all(text.as_bytes()) {
-        Ok(()) => Ok(()),
-        Err(_) => Err(JobFault::Write),
-    }
-}
-
 /// Does the job that the words ask for, or shows the text of clap. Answers the status.
 pub fn do_words<O: Write, E: Write>(
     rt: &HostRuntime,
@@ -162,11 +156,11 @@ pub fn do_words<O: Write, E: Write>(
     match read_words(rt.alloc(), words) {
         Ok(job) => do_job(rt, &job, out, err),
         Err(WordsFault::Help(text)) => {
-            let shown = show(text.as_str(), out);
+            let shown = write_out(out, text.as_bytes());
             status_of(flushed(shown, out), err)
         }
         Err(WordsFault::BadWords(text)) => {
-            let _ = show(text.as_str(), err);
+            let _ = write_out(err, text.as_bytes());
             BAD_WORDS
         }
         Err(WordsFault::NoMemory) => status_of(Err(JobFault::NoMemory), err),
@@ -180,6 +174,6 @@ pub fn do_no_words<E: Write>(fault: ErrorKind, err: &mut E) -> u8
     if fault == ErrorKind::OutOfMemory {
         return status_of(Err(JobFault::NoMemory), err);
     }
-    let _ = show("error: a word is not UTF-8\n", err);
+    let _ = write_out(err, b"error: a word is not UTF-8\n");
     BAD_WORDS
 }

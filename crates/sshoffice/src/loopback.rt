@@ -4,6 +4,7 @@ ghost use Rattle.std.specs.Prelude.{◌≤◌, IfOk};
 
 use crate::database::{FileOffice, close_office, open_office};
 use crate::fault::JobFault;
+use crate::output::write_out;
 use crate::trial::trial_office;
 use server::{listen, selftest, serve_on};
 use std::fs;
@@ -81,8 +82,5 @@ pub(crate) fn test_itself<O: Write>(rt: &HostRuntime, out: &mut O) -> Result<(),
     let tested = selftest(rt, &mut office);
     let _ = office.into_connection();
     tested?;
-    match out.write_all(b"selftest ok\n") {
-        Ok(()) => Ok(()),
-        Err(_) => Err(JobFault::Write),
-    }
+    write_out(out, b"selftest ok\n")
 }

@@ -17,6 +17,7 @@ pub mod headline;
 mod job;
 mod loopback;
 mod migrating;
+mod output;
 mod printing;
 mod reporting;
 #[cfg(test)]

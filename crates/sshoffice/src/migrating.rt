@@ -2,6 +2,7 @@
 
 use crate::database::{close_database, close_office, open_database};
 use crate::fault::JobFault;
+use crate::output::write_out;
 use std::io::Write;
 use store::Store;
 
@@ -16,8 +17,5 @@ fn move_tables(rt: &HostRuntime, db: &str) -> Result<(), JobFault> {
 /// Moves the office in a database, and prints from which schema to which.
 pub(crate) fn migrate<W: Write>(rt: &HostRuntime, db: &str, out: &mut W) -> Result<(), JobFault> {
     move_tables(rt, db)?;
-    match out.write_all(b"migrated 1 2\n") {
-        Ok(()) => Ok(()),
-        Err(_) => Err(JobFault::Write),
-    }
+    write_out(out, b"migrated 1 2\n")
 }

@@ -3,6 +3,7 @@
 use crate::database::{FileOffice, close_office, open_office};
 use crate::fault::JobFault;
 use crate::headline::{publish, respond};
+use crate::output::write_out;
 use office::StoreFault;
 use std::alloc::Global;
 use std::io::Write;
@@ -46,10 +47,7 @@ fn print_body<O: Write>(
     let Some(body) = body_of(response.as_slice()) else {
         return Err(JobFault::Store(StoreFault::Damaged));
     };
-    match out.write_all(body) {
-        Ok(()) => Ok(()),
-        Err(_) => Err(JobFault::Write),
-    }
+    write_out(out, body)
 }
 
 /// Prints a report of the office in a database.
