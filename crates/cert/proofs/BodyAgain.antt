@@ -1,5 +1,5 @@
 -- The text of lawful fields is read.
-use Rattle.std.proofs.Common.{◌≡◌, ℕ, ◌^◌, ◌<◌, true, ltb, leb, List, [], ◌++◌, Ok, refl, sym, ap, ◌∙◌, append_assoc, arith}
+use Rattle.std.proofs.Common.{◌≡◌, ℕ, ◌^◌, ◌<◌, true, ltb, List, [], ◌++◌, Ok, refl, sym, ap, ◌∙◌, append_assoc, arith}
 use Rattle.std.specs.Int.{w32, w64}
 use Rattle.std.proofs.lemmas.Bool.{and_parts, leb-true, ltb-true, eq-eqb}
 use Rattle.std.proofs.lemmas.List.{append-nil}
@@ -10,7 +10,8 @@ use Rattle.lines.specs.Keys.{key_blob}
 use Rattle.lines.proofs.Blobs.{length-key_blob, key_of_again}
 use Rattle.profile.specs.declared.option_field.OptionField.TheVariants.{CriticalOptions, Extensions}
 use Rattle.cert.specs.Options.{options_text}
-use Rattle.cert.specs.Bodies.{IsCertFields, cert_type, kind_number, principals_text, front, body_text, is_serial, is_validity}
+use Rattle.profile.proofs.SerialLemmas.{serial_small}
+use Rattle.cert.specs.Bodies.{IsCertFields, cert_type, kind_number, principals_text, front, body_text, is_validity}
 use Rattle.cert.specs.Reading.{type_at, bytes_32_at, serial_at, kind_at, key_id_at, principals_at, validity_at, options_at, reserved_at, ca_at, body_at}
 use Rattle.cert.specs.declared.fields.CertFields.{CertFields}
 use Rattle.cert.specs.declared.cert_fault.CertFault.TheVariants.{BadNonce, BadKey}
@@ -50,9 +51,6 @@ upto_extensions c = record (upto_options c) { extensions = c.extensions }
 
 abbrev pub upto_ca : CertFields → CertFields
 upto_ca c = record (upto_extensions c) { ca = c.ca }
-
-pub serial_small : (n : ℕ) → is_serial n ≡ true → n < 2 ^ 64
-serial_small n h = omega (arith, leb-true _ _ (and_parts (leb 1 n) _ h).1)
 
 pub before_small : (a b : ℕ) → is_validity a b ≡ true → (a < 2 ^ 64) × (b < 2 ^ 64)
 before_small a b h =

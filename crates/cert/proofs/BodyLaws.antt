@@ -48,9 +48,9 @@ use Rattle.cert.specs.declared.cert_fault.CertFault.TheVariants.{
   TrailingBytes,
   NoMemory,
 }
-use Rattle.cert.proofs.NestedLaws.{IsBytes_left, IsBytes_string, principals_found, options_of_found}
+use Rattle.cert.proofs.NestedLaws.{IsBytes_left, IsBytes_string, empty, principals_found, options_of_found}
 use Rattle.cert.proofs.Tails
-use Rattle.cert.proofs.BodyParts.{bind_Err, option_cases, none_of, empty, kind_found, sample}
+use Rattle.cert.proofs.BodyParts.{bind_Err, option_cases, none_of, kind_found, sample}
 use Rattle.cert.proofs.BodySays.{Says, body_at-says}
 use Rattle.cert.proofs.BodyAgain.{
   upto_nonce,

@@ -8,7 +8,8 @@ use Rattle.profile.specs.declared.kind.Kind.{Kind}
 use Rattle.profile.specs.declared.kind.Kind.TheVariants.{User, Host}
 use Rattle.profile.specs.declared.option_field.OptionField.TheVariants.{CriticalOptions, Extensions}
 use Rattle.cert.specs.Options.{is_options}
-use Rattle.cert.specs.Bodies.{IsCertFields, kind_number, is_serial, are_principals, is_validity}
+use Rattle.profile.specs.Serials.{is_serial}
+use Rattle.cert.specs.Bodies.{IsCertFields, kind_number, are_principals, is_validity}
 use Rattle.cert.specs.Reading.{◌>>=◌, kind_of}
 use Rattle.cert.specs.declared.fields.CertFields.{CertFields}
 use Rattle.cert.specs.declared.cert_fault.CertFault.{CertFault}
@@ -27,10 +28,6 @@ option_cases (Some x) P none some = some x refl
 pub none_of : {A : Type 0} (o : Option A) → is_some o ≡ false → o ≡ None
 none_of None e = refl
 none_of (Some x) e = absurd cc
-
-pub empty : (t : List ℕ) → eqb (length t) 0 ≡ true → t ≡ []
-empty [] e = refl
-empty (b ∷ t) e = absurd (omega (arith, eqb-true _ _ e))
 
 pub not_empty : (t : List ℕ) → eqb (length t) 0 ≡ false → t ≢ []
 not_empty t e none = both_ways _ e (eq-eqb _ _ (ap length none))

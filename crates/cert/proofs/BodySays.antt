@@ -13,13 +13,15 @@ use Rattle.lines.proofs.Blobs.{key_of_found, key_of_again}
 use Rattle.profile.specs.Names.{is_key_id}
 use Rattle.profile.specs.declared.option_field.OptionField.TheVariants.{CriticalOptions, Extensions}
 use Rattle.cert.specs.Options.{options_text}
-use Rattle.cert.specs.Bodies.{IsCertFields, cert_type, kind_number, principals_text, front, body_text, is_serial, is_validity}
+use Rattle.profile.specs.Serials.{is_serial}
+use Rattle.cert.specs.Bodies.{IsCertFields, cert_type, kind_number, principals_text, front, body_text, is_validity}
 use Rattle.cert.specs.Reading.{◌>>=◌, check, kind_of, principals_of, options_of, type_at, bytes_32_at, serial_at, kind_at, key_id_at, principals_at, validity_at, options_at, reserved_at, ca_at, body_at}
 use Rattle.cert.specs.Faults.{IsFault, ends_at}
 use Rattle.cert.specs.declared.fields.CertFields.{CertFields}
 use Rattle.cert.specs.declared.cert_fault.CertFault.{CertFault}
 use Rattle.cert.specs.declared.cert_fault.CertFault.TheVariants.{Truncated, WrongType, BadNonce, BadKey, BadSerial, BadKind, BadKeyId, BadPrincipals, BadValidity, BadOptions, BadExtensions, BadReserved, BadCa, TrailingBytes}
 use Rattle.cert.proofs.NestedLaws.{
+  empty,
   IsBytes_left,
   IsBytes_string,
   principals_found,
@@ -32,7 +34,6 @@ use Rattle.cert.proofs.BodyParts.{
   bind_Ok,
   bind_Err,
   option_cases,
-  empty,
   not_empty,
   advance,
   kind_found,

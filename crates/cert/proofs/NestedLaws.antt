@@ -171,15 +171,16 @@ flag_value name value flag h =
         (codes "source-address")).0 f))
     by false false last e f h g = g h
 
+-- a text of no bytes
+pub empty : (t : List ℕ) → eqb (length t) 0 ≡ true → t ≡ []
+empty [] e = refl
+empty (b ∷ t) e = absurd (omega (arith, eqb-true _ _ e))
+
 -- the data of an option, from which its value was read
 value_found : (name inner value : List ℕ) → IsBytes inner → value_of name inner ≡ Some value
     → inner ≡ option_data (pair_of name value)
 value_found name inner value h e = by (is_flag name) e
   where
-    empty : (t : List ℕ) → eqb (length t) 0 ≡ true → t ≡ []
-    empty [] e = refl
-    empty (b ∷ t) e = absurd (omega (arith, eqb-true _ _ e))
-
     by : (flag : Bool) → cond flag (cond (eqb (length inner) 0) (Some []) None) (option_and_then (λ s. cond (eqb
         (length s.1) 0) (Some s.0) None) (string_at inner)) ≡ Some value
         → inner ≡ cond flag [] (string_text value)
@@ -371,10 +372,6 @@ options_of_found field Host text ps h e =
     let none = cond_is (eqb (length text) 0) (Some []) ps e in
     let is = same_Some _ _ none.1 in
     (empty text none.0 ∙ ap options_text is, subst (λ (l : List Pair). is_options field Host l ≡ true) is refl)
-  where
-    empty : (t : List ℕ) → eqb (length t) 0 ≡ true → t ≡ []
-    empty [] e = refl
-    empty (b ∷ t) e = absurd (omega (arith, eqb-true _ _ e))
 
 -- lawful options are read from their text
 pub options_of_again : (field : OptionField) (kind : Kind) (ps : List Pair) → is_options field kind ps ≡ true

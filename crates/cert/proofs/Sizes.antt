@@ -123,7 +123,7 @@ networks-le t h =
     omega (arith, leb-true _ _ parts.0, pieces-le 44 19 is_network network-le t parts.1)
 
 -- what ends a key id
-key_id_end-le : (t : List ℕ) → is_key_id_end t ≡ true → length t ≤ 65
+pub key_id_end-le : (t : List ℕ) → is_key_id_end t ≡ true → length t ≤ 65
 key_id_end-le [] h = omega arith
 key_id_end-le (b ∷ rest) h =
     let parts = and_parts (eqb b 47) _ h in

@@ -8,7 +8,8 @@ use Rattle.profile.specs.Names.{is_key_id}
 use Rattle.profile.specs.declared.kind.Kind.{Kind}
 use Rattle.profile.specs.declared.option_field.OptionField.{OptionField}
 use Rattle.profile.specs.declared.option_field.OptionField.TheVariants.{CriticalOptions, Extensions}
-use Rattle.cert.specs.Bodies.{cert_type, is_serial, is_validity}
+use Rattle.profile.specs.Serials.{is_serial}
+use Rattle.cert.specs.Bodies.{cert_type, is_validity}
 use Rattle.cert.specs.Reading.{◌>>=◌, check, kind_of, principals_of, options_of, field_fault, type_at, bytes_32_at, serial_at, kind_at, key_id_at, principals_at, validity_at, options_at, reserved_at, ca_at, body_at}
 use Rattle.cert.specs.declared.fields.CertFields.{CertFields}
 use Rattle.cert.specs.declared.cert_fault.CertFault.{CertFault}

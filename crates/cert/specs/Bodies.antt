@@ -22,6 +22,7 @@ use Rattle.wire.specs.Texts.{u32_text, u64_text, string_text}
 use Rattle.lines.specs.Keys.{key_blob}
 use Rattle.profile.specs.Names.{is_principal, is_key_id}
 use Rattle.profile.specs.Lists.{are_distinct}
+use Rattle.profile.specs.Serials.{is_serial}
 use Rattle.profile.specs.declared.kind.Kind.{Kind}
 use Rattle.profile.specs.declared.kind.Kind.TheVariants.{User, Host}
 use Rattle.profile.specs.declared.option_field.OptionField.TheVariants.{CriticalOptions, Extensions}
@@ -65,10 +66,6 @@ front n c = fold ◌++◌ [] (take n (field_texts c))
 -- what is signed: all fields
 abbrev pub body_text : CertFields → List ℕ
 body_text c = front 12 c
-
--- 1 to 9223372036854775806
-abbrev pub is_serial : ℕ → Bool
-is_serial n = nat_le 1 n && nat_le n 9223372036854775806
 
 -- 1 to 16 distinct principals
 abbrev pub are_principals : List (List ℕ) → Bool

@@ -25,13 +25,13 @@ use Rattle.profile.specs.declared.kind.Kind.{Kind}
 use Rattle.profile.specs.declared.option_field.OptionField.TheVariants.{CriticalOptions, Extensions}
 use Rattle.text.specs.declared.pair.Pair.{Pair}
 use Rattle.cert.specs.Options.{is_options, options_text}
+use Rattle.profile.specs.Serials.{is_serial}
 use Rattle.cert.specs.Bodies.{
   IsCertFields,
   cert_type,
   kind_number,
   principals_text,
   front,
-  is_serial,
   are_principals,
   is_validity,
 }

@@ -34,7 +34,8 @@ use Rattle.profile.specs.declared.kind.Kind.TheVariants.{User, Host}
 use Rattle.profile.specs.declared.option_field.OptionField.{OptionField}
 use Rattle.profile.specs.declared.option_field.OptionField.TheVariants.{CriticalOptions, Extensions}
 use Rattle.cert.specs.Options.{comes_before, is_option}
-use Rattle.cert.specs.Bodies.{cert_type, is_serial, is_validity}
+use Rattle.profile.specs.Serials.{is_serial}
+use Rattle.cert.specs.Bodies.{cert_type, is_validity}
 use Rattle.cert.specs.declared.fields.CertFields.{CertFields}
 use Rattle.cert.specs.declared.cert_fault.CertFault.{CertFault}
 use Rattle.cert.specs.declared.cert_fault.CertFault.TheVariants.{

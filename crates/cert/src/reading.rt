@@ -26,7 +26,7 @@ use crate::fields::CertFields;
 use crate::nested::{options_in, principals_in};
 use crate::options::Options;
 use lines::read_key_blob;
-use profile::{Kind, LAST_SERIAL, LATEST_MOMENT, OptionField, is_key_id};
+use profile::{Kind, LATEST_MOMENT, OptionField, is_key_id, is_serial};
 use std::alloc::Global;
 use text::{Text, Texts};
 use wire::Cursor;
@@ -66,7 +66,7 @@ fn read_serial(cursor: &mut Cursor) -> Result<u64, CertFault>
     let Some(serial) = cursor.u64() else {
         return Err(CertFault::Truncated);
     };
-    if serial < 1 || serial > LAST_SERIAL {
+    if !is_serial(serial) {
         return Err(CertFault::BadSerial);
     }
     Ok(serial)

@@ -1,14 +1,14 @@
 -- Bytes and strings at their front.
-use Rattle.std.proofs.Common.{◌≡◌, ◌≢◌, ℕ, suc, ◌<◌, ◌^◌, List, [], ◌∷◌, ◌++◌, length, take, drop, cond, ltb, Bool, true, false, Option, Some, None, Bor, ap, subst, arith, inl, inr}
+use Rattle.std.proofs.Common.{◌≡◌, ◌≢◌, ℕ, suc, ◌<◌, ◌^◌, List, [], ◌∷◌, ◌++◌, length, take, drop, cond, ltb, Bool, true, false, Option, Some, None, Bor, ap, subst, arith}
 use Rattle.std.specs.Option.{option_copied, IfSome, IfNone}
 use Rattle.std.specs.Int.{w32, from_be_bytes}
-use Rattle.std.proofs.lemmas.Bool.{cases_lt}
-use Rattle.std.proofs.lemmas.List.{length-take, get_or-take, get_or_past}
+use Rattle.std.proofs.lemmas.List.{length-take}
 use Rattle.std.proofs.lemmas.Option.{option_and_then_some, same_Some}
 use Rattle.wire.specs.Reading.{Moves, front_of, number_at, string_at}
 use Rattle.wire.specs.Texts.{string_text}
 use Rattle.krl.specs.Format.{IsString}
 use Rattle.krl.specs.Reading.{IsBytes}
+use Rattle.wire.proofs.Laws.{IsBytes-take}
 
 -- what follows bytes in bytes is bytes
 pub suffix_bytes : (xs front rest : List ℕ) → IsBytes xs → xs ≡ front ++ rest → IsBytes rest
@@ -26,13 +26,6 @@ u32_fits bytes h =
     let d = h 3 in
     omega arith
 
-take_bytes : (n : ℕ) (bytes : List ℕ) → IsBytes bytes → IsBytes (take n bytes)
-take_bytes n bytes h i =
-    elim (cases_lt i n) [
-      | inl lt ↦ rw (get_or-take n bytes i 0 lt) (h i)
-      | inr le ↦ rw (get_or_past (take n bytes) i 0 (omega (arith, length-take n bytes))) (omega arith)
-    ]
-
 -- a string that is read from bytes has a length of 32 bits
 pub string_fits : (bytes text rest : List ℕ) → IsBytes bytes → string_at bytes ≡ Some (text, rest) → IsString text
 string_fits bytes text rest h e =
@@ -45,7 +38,7 @@ string_fits bytes text rest h e =
       where
         by_test : (b : Bool) → cond {A = Option (ℕ × List ℕ)} b None (Some (from_be_bytes w32 (take 4 bytes), drop 4 bytes)) ≡ Some (n, after) → n < 2 ^ 32
         by_test true is = absurd cc
-        by_test false is = let same = ap (λ (p : ℕ × List ℕ). p.0) (same_Some _ _ is) in subst (λ (k : ℕ). k < 2 ^ 32) same (u32_fits (take 4 bytes) (take_bytes 4 bytes h))
+        by_test false is = let same = ap (λ (p : ℕ × List ℕ). p.0) (same_Some _ _ is) in subst (λ (k : ℕ). k < 2 ^ 32) same (u32_fits (take 4 bytes) (IsBytes-take 4 bytes h))
 
     front_small : (n : ℕ) (after : List ℕ) → n < 2 ^ 32 → front_of n after ≡ Some (text, rest) → IsString text
     front_small n after small gives = by_test (ltb (length after) n) gives

@@ -43,7 +43,7 @@ runs_ascend set from (suc count) fit =
 none_counted : (from n : ℕ) → is_counted from 0 n ≡ false
 none_counted from n = grind (arith, nat_tests)
 
-are_counted : (from count n : ℕ) → from ≤ n → n < from + count → is_counted from count n ≡ true
+pub are_counted : (from count n : ℕ) → from ≤ n → n < from + count → is_counted from count n ≡ true
 are_counted from count n p q = grind (arith, nat_tests)
 
 first_counted : (from count n : ℕ) → n ≡ from → is_counted from (suc count) n ≡ true

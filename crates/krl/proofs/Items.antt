@@ -1,14 +1,15 @@
 -- Items that are read one after the other.
-use Rattle.std.proofs.Common.{◌≡◌, ◌≢◌, ℕ, List, [], ◌∷◌, ◌++◌, Bool, true, false, ◌||◌, refl, sym, ap, ◌∙◌, append_assoc}
+use Rattle.std.proofs.Common.{◌≡◌, ◌≢◌, ℕ, List, [], ◌∷◌, ◌++◌, Bool, ◌||◌, refl, sym, ap, ◌∙◌, append_assoc}
 use Rattle.std.specs.List.{list_any, flat_map, AllByRecursion}
 use Rattle.krl.proofs.Booleans.{or_group}
 use Rattle.krl.proofs.Texts.{IsUnique, HasBytes}
+use Rattle.std.proofs.Math.Bool.{or-false}
 
 -- the bytes up to the rest are the joined texts of items, and the answer says whether one of them passes the test
 abbrev pub SoFar : {X : Type 0} → (X → List ℕ) → (X → Type 0) → (X → Bool) → List ℕ → List ℕ → Bool → Type 0
 SoFar {X} text Is test bytes rest b = (items : List X) × AllByRecursion Is items × (bytes ≡ flat_map text items ++ rest) × (b ≡ list_any test items)
 
-all_more : {X : Type 0} (Is : X → Type 0) (xs : List X) (x : X) → AllByRecursion Is xs → Is x → AllByRecursion Is (xs ++ x ∷ [])
+pub all_more : {X : Type 0} (Is : X → Type 0) (xs : List X) (x : X) → AllByRecursion Is xs → Is x → AllByRecursion Is (xs ++ x ∷ [])
 all_more Is [] x h p = (p, tt)
 all_more Is (y ∷ xs) x h p = (h.0, all_more Is xs x h.1 p)
 
@@ -17,11 +18,7 @@ text_more text [] x rest = append_assoc (text x) [] rest
 text_more text (y ∷ xs) x rest = append_assoc (text y) (flat_map text (xs ++ x ∷ [])) rest ∙ ap (λ t. text y ++ t) (text_more text xs x rest) ∙ sym (append_assoc (text y) (flat_map text xs) (text x ++ rest))
 
 any_more : {X : Type 0} (test : X → Bool) (xs : List X) (x : X) → list_any test (xs ++ x ∷ []) ≡ (list_any test xs || test x)
-any_more test [] x = or_false (test x)
-  where
-    or_false : (b : Bool) → (b || false) ≡ b
-    or_false true = refl
-    or_false false = refl
+any_more test [] x = or-false (test x)
 any_more test (y ∷ xs) x = ap (λ b. test y || b) (any_more test xs x) ∙ sym (or_group (test y) (list_any test xs) (test x))
 
 -- one item more

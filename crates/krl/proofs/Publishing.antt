@@ -16,6 +16,7 @@ use Rattle.krl.specs.Published.{names_serial, named_set, is_short, serials_of, l
 use Rattle.krl.proofs.Booleans.{or_group, clash}
 use Rattle.krl.proofs.Texts.{cut_unique}
 use Rattle.krl.proofs.Shortest.{serials_named}
+use Rattle.std.proofs.Math.Bool.{or-false, and-false}
 
 -- ---- lawful
 
@@ -205,11 +206,7 @@ ranges_name serial key_id (r ∷ rs) = by_short (is_short r) (ranges_name serial
 
 ids_name : (serial : ℕ) (key_id : List ℕ) (ids : List (List ℕ)) → list_any (names serial key_id) (key_id_parts ids) ≡ is_key_id ids key_id
 ids_name serial key_id [] = refl
-ids_name serial key_id (i ∷ ids) = or_false (is_key_id (i ∷ ids) key_id)
-  where
-    or_false : (b : Bool) → (b || false) ≡ b
-    or_false true = refl
-    or_false false = refl
+ids_name serial key_id (i ∷ ids) = or-false (is_key_id (i ∷ ids) key_id)
 
 parts_name : (serial : ℕ) (key_id : List ℕ) (rs : List Run) (ids : List (List ℕ)) → AreRuns rs → list_any (names serial key_id) (serial_parts rs ++ key_id_parts ids) ≡ (contains rs serial || is_key_id ids key_id)
 parts_name serial key_id rs ids h =
@@ -226,10 +223,6 @@ parts_name serial key_id rs ids h =
 -- whether the CA part is the blob's and names the serial or the key id
 abbrev pub part_revokes : List ℕ → ℕ → List ℕ → List (List ℕ) → CaPart → Bool
 part_revokes blob serial key_id ids p = bytes_eq (key_blob p.ca) blob && (contains p.runs serial || is_key_id ids key_id)
-
-and_false : (b : Bool) → (b && false) ≡ false
-and_false true = refl
-and_false false = refl
 
 nothing_idle : (serial : ℕ) (key_id : List ℕ) (ids : List (List ℕ)) (rs : List Run) → (eqb (length rs) 0 && eqb (length ids) 0) ≡ true → (contains rs serial || is_key_id ids key_id) ≡ false
 nothing_idle serial key_id [] [] e = refl
@@ -255,14 +248,14 @@ list_revokes blob serial key_id (p ∷ cas) ids h = by_idle (is_idle ids p) refl
   where
     by_idle : (b : Bool) → is_idle ids p ≡ b → list_any (section_revokes blob serial key_id) (published_sections cas ids) ≡ list_any (part_revokes blob serial key_id ids) cas
         → list_any (section_revokes blob serial key_id) (cond b [] (ca_section ids p ∷ []) ++ published_sections cas ids) ≡ (part_revokes blob serial key_id ids p || list_any (part_revokes blob serial key_id ids) cas)
-    by_idle true idle more = more ∙ sym (ap (λ b. (bytes_eq (key_blob p.ca) blob && b) || list_any (part_revokes blob serial key_id ids) cas) (nothing_idle serial key_id ids p.runs idle) ∙ ap (λ b. b || list_any (part_revokes blob serial key_id ids) cas) (and_false (bytes_eq (key_blob p.ca) blob)))
+    by_idle true idle more = more ∙ sym (ap (λ b. (bytes_eq (key_blob p.ca) blob && b) || list_any (part_revokes blob serial key_id ids) cas) (nothing_idle serial key_id ids p.runs idle) ∙ ap (λ b. b || list_any (part_revokes blob serial key_id ids) cas) (and-false (bytes_eq (key_blob p.ca) blob)))
     by_idle false idle more = λ i. (for_blob blob p.ca i && parts_name serial key_id p.runs ids h.0 i) || more i
 
 same_blob : (a : List ℕ) → bytes_eq a a ≡ true
 same_blob a = (bytes_eq-Decides a a).1 refl
 
-other_blob : (a b : List ℕ) → a ≢ b → bytes_eq a b ≡ false
-other_blob a b apart = by_test (bytes_eq a b) refl
+pub bytes_other : (a b : List ℕ) → a ≢ b → bytes_eq a b ≡ false
+bytes_other a b apart = by_test (bytes_eq a b) refl
   where
     by_test : (t : Bool) → bytes_eq a b ≡ t → t ≡ false
     by_test true e = absurd (apart ((bytes_eq-Decides a b).0 e))
@@ -274,19 +267,15 @@ blob_key a b e = cc
 
 none_revokes : (blob : List ℕ) (serial : ℕ) (key_id : List ℕ) (cas : List CaPart) (ids : List (List ℕ)) → ((p : CaPart) → IsCaPartOf p cas → key_blob p.ca ≢ blob) → list_any (part_revokes blob serial key_id ids) cas ≡ false
 none_revokes blob serial key_id [] ids none = refl
-none_revokes blob serial key_id (p ∷ cas) ids none = rw (other_blob (key_blob p.ca) blob (none p (inl refl))) (none_revokes blob serial key_id cas ids (λ q c. none q (inr c)))
+none_revokes blob serial key_id (p ∷ cas) ids none = rw (bytes_other (key_blob p.ca) blob (none p (inl refl))) (none_revokes blob serial key_id cas ids (λ q c. none q (inr c)))
 
 one_revokes : (serial : ℕ) (key_id : List ℕ) (cas : List CaPart) (ids : List (List ℕ)) (p : CaPart) → AreDistinctCas cas → IsCaPartOf p cas → list_any (part_revokes (key_blob p.ca) serial key_id ids) cas ≡ (contains p.runs serial || is_key_id ids key_id)
 one_revokes serial key_id [] ids p d c = absurd c
 one_revokes serial key_id (q ∷ cas) ids p d (inl same) =
     subst (λ (x : CaPart). list_any (part_revokes (key_blob x.ca) serial key_id ids) (q ∷ cas) ≡ (contains x.runs serial || is_key_id ids key_id)) same
-    (rw (same_blob (key_blob q.ca), none_revokes (key_blob q.ca) serial key_id cas ids (λ r c e. d.0 r c (blob_key r.ca q.ca e))) (or_false (contains q.runs serial || is_key_id ids key_id)))
-  where
-    or_false : (b : Bool) → (b || false) ≡ b
-    or_false true = refl
-    or_false false = refl
+    (rw (same_blob (key_blob q.ca), none_revokes (key_blob q.ca) serial key_id cas ids (λ r c e. d.0 r c (blob_key r.ca q.ca e))) (or-false (contains q.runs serial || is_key_id ids key_id)))
 one_revokes serial key_id (q ∷ cas) ids p d (inr c) =
-    rw (other_blob (key_blob q.ca) (key_blob p.ca) (λ e. d.0 p c (sym (blob_key q.ca p.ca e)))) (one_revokes serial key_id cas ids p d.1 c)
+    rw (bytes_other (key_blob q.ca) (key_blob p.ca) (λ e. d.0 p c (sym (blob_key q.ca p.ca e)))) (one_revokes serial key_id cas ids p d.1 c)
 
 -- the published list revokes just what its parts name
 pub revokes_exactly : (head : KrlHead) (cas : List CaPart) (ids : List (List ℕ)) → AllByRecursion (λ p. AreRuns p.runs) cas → AreDistinctCas cas → RevokesExactly (published_list head cas ids) cas ids

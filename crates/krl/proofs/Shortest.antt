@@ -12,6 +12,7 @@ use Rattle.krl.specs.Published.{names_serial, named_set, parts_length, is_short,
 use Rattle.krl.proofs.Booleans.{ltb-yes, is_in, or_true, or_cases, or_order, or_group, clash}
 use Rattle.krl.proofs.LengthLaws.{u64s_length}
 use Rattle.krl.proofs.Maximal.{run_of, each_is_run, none_below, member_contains}
+use Rattle.std.proofs.Math.Bool.{or-false}
 
 -- what parts cost at least; parts of key ids and others name no serial
 abbrev pub part_len : Part → ℕ
@@ -394,11 +395,7 @@ named_append (p ∷ ps) qs n = ap (λ b. names_serial n p || b) (named_append ps
 
 list_named : (ns : List ℕ) (n : ℕ) → named_set (serial_list ns) n ≡ is_among ns n
 list_named [] n = refl
-list_named (m ∷ ns) n = or_false (is_among (m ∷ ns) n)
-  where
-    or_false : (b : Bool) → (b || false) ≡ b
-    or_false true = refl
-    or_false false = refl
+list_named (m ∷ ns) n = or-false (is_among (m ∷ ns) n)
 
 runs_named : (from : ℕ) (rs : List Run) (n : ℕ) → AreRunsFrom from rs → (is_among (listed rs) n || named_set (ranges rs) n) ≡ contains rs n
 runs_named from [] n h = refl

@@ -10,6 +10,7 @@ use Rattle.krl.specs.declared.run.Run.{Run}
 use Rattle.krl.specs.Sets.{is_within, contains, AreRunsFrom, is_before, is_last_reached, cut_run}
 use Rattle.krl.proofs.Booleans.{ltb-yes}
 use Rattle.krl.proofs.Maximal.{weaken}
+use Rattle.std.proofs.Math.Bool.{and-false}
 
 -- the serials from one on and below a bound
 abbrev pub is_between : ℕ → Option ℕ → ℕ → Bool
@@ -54,11 +55,7 @@ cut_runs at from before (r ∷ rs) h = elim (cut_cases from before r h.1) [
 
 -- and they have what is there
 pub contains_cut : (at : ℕ) (from : ℕ) (before : Option ℕ) (rs : List Run) (n : ℕ) → AreRunsFrom at rs → contains (filter_map (cut_run from before) rs) n ≡ (is_between from before n && contains rs n)
-contains_cut at from before [] n h = sym (and_false (is_between from before n))
-  where
-    and_false : (b : Bool) → (b && false) ≡ false
-    and_false true = refl
-    and_false false = refl
+contains_cut at from before [] n h = sym (and-false (is_between from before n))
 contains_cut at from before (r ∷ rs) n h = elim (cut_cases from before r h.1) [
   | inl none ↦ rw (none.0) (contains_cut (r.hi + 2) from before rs n h.3 ∙ sym (ap (λ b. b || (is_between from before n && contains rs n)) (none.1 n)) ∙ and_or (is_between from before n) (is_within n r) (contains rs n))
   | inr some ↦ rw (some.1) (ap (λ b. is_within n some.0 || b) (contains_cut (r.hi + 2) from before rs n h.3)

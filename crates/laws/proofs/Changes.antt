@@ -1,10 +1,7 @@
 -- What accepted messages do to the state: so an invariant is one proof for each change.
-use Rattle.std.proofs.Common.{◌≡◌, ℕ, ◌<◌, ◌≤◌, List, length, Bool, true, false, cond, leb, ltb, eqb, Option, Some, None, refl}
-use Rattle.std.specs.Prelude.{IsSome, is_none}
+use Rattle.std.proofs.Common.{◌≡◌, ℕ, ◌<◌, ◌≤◌, List, length, Bool, true, false, cond, leb, ltb, Option, Some, None, refl}
 use Rattle.std.specs.Option.{option_map}
-use Rattle.std.proofs.lemmas.Bool.{and_parts, or_parts, eqb-true, leb-false, ltb-false}
-use Rattle.lines.specs.declared.key_line.KeyLine.{KeyLine}
-use Rattle.lines.specs.KeyLines.{is_key, is_comment_or_none, is_key_line}
+use Rattle.std.proofs.lemmas.Bool.{or_parts, leb-false, ltb-false}
 use Rattle.lines.specs.declared.signature.Signature.{Signature}
 use Rattle.profile.specs.declared.limits.TheConstants.{LATEST_MOMENT}
 use Rattle.cert.specs.Bodies.{body_text}
@@ -22,6 +19,8 @@ use Rattle.office.specs.Machine.{after, issued, with_department, with_certificat
 use Rattle.office.proofs.Judged.{none_holds}
 use Rattle.office.proofs.Decisions.{serial_of_one}
 use Rattle.laws.proofs.Inductions.{IsKeptBy}
+use Rattle.office.proofs.Ranges.{some_of}
+use Rattle.lines.proofs.KeyLineLaws.{key_size}
 
 -- the certificate of the next serial, under the newest CA
 pub record IsNext (s : State) (c : Certificate) : Type 0 where
@@ -60,15 +59,6 @@ made Q s r nonce moment None q h = q
 made Q s r nonce moment (Some c) q h =
     h.certificate (renewed_certificate c r (next_serial s) (newest_key s.opening s.cas) nonce) (record { serial = refl; ca = refl; body = refl })
 
-some_of : (o : Option Certificate) → is_none o ≡ false → IsSome o
-some_of (Some c) e = refl
-some_of None e = absurd cc
-
-key_length : (k : KeyLine) → is_key_line k ≡ true → length k.key ≡ 32
-key_length k e =
-    let is = (and_parts (is_key k.key) (is_comment_or_none k.comment) e).0 in
-    eqb-true (length k.key) 32 (and_parts (eqb (length k.key) 32) _ is).0
-
 holds_then : (Q : State → Type 0) (s : State) (caller : List ℕ) (m : Message) (moment : ℕ) (nonce : List ℕ)
     → is_message m ≡ true → first_holding (refusals s caller m moment) ≡ None → Q s → HoldsAfter Q s moment → Q (after s m moment nonce)
 holds_then Q s caller (message.Department d) moment nonce lawful allowed q h = h.department d
@@ -89,7 +79,7 @@ holds_then Q s caller (message.RevokeKeyId key_id) moment nonce lawful allowed q
     same_or Q s (republished (with_key_id s key_id) moment) (is_key_id_revoked s key_id) q (h.key_id key_id)
 holds_then Q s caller (message.Rollover k) moment nonce lawful allowed q h =
     let tests = none_holds (refusals s caller (message.Rollover k) moment) allowed in
-    let is : IsNewCa s k.key = record { bytes = key_length k lawful; new = tests.1.0; room = leb-false _ _ tests.1.1.0 } in
+    let is : IsNewCa s k.key = record { bytes = key_size k lawful; new = tests.1.0; room = leb-false _ _ tests.1.1.0 } in
     by_any (has_any s.revoked_key_ids) refl is
   where
     by_any : (b : Bool) → has_any s.revoked_key_ids ≡ b → IsNewCa s k.key → Q (cond b (republished (with_ca s (ca_from_now s k.key)) moment) (with_ca s (ca_from_now s k.key)))

@@ -1,16 +1,15 @@
 -- The published list revokes just what was named.
-use Rattle.std.proofs.Common.{◌≡◌, ◌≢◌, ℕ, zero, suc, ◌+◌, ◌≤◌, ◌<◌, ◌^◌, List, [], ◌∷◌, length, map, fold, Bool, true, false, ◌&&◌, ◌||◌, leb, Some, refl, sym, ap, ap₂, subst, ◌∙◌, inl, inr, arith}
+use Rattle.std.proofs.Common.{◌≡◌, ◌≢◌, ℕ, zero, suc, ◌+◌, ◌≤◌, ◌^◌, List, [], ◌∷◌, length, map, fold, Bool, true, false, ◌&&◌, ◌||◌, leb, Some, refl, sym, ap, ap₂, subst, ◌∙◌, inl, inr, arith}
 use Rattle.std.specs.Prelude.{slice_get}
 use Rattle.std.specs.List.{AllByRecursion}
 use Rattle.std.specs.Str.{bytes_eq}
 use Rattle.std.proofs.lemmas.Bool.{and_parts, le-leb, leb-true}
-use Rattle.std.proofs.lemmas.Bool.Decides.{nat_tests}
 use Rattle.lines.specs.Keys.{key_blob}
 use Rattle.krl.specs.declared.ca_part.CaPart.{CaPart}
 use Rattle.krl.specs.Sets.{AreRuns, contains, is_counted, is_last_reached}
 use Rattle.krl.specs.Published.{published_list as krl_list, IsCaPartOf, AreDistinctCas, fits}
 use Rattle.krl.proofs.Publishing.{only_cut, revokes_exactly}
-use Rattle.krl.proofs.Counting.{runs_in_runs, contains_runs_in}
+use Rattle.krl.proofs.Counting.{runs_in_runs, contains_runs_in, are_counted}
 use Rattle.office.specs.declared.opening.Opening.{Opening}
 use Rattle.office.specs.declared.arrival.Arrival.{Arrival}
 use Rattle.office.specs.declared.ca.Ca.{Ca}
@@ -25,7 +24,8 @@ use Rattle.laws.specs.Named.{is_serial_named}
 use Rattle.laws.specs.Signers.{key_at, is_signer}
 use Rattle.laws.specs.Lists.{IsExact, AreExactList}
 use Rattle.laws.proofs.Named.{serials_are_named, key_ids_are_named}
-use Rattle.laws.proofs.Shape.{AreDistinct, cas_stand, date_is_moment}
+use Rattle.office.proofs.Dates.{date_after}
+use Rattle.laws.proofs.Shape.{AreDistinct, cas_stand}
 use Rattle.laws.proofs.Signers.{served_signs}
 
 -- ---- the parts of a list
@@ -72,9 +72,6 @@ same_where : (b c d : Bool) → (b ≡ true → c ≡ d) → (b && c) ≡ (b && 
 same_where true c d h = h refl
 same_where false c d h = refl
 
-counted : (from count n : ℕ) → from ≤ n → n < from + count → is_counted from count n ≡ true
-counted from count n low high = grind (arith, nat_tests)
-
 serials_fit : (o : Opening) (l : List Arrival) → IsOpening o → next_serial (state o l) ≤ 2 ^ 64
 serials_fit o l is =
     let s = state o l in
@@ -101,7 +98,7 @@ part_contains o l is place ca e n =
     let last = is_last_reached (map (λ c. c.since) s.cas) place n in
     let issued = revoked_is_issued o l n in
     contains_runs_in (is_revoked_under s place) s.opening.first (length s.certificates) n (serials_fit o l is)
-    ∙ within (is_counted s.opening.first (length s.certificates) n) (s.revoked n) last (λ r. counted s.opening.first (length s.certificates) n (issued r).0 (issued r).1)
+    ∙ within (is_counted s.opening.first (length s.certificates) n) (s.revoked n) last (λ r. are_counted s.opening.first (length s.certificates) n (issued r).0 (issued r).1)
     ∙ same_where (s.revoked n) last (is_signer ca s n) (λ r. signed_there o l is place ca e n (issued r).0)
     ∙ ap (λ b. b && is_signer ca s n) (serials_are_named o l n)
 
@@ -120,7 +117,7 @@ pub list_is_exact : (o : Opening) (l : List Arrival) → IsOffice o l → fits (
 list_is_exact o l office fit =
     let s = state o l in
     let version = office.version in
-    let date = date_is_moment o l in record {
+    let date = date_after o l in record {
       list = krl_list (head_of s) (published_parts s) s.revoked_key_ids;
       only = only_cut (head_of s) (published_parts s) s.revoked_key_ids (omega arith) (omega arith) (parts_runs s 0 s.cas (serials_fit o l office.opening)) fit;
       exact = exact o l office.opening;

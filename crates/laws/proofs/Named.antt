@@ -1,11 +1,11 @@
 -- What is revoked is what messages named.
-use Rattle.std.proofs.Common.{◌≡◌, ℕ, zero, suc, ◌+◌, ◌-◌, ◌<◌, ◌≤◌, List, [], ◌∷◌, ◌++◌, Bool, true, false, cond, ◌&&◌, ◌||◌, leb, eqb, Ordering, Less, Equal, Greater, Option, Some, None, refl, sym, ap, ◌∙◌, inl, inr, arith}
+use Rattle.std.proofs.Common.{◌≡◌, ℕ, ◌+◌, ◌-◌, List, [], ◌∷◌, ◌++◌, Bool, true, false, cond, ◌&&◌, ◌||◌, leb, eqb, Ordering, Less, Equal, Greater, Option, Some, None, refl, sym, ap, ◌∙◌, arith}
 use Rattle.std.specs.List.{list_any}
 use Rattle.std.specs.Str.{bytes_eq}
 use Rattle.std.specs.Ordering.{nat_cmp, is_eq}
 use Rattle.std.specs.Cmp.Lexicographic.{slice_cmp}
 use Rattle.std.specs.FinMap.Entries.{by_order}
-use Rattle.std.proofs.lemmas.Bool.{and_parts, leb-true, cases_eq}
+use Rattle.std.proofs.lemmas.Bool.{and_parts, leb-true}
 use Rattle.std.proofs.lemmas.Bool.Decides.{nat_tests}
 use Rattle.std.proofs.lemmas.List.Folds.{list_any-append}
 use Rattle.std.proofs.lemmas.Map.Text.{is_eq-slice_cmp}
@@ -17,22 +17,15 @@ use Rattle.message.specs.declared.kinds.Message.TheVariants as message
 use Rattle.office.specs.declared.opening.Opening.{Opening}
 use Rattle.office.specs.declared.arrival.Arrival.{Arrival}
 use Rattle.office.specs.declared.certificate.Certificate.{Certificate}
-use Rattle.office.specs.State.{State, has_all, is_range_revoked, is_key_id_revoked, has_any}
+use Rattle.office.specs.State.{State, is_range_revoked, is_key_id_revoked, has_any}
 use Rattle.office.specs.Machine.{after, renewed, with_one_more, put_text}
 use Rattle.office.specs.History.{First, state}
 use Rattle.laws.specs.Named.{names_serial, names_key_id, is_serial_named, is_key_id_named}
 use Rattle.laws.proofs.Inductions.{IsKeptBy, after_all, after_more}
+use Rattle.office.proofs.Ranges.{has_all-each}
+use Rattle.krl.proofs.Gathering.{within_one}
 
 -- ---- serials
-
-each_of_all : (set : ℕ → Bool) (from count n : ℕ) → has_all set from count ≡ true → from ≤ n → n < from + count → set n ≡ true
-each_of_all set from zero n all low high = absurd (omega (arith, low, high))
-each_of_all set from (suc count) n all low high =
-    let parts = and_parts (set from) (has_all set (from + 1) count) all in
-    elim (cases_eq n from) [
-      | inl first ↦ ap set first ∙ parts.0
-      | inr other ↦ each_of_all set (from + 1) count n parts.1 (omega arith) (omega arith)
-    ]
 
 or_nothing : (b : Bool) → b ≡ (b || false)
 or_nothing true = refl
@@ -53,9 +46,6 @@ cond_same : (b x : Bool) → cond b x x ≡ x
 cond_same true x = refl
 cond_same false x = refl
 
-one_serial : (n serial : ℕ) → (leb serial n && leb n serial) ≡ eqb n serial
-one_serial n serial = grind (arith, nat_tests)
-
 serial_named : (s : State) (serial n : ℕ) → cond (s.revoked serial) (s.revoked n) ((leb serial n && leb n serial) || s.revoked n) ≡ (s.revoked n || eqb n serial)
 serial_named s serial n = by_test (s.revoked serial) refl
   where
@@ -64,7 +54,7 @@ serial_named s serial n = by_test (s.revoked serial) refl
       where
         eqb-same : (n m : ℕ) → eqb n m ≡ true → n ≡ m
         eqb-same n m e = grind (arith, nat_tests)
-    by_test false e = ap (λ b. b || s.revoked n) (one_serial n serial) ∙ or_swap (eqb n serial) (s.revoked n)
+    by_test false e = ap (λ b. b || s.revoked n) (within_one n serial) ∙ or_swap (eqb n serial) (s.revoked n)
 
 range_named : (s : State) (r : SerialRange) (n : ℕ) → cond (is_range_revoked s r) (s.revoked n) ((leb r.lo n && leb n r.hi) || s.revoked n) ≡ (s.revoked n || (leb r.lo n && leb n r.hi))
 range_named s r n = by_test (is_range_revoked s r) refl
@@ -74,7 +64,7 @@ range_named s r n = by_test (is_range_revoked s r) refl
         let ends = and_parts (leb r.lo n) (leb n r.hi) within in
         let low = leb-true _ _ ends.0 in
         let high = leb-true _ _ ends.1 in
-        each_of_all s.revoked r.lo ((r.hi + 1) - r.lo) n e low (omega arith))
+        has_all-each s.revoked r.lo ((r.hi + 1) - r.lo) n e low (omega arith))
     by_test false e = or_swap (leb r.lo n && leb n r.hi) (s.revoked n)
 
 serial_of_cond : (b : Bool) (s t : State) (n : ℕ) → (cond b s t).revoked n ≡ cond b (s.revoked n) (t.revoked n)

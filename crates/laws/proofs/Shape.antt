@@ -100,18 +100,3 @@ opened_cas o is = record {
 
 pub cas_stand : (o : Opening) (l : List Arrival) → IsOpening o → AreCas (state o l)
 cas_stand o l is = after_all (λ fs s. AreCas s) (by_change AreCas cas_kept) o l (opened_cas o is)
-
--- the list's date is a moment
-date_kept : (s : State) (moment : ℕ) → moment ≤ LATEST_MOMENT → s.date ≤ LATEST_MOMENT → HoldsAfter (λ t. t.date ≤ LATEST_MOMENT) s moment
-date_kept s moment in_time e = record {
-  department = λ d. e;
-  certificate = λ c is. e;
-  signature = λ serial signature. e;
-  range = λ r is. in_time;
-  key_id = λ key_id. in_time;
-  ca = λ key is none. e;
-  ca_published = λ key is some. in_time;
-}
-
-pub date_is_moment : (o : Opening) (l : List Arrival) → (state o l).date ≤ LATEST_MOMENT
-date_is_moment o l = after_all (λ fs s. s.date ≤ LATEST_MOMENT) (by_change (λ t. t.date ≤ LATEST_MOMENT) date_kept) o l (omega arith)

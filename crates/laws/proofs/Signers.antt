@@ -10,6 +10,7 @@ use Rattle.krl.specs.Sets.{is_last_reached}
 use Rattle.office.specs.declared.ca.Ca.{Ca}
 use Rattle.laws.specs.Signers.{key_at}
 use Rattle.laws.proofs.Shape.{AreDistinct}
+use Rattle.krl.proofs.Publishing.{bytes_other}
 
 -- each CA came later
 abbrev pub are_later : ℕ → List Ca → Bool
@@ -51,13 +52,6 @@ one_signs n x key (ca ∷ cas) all e = by_test (ltb n ca.since) refl (one_signs 
 
 bytes_same : (x y : List ℕ) → x ≡ y → bytes_eq x y ≡ true
 bytes_same x y e = (bytes_eq-Decides x y).1 e
-
-bytes_other : (x y : List ℕ) → x ≢ y → bytes_eq x y ≡ false
-bytes_other x y ne = by_test (bytes_eq x y) refl
-  where
-    by_test : (b : Bool) → bytes_eq x y ≡ b → b ≡ false
-    by_test true is = absurd (ne ((bytes_eq-Decides x y).0 is))
-    by_test false is = refl
 
 -- the first of CAs, once it came
 first_signs : (n : ℕ) (ca : Ca) (cas : List Ca) → AllByRecursion (λ c. c.key ≢ ca.key) cas → are_later n cas ≡ bytes_eq ca.key (fold (key_at n) ca.key cas)

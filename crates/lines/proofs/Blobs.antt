@@ -38,7 +38,7 @@ key_of_again key len =
 -- ---- bytes as a test
 
 -- bytes pass the test
-all_bytes : (xs : List ℕ) → IsBytes xs → list_all (λ b. nat_lt b 256) xs ≡ true
+pub all_bytes : (xs : List ℕ) → IsBytes xs → list_all (λ b. nat_lt b 256) xs ≡ true
 all_bytes [] fits = refl
 all_bytes (x ∷ xs) fits = and_from _ _ (lt-ltb x 256 (fits 0)) (all_bytes xs (λ i. fits (suc i)))
 

@@ -294,3 +294,7 @@ word_is_blob word fits = (
       (found.0, blob_fits, found.2, base64_found word found.0 fits found.1),
   λ is_blob. ap is_base64_word is_blob.3 ∙ word_again is_blob.0 is_blob.2 is_blob.1,
 )
+
+-- its key has 32 bytes
+pub key_size : (k : KeyLine) → is_key_line k ≡ true → length k.key ≡ 32
+key_size k e = eqb-true _ _ (and_parts _ _ (and_parts (is_key k.key) (is_comment_or_none k.comment) e).0).0

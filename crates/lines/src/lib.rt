@@ -22,7 +22,7 @@ pub use cert_line::write_cert_line;
 pub use digest::{body_digest, fingerprint};
 pub use key_line::{KeyLine, LineFault};
 pub use laws::{base64_words_are_blobs, key_lines_are_lawful_or_faulty, key_lines_are_read_again};
-pub use reading::{MAX_COMMENT, is_comment, read_key_line};
+pub use reading::{MAX_COMMENT, is_comment, read_key_line, word_and_rest};
 pub use signature::Signature;
 pub use signers::{OutFault, SignerRow, write_signers};
 pub use writing::{bare_key_line, put_key_line, write_key_line};

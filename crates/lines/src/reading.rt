@@ -28,10 +28,10 @@ fn first_space(text: &[u8]) -> Option<usize>
     text.iter().position(|b| *b == b' ')
 }
 
-// The word up to the first space, and what stands behind that.
-fn word_and_comment(text: &[u8]) -> (&[u8], Option<&[u8]>)
+/// The word up to the first space, and what stands behind that. Without a space the text is one word.
+pub fn word_and_rest(text: &[u8]) -> (&[u8], Option<&[u8]>)
     ensures word { result.0.now ≡ word_of text.now }
-    ensures comment { option_copied result.1 ≡ comment_of text.now }
+    ensures rest { option_copied result.1 ≡ comment_of text.now }
 {
     match first_space(text) {
         Some(at) => (&text[..at], Some(&text[at + 1..])),
@@ -93,7 +93,7 @@ fn read(alloc: Global, line: &[u8]) -> Result<KeyLine, LineFault>
     let Some(rest) = after_type(line) else {
         return Err(LineFault::WrongType);
     };
-    let (word, comment) = word_and_comment(rest);
+    let (word, comment) = word_and_rest(rest);
     let Some(blob) = blob_in(word) else {
         return Err(LineFault::BadBase64);
     };

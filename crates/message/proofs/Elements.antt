@@ -1,11 +1,9 @@
 -- What may stand in a line: no name, rule, principal, key id, namespace, option or number has a line feed or, in
 -- lists, a comma.
-use Rattle.std.proofs.Common.{◌≡◌, ℕ, List, [], ◌∷◌, ◌++◌, length, take, drop, Bool, true, false, not, eqb, refl, sym, ap, subst, ◌∙◌, inl, inr}
-use Rattle.std.specs.List.{list_all, list_any, prefix_len}
+use Rattle.std.proofs.Common.{◌≡◌, ℕ, List, [], ◌∷◌, length, drop, Bool, true, false, not, eqb, refl, sym, ap, subst, ◌∙◌, inl, inr}
+use Rattle.std.specs.List.{list_all, list_any}
 use Rattle.std.specs.Str.{bytes_eq}
 use Rattle.std.proofs.lemmas.Bool.{and_parts, or_cases, eqb-true}
-use Rattle.std.proofs.lemmas.List.{take-append-drop}
-use Rattle.std.proofs.lemmas.List.Folds.{length-prefix_len}
 use Rattle.std.proofs.lemmas.List.Elements.{All-append, All-cons}
 use Rattle.std.proofs.lemmas.Slice.Eq.{bytes_eq-Decides}
 use Rattle.profile.specs.Names.{is_name, is_name_byte, is_principal, is_principal_byte, is_rule, is_suffix_rule, is_key_id, is_key_id_byte, is_key_id_end, is_namespace, department_of}
@@ -15,6 +13,7 @@ use Rattle.profile.specs.declared.option_field.OptionField.TheVariants.{Critical
 use Rattle.message.specs.Values.{are_administrators, are_rules, are_principals, are_option_names, are_extension_names, are_namespaces}
 use Rattle.profile.proofs.Lacking.{Lacks, lacks_from}
 use Rattle.message.proofs.Fields.{lacks_by, AllLack, all_lack}
+use Rattle.profile.proofs.NameLemmas.{department_cut}
 
 pub name_lacks : (byte : ℕ) → is_name_byte byte ≡ false → (t : List ℕ) → is_name t ≡ true → Lacks byte t
 name_lacks byte off t is = lacks_from is_name_byte byte t off (and_parts _ _ is).1
@@ -50,18 +49,11 @@ key_id_end_lacks byte off other (b ∷ rest) is =
     All-cons (λ x. eqb x byte ≡ false) b rest (ap (λ (x : ℕ). eqb x byte) slash ∙ other)
     (lacks_from is_key_id_byte byte rest off (and_parts _ _ both.1).1)
 
--- a key id is its department and what follows it
-key_id_parts : (t : List ℕ) → t ≡ department_of t ++ drop (length (department_of t)) t
-key_id_parts t =
-    let n = prefix_len (λ b. not (eqb b 47)) t in
-    let size : length (take n t) ≡ n = length-prefix_len (λ b. not (eqb b 47)) t in
-    sym (take-append-drop n t) ∙ ap (λ (k : ℕ). take n t ++ drop k t) (sym size)
-
 pub key_id_line : (t : List ℕ) → is_key_id t ≡ true → Lacks 10 t
 key_id_line t is =
     let both = and_parts _ _ is in
     let department = department_of t in
-    subst (Lacks 10) (sym (key_id_parts t))
+    subst (Lacks 10) (sym (department_cut t))
     (All-append (λ b. eqb b 10 ≡ false) department (drop (length department) t)
     (name_lacks 10 refl department both.0) (key_id_end_lacks 10 refl refl (drop (length department) t) both.1))
 

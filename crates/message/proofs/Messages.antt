@@ -6,6 +6,7 @@ use Rattle.profile.specs.Names.{is_key_id}
 use Rattle.lines.specs.KeyLines.{is_key_line, key_line_text}
 use Rattle.message.specs.declared.kinds.Message.{Message}
 use Rattle.message.specs.declared.kinds.Message.TheVariants as message
+use Rattle.profile.specs.Serials.{is_serial}
 use Rattle.message.specs.Values.{
   is_delivery,
   is_department,
@@ -13,7 +14,6 @@ use Rattle.message.specs.Values.{
   is_message,
   is_range,
   is_renewal,
-  is_serial,
 }
 use Rattle.message.specs.Texts.{
   delivery_lines,

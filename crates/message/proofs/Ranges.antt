@@ -18,7 +18,8 @@ use Rattle.message.specs.Reading.{after, range_after, range_between, range_of}
 use Rattle.message.specs.declared.serial_range.SerialRange.{SerialRange}
 use Rattle.message.proofs.Readings.{IsField, IsLine}
 use Rattle.message.proofs.Fields.{field_passing}
-use Rattle.message.proofs.Numbers.{number_read, serial_small}
+use Rattle.profile.proofs.DecimalLemmas.{number_spelled}
+use Rattle.profile.proofs.SerialLemmas.{serial_small}
 
 -- two numbers that make a range
 between_found : (lo hi : Option ℕ) (r : SerialRange) → range_between lo hi ≡ Some r → (lo ≡ Some r.lo) × (hi ≡ Some r.hi)
@@ -35,8 +36,8 @@ range_found t r fits e =
     (λ last there both.
     let is = between_found (number_of (word_of t)) (number_of last) r both in
     text_is t ∙ ap (λ (c : Option (List ℕ)). word_of t ++ comment_text c) there
-    ∙ ap (λ (w : List ℕ). w ++ 32 ∷ last) (number_read (word_of t) r.lo is.0)
-    ∙ ap (λ (w : List ℕ). decimal r.lo ++ 32 ∷ w) (number_read last r.hi is.1))
+    ∙ ap (λ (w : List ℕ). w ++ 32 ∷ last) (number_spelled (word_of t) r.lo is.0)
+    ∙ ap (λ (w : List ℕ). decimal r.lo ++ 32 ∷ w) (number_spelled last r.hi is.1))
 
 -- a lawful range is read again
 range_again : (r : SerialRange) → is_range r ≡ true → range_of (range_text r) ≡ Some r

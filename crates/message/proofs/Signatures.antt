@@ -1,10 +1,9 @@
 -- Signatures in lines.
-use Rattle.std.proofs.Common.{◌≡◌, ℕ, suc, List, [], ◌∷◌, ◌++◌, length, take, drop, replicate, true, nat_lt, ◌&&◌, eqb, Option, Some, None, Result, Ok, Err, refl, sym, ap, subst, ◌∙◌, arith, inl, inr}
-use Rattle.std.specs.List.{list_all}
+use Rattle.std.proofs.Common.{◌≡◌, ℕ, List, [], ◌++◌, length, take, drop, replicate, true, ◌&&◌, eqb, Option, Some, None, Result, Ok, Err, refl, sym, ap, subst, ◌∙◌, arith, inl, inr}
 use Rattle.std.specs.Option.{option_and_then, option_map}
 use Rattle.std.specs.Result.{result_ok}
 use Rattle.std.specs.Str.{bytes_eq}
-use Rattle.std.proofs.lemmas.Bool.{and_from, and_parts, cases_Bool, cond-true, cond-false, eq-eqb, eqb-true, lt-ltb}
+use Rattle.std.proofs.lemmas.Bool.{and_from, and_parts, cases_Bool, cond-true, cond-false, eq-eqb, eqb-true}
 use Rattle.std.proofs.lemmas.List.{length-drop}
 use Rattle.std.proofs.lemmas.Option.{option_and_then_some, same_Some}
 use Rattle.std.proofs.lemmas.Slice.Eq.{bytes_eq-Decides}
@@ -21,7 +20,7 @@ use Rattle.lines.proofs.Base64.{
   base64_found,
   length-encode_of,
 }
-use Rattle.lines.proofs.Blobs.{IsBytes_from}
+use Rattle.lines.proofs.Blobs.{IsBytes_from, all_bytes}
 use Rattle.message.specs.Values.{is_signature}
 use Rattle.message.specs.Texts.{signature_text}
 use Rattle.message.specs.Reading.{after, signature_after, signature_at}
@@ -53,11 +52,6 @@ blob_again bytes size =
     let same = (bytes_eq-Decides (signature_blob bytes) (signature_blob bytes)).1 refl in
     let all : length (signature_blob bytes) ≡ 83 = omega arith in
     cond-true _ (Some bytes) None (and_from _ _ same (eq-eqb _ _ all))
-
--- bytes pass the test
-all_bytes : (xs : List ℕ) → IsBytes xs → list_all (λ b. nat_lt b 256) xs ≡ true
-all_bytes [] fits = refl
-all_bytes (x ∷ xs) fits = and_from _ _ (lt-ltb x 256 (fits 0)) (all_bytes xs (λ i. fits (suc i)))
 
 blob_is_bytes : (bytes : List ℕ) → length bytes ≡ 64 → IsBytes bytes → IsBytes (signature_blob bytes)
 blob_is_bytes bytes size fits =

@@ -25,6 +25,7 @@ use Rattle.message.specs.declared.kinds.Message.{Message}
 use Rattle.message.specs.declared.kinds.Message.TheVariants as message
 use Rattle.message.specs.declared.renewal.Renewal.{Renewal}
 use Rattle.message.specs.declared.serial_range.SerialRange.{SerialRange}
+use Rattle.profile.specs.Serials.{is_serial}
 use Rattle.message.specs.Values.{
   are_administrators,
   are_rules,
@@ -36,7 +37,6 @@ use Rattle.message.specs.Values.{
   is_longest_life,
   is_end,
   is_option,
-  is_serial,
   is_digest,
   is_range,
 }

@@ -8,6 +8,7 @@ use Rattle.profile.specs.declared.option_field.OptionField.TheVariants.{Critical
 use Rattle.profile.specs.Names.{is_name, is_rule, is_principal, is_key_id, is_namespace}
 use Rattle.profile.specs.Lists.{are_distinct}
 use Rattle.profile.specs.Options.{is_known, is_option_value}
+use Rattle.profile.specs.Serials.{is_serial}
 use Rattle.lines.specs.KeyLines.{is_key_line}
 use Rattle.lines.specs.declared.signature.Signature.{Signature}
 use Rattle.message.specs.declared.delivery.Delivery.{Delivery}
@@ -80,10 +81,6 @@ abbrev pub is_issue : Issue → Bool
 is_issue i =
     is_name i.department && (is_key_id i.key_id && (is_key_line i.key && (are_principals i.principals
     && (is_end i.after && (is_end i.before && (are_options i.options && are_extension_names i.extensions))))))
-
--- 1 to 9223372036854775806
-abbrev pub is_serial : ℕ → Bool
-is_serial n = nat_le 1 n && nat_le n 9223372036854775806
 
 -- a certificate that may be asked for once more
 abbrev pub is_renewal : Renewal → Bool

@@ -41,6 +41,24 @@ pub struct Department {
     pub namespaces: Texts,
 }
 
+impl Department {
+    /// A copy of its own.
+    pub fn copied(&self, alloc: Global) -> Result<Department, NoMemory>
+        ensures { IfOk result (λ d. d ≡ self.now) }
+    {
+        Ok(Department {
+            name: self.name.copied(alloc)?,
+            kind: self.kind,
+            administrators: self.administrators.copied(alloc)?,
+            rules: self.rules.copied(alloc)?,
+            options: self.options.copied(alloc)?,
+            extensions: self.extensions.copied(alloc)?,
+            longest_life: self.longest_life,
+            namespaces: self.namespaces.copied(alloc)?,
+        })
+    }
+}
+
 /// The kind of a line.
 fn kind_in(line: &[u8]) -> Option<Kind>
     ensures { result ≡ kind_of line.now }
@@ -55,7 +73,7 @@ fn kind_in(line: &[u8]) -> Option<Kind>
 }
 
 /// Whether a department of this kind may have the list: one for hosts has none.
-fn fits_kind(kind: Kind, texts: &[Text]) -> bool
+pub fn fits_kind(kind: Kind, texts: &[Text]) -> bool
     ensures { result ≡ fits_kind kind texts.now }
 {
     match kind {

@@ -21,7 +21,7 @@ mod value;
 mod writing;
 
 pub use delivery::Delivery;
-pub use department::Department;
+pub use department::{Department, fits_kind};
 pub use fault::MessageFault;
 pub use issue::Issue;
 pub use kinds::Message;

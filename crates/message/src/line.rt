@@ -1,8 +1,7 @@
 //! One line of a message.
 
-ghost use Rattle.std.specs.Prelude.{◌≡◌, ◌≤◌, ◌==◌, map, position, IfOk, option_copied};
+ghost use Rattle.std.specs.Prelude.{◌≡◌, ◌≤◌, map, IfOk, option_copied};
 ghost use Rattle.std.specs.Option.{option_and_then};
-ghost use Rattle.lines.specs.Reading.{comment_of, word_of};
 ghost use Rattle.profile.specs.Decimals.{number_of};
 ghost use Rattle.message.specs.Reading.{after, ends_after, line_of, listed, name_after};
 
@@ -88,21 +87,4 @@ pub(crate) fn list_after(alloc: Global, line: &[u8], word: &[u8]) -> Result<Opti
         return Ok(None);
     };
     listed(alloc, text)
-}
-
-fn first_space(text: &[u8]) -> Option<usize>
-    ensures { result ≡ position (λ b. b == 32) text.now }
-{
-    text.iter().position(|b| *b == b' ')
-}
-
-/// The word up to the first space, and what stands behind that.
-pub(crate) fn word_and_rest(text: &[u8]) -> (&[u8], Option<&[u8]>)
-    ensures word { result.0.now ≡ word_of text.now }
-    ensures rest { option_copied result.1 ≡ comment_of text.now }
-{
-    match first_space(text) {
-        Some(at) => (&text[..at], Some(&text[at + 1..])),
-        None => (text, None),
-    }
 }

@@ -4,7 +4,8 @@ ghost use Rattle.std.specs.Prelude.{◌≡◌, IfOk};
 ghost use Rattle.message.specs.Reading.{is_new_option, option_after, pair_of};
 ghost use Rattle.message.specs.Values.{is_option};
 
-use crate::line::{after, word_and_rest};
+use crate::line::after;
+use lines::word_and_rest;
 use profile::{OptionField, is_flag, is_known, is_option_value};
 use std::alloc::Global;
 use text::{NoMemory, Pair, Pairs, Text};

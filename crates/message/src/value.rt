@@ -12,13 +12,14 @@ ghost use Rattle.message.specs.Reading.{
   signature_after,
   signature_at,
 };
-ghost use Rattle.message.specs.Values.{is_digest, is_end, is_lower_hex, is_range, is_serial};
+ghost use Rattle.profile.specs.Serials.{is_serial};
+ghost use Rattle.message.specs.Values.{is_digest, is_end, is_lower_hex, is_range};
 
-use crate::line::{after, number_after, word_and_rest};
+use crate::line::{after, number_after};
 use crate::serial_range::SerialRange;
 use base64::engine::general_purpose::STANDARD;
-use lines::{KeyLine, LineFault, Signature, read_key_line, read_signature_blob};
-use profile::{LAST_SERIAL, LATEST_MOMENT, is_key_id, read_decimal};
+use lines::{KeyLine, LineFault, Signature, read_key_line, read_signature_blob, word_and_rest};
+use profile::{LATEST_MOMENT, is_key_id, is_serial, read_decimal};
 use std::alloc::Global;
 use text::{NoMemory, Text};
 
@@ -67,12 +68,6 @@ pub(crate) fn end_after(line: &[u8], head: &[u8]) -> Option<u64>
     } else {
         None
     }
-}
-
-fn is_serial(number: u64) -> bool
-    ensures { result ≡ is_serial number }
-{
-    1 <= number && number <= LAST_SERIAL
 }
 
 pub(crate) fn serial_after(line: &[u8], head: &[u8]) -> Option<u64>

@@ -14,12 +14,12 @@ use Rattle.tables.specs.declared.fault.Fault.TheVariants as table
 use Rattle.tables.specs.Contents.{Contents, Means}
 use Rattle.tables.specs.Calls.{Begins}
 use Rattle.tables.specs.Faults.{HasCause, HasFailed}
-use Rattle.rows.specs.Faults.{fault_of}
+use Rattle.rows.specs.Faults.{fault_of, told}
 use Rattle.rows.specs.Transactions.{Makes, Rests}
 use Rattle.rows.proofs.Steps.{goes_still}
 use Rattle.migration.specs.Former.{Had, ca_of, first_ca, former_contents, migrated}
 use Rattle.tables.specs.Refusals.{HasCauseOr}
-use Rattle.migration.specs.Migrating.{HasStopped, IsCaDue, IsExcused, IsRefused, Judges, TellsEnd, done, told}
+use Rattle.migration.specs.Migrating.{HasStopped, IsCaDue, IsExcused, IsRefused, Judges, TellsEnd, done}
 use Rattle.migration.proofs.Contents.{ca_same}
 use Rattle.rows.proofs.Causes.{failed_late}
 use Rattle.migration.proofs.Failing.{stopped_early, stopped_late}

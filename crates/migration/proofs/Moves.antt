@@ -16,7 +16,8 @@ use Rattle.tables.specs.Changes.{with_ca, with_schema}
 use Rattle.rows.specs.Transactions.{Goes, Has, Makes, Waits}
 use Rattle.rows.proofs.Steps.{Leads, goes, goes_still, goes_then, stops_then}
 use Rattle.migration.specs.Former.{Had, ca_of, migrated}
-use Rattle.migration.specs.Migrating.{HasNoCa, IsRefused, done, told}
+use Rattle.rows.specs.Faults.{told}
+use Rattle.migration.specs.Migrating.{HasNoCa, IsRefused, done}
 use Rattle.rows.proofs.Causes.{failed_late}
 use Rattle.migration.proofs.Contents.{ca_same, no_cas, put_in}
 

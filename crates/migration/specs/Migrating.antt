@@ -20,11 +20,6 @@ use Rattle.migration.specs.Former.{Had, TellsBefore, ca_of, former_contents, mig
 
 -- ---- results
 
--- what the tables answer, with the register's faults
-abbrev pub told : {X : Type 0} → Result X Fault → Result X StoreFault
-told (Ok x) = Ok x
-told (Err f) = Err (fault_of f)
-
 -- whether it is done, whatever the fault
 abbrev pub done : {X : Type 0} → Result X StoreFault → Result X Fault
 done (Ok x) = Ok x

@@ -1,6 +1,6 @@
 //! What is written inside of the transaction.
 
-ghost use Rattle.std.specs.Prelude.{◌≡◌, IfErr};
+ghost use Rattle.std.specs.Prelude.{IfErr};
 ghost use Rattle.sqlite.specs.Held.{state};
 ghost use Rattle.sqlite.specs.State.{HasCleanDisk, Survives};
 ghost use Rattle.tables.specs.Changes.{with_ca, with_schema};
@@ -8,26 +8,17 @@ ghost use Rattle.tables.specs.Contents.{Contents, Means};
 ghost use Rattle.tables.specs.Refusals.{HasCauseOr};
 ghost use Rattle.rows.specs.Transactions.{Has, Makes, Waits};
 ghost use Rattle.migration.specs.Former.{Had, migrated};
-ghost use Rattle.migration.specs.Migrating.{HasNoCa, HasStopped, IsRefused, Judges, done, told};
+ghost use Rattle.migration.specs.Migrating.{HasNoCa, HasStopped, IsRefused, Judges, done};
 
 use crate::first_ca::ca_of;
 use office::StoreFault;
-use rows::{fault_of, number};
+use rows::{fault_of, number, told};
 use sqlite::{Alter, Connection};
 use std::alloc::Global;
 use tables::{CaRow, Fault, create_ca, every_office, insert_ca, update_schema};
 
 /// The schema that is made.
 const SCHEMA: u64 = 2;
-
-fn told(answer: Result<(), Fault>) -> Result<(), StoreFault>
-    ensures { result ≡ told answer }
-{
-    match answer {
-        Ok(()) => Ok(()),
-        Err(fault) => Err(fault_of(fault)),
-    }
-}
 
 fn put<S: Alter>(conn: &mut Connection<S>, ca: &CaRow) -> Result<(), Fault>
     ensures makes { HasCleanDisk (state S.Store conn.new) → Makes Has (λ c. with_schema 2 (with_ca ca.now c))

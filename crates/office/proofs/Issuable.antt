@@ -22,7 +22,8 @@ use Rattle.cert.specs.OptionFaults.{first_fault, options_fault}
 use Rattle.message.specs.declared.department.Department.{Department}
 use Rattle.message.specs.declared.issue.Issue.{Issue}
 use Rattle.message.specs.declared.renewal.Renewal.{Renewal}
-use Rattle.message.specs.Values.{fits_kind, is_department, is_issue, are_principals, are_administrators, are_rules, are_option_names, are_extension_names, are_namespaces, is_longest_life, are_options, is_end, is_serial}
+use Rattle.profile.specs.Serials.{is_serial}
+use Rattle.message.specs.Values.{fits_kind, is_department, is_issue, are_principals, are_administrators, are_rules, are_option_names, are_extension_names, are_namespaces, is_longest_life, are_options, is_end}
 use Rattle.office.specs.declared.certificate.Certificate.{Certificate}
 use Rattle.office.specs.declared.view.View.{View}
 use Rattle.office.specs.Views.{HasSerial, IsIssuable, IsRenewable}

@@ -20,6 +20,11 @@ pub record IsFirst (s : State) (kept : List Kept) (a : Arrival) (f : First) : Ty
   pub allowed : first_holding (refusals s a.caller f.message a.moment) ≡ None
   pub reply : f.reply ≡ reply_to s f.message a.moment a.nonce
 
+-- a step that isn't refused
+pub step_gives : (r : Option Refusal) (x y : Stepped) → refused_or r x ≡ Ok y → x ≡ y
+step_gives (Some r) x y e = absurd cc
+step_gives None x y e = cc
+
 -- what a step that isn't refused gives
 allowed_step : (a : Arrival) (m : Message) (r : Option Refusal) (x : Stepped) (f : First) → (refused_or r x >>= λ st. Ok (first_of_step a m st)) ≡ Ok f
     → (r ≡ None) × (first_of_step a m x ≡ f)

@@ -9,3 +9,6 @@ pub mod Ranges
 pub mod Sizes
 pub mod Examples
 pub mod Agreeing
+pub mod Listed
+pub mod Texts
+pub mod Dates

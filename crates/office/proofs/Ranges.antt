@@ -20,7 +20,7 @@ use Rattle.office.proofs.Parts.{AreIssued}
 
 -- ---- a range is revoked just where each of its serials is
 
-has_all-each : (set : ℕ → Bool) (from count n : ℕ) → has_all set from count ≡ true → from ≤ n → n < from + count → set n ≡ true
+pub has_all-each : (set : ℕ → Bool) (from count n : ℕ) → has_all set from count ≡ true → from ≤ n → n < from + count → set n ≡ true
 has_all-each set from zero n all low high = absurd (omega (arith, low, high))
 has_all-each set from (suc count) n all low high =
     let parts = and_parts (set from) (has_all set (from + 1) count) all in
@@ -71,7 +71,7 @@ changed_issued : (s t : State) (b : Bool) → AreIssued s → AreIssued t → Ar
 changed_issued s t true p q = p
 changed_issued s t false p q = q
 
-some_of : (o : Option Certificate) → is_none o ≡ false → IsSome o
+pub some_of : (o : Option Certificate) → is_none o ≡ false → IsSome o
 some_of (Some c) e = refl
 some_of None e = absurd cc
 

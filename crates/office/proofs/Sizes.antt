@@ -15,7 +15,8 @@ use Rattle.profile.specs.Names.{is_name, has_size}
 use Rattle.profile.specs.declared.refusal.Refusal.{Refusal}
 use Rattle.message.specs.declared.kinds.Message.{Message}
 use Rattle.message.specs.declared.kinds.Message.TheVariants as message
-use Rattle.message.specs.Values.{is_message, is_serial}
+use Rattle.profile.specs.Serials.{is_serial}
+use Rattle.message.specs.Values.{is_message}
 use Rattle.office.specs.declared.opening.Opening.{Opening}
 use Rattle.office.specs.declared.arrival.Arrival.{Arrival}
 use Rattle.office.specs.declared.arrival.Kept.{Kept}
@@ -129,7 +130,7 @@ first_short o fs a f room e =
     let is = judged_is_first s (kept_by fs) a f e in
     rw is.reply (allowed_reply-le s a.caller f.message a.moment a.nonce room (message_lawful a.bytes f.message is.message) is.allowed)
 
-last_of : (o : Opening) → IsOpening o → o.last ≤ 9223372036854775806
+pub last_of : (o : Opening) → IsOpening o → o.last ≤ 9223372036854775806
 last_of o is =
     let ends = and_parts (leb 1 o.first) (leb o.first o.last && leb o.last 9223372036854775806) is.serials in
     leb-true _ _ (and_parts (leb o.first o.last) (leb o.last 9223372036854775806) ends.1).1

@@ -3,7 +3,8 @@ use Rattle.std.specs.Prelude.{◌≡◌, ℕ, ◌<◌, ◌≤◌, List, length, 
 use Rattle.std.specs.Option.{option_and_then}
 use Rattle.profile.specs.Names.{department_of, is_key_id}
 use Rattle.message.specs.declared.department.Department.{Department}
-use Rattle.message.specs.Values.{is_department, is_serial, is_signature, is_range}
+use Rattle.profile.specs.Serials.{is_serial}
+use Rattle.message.specs.Values.{is_department, is_signature, is_range}
 use Rattle.message.specs.declared.kinds.Message.{Message}
 use Rattle.message.specs.declared.kinds.Message.TheVariants as message
 use Rattle.office.specs.declared.ca.TheConstants.{MOST_CAS}

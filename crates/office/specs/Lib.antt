@@ -7,6 +7,7 @@ pub mod Certificates
 pub mod Machine
 pub mod Parts
 pub mod Publication
+pub mod Listing
 pub mod Concerns
 pub mod Messages
 pub mod History

@@ -7,7 +7,6 @@ ghost use Rattle.office.specs.State.{State};
 ghost use Rattle.office.specs.Views.{IsView};
 ghost use Rattle.office.specs.Decided.{Agrees, Decided, HasRoom, IsLawfulChange};
 
-use crate::copying::copied;
 use crate::decision::unpublished;
 use crate::delivering::decide_delivery;
 use crate::issuing::issued;
@@ -39,7 +38,7 @@ fn decide_department(
         return Err(Stop::Refused(refusal));
     }
     let reply = to_department(alloc, department.name.as_slice())?;
-    let change = Change::Department(copied(alloc, department)?);
+    let change = Change::Department(department.copied(alloc)?);
     Ok(unpublished(view, reply, change))
 }
 

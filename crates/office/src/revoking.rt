@@ -2,7 +2,8 @@
 
 ghost use Rattle.std.specs.Prelude.{◌≡◌, ◌<◌, ◌≤◌, ◌+◌, ℕ, List, None, IfOk, IsSome, IsTrue, option_copied};
 ghost use Rattle.profile.specs.Names.{is_key_id};
-ghost use Rattle.message.specs.Values.{is_range, is_serial};
+ghost use Rattle.profile.specs.Serials.{is_serial};
+ghost use Rattle.message.specs.Values.{is_range};
 ghost use Rattle.message.specs.declared.kinds.Message.TheVariants as message;
 ghost use Rattle.office.specs.State.{State};
 ghost use Rattle.office.specs.Replies.{revocation_reply};

@@ -1,37 +1,22 @@
 -- From what decides to what judges, and from rows to the state.
-use Rattle.std.proofs.Common.{◌≡◌, ℕ, List, true, false, Option, Some, None, Result, Ok, Err, refl, sym, ap}
+use Rattle.std.proofs.Common.{◌≡◌, true, false, Some, None, Result, Ok, Err, refl, sym, ap}
 use Rattle.std.specs.Prelude.{nat_lt}
 use Rattle.std.specs.List.{list_any}
-use Rattle.std.specs.Str.{bytes_eq}
-use Rattle.std.proofs.lemmas.Slice.Eq.{bytes_eq-Decides}
 use Rattle.profile.specs.declared.limits.TheConstants.{LATEST_MOMENT}
-use Rattle.profile.specs.declared.refusal.Refusal.{Refusal}
 use Rattle.profile.specs.declared.refusal.Refusal.TheVariants.{BadMessage, BadMoment, KeyReused}
 use Rattle.message.specs.declared.kinds.Message.{Message}
-use Rattle.message.specs.Values.{is_message}
-use Rattle.message.specs.Texts.{message_text}
-use Rattle.message.specs.Reading.{message_at}
 use Rattle.office.specs.declared.arrival.Arrival.{Arrival}
 use Rattle.office.specs.declared.view.Decision.{Decision}
 use Rattle.office.specs.declared.view.Stop.{Stop}
 use Rattle.office.specs.declared.view.Stop.TheVariants.{Refused, NoMemory}
 use Rattle.office.specs.Messages.{message_with_text}
-use Rattle.office.specs.Machine.{Stepped, refused_or, first_holding, refusals, after, reply_to}
+use Rattle.office.specs.Machine.{Stepped, first_holding, refusals, after, reply_to}
 use Rattle.office.specs.History.{has_key, judged}
 use Rattle.office.specs.Decided.{Decided, stepped_by}
 use Rattle.plain.specs.Contents.{Contents, state_of, Judges}
+use Rattle.office.proofs.Judged.{step_gives}
 
 -- ---- the message
-
--- a message that was read is the one whose text the bytes are
-pub read_is : (bytes : List ℕ) (m : Message) → message_at bytes ≡ Ok m → is_message m ≡ true → bytes ≡ message_text m → message_with_text bytes ≡ Some m
-read_is bytes m read lawful text =
-    let same : bytes_eq bytes (message_text m) ≡ true = (bytes_eq-Decides bytes (message_text m)).1 text in
-    rw (read, lawful, same) refl
-
--- bytes with a bad line are no message's text
-pub bad_is : (bytes : List ℕ) (n : ℕ) → message_at bytes ≡ Err n → message_with_text bytes ≡ None
-bad_is bytes n read = rw read refl
 
 -- ---- what is judged
 
@@ -44,11 +29,6 @@ bad_moment t a m is late = rw (is, late) refl
 pub key_reused : (t : Contents) (a : Arrival) (m : Message) → message_with_text a.bytes ≡ Some m → nat_lt LATEST_MOMENT a.moment ≡ false → list_any (has_key a) t.kept ≡ true
     → judged (state_of t) t.kept a ≡ Err KeyReused
 key_reused t a m is in_time known = rw (is, in_time, known) refl
-
--- a step that isn't refused
-step_gives : (r : Option Refusal) (x y : Stepped) → refused_or r x ≡ Ok y → x ≡ y
-step_gives (Some r) x y e = absurd cc
-step_gives None x y e = cc
 
 -- a decision on a new arrival
 pub judges_by_decide : (r : Result Decision Stop) (t : Contents) (a : Arrival) (m : Message)

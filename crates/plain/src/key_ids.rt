@@ -1,8 +1,7 @@
 //! Key ids in ascending order.
 
 ghost use Rattle.std.specs.Prelude.{◌≡◌, OnOk, OnErr};
-ghost use Rattle.std.specs.List.{list_any, slice_get};
-ghost use Rattle.std.specs.Str.{bytes_eq};
+ghost use Rattle.std.specs.List.{slice_get};
 ghost use Rattle.office.specs.Machine.{put_text};
 ghost use Rattle.plain.specs.KeyIds.{comes_after, is_at, place_among};
 
@@ -31,13 +30,6 @@ fn is_at(key_ids: &[Text], place: usize, key_id: &[u8]) -> bool
         Some(other) => other.is(key_id),
         None => false,
     }
-}
-
-/// Whether the key id is one of them.
-pub(crate) fn has_key_id(key_ids: &[Text], key_id: &[u8]) -> bool
-    ensures { result ≡ list_any (λ k. bytes_eq k key_id.now) key_ids.now }
-{
-    key_ids.iter().any(|other| other.is(key_id))
 }
 
 /// Puts a key id in its place, once.

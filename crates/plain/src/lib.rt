@@ -2,7 +2,6 @@
 #![tactic(auto)]
 
 mod certificates;
-mod copying;
 mod departments;
 mod judging;
 mod key_ids;

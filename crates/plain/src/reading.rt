@@ -2,61 +2,31 @@
 
 ghost use Rattle.std.specs.Prelude.{◌≡◌, IfOk};
 ghost use Rattle.office.specs.Parts.{AreParts};
-ghost use Rattle.office.specs.Publication.{entries_of, entry_of, is_certificate_revoked, is_pending, pending_of};
+ghost use Rattle.office.specs.Publication.{entries_of, pending_of};
 ghost use Rattle.plain.specs.Contents.{state_of};
 
-use crate::copying::copied;
-use crate::key_ids::has_key_id;
 use crate::store::PlainStore;
 use krl::CaPart;
 use message::Department;
-use office::{Ca, Certificate, Entry, Pending, parts_of};
+use office::{Ca, Entry, Pending, entries_among, parts_of, pending_among};
 use std::alloc::Global;
 use text::{NoMemory, Texts};
 
 impl PlainStore {
-    fn is_certificate_revoked(&self, certificate: &Certificate) -> bool
-        ensures { result ≡ is_certificate_revoked (state_of self.now) certificate.now }
-    {
-        let serial = certificate.fields.serial;
-        let key_id = certificate.fields.key_id.as_slice();
-        self.revoked.has_all(serial, serial) || has_key_id(self.revoked_key_ids.as_slice(), key_id)
-    }
-
-    fn is_pending(&self, certificate: &Certificate) -> bool
-        ensures { result ≡ is_pending (state_of self.now) certificate.now }
-    {
-        certificate.signature.is_none() && !self.is_certificate_revoked(certificate)
-    }
-
     /// The certificates that are neither signed nor revoked.
     pub(crate) fn pending_rows(&self, alloc: Global) -> Result<Vec<Pending>, NoMemory>
         ensures { IfOk result (λ rows. rows.items ≡ pending_of (state_of self.now)) }
     {
-        let mut rows = Vec::new(alloc);
-        for certificate in &self.certificates {
-            if self.is_pending(certificate) {
-                rows.push(certificate.pending_row())?;
-            }
-        }
-        Ok(rows)
-    }
-
-    fn entry(&self, alloc: Global, certificate: &Certificate) -> Result<Entry, NoMemory>
-        ensures { IfOk result (λ entry. entry ≡ entry_of (state_of self.now) certificate.now) }
-    {
-        certificate.entry(alloc, self.is_certificate_revoked(certificate))
+        let key_ids = self.revoked_key_ids.as_slice();
+        pending_among(alloc, self.certificates.as_slice(), &self.revoked, key_ids)
     }
 
     /// Every certificate.
     pub(crate) fn entries(&self, alloc: Global) -> Result<Vec<Entry>, NoMemory>
         ensures { IfOk result (λ rows. rows.items ≡ entries_of (state_of self.now)) }
     {
-        let mut rows = Vec::with_capacity(alloc, self.certificates.len())?;
-        for certificate in &self.certificates {
-            rows.push(self.entry(alloc, certificate)?)?;
-        }
-        Ok(rows)
+        let key_ids = self.revoked_key_ids.as_slice();
+        entries_among(alloc, self.certificates.as_slice(), &self.revoked, key_ids)
     }
 
     /// The revoked serials of each CA.
@@ -90,7 +60,7 @@ impl PlainStore {
     {
         let mut rows = Vec::with_capacity(alloc, self.departments.len())?;
         for department in &self.departments {
-            rows.push(copied(alloc, department)?)?;
+            rows.push(department.copied(alloc)?)?;
         }
         Ok(rows)
     }

@@ -10,10 +10,9 @@ ghost use Rattle.office.specs.Views.{IsView};
 ghost use Rattle.plain.specs.Contents.{state_of};
 
 use crate::departments::named;
-use crate::key_ids::has_key_id;
 use crate::store::PlainStore;
 use message::{Department, Message};
-use office::{Certificate, View, concerned};
+use office::{Certificate, View, concerned, has_key_id};
 
 impl PlainStore {
     /// The certificate that a message concerns.

@@ -119,3 +119,7 @@ number_only t None e = λ n small same.
     let there : None ≡ Some n = e ∙ ap number_of same ∙ number_of-decimal n small in
     cc
 number_only t (Some n) e = tt
+
+-- a number is read from its text alone
+pub number_spelled : (t : List ℕ) (n : ℕ) → number_of t ≡ Some n → t ≡ decimal n
+number_spelled t n e = number_found t (Some n) (sym e)

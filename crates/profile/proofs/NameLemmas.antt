@@ -74,7 +74,7 @@ end_found (b ∷ rest) h =
     record { rest = rest; slashed = ap (λ c. c ∷ rest) (eqb-true b 47 p.0); sized = q.0; printable = q.1 }
 
 -- a text is its department and what follows it
-department_cut : (t : List ℕ) → t ≡ department_of t ++ drop (length (department_of t)) t
+pub department_cut : (t : List ℕ) → t ≡ department_of t ++ drop (length (department_of t)) t
 department_cut t =
     let n = prefix_len (λ b. not (b == 47)) t in
     sym (take-append-drop n t) ∙ ap (λ k. take n t ++ drop k t) (sym (length-prefix_len (λ b. not (b == 47)) t))

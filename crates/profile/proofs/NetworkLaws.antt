@@ -8,7 +8,7 @@ use Rattle.std.proofs.lemmas.Fmt.{decimal_nonempty}
 use Rattle.std.proofs.lemmas.List.{length-map}
 use Rattle.std.proofs.lemmas.List.Elements.{All-append, All-from_recursion, recursion_from_All}
 use Rattle.std.proofs.lemmas.List.Splits.{join_with_byte-slice_split, length-slice_split}
-use Rattle.profile.proofs.DecimalLemmas.{number_of-decimal, number_found}
+use Rattle.profile.proofs.DecimalLemmas.{number_of-decimal, number_spelled}
 use Rattle.profile.proofs.Lacking.{Lacks, decimal_lacks, before_first-append, after_first-append, cut_at, slice_split-join_with_byte}
 use Rattle.profile.proofs.NetworkLemmas.{address_of-dotted_text, octets_dotted}
 use Rattle.profile.specs.Decimals.{number_of}
@@ -108,9 +108,6 @@ block_found (Some address) (Some size) h =
       within = leb-true _ _ p.0;
       zeros = eqb-true _ _ p.1;
     }
-
-number_spelled : (t : List ℕ) (n : ℕ) → number_of t ≡ Some n → t ≡ decimal n
-number_spelled t n e = number_found t (Some n) (sym e)
 
 pub network_found : (t : List ℕ) → is_network t ≡ true → Spells t
 network_found t h =

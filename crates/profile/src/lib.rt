@@ -16,6 +16,7 @@ mod option_field;
 mod option_value;
 mod refusal;
 mod rule;
+mod serial;
 #[cfg(test)]
 mod tests;
 
@@ -36,3 +37,4 @@ pub use option_field::{OptionField, is_flag, is_known};
 pub use option_value::is_option_value;
 pub use refusal::Refusal;
 pub use rule::{is_rule, meets};
+pub use serial::is_serial;

@@ -26,6 +26,19 @@ fn names_have_1_to_32_bytes(rt: HostRuntime) {
 }
 
 #[test]
+fn serials_go_from_1_to_two_below_two_to_the_63(rt: HostRuntime) {
+    for (number, want) in [
+        (0, false),
+        (1, true),
+        (9223372036854775806, true),
+        (9223372036854775807, false),
+        (18446744073709551615, false),
+    ] {
+        assert_eq!(rt; is_serial(number), want, "{number}");
+    }
+}
+
+#[test]
 fn principals_and_namespaces_have_their_alphabet(rt: HostRuntime) {
     let cases = [
         ("", false),

@@ -1,11 +1,13 @@
 -- Texts tell paths apart, and so requests ask one thing.
-use Rattle.std.proofs.Common.{◌≡◌, inl, inr, ℕ, List, length, drop, take, refl, sym, ap, ◌∙◌, subst, arith, codes, decimal}
+use Rattle.std.proofs.Common.{◌≡◌, true, inl, inr, ℕ, List, length, drop, take, refl, sym, ap, ◌∙◌, subst, arith, codes, decimal}
 use Rattle.std.proofs.lemmas.List.{append_cancel_right}
 use Rattle.std.proofs.lemmas.Fmt.{decimal_injective}
 use Rattle.httparse.specs.Grammar.{RequestHead}
 use Rattle.httparse.proofs.GrammarLemmas.{request_unique}
 use Rattle.requests.specs.declared.resource.Resource.TheVariants.{Certificate, Body}
-use Rattle.requests.specs.Paths.{Path, message, resource, IsPath, IsSerial, path_text}
+use Rattle.profile.specs.Serials.{is_serial}
+use Rattle.profile.proofs.SerialLemmas.{serial_bounds}
+use Rattle.requests.specs.Paths.{Path, message, resource, IsPath, path_text}
 use Rattle.requests.specs.Routing.{row_of}
 use Rattle.requests.specs.Asks.{Ask, HeadAsks, Asks, asked_at}
 use Rattle.requests.proofs.Finding.{routed, same_route, kind_at, IsAt, at_route}
@@ -25,8 +27,9 @@ same_message c k d l is also e =
     cc
 
 -- serials of one text are one
-same_serial : (m n : ℕ) → IsSerial m → IsSerial n → decimal m ≡ decimal n → m ≡ n
-same_serial m n is also e = decimal_injective m n (omega arith) (omega arith) e
+same_serial : (m n : ℕ) → is_serial m ≡ true → is_serial n ≡ true → decimal m ≡ decimal n → m ≡ n
+same_serial m n is also e =
+    decimal_injective m n (omega (arith, (serial_bounds m is).1)) (omega (arith, (serial_bounds n also).1)) e
 
 -- paths of one text lead to one route
 same_kind : (p q : Path) → IsPath p → IsPath q → path_text p ≡ path_text q → kind_at p ≡ kind_at q

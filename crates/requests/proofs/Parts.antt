@@ -9,7 +9,8 @@ use Rattle.std.proofs.lemmas.Str.Parse.{digit_from_value}
 use Rattle.matchit.specs.Rows.{RowsOf}
 use Rattle.matchit.specs.Seek.{own, seek, has_slash}
 use Rattle.profile.specs.Names.{is_name, is_name_byte, has_size}
-use Rattle.requests.specs.Paths.{IsSerial}
+use Rattle.profile.specs.Serials.{is_serial}
+use Rattle.profile.proofs.SerialLemmas.{serial_bounds}
 use Rattle.requests.proofs.Seeking.{by_param, step_to_slash, step_to_end, seek_past, cuts_slash}
 
 -- what a parameter of a path can be: some bytes with no slash, of which the first is a byte
@@ -102,9 +103,9 @@ clear_digits (b ∷ ds) all =
     rw e (clear_digits ds all.1)
 
 -- a serial in decimal can be a parameter
-pub part_of_serial : (n : ℕ) → IsSerial n → IsPart (decimal n)
+pub part_of_serial : (n : ℕ) → is_serial n ≡ true → IsPart (decimal n)
 part_of_serial n is =
-    let numeral = (decimal_is_IsNumeral n (omega arith)).0 in
+    let numeral = (decimal_is_IsNumeral n (omega (arith, (serial_bounds n is).1))).0 in
     record {
       some = numeral.0;
       clear = clear_digits (decimal n) numeral.1;

@@ -1,13 +1,9 @@
 -- The paths that are answered, as texts.
-use Rattle.std.specs.Prelude.{⊤, ℕ, ◌≤◌, List, ◌++◌, codes, decimal, IsTrue}
-use Rattle.profile.specs.declared.limits.TheConstants.{LAST_SERIAL}
+use Rattle.std.specs.Prelude.{⊤, ℕ, List, ◌++◌, codes, decimal, IsTrue}
 use Rattle.profile.specs.Names.{is_name}
+use Rattle.profile.specs.Serials.{is_serial}
 use Rattle.requests.specs.declared.resource.Resource.{Resource}
 use Rattle.requests.specs.declared.resource.Resource.TheVariants.{Pending, Certificate, Body, RevocationList, Signers, Table, Cas}
-
--- a serial that may be issued
-abbrev pub IsSerial : ℕ → Type 0
-IsSerial n = (1 ≤ n) × (n ≤ LAST_SERIAL)
 
 -- where a path leads: to the messages of a caller under a request key, or to a resource
 pub data Path : Type 0 where
@@ -17,8 +13,8 @@ pub data Path : Type 0 where
 -- names are names, and a serial is one
 abbrev pub IsPath : Path → Type 0
 IsPath (message caller key) = IsTrue (is_name caller) × IsTrue (is_name key)
-IsPath (resource (Certificate n)) = IsSerial n
-IsPath (resource (Body n)) = IsSerial n
+IsPath (resource (Certificate n)) = IsTrue (is_serial n)
+IsPath (resource (Body n)) = IsTrue (is_serial n)
 IsPath (resource r) = ⊤
 
 -- the text of a path

@@ -6,13 +6,14 @@ ghost use Rattle.matchit.specs.Seek.{first};
 ghost use Rattle.profile.specs.Names.{is_name};
 ghost use Rattle.requests.specs.declared.router.RouteKind.{RouteKind};
 ghost use Rattle.requests.specs.declared.resource.Resource.{Resource};
-ghost use Rattle.requests.specs.Paths.{Path, IsPath, IsSerial, path_text, message, resource};
+ghost use Rattle.profile.specs.Serials.{is_serial};
+ghost use Rattle.requests.specs.Paths.{Path, IsPath, path_text, message, resource};
 ghost use Rattle.requests.specs.Routing.{routing};
 ghost use Rattle.requests.specs.RoutePath.{path_of};
 
 use crate::resource::Resource;
 use crate::router::{RouteKind, Routes};
-use profile::{LAST_SERIAL, is_name, read_decimal};
+use profile::{is_name, is_serial, read_decimal};
 
 /// Where a path leads.
 #[derive(Clone, Copy, Drop)]
@@ -70,12 +71,12 @@ fn message_of(path: &[u8]) -> Option<(&[u8], &[u8])>
 
 /// The serial that the text writes, from 1 to the last one.
 fn serial_of(text: &[u8]) -> Option<u64>
-    ensures serial { IfSome result (λ n. IsSerial n) }
+    ensures serial { IfSome result (λ n. IsTrue (is_serial n)) }
     ensures text { IfSome result (λ n. text.now ≡ decimal n) }
-    ensures none { IfNone result ((n : ℕ) → IsSerial n → text.now ≢ decimal n) }
+    ensures none { IfNone result ((n : ℕ) → IsTrue (is_serial n) → text.now ≢ decimal n) }
 {
     match read_decimal(text) {
-        Some(serial) if 1 <= serial && serial <= LAST_SERIAL => Some(serial),
+        Some(serial) if is_serial(serial) => Some(serial),
         _ => None,
     }
 }

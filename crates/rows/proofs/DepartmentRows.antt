@@ -1,12 +1,11 @@
 -- The row of a department is that of no other, and it is read again.
 use Rattle.std.proofs.Common.{◌≡◌, ℕ, Bool, true, false, List, [], ◌∷◌, ◌++◌, eqb, refl, sym, ap, ap₂, subst, ◌∙◌, Option, Some, None, append-nil, map}
-use Rattle.std.specs.Prelude.{◌==◌, if◌then◌else◌, Result, Ok, Err, IfOk, IsTrue}
+use Rattle.std.specs.Prelude.{if◌then◌else◌, Result, Ok, Err, IfOk, IsTrue}
 use Rattle.std.specs.List.{AllByRecursion, list_all, slice_split}
 use Rattle.std.specs.Option.{option_and_then, option_map}
-use Rattle.std.proofs.lemmas.Bool.{and_parts, cond-true, eqb-true}
+use Rattle.std.proofs.lemmas.Bool.{and_parts, cond-true}
 use Rattle.std.proofs.lemmas.List.Splits.{join_with_byte-slice_split}
 use Rattle.profile.specs.declared.kind.Kind.{Kind}
-use Rattle.profile.specs.declared.kind.Kind.TheVariants.{User, Host}
 use Rattle.profile.specs.declared.option_field.OptionField.TheVariants.{CriticalOptions, Extensions}
 use Rattle.profile.specs.Names.{is_name, is_rule, is_namespace}
 use Rattle.profile.specs.Options.{is_known}
@@ -16,9 +15,12 @@ use Rattle.message.proofs.Fields.{AllLack, split_joined}
 use Rattle.message.proofs.Elements.{administrators_lack, rules_lack, option_names_lack, extension_names_lack, namespaces_lack}
 use Rattle.tables.specs.declared.departments.DepartmentRow.{DepartmentRow}
 use Rattle.tables.specs.declared.fault.Fault.{Fault}
-use Rattle.rows.specs.Rows.{department_row, joined, kind_number}
+use Rattle.cert.specs.Bodies.{kind_number}
+use Rattle.rows.specs.Rows.{department_row, joined}
 use Rattle.rows.specs.Reading.{IsRead, each}
-use Rattle.rows.specs.Departments.{department_in, if_lawful, kind_of, parted, parts_of}
+use Rattle.cert.specs.Reading.{kind_of}
+use Rattle.rows.specs.Departments.{department_in, if_lawful, parted, parts_of}
+use Rattle.cert.proofs.BodyParts.{kind_again, kind_found}
 
 -- ---- texts joined by commas
 
@@ -73,22 +75,6 @@ namespaces_again ts is =
     parted_joined is_namespace ts refl (and_parts _ _ (and_parts _ _ is).1).0 (namespaces_lack ts is).0
 
 -- ---- the whole row
-
-kind_again : (k : Kind) → kind_of (kind_number k) ≡ Some k
-kind_again User = refl
-kind_again Host = refl
-
-kind_found : (n : ℕ) (k : Kind) → kind_of n ≡ Some k → kind_number k ≡ n
-kind_found n k e = first (n == 1) refl e
-  where
-    second : (b : Bool) → (n == 2) ≡ b → (if b then Some Host else None) ≡ Some k → kind_number k ≡ n
-    second true is h = let same : k ≡ Host = cc in ap kind_number same ∙ sym (eqb-true n 2 is)
-    second false is h = absurd cc
-
-    first : (b : Bool) → (n == 1) ≡ b → (if b then Some User else if n == 2 then Some Host else None) ≡ Some k
-        → kind_number k ≡ n
-    first true is h = let same : k ≡ User = cc in ap kind_number same ∙ sym (eqb-true n 1 is)
-    first false is h = second (n == 2) refl h
 
 -- the lists of a lawful department
 record Lists (d : Department) : Type 0 where
@@ -158,7 +144,7 @@ row_found row d e = go (kind_of row.kind) refl e
     go None is h = absurd cc
     go (Some k) is h =
         let lawful = lawful_found (parts_of row k) d h in
-        (lawful.0, sym (ap department_row (sym lawful.1) ∙ row_of_parts row k (kind_found row.kind k is)))
+        (lawful.0, sym (ap department_row (sym lawful.1) ∙ row_of_parts row k (sym (kind_found row.kind k is))))
 
 -- ---- what is read of a row
 

@@ -1,8 +1,8 @@
 -- The row of the office is read again.
-use Rattle.std.proofs.Common.{◌≡◌, inl, List, [], ◌∷◌, length, Bool, true, false, Some, None, Ok, Err, Result, refl, sym, ap, ◌∙◌, arith, IsPermutation}
+use Rattle.std.proofs.Common.{◌≡◌, inl, List, [], ◌∷◌, length, true, false, Some, None, Ok, Err, Result, refl, sym, ap, ◌∙◌, arith, IsPermutation}
 use Rattle.std.specs.Prelude.{not, ◌&&◌, nat_lt}
 use Rattle.std.specs.Str.{bytes_eq}
-use Rattle.std.proofs.lemmas.Bool.{and_parts}
+use Rattle.std.proofs.lemmas.Bool.{and_parts, not-true}
 use Rattle.std.proofs.lemmas.Option.{same_Some}
 use Rattle.profile.specs.Names.{is_name}
 use Rattle.sqlite.proofs.Callers.{one_permutation}
@@ -68,10 +68,6 @@ shows_office old new rows (Err Device) finds read = absurd read
 
 -- ---- the opening
 
-not_true : (b : Bool) → not b ≡ true → b ≡ false
-not_true true e = absurd cc
-not_true false e = refl
-
 pub opening_from : (o : Opening) → length o.ca ≡ 32 → is_opening o ≡ true → IsOpening o
 opening_from o size is =
     let a : (is_name o.root ≡ true)
@@ -80,4 +76,4 @@ opening_from o size is =
     let b : (is_name o.station ≡ true) × ((not (bytes_eq o.root o.station) && are_serials o.first o.last) ≡ true) =
     and_parts _ _ a.1 in
     let c : (not (bytes_eq o.root o.station) ≡ true) × (are_serials o.first o.last ≡ true) = and_parts _ _ b.1 in
-    record { ca = size; root = a.0; station = b.0; apart = not_true (bytes_eq o.root o.station) c.0; serials = c.1 }
+    record { ca = size; root = a.0; station = b.0; apart = not-true (bytes_eq o.root o.station) c.0; serials = c.1 }

@@ -1,18 +1,15 @@
 -- Parts of one transaction, one after the other.
-use Rattle.std.proofs.Common.{◌≡◌, inl, inr, Bool, true, false, IsTrue, refl, sym, subst, ◌∙◌, arith}
-use Rattle.std.specs.Prelude.{if◌then◌else◌, Result, Ok, Err}
+use Rattle.std.proofs.Common.{◌≡◌, inl, inr, true, IsTrue, refl, sym, subst, ◌∙◌, arith}
+use Rattle.std.specs.Prelude.{Result, Ok, Err}
 use Rattle.sqlite.specs.Tree.{Trees}
 use Rattle.sqlite.specs.Effect.{Database}
 use Rattle.sqlite.specs.State.{State, HasCleanDisk, Survives, KeepsCommit, IsUnchanged, Shows}
 use Rattle.sqlite.proofs.StateLemmas.{survives_then, survives_weaker}
 use Rattle.tables.specs.Contents.{Contents, Kept, Means}
-use Rattle.tables.specs.Calls.{Steps, Changes, Fails, Leaves, Begins}
+use Rattle.tables.specs.Calls.{Steps, Changes, Leaves, Begins}
 use Rattle.tables.specs.declared.fault.Fault.{Fault}
+use Rattle.tables.proofs.Later.{inside_is, stops}
 use Rattle.rows.specs.Transactions.{Has, Goes, Answers, Makes, Waits, HasEnded, Concludes, Commits, Ends, Leaves as AfterAll}
-
-was_last : (b : Bool) {X : Type 0} (last now shown : X) → IsTrue b → shown ≡ (if b then last else now) → shown ≡ last
-was_last true last now shown t e = e
-was_last false last now shown t e = absurd (let f : false ≡ true = t in cc)
 
 -- ---- one part
 
@@ -22,7 +19,7 @@ goes a b c s = record {
   was_open = s.was_open;
   is_open = s.is_open;
   means = s.means;
-  committed = λ inside. was_last a.in_transaction a.committed b.now b.committed inside s.committed;
+  committed = λ inside. inside_is a.in_transaction a.committed b.now b.committed inside s.committed;
   mode = s.mode;
 }
 
@@ -35,10 +32,6 @@ goes_still a b c same means = record {
   committed = λ _. same.0.committed_is;
   mode = same.0.mode;
 }
-
-pub stops : (a b : State) → Fails a b → KeepsCommit a b
-stops a b (inl same) = record { was_open = λ _. same.0.was_open; committed = λ _. same.0.committed_is }
-stops a b (inr back) = record { was_open = back.was_open; committed = λ still. (back.undone still).1 }
 
 pub makes : {X : Type 0} (after : Contents → Contents) (a b : State) (r : Result X Fault) → Changes after a b r
     → Makes Has after a b r

@@ -3,18 +3,15 @@ use Rattle.std.specs.Prelude.{ℕ, ◌==◌, List, [], ◌∷◌, if◌then◌el
 use Rattle.std.specs.List.{slice_split}
 use Rattle.std.specs.Option.{option_and_then}
 use Rattle.profile.specs.declared.kind.Kind.{Kind}
-use Rattle.profile.specs.declared.kind.Kind.TheVariants.{User, Host}
 use Rattle.message.specs.declared.department.Department.{Department}
 use Rattle.message.specs.Values.{is_department}
 use Rattle.tables.specs.declared.departments.DepartmentRow.{DepartmentRow}
+use Rattle.cert.specs.Reading.{kind_of}
 
 -- the texts between commas; of no bytes none
 abbrev pub parted : List ℕ → List (List ℕ)
 parted [] = []
 parted (b ∷ text) = slice_split (λ c. c == 44) (b ∷ text)
-
-abbrev pub kind_of : ℕ → Option Kind
-kind_of number = if number == 1 then Some User else if number == 2 then Some Host else None
 
 abbrev pub parts_of : DepartmentRow → Kind → Department
 parts_of row kind = record {

@@ -1,4 +1,5 @@
 -- Why a call on the register fails.
+use Rattle.std.specs.Prelude.{Result, Ok, Err}
 use Rattle.tables.specs.declared.fault.Fault.{Fault}
 use Rattle.tables.specs.declared.fault.Fault.TheVariants as table
 use Rattle.office.specs.declared.fault.StoreFault.{StoreFault}
@@ -9,3 +10,8 @@ abbrev pub fault_of : Fault → StoreFault
 fault_of table.Device = Device
 fault_of table.Damaged = Damaged
 fault_of table.NoMemory = NoMemory
+
+-- the register's answer of an answer of the tables
+abbrev pub told : {X : Type 0} → Result X Fault → Result X StoreFault
+told (Ok x) = Ok x
+told (Err f) = Err (fault_of f)

@@ -2,8 +2,6 @@
 use Rattle.std.specs.Prelude.{ℕ, suc, List, [], ◌∷◌, length, map}
 use Rattle.std.specs.List.{join_with_byte}
 use Rattle.std.specs.Option.{option_map}
-use Rattle.profile.specs.declared.kind.Kind.{Kind}
-use Rattle.profile.specs.declared.kind.Kind.TheVariants.{User, Host}
 use Rattle.lines.specs.Keys.{key_blob}
 use Rattle.krl.specs.declared.run.Run.{Run}
 use Rattle.krl.specs.Sets.{runs_in}
@@ -22,6 +20,7 @@ use Rattle.tables.specs.declared.requests.RequestRow.{RequestRow}
 use Rattle.tables.specs.declared.runs.RunRow.{RunRow}
 use Rattle.tables.specs.declared.cas.CaRow.{CaRow}
 use Rattle.tables.specs.Contents.{Contents}
+use Rattle.cert.specs.Bodies.{kind_number}
 
 -- the one row of the office, of schema 2
 abbrev pub office_row : State → OfficeRow
@@ -37,10 +36,6 @@ office_row s = record {
   version = s.version;
   date = s.date;
 }
-
-abbrev pub kind_number : Kind → ℕ
-kind_number User = 1
-kind_number Host = 2
 
 -- texts joined by commas
 abbrev pub joined : List (List ℕ) → List ℕ

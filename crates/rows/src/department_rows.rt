@@ -2,15 +2,17 @@
 
 ghost use Rattle.std.specs.Prelude.{◌≡◌, ◌<◌, ◌^◌, IfOk, IsTrue, Some, map};
 ghost use Rattle.message.specs.declared.department.Department.{Department};
-ghost use Rattle.message.specs.Values.{fits_kind, is_department};
-ghost use Rattle.rows.specs.Rows.{department_row, joined, kind_number};
+ghost use Rattle.message.specs.Values.{is_department};
+ghost use Rattle.cert.specs.Bodies.{kind_number};
+ghost use Rattle.rows.specs.Rows.{department_row, joined};
 ghost use Rattle.rows.specs.Reading.{IsRead};
-ghost use Rattle.rows.specs.Departments.{department_in, kind_of, parted, parts_of};
+ghost use Rattle.cert.specs.Reading.{kind_of};
+ghost use Rattle.rows.specs.Departments.{department_in, parted, parts_of};
 
 use crate::numbers::number;
 use message::{
     Department, are_administrators, are_extension_names, are_namespaces, are_option_names,
-    are_rules,
+    are_rules, fits_kind,
 };
 use profile::{Kind, LONGEST_LIFE, is_name};
 use std::alloc::Global;
@@ -69,15 +71,6 @@ fn kind_of(number: Number) -> Option<Kind>
         1 => Some(Kind::User),
         2 => Some(Kind::Host),
         _ => None,
-    }
-}
-
-fn fits_kind(kind: Kind, texts: &[Text]) -> bool
-    ensures { result ≡ fits_kind kind texts.now }
-{
-    match kind {
-        Kind::User => true,
-        Kind::Host => texts.is_empty(),
     }
 }
 

@@ -1,7 +1,7 @@
 //! Faults of the tables as faults of the register.
 
 ghost use Rattle.std.specs.Prelude.{◌≡◌};
-ghost use Rattle.rows.specs.Faults.{fault_of};
+ghost use Rattle.rows.specs.Faults.{fault_of, told};
 
 use office::StoreFault;
 use tables::Fault;
@@ -14,5 +14,15 @@ pub fn fault_of(fault: Fault) -> StoreFault
         Fault::Device => StoreFault::Device,
         Fault::Damaged => StoreFault::Damaged,
         Fault::NoMemory => StoreFault::NoMemory,
+    }
+}
+
+/// The register's answer of an answer of the tables.
+pub fn told<T>(answer: Result<T, Fault>) -> Result<T, StoreFault>
+    ensures { result ≡ told answer }
+{
+    match answer {
+        Ok(value) => Ok(value),
+        Err(fault) => Err(fault_of(fault)),
     }
 }

@@ -21,7 +21,7 @@ pub use cert_rows::read_certificate;
 pub use certificates::read_certificates;
 pub use department_rows::{department_row, read_department};
 pub use departments::read_departments;
-pub use fault::fault_of;
+pub use fault::{fault_of, told};
 pub use key_ids::read_key_ids;
 pub use numbers::number;
 pub use office_rows::{Office, is_opening, read_office};

@@ -1,7 +1,6 @@
 -- An arrival that is accepted now.
-use Rattle.std.proofs.Common.{◌≡◌, ℕ, ◌+◌, ◌<◌, ◌≤◌, List, [], ◌∷◌, ◌++◌, length, None, Some, Option, Result, Ok, Err, refl, sym, ap, subst, ◌∙◌, ◌&&◌, arith}
-use Rattle.std.specs.Prelude.{IsOkAnd, nat_le, ◌^◌}
-use Rattle.std.proofs.lemmas.Bool.{and_parts, leb-true}
+use Rattle.std.proofs.Common.{◌≡◌, ℕ, ◌+◌, ◌<◌, ◌≤◌, List, [], ◌∷◌, ◌++◌, length, None, Result, Ok, Err, refl, sym, ap, subst, ◌∙◌, arith}
+use Rattle.std.specs.Prelude.{IsOkAnd, ◌^◌}
 use Rattle.profile.specs.declared.limits.TheConstants.{LATEST_MOMENT}
 use Rattle.profile.specs.declared.refusal.Refusal.{Refusal}
 use Rattle.sqlite.specs.Effect.{Database}
@@ -18,8 +17,7 @@ use Rattle.office.specs.declared.opening.Opening.{Opening}
 use Rattle.office.specs.declared.view.Decision.{Decision}
 use Rattle.office.specs.declared.view.View.{View}
 use Rattle.office.specs.Decided.{Agrees, Decided, HasRoom, stepped_by, written}
-use Rattle.office.specs.Openings.{IsOpening}
-use Rattle.office.specs.Machine.{Stepped, after, first_holding, refusals, refused_or, reply_to}
+use Rattle.office.specs.Machine.{Stepped, after, first_holding, refusals, reply_to}
 use Rattle.office.specs.State.{State, next_serial}
 use Rattle.office.specs.History.{First, change, due, judged, kept_row, reply_kept, state}
 use Rattle.office.specs.Shows.{Shows}
@@ -30,16 +28,13 @@ use Rattle.rows.specs.Transactions.{Goes, Makes, Waits}
 use Rattle.writes.specs.Due.{Fits, IsDue, contents_after, kept_of}
 use Rattle.store.specs.Meaning.{IsHistory}
 use Rattle.store.specs.Arriving.{IsAccepted, IsAfter, IsNew, Past, Settles, kept_at, state_at}
-use Rattle.store.proofs.Dates.{date_after}
+use Rattle.office.proofs.Dates.{date_after}
 use Rattle.store.proofs.Lawful.{lawful_after}
 use Rattle.store.proofs.Settled.{goes_on, rows_with, shown_at}
+use Rattle.office.proofs.Judged.{step_gives}
+use Rattle.office.proofs.Sizes.{last_of}
 
 -- ---- what is decided
-
--- a step that isn't refused
-step_gives : (r : Option Refusal) (x y : Stepped) → refused_or r x ≡ Ok y → x ≡ y
-step_gives (Some r) x y e = absurd cc
-step_gives None x y e = cc
 
 pub decided_accepted : (p : Past) (a : Arrival) (m : Message) (d : Decision) (v : View) → IsNew a m p
     → Decided (Ok d) (state_at p) a.caller m a.moment a.nonce → HasRoom d.change (state_at p) → Agrees v (state_at p) m
@@ -93,11 +88,6 @@ accepted p a d cas h is = shows_written p a d (judged (state_at p) (kept_at p) a
 small : LATEST_MOMENT < 2 ^ 63
 small = omega arith
 
-pub last_small : (o : Opening) → IsOpening o → o.last ≤ 9223372036854775806
-last_small o is =
-    leb-true _ _ (and_parts (nat_le o.first o.last) (nat_le o.last 9223372036854775806)
-    (and_parts (nat_le 1 o.first) (nat_le o.first o.last && nat_le o.last 9223372036854775806) is.serials).1).1
-
 -- its counters are numbers that a column holds
 fits : (p : Past) (a : Arrival) (d : Decision) (cas : List Ca) → IsHistory p.0 p.1 → IsAccepted a d cas p → Fits d
 fits p a d cas h is =
@@ -109,7 +99,7 @@ fits p a d cas h is =
     let next : d.next ≡ next_serial (state p.0 l) = is.next ∙ ap next_serial same in
     let date : d.date ≡ (state p.0 l).date = ap (λ (s : State). s.date) same in
     record {
-      next = omega (arith, range, opening, next, last_small p.0 h.office.opening);
+      next = omega (arith, range, opening, next, last_of p.0 h.office.opening);
       version = omega (arith, shows.version);
       date = omega (arith, date, date_after p.0 l, small);
     }

@@ -13,9 +13,9 @@ use Rattle.office.specs.declared.fault.StoreFault.{StoreFault}
 use Rattle.office.specs.Faults.{HasCause, IsOfARegister}
 use Rattle.office.specs.State.{State}
 use Rattle.office.specs.History.{first_accepted, kept_by, state}
-use Rattle.rows.specs.Faults.{fault_of}
+use Rattle.rows.specs.Faults.{fault_of, told}
 use Rattle.rows.specs.Rows.{office_contents}
-use Rattle.store.specs.Meaning.{HasFailed, Tells, told}
+use Rattle.store.specs.Meaning.{HasFailed, Tells}
 use Rattle.store.specs.Showing.{ShowsOffice}
 use Rattle.store.proofs.Telling.{rests_still}
 

@@ -4,34 +4,22 @@ use Rattle.sqlite.specs.State.{State as Connection}
 use Rattle.tables.specs.declared.fault.Fault.{Fault}
 use Rattle.krl.specs.declared.run.Run.{Run}
 use Rattle.krl.specs.Sets.{contains}
-use Rattle.office.specs.declared.opening.Opening.{Opening}
-use Rattle.office.specs.declared.arrival.Arrival.{Arrival}
 use Rattle.office.specs.declared.arrival.Kept.{Kept}
 use Rattle.office.specs.State.{State}
 use Rattle.office.specs.History.{first_accepted, kept_by, state}
-use Rattle.office.proofs.Growth.{holds_in_range}
-use Rattle.office.proofs.Ranges.{revoked_is_issued}
 use Rattle.rows.specs.Showing.{Shows}
 use Rattle.views.specs.Histories.{IsOfHistory}
 use Rattle.views.specs.RunRows.{AreRevokedRuns}
-use Rattle.store.specs.Meaning.{IsHistory}
 use Rattle.store.specs.Showing.{ShowsOffice}
-use Rattle.store.proofs.Apart.{apart_after}
+use Rattle.views.proofs.OfHistory.{of_history}
 use Rattle.store.proofs.Lawful.{lawful_after}
-
-pub of_history : (o : Opening) (l : List Arrival) → IsHistory o l → IsOfHistory (state o l) (kept_by (first_accepted o l))
-of_history o l history = record {
-  range = holds_in_range o l history.office.opening;
-  revoked = revoked_is_issued o l;
-  apart = apart_after o l;
-}
 
 -- what is shown of each lawful state of a history is shown of each office
 pub shows_of_history : {X : Type 0} (P : State → List Kept → X → Type 0) (old new : Connection) (r : Result X Fault)
     → Shows (λ s kept x. IsOfHistory s kept → P s kept x) old new r → ShowsOffice P old new r
 shows_of_history P old new (Ok x) shows = λ o l history means.
     let p = shows (state o l) (kept_by (first_accepted o l)) (lawful_after o l history) means in
-    (p.0 (of_history o l history), p.1)
+    (p.0 (of_history o l history.office.opening), p.1)
 shows_of_history P old new (Err f) shows = λ o l history means.
     shows (state o l) (kept_by (first_accepted o l)) (lawful_after o l history) means
 
@@ -40,6 +28,6 @@ pub shows_serials : (old new : Connection) (r : Result (List Run) Fault) → Sho
     → ShowsOffice (λ s kept runs. (n : ℕ) → contains runs n ≡ s.revoked n) old new r
 shows_serials old new (Ok runs) shows = λ o l history means.
     let p = shows (state o l) (kept_by (first_accepted o l)) (lawful_after o l history) means in
-    (p.0.serials (of_history o l history), p.1)
+    (p.0.serials (of_history o l history.office.opening), p.1)
 shows_serials old new (Err f) shows = λ o l history means.
     shows (state o l) (kept_by (first_accepted o l)) (lawful_after o l history) means

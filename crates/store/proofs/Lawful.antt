@@ -9,8 +9,6 @@ use Rattle.std.proofs.lemmas.Bool.{and_parts, ltb-false, ltb-true, eqb-true}
 use Rattle.std.proofs.lemmas.List.Sums.{fold_push}
 use Rattle.profile.specs.declared.refusal.Refusal.{Refusal}
 use Rattle.lines.specs.declared.signature.Signature.{Signature}
-use Rattle.lines.specs.declared.key_line.KeyLine.{KeyLine}
-use Rattle.lines.specs.KeyLines.{is_comment_or_none, is_key, is_key_line}
 use Rattle.message.specs.declared.department.Department.{Department}
 use Rattle.message.specs.declared.issue.Issue.{Issue}
 use Rattle.message.specs.declared.renewal.Renewal.{Renewal}
@@ -38,12 +36,10 @@ use Rattle.rows.specs.Certificates.{AreCounted, IsSigned}
 use Rattle.rows.specs.Lawful.{IsLawful}
 use Rattle.store.specs.Meaning.{IsHistory}
 use Rattle.store.proofs.Ascending.{IsEntry, entries_put, names_put, texts_put}
+use Rattle.krl.proofs.Items.{all_more}
+use Rattle.lines.proofs.KeyLineLaws.{key_size}
 
 -- ---- lists
-
-pub all_push : {X : Type 0} (P : X → Type 0) (xs : List X) (x : X) → AllByRecursion P xs → P x → AllByRecursion P (xs ++ x ∷ [])
-all_push P [] x all p = (p, tt)
-all_push P (y ∷ xs) x all p = (all.0, all_push P xs x all.1 p)
 
 pub all_get : {X : Type 0} (P : X → Type 0) (xs : List X) (k : ℕ) → AllByRecursion P xs → IfSome (slice_get xs k) P
 all_get P [] k all = tt
@@ -155,7 +151,7 @@ with_one_lawful s c lawful is unsigned serial = record {
   cas = lawful.cas;
   departments = lawful.departments;
   names = lawful.names;
-  certificates = all_push IsIssued s.certificates c lawful.certificates
+  certificates = all_more IsIssued s.certificates c lawful.certificates
       (is, subst (λ o. IfSome o (λ (x : Signature). length x.bytes ≡ 64)) (sym unsigned) tt);
   serials = counted_push s.opening.first s.certificates c lawful.serials serial;
   key_ids = lawful.key_ids;
@@ -215,7 +211,7 @@ key_id_kept s key_id lawful = record {
 ca_kept : (s : State) (ca : Ca) → IsLawful s → length ca.key ≡ 32 → IsLawful (with_ca s ca)
 ca_kept s ca lawful size = record {
   opening = lawful.opening;
-  cas = all_push (λ ca. length ca.key ≡ 32) s.cas ca lawful.cas size;
+  cas = all_more (λ ca. length ca.key ≡ 32) s.cas ca lawful.cas size;
   departments = lawful.departments;
   names = lawful.names;
   certificates = lawful.certificates;
@@ -241,9 +237,6 @@ republished_kept s moment lawful = same_rows s (republished s moment) lawful ref
 either : (b : Bool) (s t : State) → IsLawful s → IsLawful t → IsLawful (cond b s t)
 either true s t p q = p
 either false s t p q = q
-
-key_size : (k : KeyLine) → is_key_line k ≡ true → length k.key ≡ 32
-key_size k e = eqb-true _ _ (and_parts _ _ (and_parts (is_key k.key) (is_comment_or_none k.comment) e).0).0
 
 signature_size : (d : Delivery) → is_delivery d ≡ true → length d.signature.bytes ≡ 64
 signature_size d e =

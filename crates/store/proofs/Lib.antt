@@ -1,13 +1,10 @@
 pub mod Accepted
 pub mod Answering
-pub mod Apart
 pub mod Ascending
 pub mod Bare
-pub mod Dates
 pub mod Histories
 pub mod Lawful
 pub mod Limits
-pub mod Listed
 pub mod OfficeRows
 pub mod Parts
 pub mod Reading

@@ -6,7 +6,7 @@ use Rattle.std.proofs.lemmas.Bool.Decides.{nat_tests}
 use Rattle.std.proofs.lemmas.List.{length-drop}
 use Rattle.std.proofs.lemmas.List.Sorted.{length_permutation}
 use Rattle.sqlite_trees.proofs.ListLemmas.{IsPermutation-filter}
-use Rattle.profile.specs.Names.{department_of, is_key_id, is_key_id_byte, is_key_id_end}
+use Rattle.profile.specs.Names.{department_of, is_key_id, is_key_id_end}
 use Rattle.lines.specs.Keys.{key_blob, key_of}
 use Rattle.lines.specs.KeyLines.{is_comment_or_none, is_key}
 use Rattle.lines.proofs.Blobs.{key_of_again}
@@ -39,15 +39,14 @@ use Rattle.office.specs.Openings.{IsOpening}
 use Rattle.store.specs.Creating.{RefusesOpening}
 use Rattle.store.specs.Arriving.{IsTooMuch, IsTooMuchToChange}
 use Rattle.store.specs.Meaning.{IsHistory}
-use Rattle.store.proofs.Accepted.{last_small}
-use Rattle.store.proofs.Apart.{neither}
+use Rattle.office.proofs.Sizes.{last_of}
 use Rattle.store.proofs.Lawful.{lawful_after}
 use Rattle.std.specs.List.{AllByRecursion, list_all, list_any}
 use Rattle.std.specs.Ordering.{eq_by_cmp, nat_cmp}
 use Rattle.std.specs.Cmp.Lexicographic.{slice_cmp}
 use Rattle.std.specs.FinMap.Entries.{find}
 use Rattle.std.specs.Str.{bytes_eq}
-use Rattle.std.proofs.lemmas.Bool.{and_parts, cases_Bool, eqb-true, leb-true}
+use Rattle.std.proofs.lemmas.Bool.{and_parts, or_parts, cases_Bool, eqb-true, leb-true}
 use Rattle.std.proofs.lemmas.Map.Text.{is_eq-slice_cmp}
 use Rattle.std.proofs.lemmas.Slice.Eq.{bytes_eq-Decides}
 use Rattle.profile.specs.Names.{has_size, is_name, is_name_byte}
@@ -82,6 +81,7 @@ use Rattle.rows.specs.Lawful.{IsLawful}
 use Rattle.rows.specs.Rows.{cert_row, contents_of, department_row, office_row, request_row}
 use Rattle.office.proofs.Growth.{length-signed_at}
 use Rattle.store.specs.Arriving.{IsAccepted, Past, kept_at, state_at}
+use Rattle.cert.proofs.Sizes.{key_id_end-le}
 
 -- ---- lists
 
@@ -133,9 +133,9 @@ request_new a (j ∷ kept) none (k, inl is, (caller, key)) =
     let one : bytes_eq j.caller a.caller ≡ true = (bytes_eq-Decides j.caller a.caller).1 (ap (λ r. r.caller) (sym is) ∙ caller) in
     let two : bytes_eq j.key a.key ≡ true = (bytes_eq-Decides j.key a.key).1 (ap (λ r. r.key) (sym is) ∙ key) in
     let hit : has_key a j ≡ true = rw (one, two) refl in
-    let wrong : true ≡ false = sym hit ∙ (neither (has_key a j) (list_any (has_key a) kept) none).0 in cc
+    let wrong : true ≡ false = sym hit ∙ (or_parts (has_key a j) (list_any (has_key a) kept) none).0 in cc
 request_new a (j ∷ kept) none (k, inr here, same) =
-    request_new a kept (neither (has_key a j) (list_any (has_key a) kept) none).1 (k, here, same)
+    request_new a kept (or_parts (has_key a j) (list_any (has_key a) kept) none).1 (k, here, same)
 
 -- ---- certificates
 
@@ -332,9 +332,9 @@ ca_free n (c ∷ cas) number key high size sizes none (d, inl is, inr same) =
     let key_is : Some c.key ≡ Some key = sym (key_of_again c.key sizes.0) ∙ ap key_of blob ∙ key_of_again key size in
     let alike : c.key ≡ key = cc in
     let hit : bytes_eq c.key key ≡ true = (bytes_eq-Decides c.key key).1 alike in
-    let wrong : true ≡ false = sym hit ∙ (neither (bytes_eq c.key key) (is_ca cas key) none).0 in cc
+    let wrong : true ≡ false = sym hit ∙ (or_parts (bytes_eq c.key key) (is_ca cas key) none).0 in cc
 ca_free n (c ∷ cas) number key high size sizes none (d, inr here, same) =
-    ca_free (suc n) cas number key (omega (arith, high)) size sizes.1 (neither (bytes_eq c.key key) (is_ca cas key) none).1
+    ca_free (suc n) cas number key (omega (arith, high)) size sizes.1 (or_parts (bytes_eq c.key key) (is_ca cas key) none).1
     (d, here, same)
 
 -- ---- runs
@@ -388,15 +388,9 @@ key_id_short : (t : List ℕ) → is_key_id t ≡ true → IsTooLong (key_id_cel
 key_id_short t is long =
     let parts = and_parts (is_name (department_of t)) (is_key_id_end (drop (length (department_of t)) t)) is in
     let name = name_short (department_of t) parts.0 in
-    let rest = end_short (drop (length (department_of t)) t) parts.1 in
+    let rest = key_id_end-le (drop (length (department_of t)) t) parts.1 in
     let left = length-drop (length (department_of t)) t in
     omega (arith, name, rest, left, long)
-  where
-    end_short : (u : List ℕ) → is_key_id_end u ≡ true → length u ≤ 65
-    end_short [] e = absurd cc
-    end_short (b ∷ u) e =
-        let size = and_parts (has_size 1 64 u) (list_all is_key_id_byte u) (and_parts (b == 47) _ e).1 in
-        let high = leb-true (length u) 64 (and_parts (nat_le 1 (length u)) (nat_le (length u) 64) size.0).1 in omega (arith, high)
 
 -- ---- what is decided
 
@@ -446,7 +440,7 @@ module _ (p : Past) (a : Arrival) (d : Decision) (serving : List Ca) (history : 
       let room : (s.opening.first ≤ r.lo) × (r.hi < next_serial s) = subst (λ ch. HasRoom ch s) e is.room in
       let in_range : next_serial s ≤ s.opening.last + 1 = holds_in_range p.0 p.1 history.office.opening in
       let opening : s.opening.last ≡ p.0.last = ap (λ (o : Opening). o.last) (opening_stays p.0 p.1) in
-      let top = last_small p.0 history.office.opening in
+      let top = last_of p.0 history.office.opening in
       let fits : next_serial s ≤ 2 ^ 64 = omega (arith, in_range, opening, top) in
       let t = with_range s r in
       alone_there (joined_run r rows) (filter (λ q. not (meets (around r) q)) rows.runs) (revoked_runs t)

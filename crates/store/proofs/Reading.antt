@@ -9,7 +9,8 @@ use Rattle.text.specs.declared.memory.NoMemory.{NoMemory as Refusal}
 use Rattle.tables.specs.Contents.{Means}
 use Rattle.tables.specs.Calls as table
 use Rattle.tables.specs.declared.fault.Fault.{Fault}
-use Rattle.tables.proofs.Later.{cause_then, stops_then, unchanged_then}
+use Rattle.sqlite.proofs.Callers.{unchanged_then}
+use Rattle.tables.proofs.Later.{cause_then, stops_then}
 use Rattle.office.specs.declared.opening.Opening.{Opening}
 use Rattle.office.specs.declared.arrival.Arrival.{Arrival}
 use Rattle.office.specs.declared.arrival.Kept.{Kept}

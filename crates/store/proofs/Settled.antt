@@ -2,8 +2,6 @@
 use Rattle.std.proofs.Common.{◌≡◌, ℕ, List, [], ◌∷◌, ◌++◌, length, true, false, Some, None, Ok, Err, Result, IsTrue, refl, sym, ap₂, subst}
 use Rattle.std.specs.Prelude.{◌≤◌, nat_lt}
 use Rattle.std.specs.List.{list_any}
-use Rattle.std.specs.Str.{bytes_eq}
-use Rattle.std.proofs.lemmas.Slice.Eq.{bytes_eq-Decides}
 use Rattle.profile.specs.declared.limits.TheConstants.{LATEST_MOMENT}
 use Rattle.profile.specs.declared.refusal.Refusal.{Refusal}
 use Rattle.profile.specs.declared.refusal.Refusal.TheVariants.{BadMessage, BadMoment, KeyReused}
@@ -12,13 +10,12 @@ use Rattle.sqlite.specs.Effect.{Database}
 use Rattle.sqlite.specs.State.{State as Connection, HasCleanDisk, Survives}
 use Rattle.sqlite.proofs.StateLemmas.{survives_weaker}
 use Rattle.message.specs.declared.kinds.Message.{Message}
-use Rattle.message.specs.Values.{is_message}
-use Rattle.message.specs.Texts.{message_text}
 use Rattle.message.specs.Reading.{Gives, message_at}
 use Rattle.message.specs.declared.fault.MessageFault.{MessageFault}
 use Rattle.message.specs.declared.fault.MessageFault.TheVariants.{BadLine}
 use Rattle.tables.specs.Contents.{Contents, Means}
 use Rattle.tables.specs.Calls as table
+use Rattle.tables.proofs.Later.{stops}
 use Rattle.tables.specs.declared.fault.Fault.{Fault}
 use Rattle.tables.specs.declared.fault.Fault.TheVariants.{NoMemory}
 use Rattle.office.specs.declared.arrival.Arrival.{Arrival}
@@ -38,13 +35,15 @@ use Rattle.office.proofs.Steps.{shows_office, shows_refused, shows_repeated}
 use Rattle.rows.specs.Rows.{contents_of, office_contents}
 use Rattle.rows.specs.Transactions.{Answers, Waits}
 use Rattle.rows.proofs.Causes.{cause_of, fails_then, fails_weaker}
-use Rattle.rows.proofs.Steps.{Leads, answers_then, goes_still, stops, waits_then}
+use Rattle.rows.proofs.Steps.{Leads, answers_then, goes_still, waits_then}
 use Rattle.views.specs.Finding.{NeverOfOffice}
 use Rattle.store.specs.Meaning.{IsHistory}
 use Rattle.store.specs.Showing.{ShowsOffice}
 use Rattle.store.specs.Arriving.{FailsAt, IsAfter, IsAnswered, IsNew, Past, ExceedsTables, Settles, contents_with, kept_at, state_at, stopped}
-use Rattle.store.proofs.Lawful.{all_push, lawful_after}
+use Rattle.krl.proofs.Items.{all_more}
+use Rattle.store.proofs.Lawful.{lawful_after}
 use Rattle.store.proofs.Reading.{still_means}
+use Rattle.office.proofs.Texts.{bad_is}
 
 -- ---- one arrival more
 
@@ -57,7 +56,7 @@ pub goes_on : (a : Arrival) (p : Past) (s : State) (kept : List Kept) → length
     → Shows s kept p.0 (p.1 ++ a ∷ []) → IsHistory p.0 (p.1 ++ a ∷ [])
 goes_on a p s kept size h shows = record {
   office = shows_office s kept p.0 (p.1 ++ a ∷ []) shows;
-  nonces = all_push (λ (x : Arrival). length x.nonce ≡ 32) p.1 a h.nonces size;
+  nonces = all_more (λ (x : Arrival). length x.nonce ≡ 32) p.1 a h.nonces size;
 }
 
 -- its rows are those that are shown
@@ -98,17 +97,6 @@ repeated_still a p r h known = shows_repeated (state_at p) (kept_at p) p.0 p.1 a
 pub refused_still : (a : Arrival) (p : Past) (r : Refusal) → IsHistory p.0 p.1 → reply_kept (kept_at p) a ≡ None
     → judged (state_at p) (kept_at p) a ≡ Err r → IsStill a (outcome.Refused r) p
 refused_still a p r h new is = shows_refused (state_at p) (kept_at p) p.0 p.1 a r new is (shown_at p h)
-
--- a message that was read is the one whose text the bytes are
-pub read_is : (bytes : List ℕ) (m : Message) → message_at bytes ≡ Ok m → is_message m ≡ true → bytes ≡ message_text m
-    → message_with_text bytes ≡ Some m
-read_is bytes m read lawful text =
-    let same : bytes_eq bytes (message_text m) ≡ true = (bytes_eq-Decides bytes (message_text m)).1 text in
-    rw (read, lawful, same) refl
-
--- bytes with a bad line are no message's text
-bad_is : (bytes : List ℕ) (n : ℕ) → message_at bytes ≡ Err n → message_with_text bytes ≡ None
-bad_is bytes n read = rw read refl
 
 pub bad_line : (bytes : List ℕ) (f : MessageFault) (n : ℕ) → f ≡ BadLine n → Gives {X = Message} (Err f) (message_at bytes)
     → message_with_text bytes ≡ None

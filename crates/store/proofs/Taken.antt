@@ -14,7 +14,8 @@ use Rattle.office.specs.Faults.{HasCause, IsOfARegister}
 use Rattle.office.specs.History.{due}
 use Rattle.rows.specs.Rows.{office_contents}
 use Rattle.rows.specs.Transactions.{Ends, Has, Rests}
-use Rattle.store.specs.Meaning.{Tells, told}
+use Rattle.rows.specs.Faults.{told}
+use Rattle.store.specs.Meaning.{Tells}
 use Rattle.store.specs.Arriving.{IsAfter, IsAnswered, IsAny, IsCaused, IsStopped, ExceedsTables, contents_with, of_statement}
 
 -- ---- why it fails

@@ -13,7 +13,6 @@ use Rattle.tables.specs.Contents.{Contents, Kept}
 use Rattle.tables.specs.Faults as table
 use Rattle.tables.specs.declared.fault.Fault.{Fault}
 use Rattle.tables.specs.declared.fault.Fault.TheVariants as table_fault
-use Rattle.rows.specs.Faults.{fault_of}
 use Rattle.text.specs.declared.memory.NoMemory as text
 use Rattle.tables.specs.Schema.{no_schema}
 use Rattle.tables.specs.Calls.{IsBare}
@@ -56,11 +55,6 @@ Looks c failed (Ok x) = opened_by c.offices ≡ Ok x
 Looks c failed (Err NoMemory) = Unit {0}
 Looks c failed (Err Device) = failed
 Looks c failed (Err e) = opened_by c.offices ≡ Err e
-
--- the register's answer of an answer of the tables
-abbrev pub told : {X : Type 0} → Result X Fault → Result X StoreFault
-told (Ok x) = Ok x
-told (Err f) = Err (fault_of f)
 
 -- what is made where memory allows, as an answer of the tables
 abbrev pub made : {X : Type 0} → Result X text.NoMemory → Result X Fault

@@ -8,7 +8,6 @@ ghost use Rattle.office.specs.declared.arrival.Arrival.{Arrival};
 ghost use Rattle.store.specs.Meaning.{HasFailed, Tells};
 ghost use Rattle.store.specs.Arriving.{IsStopped};
 
-use crate::answer::told;
 use crate::listing::{read_entries, read_pending};
 use crate::publishing::read_revoked;
 use crate::register::Store;
@@ -16,7 +15,7 @@ use crate::serials::{read_body_of, read_issued};
 use crate::taking::take;
 use message::Department;
 use office::{Arrival, Ca, Entry, Issued, Outcome, Pending, Registry, Revoked, StoreFault};
-use rows::{read_cas, read_departments};
+use rows::{read_cas, read_departments, told};
 use sqlite::Alter;
 use std::alloc::Global;
 use text::Text;

@@ -1,15 +1,15 @@
 -- The statements on the table of departments.
 use Rattle.std.proofs.Common.{◌≡◌, ℕ, pos, length, List, [], ◌∷◌, ◌++◌, codes, map, Bool, true, false, not, Option, None, Some, Ok, refl, sym, ap, ap₂, subst, subst₂, ◌∙◌, inl, inr, is_eq, arith}
-use Rattle.std.specs.Prelude.{◌&&◌, ◌||◌, bytes_eq, filter}
+use Rattle.std.specs.Prelude.{◌&&◌, bytes_eq, filter}
 use Rattle.std.specs.List.Sorted.{IsPermutation}
-use Rattle.std.proofs.Math.Bool.{and-true}
+use Rattle.std.proofs.Math.Bool.{and-true, or-false}
 use Rattle.std.proofs.lemmas.List.Sorted.{IsPermutation-map, IsPermutation-trans, IsPermutation-cons}
 use Rattle.sqlite.specs.Order.{Row, column, value_cmp}
 use Rattle.sqlite.specs.declared.types.Value.TheVariants.{Null, Text}
 use Rattle.sqlite_value.specs.Keys.{ascending, first_key}
 use Rattle.sqlite_value.proofs.OrderLemmas.{value_cmp_total}
 use Rattle.std.proofs.lemmas.Cmp.{tied_itself}
-use Rattle.std.proofs.lemmas.Bool.{cases_Bool}
+use Rattle.std.proofs.lemmas.Bool.{and_parts, cases_Bool, not-true}
 use Rattle.std.specs.List.{list_any}
 use Rattle.std.specs.declared.cmp.Ordering.TheVariants.{Less, Equal, Greater}
 use Rattle.std.specs.declared.cmp.Ordering.{Ordering}
@@ -166,20 +166,6 @@ pub put_is : (command_of (understood whole put_sql) ≡ InsertOr 1 Abort (Values
 unfolding understood everything
 put_is = (refl, (refl, refl), (refl, refl))
 
-pub and_both : {a b : Bool} → (a && b) ≡ true → (a ≡ true) × (b ≡ true)
-and_both {a} {b} h = go a b h
-  where
-    go : (a b : Bool) → (a && b) ≡ true → (a ≡ true) × (b ≡ true)
-    go true b h = (refl, h)
-    go false b h = absurd cc
-
-not_true : {b : Bool} → not b ≡ true → b ≡ false
-not_true {b} h = go b h
-  where
-    go : (b : Bool) → not b ≡ true → b ≡ false
-    go true h = absurd cc
-    go false h = refl
-
 -- tests of two integers, as their order
 eq_tie : (a b : Value) → is_int a ≡ true → is_int b ≡ true
     → is_true (binary (Compare Eq Binary) a b) ≡ is_eq (value_cmp a b)
@@ -246,15 +232,11 @@ module _ (d : DepartmentRow) where
   abbrev pub fresh_row : List Row → Row
   fresh_row rows = with_rowid Chosen rows (cast_row department_at source)
 
-  or_none : (b : Bool) → (b || false) ≡ b
-  or_none true = refl
-  or_none false = refl
-
   -- the rows that conflict are those of the name
   pub conflict_is : (rows : List Row) (r : Row) → conflicts (Some (1 ∷ [])) whole.indexes department_at (fresh_row rows) r
       ≡ named d.name r
   unfolding first_key
-  conflict_is rows r = rw cast_null (or_none _)
+  conflict_is rows r = rw cast_null (or-false _)
 
   -- what the row is after an update, where the new row that was refused is this one
   abbrev pub next_row : Row → Row → Row
@@ -331,7 +313,7 @@ module _ (d : DepartmentRow) where
         let it = of_record department_cells department_places (db 1) c.departments r h.departments here in
         let name : column r 1 ≡ Text it.0.name = ap (λ v. column v 0) it.2 in
         let test : is_true (binary (Compare Eq Binary) (Text it.0.name) (Text d.name)) ≡ true =
-        (rw (← name) (and_both hit).0) in
+        (rw (← name) (and_parts _ _ hit).0) in
         name ∙ ap Text (same_text it.0.name d.name (sym (text_test it.0.name d.name) ∙ test))
 
     -- another row of the name would break the rule that names are unique
@@ -340,8 +322,8 @@ module _ (d : DepartmentRow) where
     unique r here hit =
         let rule = all_has _ (db 1) r0 (kept.sound.obeys.rules Unique).1.0 here0 in
         let clear : list_any (λ other. (is_true (binary (Compare Eq Binary) (column other 1) (column r0 1)) && true)
-        && is_true (binary (Compare Ne Binary) (rowid other) (rowid r0))) (db 1) ≡ false = not_true
-        (and_both rule).0 in
+        && is_true (binary (Compare Ne Binary) (rowid other) (rowid r0))) (db 1) ≡ false = not-true _
+        (and_parts _ _ rule).0 in
         let mine = none_passes _ (db 1) clear r here in
         let same : is_true (binary (Compare Eq Binary) (column r 1) (column r0 1)) ≡ true = rw
         (name_is r here hit, name_is r0 here0 hit0) (own_text d.name) in

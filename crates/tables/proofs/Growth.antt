@@ -1,5 +1,5 @@
 -- One table after the other.
-use Rattle.std.proofs.Common.{◌≡◌, inl, inr, ℕ, Bool, true, false, IsTrue, List, [], ◌∷◌, ◌++◌, Ok, Err, Result, sym, subst, ◌∙◌, arith}
+use Rattle.std.proofs.Common.{◌≡◌, ℕ, Bool, true, false, IsTrue, List, [], ◌∷◌, ◌++◌, Ok, Err, Result, sym, subst, ◌∙◌, arith}
 use Rattle.std.specs.Prelude.{if◌then◌else◌, IfErr}
 use Rattle.std.specs.List.{AllByRecursion}
 use Rattle.std.proofs.lemmas.List.Sorted.{IsPermutation-refl}
@@ -16,8 +16,8 @@ use Rattle.tables.specs.Schema.{without_ca, ca}
 use Rattle.tables.specs.Cells.{office_cells, department_cells, cert_cells, request_cells, run_cells, key_id_cells, ca_cells}
 use Rattle.tables.specs.Contents.{Lists, no_contents, office_places, department_places, cert_places, request_places, run_places, key_id_places, ca_places}
 use Rattle.tables.specs.Faults.{HasCause}
-use Rattle.tables.proofs.Later.{cause_then}
-use Rattle.tables.specs.Calls.{Grown, Creates, IsBare, Completes, AddsCa, Steps, Waits, Fails}
+use Rattle.tables.proofs.Later.{cause_then, inside_is, stops}
+use Rattle.tables.specs.Calls.{Grown, Creates, IsBare, Completes, AddsCa, Steps, Waits}
 
 -- a table with no row
 lists_none : {X : Type 0} (cells : X → Row) (places : List ℕ) (rows : List Row) → rows ≡ [] → Lists cells places rows []
@@ -29,10 +29,6 @@ settled : (b : Bool) {X : Type 0} (was now last shown : X) → shown ≡ (if b t
 settled true was now last shown e = e
 settled false was now last shown e = e
 
-inside_is : (b : Bool) {X : Type 0} (was now shown : X) → IsTrue b → shown ≡ (if b then was else now) → shown ≡ was
-inside_is true was now shown t e = e
-inside_is false was now shown t e = absurd (let f : false ≡ true = t in cc)
-
 grown_steps : (before : Schema) (table : Table) (a b c : State) → Grown a b before table → Steps b c no_contents
     → Steps a c no_contents
 grown_steps before table a b c p q = record {
@@ -43,10 +39,6 @@ grown_steps before table a b c p q = record {
   mode = q.mode ∙ p.mode;
   marks = q.marks ∙ p.marks;
 }
-
-stops : (a c : State) → Fails a c → KeepsCommit a c
-stops a c (inl same) = record { was_open = λ _. same.0.was_open; committed = λ _. same.0.committed_is }
-stops a c (inr back) = record { was_open = back.was_open; committed = λ still. (back.undone still).1 }
 
 later : (before : Schema) (table : Table) (a b c : State) → Grown a b before table → IsTrue a.in_transaction
     → KeepsCommit b c → KeepsCommit a c

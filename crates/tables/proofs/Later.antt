@@ -1,26 +1,24 @@
 -- A call that comes after another.
-use Rattle.std.proofs.Common.{inl, inr, IsTrue, subst, ◌∙◌, arith}
-use Rattle.std.specs.Prelude.{IsSome, Option}
+use Rattle.std.proofs.Common.{◌≡◌, inl, inr, Bool, true, false, IsTrue, subst, ◌∙◌, arith}
+use Rattle.std.specs.Prelude.{IsSome, Option, if◌then◌else◌}
 use Rattle.std.proofs.lemmas.Bool.{both_ways}
 use Rattle.sqlite.specs.Tree.{Trees}
-use Rattle.sqlite.specs.State.{State, Survives, IsUnchanged}
+use Rattle.sqlite.specs.State.{State, Survives, IsUnchanged, KeepsCommit}
+use Rattle.sqlite.proofs.Callers.{unchanged_then}
 use Rattle.tables.specs.Calls.{Fails}
 use Rattle.tables.specs.Faults.{HasCause, HasFailed}
 use Rattle.tables.specs.declared.fault.Fault.{Fault}
 use Rattle.tables.specs.declared.fault.Fault.TheVariants.{Damaged, Device, NoMemory}
 
-pub unchanged_then : (a b c : State) → IsUnchanged a b → IsUnchanged b c → IsUnchanged a c
-unchanged_then a b c p q = (
-  record {
-    was_open = p.0.was_open;
-    is_open = q.0.is_open;
-    now_is = q.0.now_is ∙ p.0.now_is;
-    committed_is = q.0.committed_is ∙ p.0.committed_is;
-    mode = q.0.mode ∙ p.0.mode;
-  },
-  record { changes = q.1.changes ∙ p.1.changes; last_rowid = q.1.last_rowid ∙ p.1.last_rowid },
-  q.2 ∙ p.2,
-)
+-- what a failure leaves in a transaction
+pub stops : (a b : State) → Fails a b → KeepsCommit a b
+stops a b (inl same) = record { was_open = λ _. same.0.was_open; committed = λ _. same.0.committed_is }
+stops a b (inr back) = record { was_open = back.was_open; committed = λ still. (back.undone still).1 }
+
+-- inside of a transaction what is committed stays
+pub inside_is : (b : Bool) {X : Type 0} (last now shown : X) → IsTrue b → shown ≡ (if b then last else now) → shown ≡ last
+inside_is true last now shown t e = e
+inside_is false last now shown t e = absurd (let f : false ≡ true = t in cc)
 
 pub stops_then : (a b c : State) → IsUnchanged a b → Fails b c → Fails a c
 stops_then a b c p (inl q) = inl (unchanged_then a b c p q)

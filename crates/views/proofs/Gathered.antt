@@ -1,15 +1,17 @@
 -- What is read together of what a message concerns.
-use Rattle.std.proofs.Common.{◌≡◌, inl, Ok, Err, Result, ℕ, ◌<◌, ◌≤◌, List, Bool, true, false, leb, ltb, Option, Some, None, refl, sym, ap, subst, ◌∙◌, arith, IsTrue}
+use Rattle.std.proofs.Common.{◌≡◌, inl, Ok, Err, Result, ℕ, ◌<◌, ◌≤◌, List, Bool, true, false, ltb, Option, Some, None, refl, sym, ap, subst, ◌∙◌, arith, IsTrue}
 use Rattle.std.specs.Prelude.{◌↔◌, ◌^◌}
 use Rattle.std.specs.Option.{option_and_then}
-use Rattle.std.proofs.lemmas.Bool.{and_parts, leb-true, le-ltb}
+use Rattle.std.proofs.lemmas.Bool.{and_parts, le-ltb}
 use Rattle.std.proofs.lemmas.Option.{same_Some}
 use Rattle.sqlite.specs.State.{State as Connection}
 use Rattle.krl.specs.Sets.{HasAll}
 use Rattle.message.specs.declared.serial_range.SerialRange.{SerialRange}
 use Rattle.message.specs.declared.kinds.Message.{Message}
 use Rattle.message.specs.declared.kinds.Message.TheVariants as message
-use Rattle.message.specs.Values.{is_message, is_serial}
+use Rattle.profile.proofs.SerialLemmas.{serial_bounds}
+use Rattle.profile.specs.Serials.{is_serial}
+use Rattle.message.specs.Values.{is_message}
 use Rattle.office.specs.declared.opening.Opening.{Opening}
 use Rattle.office.specs.declared.certificate.Certificate.{Certificate}
 use Rattle.office.specs.Concerns.{named_department, named_range, named_serial}
@@ -52,7 +54,7 @@ office_passes s o lawful is =
 -- ---- serials that are small enough for a column
 
 small : (n : ℕ) → is_serial n ≡ true → n < 2 ^ 63
-small n is = omega (arith, leb-true _ _ (and_parts (leb 1 n) (leb n 9223372036854775806) is).1)
+small n is = omega (arith, (serial_bounds n is).1)
 
 pub serial_small : (m : Message) (n : ℕ) → is_message m ≡ true → named_serial m ≡ Some n → n < 2 ^ 63
 serial_small (message.Department d) n lawful is = absurd cc

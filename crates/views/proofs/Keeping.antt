@@ -83,7 +83,8 @@ abbrev pub reply_of : Arrival → Option Kept → Option (List ℕ)
 reply_of a None = None
 reply_of a (Some k) = cond (bytes_eq k.bytes a.bytes) (Some k.reply) None
 
-no_repeat : (a : Arrival) (kept : List Kept) → list_any (has_key a) kept ≡ false → reply_kept kept a ≡ None
+-- no request of its caller and key is kept
+pub no_repeat : (a : Arrival) (kept : List Kept) → list_any (has_key a) kept ≡ false → reply_kept kept a ≡ None
 no_repeat a [] none = refl
 no_repeat a (k ∷ kept) none =
     let parts = or_parts (has_key a k) (list_any (has_key a) kept) none in

@@ -47,11 +47,15 @@ apart_along : (o : Opening) (fs : List First) (l : List Arrival) → AreApart (k
 apart_along o fs [] apart = apart
 apart_along o fs (a ∷ l) apart = apart_along o (with_arrival o fs a) l (apart_added o fs a _ refl apart)
 
+-- no two requests that are kept after a history have one caller and one key
+pub apart_after : (o : Opening) (l : List Arrival) → AreApart (kept_by (first_accepted o l))
+apart_after o l = apart_along o [] l tt
+
 -- the state and the requests after a history of a lawful opening
 pub of_history : (o : Opening) (l : List Arrival) → IsOpening o
     → IsOfHistory (state o l) (kept_by (first_accepted o l))
 of_history o l is = record {
   range = holds_in_range o l is;
   revoked = revoked_is_issued o l;
-  apart = apart_along o [] l tt;
+  apart = apart_after o l;
 }

@@ -3,14 +3,13 @@ use Rattle.std.proofs.Common.{◌≡◌, ℕ, ◌+◌, ◌<◌, ◌≤◌, inl, 
 use Rattle.std.specs.Prelude.{◌↔◌, IsSortedByKey}
 use Rattle.std.specs.Ordering.{nat_cmp}
 use Rattle.std.proofs.lemmas.Bool.{and_parts, leb-true}
-use Rattle.std.proofs.lemmas.Bool.Decides.{nat_tests}
 use Rattle.std.proofs.lemmas.Cmp.{nat_cmp_total, on_total}
 use Rattle.sqlite_keyed.proofs.SortLemmas.{sorted_unique}
 use Rattle.sqlite_trees.proofs.ListLemmas.{filter-map}
 use Rattle.sqlite.specs.State.{State as Connection, IsUnchanged}
 use Rattle.krl.specs.declared.run.Run.{Run}
 use Rattle.krl.specs.Sets.{HasAll, contains, is_counted}
-use Rattle.krl.proofs.Counting.{contains_runs_in}
+use Rattle.krl.proofs.Counting.{contains_runs_in, are_counted}
 use Rattle.profile.specs.declared.limits.TheConstants.{LAST_SERIAL}
 use Rattle.office.specs.declared.arrival.Kept.{Kept}
 use Rattle.office.specs.State.{State}
@@ -25,6 +24,7 @@ use Rattle.rows.specs.Showing.{Shows}
 use Rattle.views.specs.Histories.{IsOfHistory}
 use Rattle.views.specs.RunRows.{AreRead, AreRevokedRuns, RiseFrom, meeting, runs_of}
 use Rattle.views.proofs.Rising.{back_again, contains_meeting, meeting_rise, rise_lower, rows_rise, runs_rise}
+use Rattle.std.proofs.Math.Bool.{and-false}
 
 revoked_rise : (s : State) → RiseFrom 0 (revoked_runs s)
 revoked_rise s =
@@ -74,17 +74,10 @@ shows_meeting ends =
 
 -- ---- the serials in them
 
-within : (first count n : ℕ) → first ≤ n → n < first + count → is_counted first count n ≡ true
-within first count n low high = grind (arith, nat_tests)
-
 counted : (first count n : ℕ) (b : Bool) → (b ≡ true → (first ≤ n) × (n < first + count))
     → (is_counted first count n && b) ≡ b
-counted first count n true is = let p = is refl in rw (within first count n p.0 p.1) refl
-counted first count n false is = by_test (is_counted first count n)
-  where
-    by_test : (a : Bool) → (a && false) ≡ false
-    by_test true = refl
-    by_test false = refl
+counted first count n true is = let p = is refl in rw (are_counted first count n p.0 p.1) refl
+counted first count n false is = and-false (is_counted first count n)
 
 -- just the revoked serials, where only issued ones are revoked
 pub revoked_in : (s : State) (kept : List Kept) → IsLawful s → IsOfHistory s kept → (n : ℕ)

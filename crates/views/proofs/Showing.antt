@@ -7,7 +7,8 @@ use Rattle.sqlite.proofs.StateLemmas.{survives_then, survives_weaker, unchanged}
 use Rattle.tables.specs.Contents.{Means}
 use Rattle.tables.specs.Calls.{Never}
 use Rattle.tables.specs.declared.fault.Fault.{Fault}
-use Rattle.tables.proofs.Later.{cause_then, stops_then, unchanged_then}
+use Rattle.sqlite.proofs.Callers.{unchanged_then}
+use Rattle.tables.proofs.Later.{cause_then, stops_then}
 use Rattle.office.specs.declared.arrival.Kept.{Kept}
 use Rattle.office.specs.State.{State}
 use Rattle.rows.specs.Lawful.{IsLawful}

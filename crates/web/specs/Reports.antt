@@ -14,6 +14,7 @@ use Rattle.office.specs.declared.publication.Standing.{Standing}
 use Rattle.office.specs.declared.publication.Standing.TheVariants as standing
 use Rattle.office.specs.State.{State}
 use Rattle.office.specs.Publication.{pending_of, departments_of, entries_of}
+use Rattle.message.specs.Texts.{kind_text}
 
 -- ---- what waits for a signature
 
@@ -74,10 +75,6 @@ signers_report s = signers_text (signer_rows (departments_of s) s.cas)
 abbrev pub right_in : (places text : List ℕ) → List ℕ
 right_in places text = drop (length text) places ++ text
 
-abbrev pub kind_word : Kind → List ℕ
-kind_word User = codes "user"
-kind_word Host = codes "host"
-
 -- in 7 places
 abbrev pub standing_word : Standing → List ℕ
 standing_word standing.Pending = codes "pending"
@@ -99,7 +96,7 @@ gap = codes "  "
 abbrev pub entry_line : Entry → List ℕ
 entry_line e =
     right_in serial_places (decimal e.serial)
-    ++ ((gap ++ (kind_word e.kind ++ (gap ++ (standing_word e.standing ++ gap))))
+    ++ ((gap ++ (kind_text e.kind ++ (gap ++ (standing_word e.standing ++ gap))))
     ++ (right_in moment_places (decimal e.after)
     ++ (gap ++ (right_in moment_places (decimal e.before) ++ (gap ++ (e.key_id ++ (10 ∷ [])))))))
 

@@ -8,7 +8,8 @@ ghost use Rattle.office.specs.declared.arrival.Arrival.{Arrival};
 ghost use Rattle.office.specs.History.{state};
 ghost use Rattle.office.specs.Faults.{HasCause, IsOfARegister};
 ghost use Rattle.web.specs.Causes.{FailsWithin};
-ghost use Rattle.web.specs.Reports.{entry_line, kind_word, moment_places, serial_places, standing_word, table_lines, table_report, total_line};
+ghost use Rattle.message.specs.Texts.{kind_text};
+ghost use Rattle.web.specs.Reports.{entry_line, moment_places, serial_places, standing_word, table_lines, table_report, total_line};
 
 use crate::pieces::{put_pieces, put_right};
 use crate::room::to_body;
@@ -31,7 +32,7 @@ fn moment_places() -> &'static [u8]
 }
 
 fn kind_word(kind: Kind) -> &'static [u8]
-    ensures { result.now ≡ kind_word kind }
+    ensures { result.now ≡ kind_text kind }
 {
     match kind {
         Kind::User => b"user",

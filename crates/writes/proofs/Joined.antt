@@ -19,6 +19,7 @@ use Rattle.tables.specs.Changes.{meets}
 use Rattle.rows.specs.Rows.{revoked_runs, run_row}
 use Rattle.writes.specs.Ranges.{around, spanning}
 use Rattle.writes.proofs.Spans.{is_near, is_far, span, spanned}
+use Rattle.std.proofs.Math.Bool.{and-false}
 
 -- ---- the order of the runs is nothing
 
@@ -118,11 +119,7 @@ counted_more first count n true h =
     let lt : n < first + count = h refl in
     let same : is_counted first count n ≡ is_counted first (count + 1) n = grind (arith, nat_tests) in
     rw same refl
-counted_more first count n false h = none (is_counted first count n) ∙ sym (none (is_counted first (count + 1) n))
-  where
-    none : (b : Bool) → (b && false) ≡ false
-    none true = refl
-    none false = refl
+counted_more first count n false h = and-false (is_counted first count n) ∙ sym (and-false (is_counted first (count + 1) n))
 
 -- where only serials that were handed out are revoked the next one makes no run
 pub runs_still : (s : State) (c : Certificate) → ((n : ℕ) → s.revoked n ≡ true → n < next_serial s)

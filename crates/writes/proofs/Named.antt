@@ -22,9 +22,7 @@ use Rattle.tables.specs.declared.departments.DepartmentRow.{DepartmentRow}
 use Rattle.tables.specs.Changes.{has_name}
 use Rattle.rows.specs.Rows.{department_row}
 use Rattle.writes.proofs.Spans.{moved}
-
-abbrev entries_rows : List (List ℕ × Department) → List DepartmentRow
-entries_rows es = map (λ e. department_row e.1) es
+use Rattle.rows.proofs.DepartmentRows.{department_rows}
 
 abbrev lacks : List ℕ → DepartmentRow → Bool
 lacks name e = not (has_name name e)
@@ -38,7 +36,7 @@ lacks_one name other e = ap not (nat_list_eq_equiv.symm other name ∙ e)
 
 -- what is above a name has another
 all_lack : (name : List ℕ) (es : List (List ℕ × Department)) → AllByRecursion (λ e. slice_cmp nat_cmp name e.1.name ≡ Less) es
-    → AllByRecursion (λ row. lacks name row ≡ true) (entries_rows es)
+    → AllByRecursion (λ row. lacks name row ≡ true) (department_rows es)
 all_lack name [] all = tt
 all_lack name (e ∷ es) all = (lacks_one name e.1.name (tied name e.1.name Less all.0), all_lack name es all.1)
 
@@ -58,29 +56,29 @@ pub put_named : (d : Department) (es : List (List ℕ × Department))
 put_named d [] all up = IsPermutation-refl _
 put_named d (e ∷ es) all up = by_case (put_named d es all.1 up.1) (slice_cmp nat_cmp d.name e.0) refl
   where
-    by_case : IsPermutation (department_row d ∷ filter (lacks d.name) (entries_rows es)) (entries_rows (put (slice_cmp nat_cmp) d.name d es))
+    by_case : IsPermutation (department_row d ∷ filter (lacks d.name) (department_rows es)) (department_rows (put (slice_cmp nat_cmp) d.name d es))
         → (o : Ordering) → slice_cmp nat_cmp d.name e.0 ≡ o
-        → IsPermutation (department_row d ∷ filter (lacks d.name) (entries_rows (e ∷ es)))
-        (entries_rows (put (slice_cmp nat_cmp) d.name d (e ∷ es)))
+        → IsPermutation (department_row d ∷ filter (lacks d.name) (department_rows (e ∷ es)))
+        (department_rows (put (slice_cmp nat_cmp) d.name d (e ∷ es)))
     by_case rest Less is =
         let less : slice_cmp nat_cmp d.name e.1.name ≡ Less = ap (slice_cmp nat_cmp d.name) (sym all.0.1) ∙ is in
-        let others : filter (lacks d.name) (entries_rows es) ≡ entries_rows es =
-        filter_all (lacks d.name) (entries_rows es) (all_lack d.name es (all_above d.name e es less up.0)) in
+        let others : filter (lacks d.name) (department_rows es) ≡ department_rows es =
+        filter_all (lacks d.name) (department_rows es) (all_lack d.name es (all_above d.name e es less up.0)) in
         rw (is, lacks_one d.name e.1.name (tied d.name e.1.name Less less), others) (IsPermutation-refl _)
     by_case rest Equal is =
         let same : bytes_eq d.name e.1.name ≡ true =
         ap (bytes_eq d.name) (sym all.0.1) ∙ tied d.name e.0 Equal is in
         let name : d.name ≡ e.1.name = (bytes_eq-Decides d.name e.1.name).0 same in
-        let others : filter (lacks d.name) (entries_rows es) ≡ entries_rows es =
-        filter_all (lacks d.name) (entries_rows es)
+        let others : filter (lacks d.name) (department_rows es) ≡ department_rows es =
+        filter_all (lacks d.name) (department_rows es)
         (all_lack d.name es (subst (λ (n : List ℕ). AllByRecursion (λ f. slice_cmp nat_cmp n f.1.name ≡ Less) es) (sym name) up.0)) in
         let there : bytes_eq e.1.name d.name ≡ true = nat_list_eq_equiv.symm e.1.name d.name ∙ same in
         rw (is, there, others) (IsPermutation-refl _)
     by_case rest Greater is =
         let other : bytes_eq d.name e.1.name ≡ false =
         ap (bytes_eq d.name) (sym all.0.1) ∙ tied d.name e.0 Greater is in
-        rw (is, lacks_one d.name e.1.name other) (moved (department_row d) (department_row e.1) (filter (lacks d.name) (entries_rows es))
-        (entries_rows (put (slice_cmp nat_cmp) d.name d es)) rest)
+        rw (is, lacks_one d.name e.1.name other) (moved (department_row d) (department_row e.1) (filter (lacks d.name) (department_rows es))
+        (department_rows (put (slice_cmp nat_cmp) d.name d es)) rest)
 
 -- ---- the longest life
 

@@ -1,13 +1,11 @@
-use Rattle.std.proofs.Common.{sym, ◌∙◌, arith, rules}
+use Rattle.std.proofs.Common.{◌≡◌, ℕ, true, subst, sym, ◌∙◌, arith, rules}
 use Rattle.std.proofs.lemmas.Fmt.{decimal_injective}
+use Rattle.profile.specs.Serials.{is_serial}
+use Rattle.profile.proofs.SerialLemmas.{serial_bounds}
 use Rattle.requests.proofs.route.serial_of.Goals as goal
 
 pub returns-in_default-clause-none : goal.returns-in_default-clause-none
-returns-in_default-clause-none c = λ n serial e.
-    let same = decimal_injective c.in-Some.serial n (search rules) (omega arith) (sym c.in-Some.ensures.found ∙ e) in
-    omega (arith, same)
-
-pub returns-in_default-2-clause-none : goal.returns-in_default-2-clause-none
-returns-in_default-2-clause-none c = λ n serial e.
-    let same = decimal_injective c.in-Some.serial n (omega arith) (omega arith) (sym c.in-Some.ensures.found ∙ e) in
-    omega (arith, same)
+returns-in_default-clause-none c = λ n is e.
+    let same = decimal_injective c.in-Some.serial n (search rules) (omega (arith, (serial_bounds n is).1)) (sym c.in-Some.ensures.found ∙ e) in
+    let found : is_serial c.in-Some.serial ≡ true = subst (λ (m : ℕ). is_serial m ≡ true) (sym same) is in
+    cc

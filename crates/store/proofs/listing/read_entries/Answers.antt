@@ -6,7 +6,8 @@ use Rattle.store.specs.Showing.{Never}
 use Rattle.office.specs.Publication.{entries_of, entry_of}
 use Rattle.office.specs.History.{state as after}
 use Rattle.store.specs.Revocations.{AreRevokedOf, state_with}
-use Rattle.store.proofs.Listed.{entries_shown}
+use Rattle.krl.specs.Sets.{contains}
+use Rattle.office.proofs.Listed.{entries_shown}
 use Rattle.store.proofs.Reading.{reads_then, shows_then}
 use Rattle.store.proofs.listing.read_entries.Goals as goal
 
@@ -20,7 +21,7 @@ returns-in-Ok-clause-shows g c clean =
     (λ s kept rows. rows.items ≡ map (entry_of (state_with c.in-Ok.revocations)) s.certificates)
     (λ s kept rows. rows.items ≡ entries_of s) old mid new c.in-Ok.revocations c.entries_beside.result (Never old)
     c.read_revocations.ensures.survives
-    (λ o l rows history of is. is ∙ entries_shown c.in-Ok.revocations (after o l) of)
+    (λ o l rows history of is. is ∙ entries_shown (contains c.in-Ok.revocations.serials) c.in-Ok.revocations.key_ids.items (after o l) of.serials of.key_ids)
     (c.in-Ok.ensures.shows still)
     (c.entries_beside.ensures.shows clean)
 

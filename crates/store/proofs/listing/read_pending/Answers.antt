@@ -7,7 +7,8 @@ use Rattle.std.specs.Prelude.{filter}
 use Rattle.office.specs.Publication.{is_pending, pending_of, pending_row}
 use Rattle.office.specs.History.{state as after}
 use Rattle.store.specs.Revocations.{AreRevokedOf, state_with}
-use Rattle.store.proofs.Listed.{pending_shown}
+use Rattle.krl.specs.Sets.{contains}
+use Rattle.office.proofs.Listed.{pending_shown}
 use Rattle.store.proofs.Reading.{reads_then, shows_then}
 use Rattle.store.proofs.listing.read_pending.Goals as goal
 
@@ -21,7 +22,7 @@ returns-in-Ok-clause-shows g c clean =
     (λ s kept rows. rows.items ≡ map pending_row (filter (is_pending (state_with c.in-Ok.revocations)) s.certificates))
     (λ s kept rows. rows.items ≡ pending_of s) old mid new c.in-Ok.revocations c.pending_beside.result (Never old)
     c.read_revocations.ensures.survives
-    (λ o l rows history of is. is ∙ pending_shown c.in-Ok.revocations (after o l) of)
+    (λ o l rows history of is. is ∙ pending_shown (contains c.in-Ok.revocations.serials) c.in-Ok.revocations.key_ids.items (after o l) of.serials of.key_ids)
     (c.in-Ok.ensures.shows still)
     (c.pending_beside.ensures.shows clean)
 

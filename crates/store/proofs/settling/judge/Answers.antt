@@ -5,7 +5,8 @@ use Rattle.profile.specs.declared.refusal.Refusal.TheVariants.{BadMessage, BadMo
 use Rattle.office.specs.declared.arrival.Outcome.TheVariants as outcome
 use Rattle.office.specs.Messages.{message_with_text}
 use Rattle.store.specs.Arriving.{IsAsked, IsNew, kept_at, state_at}
-use Rattle.store.proofs.Settled.{bad_line, bad_message, bad_moment, fails_less, key_reused, read_is, refused_still, settles_still, settles_weaker, waits_weaker}
+use Rattle.office.proofs.Texts.{read_is}
+use Rattle.store.proofs.Settled.{bad_line, bad_message, bad_moment, fails_less, key_reused, refused_still, settles_still, settles_weaker, waits_weaker}
 use Rattle.store.proofs.settling.judge.Goals as goal
 
 pub returns-in-Err-BadLine-clause-settles : goal.returns-in-Err-BadLine-clause-settles

@@ -6,7 +6,7 @@ use Rattle.office.specs.declared.arrival.Outcome.TheVariants as outcome
 use Rattle.views.specs.Histories.{is_for}
 use Rattle.store.specs.Meaning.{IsHistory}
 use Rattle.store.specs.Arriving.{IsAsked, IsFound, Past, kept_at}
-use Rattle.store.proofs.Apart.{apart_after}
+use Rattle.views.proofs.OfHistory.{apart_after}
 use Rattle.store.proofs.Repeats.{known_found, repeat_found, repeat_other, repeat_unknown, unknown_found}
 use Rattle.store.proofs.Settled.{fails_less, repeated_still, settles_still, settles_weaker, waits_weaker}
 use Rattle.store.proofs.settling.settle_beside.Goals as goal
@@ -102,4 +102,4 @@ returns-then-is-clause-settles g c clean is_open =
     let same : bytes_eq k.bytes a.bytes ≡ true =
     ap (λ (x : List ℕ). bytes_eq k.bytes x) (sym c.as_slice.ensures) ∙ sym c.is.ensures.value ∙ c.if-is.true in
     settles_still a (IsFound a c.args.found) (state g.S.Store c.args.conn.now) (outcome.Repeated k.reply) c.requires is_open
-    (λ p history is. repeated_still a p k.reply history (repeat_found a (kept_at p) k (sym is ∙ c.in-Some.is) same))
+    (λ p history is. repeated_still a p k.reply history (repeat_found a (kept_at p) k (apart_after p.0 p.1) (sym is ∙ c.in-Some.is) same))

@@ -5,7 +5,8 @@ use Rattle.office.specs.declared.arrival.Kept.{Kept}
 use Rattle.office.specs.Messages.{message_with_text}
 use Rattle.office.specs.History.{has_key}
 use Rattle.plain.specs.Contents.{Contents}
-use Rattle.plain.proofs.Verdicts.{read_is, bad_moment, judges_by_decide}
+use Rattle.office.proofs.Texts.{read_is}
+use Rattle.plain.proofs.Verdicts.{bad_moment, judges_by_decide}
 use Rattle.plain.proofs.store.PlainStore.judge.Goals as goal
 
 pub returns-then-arrival-gt-LATEST_MOMENT-clause-judges : goal.returns-then-arrival-gt-LATEST_MOMENT-clause-judges

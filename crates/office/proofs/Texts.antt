@@ -1,0 +1,20 @@
+-- Which message's text some bytes are.
+use Rattle.std.proofs.Common.{◌≡◌, ℕ, List, true, Ok, Err, Some, None, refl}
+use Rattle.std.specs.Str.{bytes_eq}
+use Rattle.std.proofs.lemmas.Slice.Eq.{bytes_eq-Decides}
+use Rattle.message.specs.declared.kinds.Message.{Message}
+use Rattle.message.specs.Reading.{message_at}
+use Rattle.message.specs.Texts.{message_text}
+use Rattle.message.specs.Values.{is_message}
+use Rattle.office.specs.Messages.{message_with_text}
+
+-- a message that was read is the one whose text the bytes are
+pub read_is : (bytes : List ℕ) (m : Message) → message_at bytes ≡ Ok m → is_message m ≡ true → bytes ≡ message_text m
+    → message_with_text bytes ≡ Some m
+read_is bytes m read lawful text =
+    let same : bytes_eq bytes (message_text m) ≡ true = (bytes_eq-Decides bytes (message_text m)).1 text in
+    rw (read, lawful, same) refl
+
+-- bytes with a bad line are no message's text
+pub bad_is : (bytes : List ℕ) (n : ℕ) → message_at bytes ≡ Err n → message_with_text bytes ≡ None
+bad_is bytes n read = rw read refl

@@ -1,0 +1,6 @@
+-- Serials.
+use Rattle.std.specs.Prelude.{ℕ, Bool, ◌&&◌, nat_le}
+
+-- a serial that may be issued: 1 to 9223372036854775806
+abbrev pub is_serial : ℕ → Bool
+is_serial n = nat_le 1 n && nat_le n 9223372036854775806
