@@ -1,6 +1,6 @@
 //! The database of an office.
 
-ghost use Rattle.std.specs.Prelude.{◌≡◌, false, IfErr, IfOk};
+ghost use Rattle.std.specs.Prelude.{◌≡◌, false, IfErr, IfOk, None};
 ghost use Rattle.sqlite.specs.Files.{file_state};
 ghost use Rattle.sshoffice.specs.Faults.{IsOfADatabase};
 
@@ -27,6 +27,7 @@ fn fault_of(error: Error) -> JobFault
 /// Opens the database at a path, or makes one without tables.
 pub(crate) fn open_database(rt: &HostRuntime, path: &str) -> Result<FileConnection, JobFault>
     ensures rests { IfOk result (λ c. (file_state c).in_transaction ≡ false) }
+    ensures unlimited { IfOk result (λ c. (file_state c).step_limit ≡ None) }
     ensures only { IfErr result IsOfADatabase }
 {
     match Connection::open(rt, path) {

@@ -132,6 +132,8 @@ fn connected(alloc: Global, disks: Disks) -> Result<FusedConnection, Disks> {
 
 // The office of a database, or the database.
 fn opened<S: Alter>(alloc: Global, conn: Connection<S>) -> Result<Store<S>, Connection<S>> {
+    let mut conn = conn;
+    conn.set_step_limit(None);
     if !conn.is_autocommit() {
         return Err(conn);
     }
@@ -184,6 +186,8 @@ fn created<S: Alter + Drop>(
 ) -> Option<Store<S>>
     requires { IsOpening opening.now }
 {
+    let mut conn = conn;
+    conn.set_step_limit(None);
     if !conn.is_autocommit() {
         return None;
     }

@@ -25,6 +25,7 @@ const BESIDE: [Row; 2] = [
 fn changed(alloc: Global, office: MemoryOffice, sql: &str) -> Result<MemoryOffice, StoreFault> {
     let mut conn = office.into_connection();
     let done = conn.execute(sql, &[]);
+    conn.set_step_limit(None);
     if done.is_err() || !conn.is_autocommit() {
         return Err(StoreFault::Device);
     }
