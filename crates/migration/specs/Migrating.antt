@@ -36,9 +36,13 @@ IsCaDue due r = due ≡ r
 abbrev pub IsRefused : CaRow → Contents → Type 0
 IsRefused ca c = RefusesCa ca c ⊎ RefusesNumber 2 (with_ca ca c)
 
--- the database failed during the call, or its rules refuse CA 1 beside these contents
+-- they refuse CA 1 beside these contents
+abbrev pub RefusesFirstCa : Contents → Type 0
+RefusesFirstCa c = (ca : CaRow) × (ca_of c.offices ≡ Ok ca) × IsRefused ca c
+
+-- the database failed during the call, or its rules refuse CA 1
 abbrev pub HasStopped : Contents → State → State → Type 0
-HasStopped c old new = HasFailed old new ⊎ ((ca : CaRow) × (ca_of c.offices ≡ Ok ca) × IsRefused ca c)
+HasStopped c old new = HasFailed old new ⊎ RefusesFirstCa c
 
 -- what failed before is told, and what fails at the end has its cause
 abbrev pub TellsEnd : {X : Type 0} → Result X StoreFault → State → State → Result X StoreFault → Type 0

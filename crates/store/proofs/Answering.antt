@@ -1,9 +1,8 @@
 -- What a reading call answers of tables that tell a history.
-use Rattle.std.proofs.Common.{◌≡◌, inl, inr, Bool, true, false, List, Ok, Err, Result, refl, subst, sym}
+use Rattle.std.proofs.Common.{◌≡◌, inl, inr, Bool, true, false, List, Ok, Err, Result, refl, subst, sym, ◌∙◌}
 use Rattle.std.specs.Prelude.{IfOk, IfErr}
 use Rattle.sqlite.specs.State.{State as Connection, HasCleanDisk}
 use Rattle.tables.specs.Calls.{WasOpen}
-use Rattle.tables.specs.Faults as table
 use Rattle.tables.specs.declared.fault.Fault.{Fault}
 use Rattle.tables.specs.declared.fault.Fault.TheVariants.{Damaged, Device, NoMemory}
 use Rattle.office.specs.declared.opening.Opening.{Opening}
@@ -15,24 +14,26 @@ use Rattle.office.specs.State.{State}
 use Rattle.office.specs.History.{first_accepted, kept_by, state}
 use Rattle.rows.specs.Faults.{fault_of, told}
 use Rattle.rows.specs.Rows.{office_contents}
-use Rattle.store.specs.Meaning.{HasFailed, Tells}
+use Rattle.store.specs.Meaning.{DiskFailed, HasFailed, Tells}
 use Rattle.store.specs.Showing.{ShowsOffice}
-use Rattle.store.proofs.Telling.{rests_still}
+use Rattle.store.proofs.Telling.{disk_failed, rests_still}
 
 module _ {X : Type 0} (Shown : State → List Kept → X → Type 0) (old new : Connection) where
   shown : (x : X) (o : Opening) (l : List Arrival) → Tells old o l → WasOpen old new (Ok x)
       → ShowsOffice Shown old new (Ok x) → Shown (state o l) (kept_by (first_accepted o l)) x
   shown x o l tells was shows = (shows o l tells.history (tells.rows was).now).0
 
-  still : (r : Result X Fault) (o : Opening) (l : List Arrival) → Tells old o l → WasOpen old new r
-      → ShowsOffice Shown old new r → Tells new o l
-  still (Ok x) o l tells was shows = record {
+  still : (r : Result X Fault) (o : Opening) (l : List Arrival) → new.step_limit ≡ old.step_limit → Tells old o l
+      → WasOpen old new r → ShowsOffice Shown old new r → Tells new o l
+  still (Ok x) o l limit tells was shows = record {
     history = tells.history;
+    unlimited = limit ∙ tells.unlimited;
     rows = λ now.
         rests_still old new (office_contents o l) (inl (shows o l tells.history (tells.rows was).now).1) now (tells.rows was);
   }
-  still (Err f) o l tells was shows = record {
+  still (Err f) o l limit tells was shows = record {
     history = tells.history;
+    unlimited = limit ∙ tells.unlimited;
     rows = λ now.
         let rests = tells.rows (was.0 now) in
         rests_still old new (office_contents o l) (shows o l tells.history rests.now).0 now rests;
@@ -46,13 +47,12 @@ module _ {X : Type 0} (Shown : State → List Kept → X → Type 0) (old new : 
   of_a_register Damaged o l tells was shows = absurd (shows o l tells.history (tells.rows (was.1 refl)).now).1
 
   -- a failure has its cause
-  failed : (o : Opening) (l : List Arrival) → Tells old o l → ShowsOffice Shown old new (Err Device)
-      → table.HasFailed old new
+  failed : (o : Opening) (l : List Arrival) → Tells old o l → ShowsOffice Shown old new (Err Device) → DiskFailed old new
   failed o l tells shows = go old.is_open refl
     where
-      go : (b : Bool) → old.is_open ≡ b → table.HasFailed old new
-      go true is = (shows o l tells.history (tells.rows is).now).1
-      go false is = inr (inl is)
+      go : (b : Bool) → old.is_open ≡ b → DiskFailed old new
+      go true is = disk_failed old new tells.unlimited (shows o l tells.history (tells.rows is).now).1
+      go false is = inr is
 
   module _ (r : Result X Fault) (q : Result X StoreFault) (is : q ≡ told r) (was : HasCleanDisk new → WasOpen old new r)
       (shows : HasCleanDisk new → ShowsOffice Shown old new r) where
@@ -68,8 +68,9 @@ module _ {X : Type 0} (Shown : State → List Kept → X → Type 0) (old new : 
         go (Err f) was shows = tt
 
     -- the tables tell it still
-    pub same_told : HasCleanDisk new → (o : Opening) (l : List Arrival) → Tells old o l → Tells new o l
-    same_told clean o l tells = still r o l tells (was clean) (shows clean)
+    pub same_told : new.step_limit ≡ old.step_limit → HasCleanDisk new → (o : Opening) (l : List Arrival) → Tells old o l
+        → Tells new o l
+    same_told limit clean o l tells = still r o l limit tells (was clean) (shows clean)
 
     abbrev IsCaused : StoreFault → Type 0
     IsCaused e = HasCause e (HasFailed old new)

@@ -24,8 +24,11 @@ use Rattle.office.specs.Messages.{message_with_text}
 use Rattle.office.specs.State.{is_ca}
 use Rattle.office.proofs.Growth.{holds_in_range, opening_stays}
 use Rattle.office.proofs.Histories.{message_lawful}
+use Rattle.migration.specs.Former.{first_ca, former_contents}
+use Rattle.migration.specs.Migrating.{RefusesFirstCa}
+use Rattle.tables.specs.declared.cas.CaRow.{CaRow}
 use Rattle.tables.specs.declared.runs.RunRow.{RunRow}
-use Rattle.tables.specs.Cells.{cert_cells, key_id_cells}
+use Rattle.tables.specs.Cells.{ca_cells, cert_cells, key_id_cells}
 use Rattle.tables.specs.Changes.{meets, with_counters, with_request, without_runs}
 use Rattle.tables.specs.Contents.{Contents}
 use Rattle.tables.specs.Refusals.{RefusesCa, RefusesCert, RefusesRun}
@@ -74,7 +77,7 @@ use Rattle.office.proofs.Judged.{judged_is_first, none_holds}
 use Rattle.tables.specs.declared.offices.Counters.{Counters}
 use Rattle.tables.specs.declared.offices.OfficeRow.{OfficeRow}
 use Rattle.tables.specs.Cells.{office_cells}
-use Rattle.tables.specs.Changes.{counted}
+use Rattle.tables.specs.Changes.{counted, renumbered}
 use Rattle.tables.specs.Refusals.{HasOne, IsTooLong, RefusesCounters}
 use Rattle.rows.specs.Certificates.{AreCounted}
 use Rattle.rows.specs.Lawful.{IsLawful}
@@ -122,6 +125,28 @@ opening_fits o is (inl (inr long)) =
     omega (arith, long, blob, is.ca, root, station)
 opening_fits o is (inr (inl (c, none, same))) = none
 opening_fits o is (inr (inr long)) = let blob = length-key_blob o.ca in omega (arith, long, blob, is.ca)
+
+-- in a file of schema 1 CA 1 is refused nothing
+pub first_ca_fits : (o : Opening) (l : List Arrival) → IsHistory o l → RefusesFirstCa (former_contents o l) → ⊥
+first_ca_fits o l history (ca, is, why) =
+    let s = state_at (o, l) in
+    let row = renumbered 1 (office_row s) in
+    let lawful = lawful_after o l history in
+    let blob = length-key_blob s.opening.ca in
+    let root = name_short s.opening.root lawful.opening.root in
+    let station = name_short s.opening.station lawful.opening.station in
+    let same : ca ≡ first_ca row = cc in
+    elim why [
+      | inl (inl (d, none, taken)) ↦ none
+      | inl (inr long) ↦
+          (let long_row : IsTooLong (ca_cells (first_ca row)) = subst (λ (c : CaRow). IsTooLong (ca_cells c)) same long in
+          omega (arith, long_row, blob, lawful.opening.ca))
+      | inr (r, inl here, (id, long)) ↦
+          (let long_row : IsTooLong (office_cells (renumbered 2 row)) =
+          subst (λ (r : OfficeRow). IsTooLong (office_cells (renumbered 2 r))) here long in
+          omega (arith, long_row, blob, lawful.opening.ca, root, station))
+      | inr (r, inr none, rest) ↦ none
+    ]
 
 -- ---- the request
 

@@ -1,6 +1,6 @@
 -- A look at the tables of an office.
 use Rattle.std.proofs.Common.{inl, inr, ◌≡◌, Bool, true, false, List, [], ◌∷◌, refl, sym, ◌∙◌, arith}
-use Rattle.std.specs.Prelude.{◌==◌, if◌then◌else◌, Result, Ok, Err, IsPermutation, All}
+use Rattle.std.specs.Prelude.{◌==◌, if◌then◌else◌, None, Result, Ok, Err, IsPermutation, All}
 use Rattle.std.specs.List.{list_any}
 use Rattle.std.proofs.lemmas.List.Sorted.{length_permutation, All-permutation}
 use Rattle.std.proofs.lemmas.List.Elements.{All-cons, All-nil}
@@ -12,13 +12,13 @@ use Rattle.tables.specs.declared.offices.OfficeRow.{OfficeRow}
 use Rattle.office.specs.declared.fault.StoreFault.{StoreFault}
 use Rattle.office.specs.declared.fault.StoreFault.TheVariants.{AlreadyAnOffice, NotAnOffice, WrongSchema, Damaged, Device, NoMemory}
 use Rattle.sqlite.specs.State.{State}
-use Rattle.tables.specs.Faults.{HasFailed}
 use Rattle.tables.specs.Refusals.{HasCauseOr}
 use Rattle.tables.specs.declared.fault.Fault.{Fault}
 use Rattle.tables.specs.declared.fault.Fault.TheVariants as table_fault
 use Rattle.rows.specs.Faults.{fault_of}
-use Rattle.migration.specs.Migrating.{IsExcused}
-use Rattle.store.specs.Meaning.{Looks, opened_by}
+use Rattle.migration.specs.Migrating.{HasStopped, IsExcused, RefusesFirstCa}
+use Rattle.store.specs.Meaning.{DiskFailed, Looks, opened_by}
+use Rattle.store.proofs.Telling.{disk_failed}
 
 -- the office's tables are seen
 pub unseen : (b : Bool) (s : Schema) → b ≡ list_any is_office_table s.tables → b ≡ false → s ≡ whole → ⊥
@@ -67,6 +67,16 @@ looked c failed rows r p is = go r (opened_same c.offices rows p ∙ sym is)
     go (Err Damaged) e = e
     go (Err AlreadyAnOffice) e = e
 
+-- a failure that is told in other words
+pub looks_weaker : (c : Contents) (P Q : Type 0) (r : Result (Unit {0}) StoreFault) → (P → Q) → Looks c P r → Looks c Q r
+looks_weaker c P Q (Ok x) so h = h
+looks_weaker c P Q (Err NoMemory) so h = h
+looks_weaker c P Q (Err Device) so h = so h
+looks_weaker c P Q (Err NotAnOffice) so h = h
+looks_weaker c P Q (Err WrongSchema) so h = h
+looks_weaker c P Q (Err Damaged) so h = h
+looks_weaker c P Q (Err AlreadyAnOffice) so h = h
+
 -- an office is not missed
 pub not_missed : (c : Contents) (failed : Type 0) (e : StoreFault) → opened_by c.offices ≡ Ok tt → Looks c failed (Err e)
     → IsExcused failed e
@@ -78,9 +88,20 @@ not_missed c failed Damaged is h = absurd cc
 not_missed c failed AlreadyAnOffice is h = absurd cc
 
 -- a fault that has its cause is excused by it
-pub excused_unless : (old new : State) (refused : Type 0) (f : Fault) → (refused → ⊥) → HasCauseOr refused old new f
-    → IsExcused (HasFailed old new) (fault_of f)
-excused_unless old new refused table_fault.NoMemory never cause = tt
-excused_unless old new refused table_fault.Device never (inl failed) = failed
-excused_unless old new refused table_fault.Device never (inr why) = absurd (never why)
-excused_unless old new refused table_fault.Damaged never cause = absurd cause
+pub excused_unless : (old new : State) (refused : Type 0) (f : Fault) → old.step_limit ≡ None → (refused → ⊥)
+    → HasCauseOr refused old new f → IsExcused (DiskFailed old new) (fault_of f)
+excused_unless old new refused table_fault.NoMemory unlimited never cause = tt
+excused_unless old new refused table_fault.Device unlimited never (inl failed) = disk_failed old new unlimited failed
+excused_unless old new refused table_fault.Device unlimited never (inr why) = absurd (never why)
+excused_unless old new refused table_fault.Damaged unlimited never cause = absurd cause
+
+-- the same of a migration, to which nothing is refused
+pub excused_by_disk : (old new : State) (c : Contents) (e : StoreFault) → old.step_limit ≡ None → (RefusesFirstCa c → ⊥)
+    → IsExcused (HasStopped c old new) e → IsExcused (DiskFailed old new) e
+excused_by_disk old new c NoMemory unlimited never h = tt
+excused_by_disk old new c Device unlimited never (inl failed) = disk_failed old new unlimited failed
+excused_by_disk old new c Device unlimited never (inr why) = absurd (never why)
+excused_by_disk old new c AlreadyAnOffice unlimited never h = h
+excused_by_disk old new c NotAnOffice unlimited never h = h
+excused_by_disk old new c WrongSchema unlimited never h = h
+excused_by_disk old new c Damaged unlimited never h = h

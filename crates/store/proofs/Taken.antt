@@ -1,5 +1,5 @@
 -- What an arrival leaves of what the tables tell.
-use Rattle.std.proofs.Common.{◌≡◌, inl, inr, Bool, false, List, [], ◌∷◌, ◌++◌, true, Ok, Err, Result, IsTrue, refl, sym, subst}
+use Rattle.std.proofs.Common.{◌≡◌, inl, inr, Bool, false, List, [], ◌∷◌, ◌++◌, true, Ok, Err, Result, IsTrue, refl, sym, subst, ◌∙◌}
 use Rattle.std.specs.Prelude.{IfErr, IfOk, OnErr, OnOk}
 use Rattle.sqlite.specs.State.{State as Connection, HasCleanDisk}
 use Rattle.tables.specs.Faults as table
@@ -17,6 +17,7 @@ use Rattle.rows.specs.Transactions.{Ends, Has, Rests}
 use Rattle.rows.specs.Faults.{told}
 use Rattle.store.specs.Meaning.{Tells}
 use Rattle.store.specs.Arriving.{IsAfter, IsAnswered, IsAny, IsCaused, IsStopped, ExceedsTables, contents_with, of_statement}
+use Rattle.store.proofs.Telling.{disk_failed}
 
 -- ---- why it fails
 
@@ -65,25 +66,27 @@ module _ (a : Arrival) (old new : Connection) (r : Result Outcome Fault) (q : Re
   GoesOn = (o : Opening) (l : List Arrival) → Tells old o l → Tells new o (l ++ a ∷ [])
 
   -- the tables tell the history with the arrival
-  pub next_told : OnOk q GoesOn
-  next_told = subst (λ z. OnOk z GoesOn) (sym is) (go r ends)
+  pub next_told : new.step_limit ≡ old.step_limit → OnOk q GoesOn
+  next_told limit = subst (λ z. OnOk z GoesOn) (sym is) (go r ends)
     where
       go : (r : Result Outcome Fault) → Ends (IsAfter IsAny) (IsAnswered a) (contents_with a) old new r → OnOk (told r) GoesOn
       go (Ok x) ends = λ o l tells.
-          let q = ends.2 (o, l) (rests_of old o l tells ends.0) in record { history = q.0.history; rows = λ still. q.1 }
+          let q = ends.2 (o, l) (rests_of old o l tells ends.0) in
+          record { history = q.0.history; unlimited = limit ∙ tells.unlimited; rows = λ still. q.1 }
       go (Err f) ends = tt
 
   abbrev StaysAs : Type 0
   StaysAs = (o : Opening) (l : List Arrival) → Tells old o l → Tells new o l
 
   -- or the history as before
-  pub fault_told : OnErr q StaysAs
-  fault_told = subst (λ z. OnErr z StaysAs) (sym is) (go r ends)
+  pub fault_told : new.step_limit ≡ old.step_limit → OnErr q StaysAs
+  fault_told limit = subst (λ z. OnErr z StaysAs) (sym is) (go r ends)
     where
       go : (r : Result Outcome Fault) → Ends (IsAfter IsAny) (IsAnswered a) (contents_with a) old new r → OnErr (told r) StaysAs
       go (Ok x) ends = tt
       go (Err f) ends = λ o l tells. record {
         history = tells.history;
+        unlimited = limit ∙ tells.unlimited;
         rows = λ still.
             let was = ends still in has_of new o l (was.1 (o, l) (rests_of old o l tells was.0));
       }
@@ -114,4 +117,8 @@ module _ (a : Arrival) (old new : Connection) (r : Result Outcome Fault) (q : Re
       go (Ok x) cause = tt
       go (Err NoMemory) cause = tt
       go (Err Damaged) cause = tt
-      go (Err Device) cause = λ clean o l tells. cause clean (o, l) (rests_of old o l tells)
+      go (Err Device) cause = λ clean o l tells.
+          elim (cause clean (o, l) (rests_of old o l tells)) [
+            | inl failed ↦ inl (disk_failed old new tells.unlimited failed)
+            | inr more ↦ inr more
+          ]

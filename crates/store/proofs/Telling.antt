@@ -1,14 +1,22 @@
 -- What a call leaves of what the tables tell.
-use Rattle.std.proofs.Common.{inl, inr, IsTrue, sym, subst, ◌∙◌}
-use Rattle.std.specs.Prelude.{List}
+use Rattle.std.proofs.Common.{◌≡◌, inl, inr, ℕ, true, false, IsTrue, Option, None, sym, ap, subst, ◌∙◌}
+use Rattle.std.specs.Prelude.{List, is_some}
 use Rattle.sqlite.specs.State.{State}
 use Rattle.tables.specs.Contents.{Contents, Means}
 use Rattle.tables.specs.Calls.{Fails}
+use Rattle.tables.specs.Faults.{HasFailed}
 use Rattle.office.specs.declared.opening.Opening.{Opening}
 use Rattle.office.specs.declared.arrival.Arrival.{Arrival}
 use Rattle.rows.specs.Transactions.{Rests, Has}
 use Rattle.rows.specs.Rows.{office_contents}
-use Rattle.store.specs.Meaning.{Tells}
+use Rattle.store.specs.Meaning.{DiskFailed, Tells}
+
+-- where no query has a limit on its steps, only a disk fails
+pub disk_failed : (old new : State) → old.step_limit ≡ None → HasFailed old new → DiskFailed old new
+disk_failed old new unlimited (inl more) = inl more
+disk_failed old new unlimited (inr (inl shut)) = inr shut
+disk_failed old new unlimited (inr (inr limited)) =
+    let wrong : true ≡ false = sym limited ∙ ap (λ (limit : Option ℕ). is_some limit) unlimited in cc
 
 -- nothing changed, or a transaction was undone that was not there
 pub rests_still : (old new : State) (c : Contents) → Fails old new → IsTrue new.is_open → Rests (Has c) old → Rests (Has c) new
@@ -24,11 +32,12 @@ rests_still old new c (inr back) still r = record {
 }
 
 -- a call that was asked of an open connection, and leaves tables with contents as they are
-pub tells_still : (old new : State) → (IsTrue new.is_open → IsTrue old.is_open)
+pub tells_still : (old new : State) → new.step_limit ≡ old.step_limit → (IsTrue new.is_open → IsTrue old.is_open)
     → ((c : Contents) → Means old.now c → Fails old new)
     → (o : Opening) (l : List Arrival) → Tells old o l → Tells new o l
-tells_still old new was fails o l tells = record {
+tells_still old new limit was fails o l tells = record {
   history = tells.history;
+  unlimited = limit ∙ tells.unlimited;
   rows = λ still.
       let r = tells.rows (was still) in rests_still old new (office_contents o l) (fails (office_contents o l) r.now) still r;
 }

@@ -8,7 +8,6 @@ use Rattle.message.specs.declared.kinds.Message.{Message}
 use Rattle.tables.specs.declared.fault.Fault.{Fault}
 use Rattle.tables.specs.declared.fault.Fault.TheVariants.{Damaged, Device, NoMemory}
 use Rattle.tables.specs.Contents.{Contents, Means}
-use Rattle.tables.specs.Faults.{HasFailed}
 use Rattle.tables.specs.Cells.{cert_cells, request_cells}
 use Rattle.tables.specs.Refusals.{IsFull, IsTooLong, RefusesDepartment, RefusesSignature}
 use Rattle.office.specs.declared.opening.Opening.{Opening}
@@ -33,7 +32,7 @@ use Rattle.views.specs.declared.concerning.Concerned.{Concerned}
 use Rattle.views.specs.Concerning.{AreConcerned}
 use Rattle.views.specs.Histories.{is_for}
 use Rattle.writes.specs.Due.{kept_of}
-use Rattle.store.specs.Meaning.{IsHistory, Tells}
+use Rattle.store.specs.Meaning.{DiskFailed, IsHistory, Tells}
 
 -- ---- an office after a history
 
@@ -154,8 +153,8 @@ of_statement NoMemory = NoMemory
 abbrev pub IsCaused : Arrival → Connection → Connection → Fault → Type 0
 IsCaused a old new f = StopsFor (IsAfter IsAny) (ExceedsTables a) old new f
 
--- Of an honest disk and of tables that tell a history: the database failed, or what is decided of the arrival is more than
--- tables hold.
+-- Of an honest disk and of tables that tell a history: the disk failed, or had failed before, or what is decided of the
+-- arrival is more than tables hold.
 abbrev pub IsStopped : Connection → Connection → Arrival → Type 0
 IsStopped old new a =
-    HasCleanDisk new → (o : Opening) (l : List Arrival) → Tells old o l → HasFailed old new ⊎ ExceedsTables a (o, l)
+    HasCleanDisk new → (o : Opening) (l : List Arrival) → Tells old o l → DiskFailed old new ⊎ ExceedsTables a (o, l)

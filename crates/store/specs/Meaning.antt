@@ -1,6 +1,7 @@
 -- What the tables mean.
-use Rattle.std.specs.Prelude.{◌≡◌, List, [], ◌∷◌, length, ◌==◌, if◌then◌else◌, IsTrue, Result, Ok, Err}
+use Rattle.std.specs.Prelude.{◌≡◌, ◌⊎◌, false, List, [], ◌∷◌, length, ◌==◌, if◌then◌else◌, IsTrue, None, Result, Ok, Err}
 use Rattle.std.specs.List.{AllByRecursion}
+use Rattle.sqlite_disk.specs.Disk.{MoreFaults}
 use Rattle.sqlite.specs.Tree.{Trees}
 use Rattle.sqlite.specs.State.{State, HasCleanDisk}
 use Rattle.office.specs.declared.opening.Opening.{Opening}
@@ -10,7 +11,6 @@ use Rattle.office.specs.declared.fault.StoreFault.TheVariants.{Device, NoMemory,
 use Rattle.office.specs.Shows.{IsOffice}
 use Rattle.tables.specs.declared.offices.OfficeRow.{OfficeRow}
 use Rattle.tables.specs.Contents.{Contents, Kept}
-use Rattle.tables.specs.Faults as table
 use Rattle.tables.specs.declared.fault.Fault.{Fault}
 use Rattle.tables.specs.declared.fault.Fault.TheVariants as table_fault
 use Rattle.text.specs.declared.memory.NoMemory as text
@@ -28,15 +28,20 @@ pub record IsHistory (o : Opening) (l : List Arrival) : Type 0 where
   pub office : IsOffice o l
   pub nonces : AllByRecursion (λ a. length a.nonce ≡ 32) l
 
--- No transaction is open, and the tables hold the rows of the office of this opening after this history. Of a connection
--- that a failed disk has shut nothing is said.
+-- No transaction is open, no query has a limit on its steps, and the tables hold the rows of the office of this opening
+-- after this history. Of what is in the tables of a connection that a failed disk has shut nothing is said.
 pub record Tells (s : State) (o : Opening) (l : List Arrival) : Type 0 where
   pub history : IsHistory o l
+  pub unlimited : s.step_limit ≡ None
   pub rows : IsTrue s.is_open → Rests (Has (office_contents o l)) s
 
--- of an honest disk and of tables that tell a history: the database failed
+-- the disk failed during the call, or an earlier failure has shut the connection
+abbrev pub DiskFailed : State → State → Type 0
+DiskFailed old new = MoreFaults old.faults new.faults ⊎ (old.is_open ≡ false)
+
+-- of an honest disk and of tables that tell a history: the disk failed, or had failed before
 abbrev pub HasFailed : State → State → Type 0
-HasFailed old new = HasCleanDisk new → (o : Opening) (l : List Arrival) → Tells old o l → table.HasFailed old new
+HasFailed old new = HasCleanDisk new → (o : Opening) (l : List Arrival) → Tells old o l → DiskFailed old new
 
 -- while the connection is open, a crash leaves the tables of the history that they tell, and nothing else
 abbrev pub OutlastsCrashes : State → Type 0

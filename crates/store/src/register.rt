@@ -1,22 +1,21 @@
 //! The register, from its connection and back.
 
-ghost use Rattle.std.specs.Prelude.{◌≡◌, false, [], List, Err, IfErr, IfOk, IsTrue, Ok, true};
+ghost use Rattle.std.specs.Prelude.{◌≡◌, false, [], List, Err, IfErr, IfOk, IsTrue, None, Ok, true};
 ghost use Rattle.std.specs.List.{list_any};
 ghost use Rattle.sqlite.specs.Held.{state};
 ghost use Rattle.sqlite.specs.State.{HasCleanDisk, Survives};
 ghost use Rattle.tables.specs.Schema.{no_schema};
 ghost use Rattle.tables.specs.Calls.{IsBare};
 ghost use Rattle.tables.specs.Contents.{Contents, Means};
-ghost use Rattle.tables.specs.Faults.{HasFailed};
 ghost use Rattle.rows.specs.Rows.{office_contents};
 ghost use Rattle.rows.specs.Transactions.{Leaves};
 ghost use Rattle.tables.specs.Look.{is_ca_name, is_office_name, is_office_table};
-ghost use Rattle.migration.specs.Former.{TellsBefore, former_contents};
-ghost use Rattle.migration.specs.Migrating.{HasStopped, IsExcused};
+ghost use Rattle.migration.specs.Former.{TellsBefore};
+ghost use Rattle.migration.specs.Migrating.{IsExcused};
 ghost use Rattle.office.specs.declared.opening.Opening.{Opening};
 ghost use Rattle.office.specs.declared.arrival.Arrival.{Arrival};
 ghost use Rattle.office.specs.Openings.{IsOpening};
-ghost use Rattle.store.specs.Meaning.{IsBlank, IsHistory, Looks, Tells, opened_by};
+ghost use Rattle.store.specs.Meaning.{DiskFailed, IsBlank, IsHistory, Looks, Tells, opened_by};
 
 use crate::creating::create;
 use crate::looking::look;
@@ -36,13 +35,15 @@ pub struct Store<S: Alter> {
 impl<S: Alter> Store<S> {
     /// An office in which nothing has happened yet, in a database without tables. `AlreadyAnOffice` where the database has
     /// a table of a name that an office needs, `Device` where the database fails, and `NoMemory` for want of memory. All
-    /// tables are made or, with a fault, which gives the connection back, none.
+    /// tables are made or, with a fault, which gives the connection back, none. No transaction may be open, and no query
+    /// of the connection may have a limit on its steps, which no later call sets: so such a limit stops no call.
     pub fn init(
         alloc: Global,
         conn: Connection<S>,
         opening: &Opening,
     ) -> Result<Store<S>, (StoreFault, Connection<S>)>
         requires outside { (state S.Store conn).in_transaction ≡ false }
+        requires unlimited { (state S.Store conn).step_limit ≡ None }
         requires lawful { IsOpening opening.now }
         ensures made { IfOk result (λ s. HasCleanDisk (state S.Store s.conn) → IsBlank (state S.Store conn)
             → Tells (state S.Store s.conn) opening.now []) }
@@ -53,7 +54,7 @@ impl<S: Alter> Store<S> {
 
         // Of an empty database want of memory and a failure of the database are the only faults.
         ensures only { IfErr result (λ e. HasCleanDisk (state S.Store e.1) → IsBlank (state S.Store conn)
-            → IsExcused (HasFailed (state S.Store conn) (state S.Store e.1)) e.0) }
+            → IsExcused (DiskFailed (state S.Store conn) (state S.Store e.1)) e.0) }
 
         // A crash in its midst leaves the database without tables, or with the whole office.
         ensures crash { IfOk result (λ s. Survives (state S.Store conn) (state S.Store s.conn)
@@ -73,21 +74,22 @@ impl<S: Alter> Store<S> {
 
     /// The office that a database has. `NotAnOffice` where the table of the office is missing or has not just one row,
     /// `WrongSchema` where its tables are those of another version, `Device` where the database failed. A fault gives the
-    /// connection back.
+    /// connection back. No transaction may be open, and no query may have a limit on its steps.
     pub fn open(alloc: Global, conn: Connection<S>) -> Result<Store<S>, (StoreFault, Connection<S>)>
-        requires { (state S.Store conn).in_transaction ≡ false }
+        requires outside { (state S.Store conn).in_transaction ≡ false }
+        requires unlimited { (state S.Store conn).step_limit ≡ None }
         ensures opened { IfOk result (λ s. HasCleanDisk (state S.Store s.conn) → (c : Contents)
             → Means (state S.Store conn).now c → opened_by c.offices ≡ Ok tt) }
         ensures refused { IfErr result (λ e. HasCleanDisk (state S.Store e.1) → (c : Contents)
             → Means (state S.Store conn).now c
-            → Looks c (HasFailed (state S.Store conn) (state S.Store e.1)) (Err e.0)) }
+            → Looks c (DiskFailed (state S.Store conn) (state S.Store e.1)) (Err e.0)) }
         ensures same { IfOk result (λ s. HasCleanDisk (state S.Store s.conn) → (o : Opening) (l : List Arrival)
             → Tells (state S.Store conn) o l → Tells (state S.Store s.conn) o l) }
         ensures back { IfErr result (λ e. HasCleanDisk (state S.Store e.1) → (o : Opening) (l : List Arrival)
             → Tells (state S.Store conn) o l → Tells (state S.Store e.1) o l) }
         ensures only { IfErr result (λ e. HasCleanDisk (state S.Store e.1) → IsTrue (state S.Store conn).is_open
             → (o : Opening) (l : List Arrival) → Tells (state S.Store conn) o l
-            → IsExcused (HasFailed (state S.Store conn) (state S.Store e.1)) e.0) }
+            → IsExcused (DiskFailed (state S.Store conn) (state S.Store e.1)) e.0) }
         ensures none { list_any is_office_table (state S.Store conn).now.schema.tables ≡ false
             → result ≡ Err (record { 0 = StoreFault.NotAnOffice; 1 = conn }) }
     {
@@ -101,19 +103,21 @@ impl<S: Alter> Store<S> {
     /// The office of a database with the tables of schema 1, which become those of this version: its CA gets number 1. All
     /// of it is done or, with a fault, which gives the connection back, nothing. `NotAnOffice` where the table of the
     /// office is missing or has not just one row, `WrongSchema` where its tables are those of another version, `Device`
-    /// where the database failed or its rules refuse the CA.
+    /// where the database failed or its rules refuse the CA, which they don't of an office that tells a history. No
+    /// transaction may be open, and no query may have a limit on its steps.
     pub fn migrate(
         alloc: Global,
         conn: Connection<S>,
     ) -> Result<Store<S>, (StoreFault, Connection<S>)>
-        requires { (state S.Store conn).in_transaction ≡ false }
+        requires outside { (state S.Store conn).in_transaction ≡ false }
+        requires unlimited { (state S.Store conn).step_limit ≡ None }
         ensures carried { IfOk result (λ s. HasCleanDisk (state S.Store s.conn) → (o : Opening) (l : List Arrival)
             → IsHistory o l → TellsBefore (state S.Store conn) o l → Tells (state S.Store s.conn) o l) }
         ensures back { IfErr result (λ e. HasCleanDisk (state S.Store e.1) → (o : Opening) (l : List Arrival)
             → TellsBefore (state S.Store conn) o l → TellsBefore (state S.Store e.1) o l) }
         ensures only { IfErr result (λ e. HasCleanDisk (state S.Store e.1) → IsTrue (state S.Store conn).is_open
-            → (o : Opening) (l : List Arrival) → TellsBefore (state S.Store conn) o l
-            → IsExcused (HasStopped (former_contents o l) (state S.Store conn) (state S.Store e.1)) e.0) }
+            → (o : Opening) (l : List Arrival) → IsHistory o l → TellsBefore (state S.Store conn) o l
+            → IsExcused (DiskFailed (state S.Store conn) (state S.Store e.1)) e.0) }
         ensures none { list_any is_office_table (state S.Store conn).now.schema.tables ≡ false
             → result ≡ Err (record { 0 = StoreFault.NotAnOffice; 1 = conn }) }
         ensures already { list_any is_office_table (state S.Store conn).now.schema.tables ≡ true

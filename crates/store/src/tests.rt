@@ -1,5 +1,9 @@
 //! The register over a database in memory.
 
+ghost use Rattle.std.specs.Prelude.{◌≡◌, false, IfOk, None};
+ghost use Rattle.sqlite.specs.Held.{state};
+ghost use Rattle.sqlite.specs.Steps.{over_memory};
+
 use super::*;
 use sqlite::{Connection, MemStore};
 use std::alloc::Global;
@@ -16,13 +20,24 @@ const ISSUE: &[u8] =
 const ISSUED: &[u8] =
     b"issued 1\ndigest 82e0c34fe67da3fc3dc1be6682073994ec021449271b641cdd36180e95572e79\n";
 
+/// The connection, of which no query has a limit on its steps, where no transaction is open.
+fn at_rest(conn: Connection<MemStore>) -> Result<Connection<MemStore>, Fail>
+    ensures outside { IfOk result (λ c. (state over_memory c).in_transaction ≡ false) }
+    ensures unlimited { IfOk result (λ c. (state over_memory c).step_limit ≡ None) }
+{
+    let mut conn = conn;
+    conn.set_step_limit(None);
+    if !conn.is_autocommit() {
+        return Err(Fail::from("a transaction is open"));
+    }
+    Ok(conn)
+}
+
 fn init(
     alloc: Global,
     conn: Connection<MemStore>,
 ) -> Result<Result<Store<MemStore>, (StoreFault, Connection<MemStore>)>, Fail> {
-    if !conn.is_autocommit() {
-        return Err(Fail::from("a transaction is open"));
-    }
+    let conn = at_rest(conn)?;
     let root = String::from_str(alloc, "root")?;
     let station = String::from_str(alloc, "station")?;
     match Opening::new([0x11; 32], root, station, 1, 9223372036854775806) {
@@ -73,10 +88,7 @@ fn second_init_finds_an_office(rt: HostRuntime) -> Result<(), Fail> {
 #[test]
 fn empty_database_is_no_office(rt: HostRuntime) -> Result<(), Fail> {
     let conn = Connection::open_in_memory(rt.alloc())?;
-    if !conn.is_autocommit() {
-        return Err(Fail::from("a transaction is open"));
-    }
-    match Store::open(rt.alloc(), conn) {
+    match Store::open(rt.alloc(), at_rest(conn)?) {
         Ok(_) => Err(Fail::from("an office")),
         Err((fault, _)) => {
             assert_eq!(rt; fault, StoreFault::NotAnOffice);
@@ -121,20 +133,14 @@ fn open(
     alloc: Global,
     conn: Connection<MemStore>,
 ) -> Result<Result<Store<MemStore>, (StoreFault, Connection<MemStore>)>, Fail> {
-    if !conn.is_autocommit() {
-        return Err(Fail::from("a transaction is open"));
-    }
-    Ok(Store::open(alloc, conn))
+    Ok(Store::open(alloc, at_rest(conn)?))
 }
 
 fn migrate(
     alloc: Global,
     conn: Connection<MemStore>,
 ) -> Result<Result<Store<MemStore>, (StoreFault, Connection<MemStore>)>, Fail> {
-    if !conn.is_autocommit() {
-        return Err(Fail::from("a transaction is open"));
-    }
-    Ok(Store::migrate(alloc, conn))
+    Ok(Store::migrate(alloc, at_rest(conn)?))
 }
 
 /// The connection that comes back with `WrongSchema`.

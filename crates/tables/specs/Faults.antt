@@ -16,7 +16,7 @@ is_out_of_memory _ = false
 abbrev pub fault_of : Error → Fault
 fault_of e = if is_out_of_memory e then NoMemory else Device
 
--- the disk failed during the call, an earlier failure has shut the connection, or its limit on steps was met
+-- the disk failed during the call, an earlier failure has shut the connection, or the connection has a limit on steps
 abbrev pub HasFailed : State → State → Type 0
 HasFailed old new = MoreFaults old.faults new.faults ⊎ ((old.is_open ≡ false) ⊎ IsSome old.step_limit)
 

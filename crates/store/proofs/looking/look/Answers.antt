@@ -19,10 +19,10 @@ returns-in-Ok-clause-looks g c clean con means =
 
 pub returns-in-Ok-clause-same : goal.returns-in-Ok-clause-same
 returns-in-Ok-clause-same g c clean =
-    tells_still (state g.S.Store c.args.conn.now) (state g.S.Store c.every_office.new.conn)
+    tells_still (state g.S.Store c.args.conn.now) (state g.S.Store c.every_office.new.conn) c.in-Ok.ensures.survives.limit
     (λ _. c.in-Ok.ensures.was_open clean) (λ con means. inl (c.in-Ok.ensures.finds clean con means).0)
 
 pub returns-in-Err-clause-same : goal.returns-in-Err-clause-same
 returns-in-Err-clause-same g c clean =
-    tells_still (state g.S.Store c.args.conn.now) (state g.S.Store c.every_office.new.conn)
+    tells_still (state g.S.Store c.args.conn.now) (state g.S.Store c.every_office.new.conn) c.in-Err.ensures.survives.limit
     (c.in-Err.ensures.was_open clean).0 (c.in-Err.ensures.finds clean)

@@ -17,6 +17,7 @@ use Rattle.store.proofs.register.Store.init.Goals as goal
 pub returns-in-Ok-clause-made : goal.returns-in-Ok-clause-made
 returns-in-Ok-clause-made g c clean blank = record {
   history = record { office = record { opening = c.requires.lawful; version = omega arith }; nonces = tt };
+  unlimited = c.in-Ok.ensures.survives.limit ∙ c.requires.unlimited;
   rows = λ _. ((c.in-Ok.ensures.ends clean).2 tt blank).1;
 }
 
@@ -44,5 +45,5 @@ pub returns-in-Err-clause-only : goal.returns-in-Err-clause-only
 returns-in-Err-clause-only g c clean blank =
     let old = state g.S.Store c.args.conn in
     let new = state g.S.Store c.create.new.conn in
-    rw c.fault_of.ensures (excused_unless old new (RefusesOpening c.args.opening.now) c.in-Err.fault
+    rw c.fault_of.ensures (excused_unless old new (RefusesOpening c.args.opening.now) c.in-Err.fault c.requires.unlimited
     (opening_fits c.args.opening.now c.requires.lawful) (c.in-Err.ensures.cause clean blank))

@@ -1,13 +1,23 @@
-use Rattle.std.proofs.Common.{refl}
+use Rattle.std.proofs.Common.{refl, Err}
 use Rattle.sqlite.specs.Held.{state}
 use Rattle.tables.specs.Faults.{HasFailed}
 use Rattle.rows.specs.Rows.{office_contents}
-use Rattle.store.proofs.OfficeRows.{not_missed}
+use Rattle.store.specs.Meaning.{DiskFailed}
+use Rattle.store.proofs.OfficeRows.{looks_weaker, not_missed}
+use Rattle.store.proofs.Telling.{disk_failed}
 use Rattle.store.proofs.register.Store.open.Goals as goal
+
+pub returns-in-Err-clause-refused : goal.returns-in-Err-clause-refused
+returns-in-Err-clause-refused g c clean con means =
+    let old = state g.S.Store c.args.conn in
+    let new = state g.S.Store c.look.new.conn in
+    looks_weaker con (HasFailed old new) (DiskFailed old new) (Err c.in-Err.fault) (disk_failed old new c.requires.unlimited)
+    (c.in-Err.ensures.looks clean con means)
 
 pub returns-in-Err-clause-only : goal.returns-in-Err-clause-only
 returns-in-Err-clause-only g c clean still o l tells =
     let old = state g.S.Store c.args.conn in
     let new = state g.S.Store c.look.new.conn in
-    not_missed (office_contents o l) (HasFailed old new) c.in-Err.fault refl
-    (c.in-Err.ensures.looks clean (office_contents o l) (tells.rows still).now)
+    not_missed (office_contents o l) (DiskFailed old new) c.in-Err.fault refl
+    (looks_weaker (office_contents o l) (HasFailed old new) (DiskFailed old new) (Err c.in-Err.fault)
+    (disk_failed old new c.requires.unlimited) (c.in-Err.ensures.looks clean (office_contents o l) (tells.rows still).now))

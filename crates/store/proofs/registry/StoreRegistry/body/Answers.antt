@@ -16,7 +16,7 @@ returns-clause-same g c clean =
     let old = state g.S.Store c.args.self.now.conn in
     let new = state g.S.Store c.read_body_of.new.conn in
     same_told (λ s kept body. body ≡ body_of s c.args.serial) old new c.read_body_of.result c.told.result c.told.ensures c.read_body_of.ensures.was_open
-    c.read_body_of.ensures.shows clean
+    c.read_body_of.ensures.shows c.read_body_of.ensures.survives.limit clean
 
 pub returns-clause-cause : goal.returns-clause-cause
 returns-clause-cause g c =

@@ -16,7 +16,7 @@ returns-clause-same g c clean =
     let old = state g.S.Store c.args.self.now.conn in
     let new = state g.S.Store c.read_cas.new.conn in
     same_told (λ s kept cas. cas.items ≡ s.cas) old new c.read_cas.result c.told.result c.told.ensures c.read_cas.ensures.was_open
-    (λ clean. shows_office (λ s kept cas. cas.items ≡ s.cas) old new c.read_cas.result (c.read_cas.ensures.shows clean)) clean
+    (λ clean. shows_office (λ s kept cas. cas.items ≡ s.cas) old new c.read_cas.result (c.read_cas.ensures.shows clean)) c.read_cas.ensures.survives.limit clean
 
 pub returns-clause-cause : goal.returns-clause-cause
 returns-clause-cause g c =

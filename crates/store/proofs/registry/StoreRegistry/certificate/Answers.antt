@@ -16,7 +16,7 @@ returns-clause-same g c clean =
     let old = state g.S.Store c.args.self.now.conn in
     let new = state g.S.Store c.read_issued.new.conn in
     same_told (λ s kept issued. issued ≡ issued_of s c.args.serial) old new c.read_issued.result c.told.result c.told.ensures c.read_issued.ensures.was_open
-    c.read_issued.ensures.shows clean
+    c.read_issued.ensures.shows c.read_issued.ensures.survives.limit clean
 
 pub returns-clause-cause : goal.returns-clause-cause
 returns-clause-cause g c =

@@ -16,7 +16,7 @@ returns-clause-same g c clean =
     let old = state g.S.Store c.args.self.now.conn in
     let new = state g.S.Store c.read_entries.new.conn in
     same_told (λ s kept rows. rows.items ≡ entries_of s) old new c.read_entries.result c.told.result c.told.ensures c.read_entries.ensures.was_open
-    c.read_entries.ensures.shows clean
+    c.read_entries.ensures.shows c.read_entries.ensures.survives.limit clean
 
 pub returns-clause-cause : goal.returns-clause-cause
 returns-clause-cause g c =

@@ -17,7 +17,7 @@ returns-clause-same g c clean =
     let old = state g.S.Store c.args.self.now.conn in
     let new = state g.S.Store c.read_departments.new.conn in
     same_told (λ s kept rows. rows.items ≡ departments_of s) old new c.read_departments.result c.told.result c.told.ensures c.read_departments.ensures.was_open
-    (λ clean. shows_office (λ s kept rows. rows.items ≡ departments_of s) old new c.read_departments.result (c.read_departments.ensures.shows clean)) clean
+    (λ clean. shows_office (λ s kept rows. rows.items ≡ departments_of s) old new c.read_departments.result (c.read_departments.ensures.shows clean)) c.read_departments.ensures.survives.limit clean
 
 pub returns-clause-cause : goal.returns-clause-cause
 returns-clause-cause g c =

@@ -16,7 +16,7 @@ returns-clause-same g c clean =
     let old = state g.S.Store c.args.self.now.conn in
     let new = state g.S.Store c.read_pending.new.conn in
     same_told (λ s kept rows. rows.items ≡ pending_of s) old new c.read_pending.result c.told.result c.told.ensures c.read_pending.ensures.was_open
-    c.read_pending.ensures.shows clean
+    c.read_pending.ensures.shows c.read_pending.ensures.survives.limit clean
 
 pub returns-clause-cause : goal.returns-clause-cause
 returns-clause-cause g c =

@@ -15,7 +15,7 @@ returns-clause-same g c clean =
     let old = state g.S.Store c.args.self.now.conn in
     let new = state g.S.Store c.read_revoked.new.conn in
     same_told (λ s kept revoked. AreRevoked revoked s) old new c.read_revoked.result c.told.result c.told.ensures c.read_revoked.ensures.was_open
-    c.read_revoked.ensures.shows clean
+    c.read_revoked.ensures.shows c.read_revoked.ensures.survives.limit clean
 
 pub returns-clause-cause : goal.returns-clause-cause
 returns-clause-cause g c =
