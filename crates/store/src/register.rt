@@ -35,8 +35,8 @@ pub struct Store<S: Alter> {
 impl<S: Alter> Store<S> {
     /// An office in which nothing has happened yet, in a database without tables. `AlreadyAnOffice` where the database has
     /// a table of a name that an office needs, `Device` where the database fails, and `NoMemory` for want of memory. All
-    /// tables are made or, with a fault, which gives the connection back, none. No transaction may be open, and no query
-    /// of the connection may have a limit on its steps, which no later call sets: so such a limit stops no call.
+    /// tables are made or, with a fault, which gives the connection back, none. No transaction may be open, and the
+    /// connection may have no limit on the steps of a query, since a call that meets one fails.
     pub fn init(
         alloc: Global,
         conn: Connection<S>,
@@ -74,7 +74,7 @@ impl<S: Alter> Store<S> {
 
     /// The office that a database has. `NotAnOffice` where the table of the office is missing or has not just one row,
     /// `WrongSchema` where its tables are those of another version, `Device` where the database failed. A fault gives the
-    /// connection back. No transaction may be open, and no query may have a limit on its steps.
+    /// connection back. No transaction may be open, and the connection may have no limit on the steps of a query.
     pub fn open(alloc: Global, conn: Connection<S>) -> Result<Store<S>, (StoreFault, Connection<S>)>
         requires outside { (state S.Store conn).in_transaction ≡ false }
         requires unlimited { (state S.Store conn).step_limit ≡ None }
@@ -104,7 +104,7 @@ impl<S: Alter> Store<S> {
     /// of it is done or, with a fault, which gives the connection back, nothing. `NotAnOffice` where the table of the
     /// office is missing or has not just one row, `WrongSchema` where its tables are those of another version, `Device`
     /// where the database failed or its rules refuse the CA, which they don't of an office that tells a history. No
-    /// transaction may be open, and no query may have a limit on its steps.
+    /// transaction may be open, and the connection may have no limit on the steps of a query.
     pub fn migrate(
         alloc: Global,
         conn: Connection<S>,
