@@ -1,25 +1,13 @@
-//! What the office is asked and what it answers, over the trial office, with values from outside.
+//! What only calls can show: disks and writers that fail, and three registers beside each other. What an office is
+//! asked and answers stands in `examples/rows`, with values from outside, and `interop/answers` runs it on the
+//! program.
 
-mod commands;
-mod deliveries;
-mod departments;
 mod disks;
 mod failing_disks;
 mod faults;
-mod fields;
-mod files;
-mod heads;
-mod issues;
 mod messages;
 mod registers;
-mod replies;
-mod reports;
-mod revocations;
-mod rollovers;
 mod row_texts;
-mod script;
-mod served;
-mod stored;
 mod thousand;
 mod unwritten;
 
@@ -30,47 +18,43 @@ use std::test::Fail;
 use text::Text;
 use web::Exchange;
 
-const TEXT: &str = "text/plain";
+/// A path `caller/key` or a target that is asked for, the moment, the byte of the nonce, and the message.
+type Asked = (&'static str, u64, u8, &'static str);
 
-const OK: &str = "200 OK";
-
-const BAD_REQUEST: &str = "400 Bad Request";
-
-const FORBIDDEN: &str = "403 Forbidden";
-
-const NOT_FOUND: &str = "404 Not Found";
-
-const CONFLICT: &str = "409 Conflict";
-
-fn post(alloc: Global, caller: &str, key: &str, message: &[u8]) -> Result<Vec<u8>, Fail> {
+/// The request of a path and a message.
+fn request_of(alloc: Global, path: &str, message: &str) -> Result<Vec<u8>, Fail> {
     let mut request = Vec::new(alloc);
+    if path.starts_with("/") {
+        write!(request, "GET {path} HTTP/1.1\r\n\r\n")?;
+        return Ok(request);
+    }
+    let Some((caller, key)) = path.split_once("/") else {
+        return Err(Fail::from("no path of a caller and a key"));
+    };
     let length = message.len();
     write!(
         request,
         "POST /v1/callers/{caller}/requests/{key} HTTP/1.1\r\n"
     )?;
-    write!(request, "content-length: {length}\r\n\r\n")?;
-    request.write_all(message)?;
+    write!(request, "content-length: {length}\r\n\r\n{message}")?;
     Ok(request)
 }
 
-fn get(alloc: Global, target: &str) -> Result<Vec<u8>, Fail> {
-    let mut request = Vec::new(alloc);
-    write!(request, "GET {target} HTTP/1.1\r\n\r\n")?;
-    Ok(request)
+/// The exchange of a path, a moment, a byte of the nonce and a message.
+fn exchange_of(alloc: Global, asked: Asked) -> Result<Exchange, Fail> {
+    let (path, moment, nonce, message) = asked;
+    Ok(Exchange {
+        request: Text::from_vec(request_of(alloc, path, message)?),
+        moment,
+        nonce: [nonce; 32],
+    })
 }
 
-fn response(alloc: Global, status: &str, media_type: &str, body: &[u8]) -> Result<Vec<u8>, Fail> {
-    let mut response = Vec::new(alloc);
-    let length = body.len();
-    write!(
-        response,
-        "HTTP/1.1 {status}\r\ncontent-type: {media_type}\r\n"
-    )?;
-    write!(
-        response,
-        "content-length: {length}\r\nconnection: close\r\n\r\n"
-    )?;
-    response.write_all(body)?;
-    Ok(response)
+/// The exchanges of these.
+fn exchanges(alloc: Global, asked: &[Asked]) -> Result<Vec<Exchange>, Fail> {
+    let mut exchanges = Vec::new(alloc);
+    for one in asked {
+        exchanges.push(exchange_of(alloc, *one)?)?;
+    }
+    Ok(exchanges)
 }

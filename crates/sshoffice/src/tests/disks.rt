@@ -4,7 +4,6 @@ ghost use Rattle.office.specs.Openings.{IsOpening};
 
 use super::messages::DEPARTMENT;
 use super::row_texts::rows_of;
-use super::script::request_of;
 use super::*;
 use crate::trial::opening_of;
 use office::Opening;
@@ -12,9 +11,6 @@ use sqlite::{Alter, Connection, FileStore, Files, Options};
 use sqlite_disk::{Crash, Disk, Fuse, Memory};
 use store::Store;
 use web::{Given, run};
-
-/// A path, the moment, the byte of the nonce, and the message.
-pub type Asked = (&'static str, u64, u8, &'static str);
 
 /// The department of the trial office.
 pub const FOUNDED: [Asked; 1] = [("root/trial-web", 0, 0, DEPARTMENT)];
@@ -61,24 +57,6 @@ pub struct Met {
     /// Whether the files were opened and closed without a fault.
     pub is_whole: bool,
     pub disks: Disks,
-}
-
-fn exchange_of(alloc: Global, asked: Asked) -> Result<Exchange, Fail> {
-    let (path, moment, nonce, message) = asked;
-    Ok(Exchange {
-        request: Text::from_vec(request_of(alloc, path, message)?),
-        moment,
-        nonce: [nonce; 32],
-    })
-}
-
-/// The exchanges of these.
-pub fn exchanges(alloc: Global, asked: &[Asked]) -> Result<Vec<Exchange>, Fail> {
-    let mut exchanges = Vec::new(alloc);
-    for one in asked {
-        exchanges.push(exchange_of(alloc, *one)?)?;
-    }
-    Ok(exchanges)
 }
 
 fn disk(alloc: Global, bytes: &[u8], calls: u64) -> Option<Fuse<Memory>> {

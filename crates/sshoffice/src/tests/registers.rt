@@ -1,9 +1,9 @@
 //! The same exchanges over three registers: tables in memory, tables in files, and the plain store.
 
-use super::disks::{Asked, exchanges, given_in_files};
+use super::disks::given_in_files;
 use super::row_texts::rows_of;
+use super::thousand::{EXCHANGES, LAST_SERIAL, mixed_twice};
 use super::*;
-use crate::exchanges::read_exchanges;
 use crate::trial::{office_in_memory, opening_of};
 use office::Registry;
 use plain::PlainStore;
@@ -17,13 +17,6 @@ const SHOWN: [Asked; 5] = [
     ("/v1/table", 0, 0, ""),
     ("/v1/cas", 0, 0, ""),
 ];
-
-/// The serials that an office begins with.
-#[derive(Clone, Copy, Debug)]
-pub struct Serials {
-    pub first: u64,
-    pub last: u64,
-}
 
 /// What a register gave, what it then showed, and its rows.
 #[derive(Drop)]
@@ -47,22 +40,6 @@ pub fn are_same(some: &[Given], others: &[Given]) -> bool {
     some.len() == others.len() && pairs.all(|(one, other)| is_same(one, other))
 }
 
-// What goes before, the exchanges of a file, and each of these again at another moment with another nonce.
-fn twice(alloc: Global, before: &[Asked], file: &[u8]) -> Result<Vec<Exchange>, Fail> {
-    let mut all = exchanges(alloc, before)?;
-    for one in read_exchanges(alloc, file)? {
-        all.push(one)?;
-    }
-    for one in read_exchanges(alloc, file)? {
-        all.push(Exchange {
-            request: one.request,
-            moment: one.moment ^ 1,
-            nonce: [0xee; 32],
-        })?;
-    }
-    Ok(all)
-}
-
 fn seen_of<R: Registry>(
     registry: &mut R,
     alloc: Global,
@@ -78,31 +55,50 @@ fn seen_of<R: Registry>(
 
 // The same was given, the same is shown, and each row is the same.
 fn are_met(rt: &impl Abort, seen: &Seen, due: &Seen) {
-    assert!(rt; are_same(seen.given.as_slice(), due.given.as_slice()));
+    let pairs = seen.given.iter().zip(due.given.as_slice());
+    for (place, (one, other)) in pairs.enumerate() {
+        assert!(rt; is_same(one, other), "exchange {place}, from 0");
+    }
+    assert!(rt; seen.given.len() == due.given.len());
     assert!(rt; are_same(seen.shown.as_slice(), due.shown.as_slice()));
     assert!(rt; seen.rows.as_slice() == due.rows.as_slice());
 }
 
-/// Three new offices answer the same to what goes before, to the exchanges of a file and to each of these again, and then
-/// show the same, and have the same rows; one of them after its files were closed and opened. The rows of requests are seen
-/// by the repeats.
-pub fn are_alike<R: AllocGlobal + Abort>(
-    rt: &R,
-    serials: Serials,
-    before: &[Asked],
-    file: &[u8],
-) -> Result<(), Fail> {
+/// Whether something was accepted, repeated or shown.
+pub fn is_accepted(one: &Given) -> bool {
+    match one {
+        Given::Answer(response) => response.as_slice().starts_with(b"HTTP/1.1 200 "),
+        Given::Fault => false,
+    }
+}
+
+fn accepted(given: &[Given]) -> u64 {
+    let mut accepted = 0_u64;
+    for one in given {
+        if is_accepted(one) {
+            accepted = accepted.saturating_add(1);
+        }
+    }
+    accepted
+}
+
+// The second office's files are closed and opened before it shows anything. The repeats see the rows of requests.
+#[test]
+fn three_registers_are_alike(rt: HostRuntime) -> Result<(), Fail> {
     let alloc = rt.alloc();
-    let asked = twice(alloc, before, file)?;
+    let asked = mixed_twice(alloc)?;
     let then = exchanges(alloc, SHOWN.as_slice())?;
-    let opening = opening_of(alloc, serials.first, serials.last)?;
+    let opening = opening_of(alloc, 1, LAST_SERIAL)?;
     let mut office = office_in_memory(alloc, &opening)?;
     let seen = seen_of(&mut office, alloc, asked.as_slice(), then.as_slice())?;
     let _ = office.into_connection();
     let (given, shown, rows) = given_in_files(alloc, &opening, asked.as_slice(), then.as_slice())?;
     let mut plain = PlainStore::new(alloc, opening)?;
     let due = seen_of(&mut plain, alloc, asked.as_slice(), then.as_slice())?;
-    are_met(rt, &seen, &due);
-    are_met(rt, &Seen { given, shown, rows }, &due);
+    are_met(&rt, &seen, &due);
+    are_met(&rt, &Seen { given, shown, rows }, &due);
+    assert_eq!(rt; due.given.len() as u64, 2 * EXCHANGES);
+    // An office in Python accepts, repeats or shows as many.
+    assert_eq!(rt; accepted(due.given.as_slice()), 1130);
     Ok(())
 }

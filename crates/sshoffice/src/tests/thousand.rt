@@ -1,85 +1,101 @@
-//! A thousand mixed exchanges, over the tables and over the plain store.
+//! A thousand mixed exchanges, each twice.
 
-use super::messages::*;
-use super::script::request_of;
+use super::messages::DELIVERY;
 use super::*;
-use crate::trial::{MemoryOffice, office_in_memory, opening_of};
+use crate::trial::opening_of;
 use office::Registry;
 use plain::PlainStore;
 use web::answer;
 
-/// How many exchanges are run.
-const EXCHANGES: u64 = 1000;
+/// How many exchanges there are before they are repeated.
+pub const EXCHANGES: u64 = 1000;
 
-// In a path and a message `#` is the round, `~` the one before, `^` a serial that is not revoked, and `%` one that is, or
-// up to `$`. `deliver` stands for the delivery of the first certificate that waits, and `rollover` for one
-// to the next CA.
-const ROUND: [(&str, &str); 28] = [
-    (
-        "root/w#",
-        "department web\nkind user\nadmins ana\nprincipals alice,p#,*@example.org\noptions force-command\nextensions permit-X11-forwarding,permit-pty\nmaxlife 86400\nnamespaces file,git\n",
-    ),
-    (
-        "ana/i#",
-        "issue web\nkeyid web/u#\nkey ssh-ed25519 AAAAC3NzaC1lZDI1NTE5AAAAICIiIiIiIiIiIiIiIiIiIiIiIiIiIiIiIiIiIiIiIiIi\nprincipals p#\nafter 1000\nbefore 2000\nextensions\n",
-    ),
-    (
-        "root/h#",
-        "department d#\nkind host\nadmins bob\nprincipals *.example.org\noptions\nextensions\nmaxlife 86400\nnamespaces\n",
-    ),
-    (
-        "bob/b#",
-        "issue d#\nkeyid d#/box\nkey ssh-ed25519 AAAAC3NzaC1lZDI1NTE5AAAAICIiIiIiIiIiIiIiIiIiIiIiIiIiIiIiIiIiIiIiIiIi box\nprincipals x.example.org\nafter 1000\nbefore 3000\nextensions\n",
-    ),
-    ("/v1/pending", ""),
-    ("station/a#", "deliver"),
-    ("/v1/certs/^", ""),
-    ("root/n#", "renew ^\nafter 1500\nbefore 2500\n"),
-    ("root/s#", "revoke-serial %\n"),
-    ("/v1/krl", ""),
-    (
-        "ana/o#",
-        "issue web\nkeyid web/o#\nkey ssh-ed25519 AAAAC3NzaC1lZDI1NTE5AAAAICIiIiIiIiIiIiIiIiIiIiIiIiIiIiIiIiIiIiIiIiIi\nprincipals alice\nafter 1000\nbefore 2000\noption force-command /bin/true\nextensions permit-pty,permit-X11-forwarding\n",
-    ),
-    ("root/g#", "revoke-range % $\n"),
-    (
-        "ana/i#",
-        "issue web\nkeyid web/u#\nkey ssh-ed25519 AAAAC3NzaC1lZDI1NTE5AAAAICIiIiIiIiIiIiIiIiIiIiIiIiIiIiIiIiIiIiIiIiIi\nprincipals p#\nafter 1000\nbefore 2000\nextensions\n",
-    ),
-    (
-        "ana/i#",
-        "issue web\nkeyid web/u#\nkey ssh-ed25519 AAAAC3NzaC1lZDI1NTE5AAAAICIiIiIiIiIiIiIiIiIiIiIiIiIiIiIiIiIiIiIiIiIi\nprincipals p#\nafter 1000\nbefore 1999\nextensions\n",
-    ),
-    ("ana/k#", "revoke-keyid web/k#\n"),
-    (
-        "ana/q#",
-        "issue web\nkeyid web/k~\nkey ssh-ed25519 AAAAC3NzaC1lZDI1NTE5AAAAICIiIiIiIiIiIiIiIiIiIiIiIiIiIiIiIiIiIiIiIiIi\nprincipals alice\nafter 1000\nbefore 2000\nextensions\n",
-    ),
-    ("ana/f#", "issue web\n"),
-    ("/v1/cas", ""),
-    ("root/c#", "rollover"),
-    ("/v1/signers", ""),
-    ("/v1/certs/%/body", ""),
-    ("/v1/table", ""),
-    ("station/e#", "deliver"),
-    (
-        "bob/x#",
-        "issue web\nkeyid web/x\nkey ssh-ed25519 AAAAC3NzaC1lZDI1NTE5AAAAICIiIiIiIiIiIiIiIiIiIiIiIiIiIiIiIiIiIiIiIiIi\nprincipals alice\nafter 1000\nbefore 2000\nextensions\n",
-    ),
-    (
-        "ana/i~",
-        "issue web\nkeyid web/u~\nkey ssh-ed25519 AAAAC3NzaC1lZDI1NTE5AAAAICIiIiIiIiIiIiIiIiIiIiIiIiIiIiIiIiIiIiIiIiIi\nprincipals p~\nafter 1000\nbefore 2000\nextensions\n",
-    ),
-    ("station/y#", DELIVERY_ASTRAY),
-    ("root/m#", "renew %\nafter 1500\nbefore 2500\n"),
-    ("/v1/certs/0", ""),
+/// The last serial of the office, which is handed out some rounds before the last.
+pub const LAST_SERIAL: u64 = 90;
+
+// A path, and behind a space the message. In both `#` is the round, `~` the one before, `^` a serial that is not
+// revoked, and `%` one that is, or up to `$`; `!` is a line with a key. `deliver` stands for the delivery of the
+// first certificate that waits, `other` for the one before with another signature, `astray` for one with another
+// digest, and `rollover` for one to the next CA.
+const ROUND: [&str; 36] = [
+    "root/w# department web
+kind user
+admins ana
+principals alice,p#,*@example.org
+options force-command
+extensions permit-X11-forwarding,permit-pty
+maxlife 86400
+namespaces file,git
+",
+    "ana/i# issue web\nkeyid web/u#\n!\nprincipals p#\nafter 1000\nbefore 2000\nextensions\n",
+    "root/h# department d#
+kind host
+admins bob
+principals *.example.org
+options
+extensions
+maxlife 86400
+namespaces
+",
+    "bob/b# issue d#\nkeyid d#/box\n! box\nprincipals x.example.org\nafter 1000\nbefore 3000\nextensions\n",
+    "/v1/pending",
+    "station/a# deliver",
+    "/v1/certs/^",
+    "root/n# renew ^\nafter 1500\nbefore 2500\n",
+    "root/s# revoke-serial %\n",
+    "/v1/krl",
+    "ana/o# issue web
+keyid web/o#
+!
+principals alice
+after 1000
+before 2000
+option force-command /bin/true
+extensions permit-pty,permit-X11-forwarding
+",
+    "root/g# revoke-range % $\n",
+    "ana/i# issue web\nkeyid web/u#\n!\nprincipals p#\nafter 1000\nbefore 2000\nextensions\n",
+    "ana/i# issue web\nkeyid web/u#\n!\nprincipals p#\nafter 1000\nbefore 1999\nextensions\n",
+    "ana/k# revoke-keyid web/k#\n",
+    "ana/q# issue web\nkeyid web/k~\n!\nprincipals alice\nafter 1000\nbefore 2000\nextensions\n",
+    "ana/f# issue web\n",
+    "/v1/cas",
+    "root/c# rollover",
+    "/v1/signers",
+    "/v1/certs/%/body",
+    "/v1/table",
+    "station/e# deliver",
+    "station/u# other",
+    "bob/x# issue web\nkeyid web/x\n!\nprincipals alice\nafter 1000\nbefore 2000\nextensions\n",
+    "ana/i~ issue web\nkeyid web/u~\n!\nprincipals p~\nafter 1000\nbefore 2000\nextensions\n",
+    "station/y# astray",
+    "root/m# renew %\nafter 1500\nbefore 2500\n",
+    "/v1/certs/0",
+    "/v1/certs/%",
+    "root/j# department web\nkind host\nadmins\nprincipals p#\noptions\nextensions\nmaxlife 9\nnamespaces\n",
+    "root/z# issue z\nkeyid z/u#\n!\nprincipals p#\nafter 1000\nbefore 2000\nextensions\n",
+    "ana/t# issue web\nkeyid z/u#\n!\nprincipals p#\nafter 1000\nbefore 2000\nextensions\n",
+    "ana/p# issue web\nkeyid web/p#\n!\nprincipals bob\nafter 1000\nbefore 2000\nextensions\n",
+    "ana/v# issue web\nkeyid web/v#\n!\nprincipals p#\nafter 500\nbefore 1000\nextensions\n",
+    "root/l# revoke-range 1 91\n",
 ];
 
+const KEY: &str =
+    "key ssh-ed25519 AAAAC3NzaC1lZDI1NTE5AAAAICIiIiIiIiIiIiIiIiIiIiIiIiIiIiIiIiIiIiIiIiIi";
+
+// CA keys of 32 bytes 0x12 to 0x19
 const CAS: [&str; 8] = [
-    TO_CA_2, TO_CA_3, TO_CA_4, TO_CA_5, TO_CA_6, TO_CA_7, TO_CA_8, TO_CA_9,
+    "AAAAC3NzaC1lZDI1NTE5AAAAIBISEhISEhISEhISEhISEhISEhISEhISEhISEhISEhIS",
+    "AAAAC3NzaC1lZDI1NTE5AAAAIBMTExMTExMTExMTExMTExMTExMTExMTExMTExMTExMT",
+    "AAAAC3NzaC1lZDI1NTE5AAAAIBQUFBQUFBQUFBQUFBQUFBQUFBQUFBQUFBQUFBQUFBQU",
+    "AAAAC3NzaC1lZDI1NTE5AAAAIBUVFRUVFRUVFRUVFRUVFRUVFRUVFRUVFRUVFRUVFRUV",
+    "AAAAC3NzaC1lZDI1NTE5AAAAIBYWFhYWFhYWFhYWFhYWFhYWFhYWFhYWFhYWFhYWFhYW",
+    "AAAAC3NzaC1lZDI1NTE5AAAAIBcXFxcXFxcXFxcXFxcXFxcXFxcXFxcXFxcXFxcXFxcX",
+    "AAAAC3NzaC1lZDI1NTE5AAAAIBgYGBgYGBgYGBgYGBgYGBgYGBgYGBgYGBgYGBgYGBgY",
+    "AAAAC3NzaC1lZDI1NTE5AAAAIBkZGRkZGRkZGRkZGRkZGRkZGRkZGRkZGRkZGRkZGRkZ",
 ];
 
-// A text with the numbers of a round in their places.
+// A text with the numbers of a round and the key line in their places.
 fn filled(alloc: Global, text: &str, round: u64) -> Result<String, Fail> {
     let mut filled = Vec::new(alloc);
     for byte in text.as_bytes() {
@@ -89,6 +105,7 @@ fn filled(alloc: Global, text: &str, round: u64) -> Result<String, Fail> {
             b'^' => write!(filled, "{}", round % 2 + 1)?,
             b'%' => write!(filled, "{}", round % 64 * 2 + 3)?,
             b'$' => write!(filled, "{}", round % 64 * 2 + round % 5 + 3)?,
+            b'!' => filled.write_all(KEY.as_bytes())?,
             byte => filled.push(byte)?,
         }
     }
@@ -104,19 +121,35 @@ fn delivery(alloc: Global, plain: &mut PlainStore) -> Result<String, Fail> {
     let digest = str::from_utf8(first.digest.as_slice())
         .ok()
         .ok_or("no digest")?;
-    Ok(format!(in alloc;
-        "deliver {}\ndigest {digest}\nsignature AAAAC3NzaC1lZDI1NTE5AAAAQEREREREREREREREREREREREREREREREREREREREREREREREREREREREREREREREREREREREREREREREREREREQ=\n",
-        first.serial
-    )?)
+    let (_, signature) = DELIVERY.split_once("signature").ok_or("no signature")?;
+    let serial = first.serial;
+    Ok(format!(in alloc; "deliver {serial}\ndigest {digest}\nsignature{signature}")?)
+}
+
+// A delivery with other characters in place of some.
+fn replaced(alloc: Global, delivery: &str, some: &str, others: &str) -> Result<String, Fail> {
+    let (before, behind) = delivery.split_once(some).ok_or("no such characters")?;
+    Ok(format!(in alloc; "{before}{others}{behind}")?)
 }
 
 // An exchange by its place, from 0. The moment and the nonce are other ones each time.
-fn exchange_at(alloc: Global, plain: &mut PlainStore, place: u64) -> Result<Exchange, Fail> {
-    let round = place / 28;
-    let (path, message) = ROUND[(place % 28) as usize];
+fn exchange_at(
+    alloc: Global,
+    plain: &mut PlainStore,
+    delivered: &mut String,
+    place: u64,
+) -> Result<Exchange, Fail> {
+    let round = place / 36;
+    let one = ROUND[(place % 36) as usize];
+    let (path, message) = one.split_once(" ").unwrap_or((one, ""));
     let message = match message {
-        "deliver" => delivery(alloc, plain)?,
-        "rollover" => String::from_str(alloc, CAS[(round % 8) as usize])?,
+        "astray" => replaced(alloc, DELIVERY, "82e0", "92e0")?,
+        "deliver" => {
+            *delivered = delivery(alloc, plain)?;
+            String::from_str(alloc, delivered.as_str())?
+        }
+        "other" => replaced(alloc, delivered.as_str(), "QERE", "QEVE")?,
+        "rollover" => format!(in alloc; "rollover ssh-ed25519 {}\n", CAS[(round % 8) as usize])?,
         message => filled(alloc, message, round)?,
     };
     let path = filled(alloc, path, round)?;
@@ -127,39 +160,36 @@ fn exchange_at(alloc: Global, plain: &mut PlainStore, place: u64) -> Result<Exch
     })
 }
 
-// The answer of both, where it is the same one.
-fn answered(
-    alloc: Global,
-    office: &mut MemoryOffice,
-    plain: &mut PlainStore,
-    exchange: &Exchange,
-) -> Option<Vec<u8>> {
-    let request = exchange.request.as_slice();
-    let (moment, nonce) = (exchange.moment, &exchange.nonce);
-    let due = answer(plain, alloc, request, moment, nonce).ok()?;
-    let one = answer(office, alloc, request, moment, nonce).ok()?;
-    if one.as_slice() == due.as_slice() {
-        Some(one)
-    } else {
-        None
+// A thousand exchanges, of which the plain store tells which certificates wait.
+fn mixed(alloc: Global) -> Result<Vec<Exchange>, Fail> {
+    let mut plain = PlainStore::new(alloc, opening_of(alloc, 1, LAST_SERIAL)?)?;
+    let mut delivered = String::new(alloc);
+    let mut mixed = Vec::new(alloc);
+    for place in 0..EXCHANGES {
+        let one = exchange_at(alloc, &mut plain, &mut delivered, place)?;
+        let request = one.request.as_slice();
+        let _ = answer(&mut plain, alloc, request, one.moment, &one.nonce)?;
+        mixed.push(one)?;
     }
+    Ok(mixed)
 }
 
-#[test]
-fn a_thousand_answers_are_those_of_the_plain_store(rt: HostRuntime) -> Result<(), Fail> {
-    let alloc = rt.alloc();
-    let mut office = office_in_memory(alloc, &opening_of(alloc, 1, 9223372036854775806)?)?;
-    let mut plain = PlainStore::new(alloc, opening_of(alloc, 1, 9223372036854775806)?)?;
-    let mut accepted = 0_u64;
+// The same at another moment with another nonce.
+fn repeated(alloc: Global, one: &Exchange) -> Result<Exchange, Fail> {
+    Ok(Exchange {
+        request: Text::from_slice(alloc, one.request.as_slice())?,
+        moment: one.moment ^ 1,
+        nonce: [0xee; 32],
+    })
+}
+
+/// A thousand exchanges, and then each of these again.
+pub fn mixed_twice(alloc: Global) -> Result<Vec<Exchange>, Fail> {
+    let mut all = mixed(alloc)?;
     for place in 0..EXCHANGES {
-        let exchange = exchange_at(alloc, &mut plain, place)?;
-        let response = answered(alloc, &mut office, &mut plain, &exchange);
-        assert!(rt; response.is_some(), "exchange {place}, from 0");
-        if response.is_some_and(|response| response.starts_with(b"HTTP/1.1 200 ")) {
-            accepted = accepted.saturating_add(1);
-        }
+        let one = all.get(place as usize).ok_or("so many exchanges")?;
+        let again = repeated(alloc, one)?;
+        all.push(again)?;
     }
-    let _ = office.into_connection();
-    assert!(rt; accepted > 600);
-    Ok(())
+    Ok(all)
 }

@@ -1,11 +1,30 @@
 //! Writers that fail within a response, and what a repeat then gets.
 
 use super::messages::ISSUE;
-use super::replies::{ISSUED_1, TABLE_PENDING};
 use super::*;
 use crate::trial::{MemoryOffice, trial_office};
 use serving::{ServeFault, serve_one};
 use wire::{Ending, Pace, ScriptedNonces, ScriptedReader, ScriptedWriter};
+
+// What the issue is given: the response of `examples/rows/repeat-gets-the-kept-reply.expected`, 165 bytes
+const ISSUED: &str = "HTTP/1.1 200 OK\r
+content-type: text/plain\r
+content-length: 81\r
+connection: close\r
+\r
+issued 1
+digest 82e0c34fe67da3fc3dc1be6682073994ec021449271b641cdd36180e95572e79
+";
+
+// What the table then is: that of `examples/rows/the-table-has-each-certificate.expected`
+const LISTED: &str = "HTTP/1.1 200 OK\r
+content-type: text/plain\r
+content-length: 92\r
+connection: close\r
+\r
+                  1  user  pending          1000          2000  web/alice
+total 1 version 0
+";
 
 /// More bytes than any of the responses has.
 const ROOM: usize = 1000;
@@ -40,53 +59,30 @@ fn is_served(
     done == Ok(()) && written.as_slice() == response
 }
 
-/// An issue and the table, with the responses that are due.
-#[derive(Drop)]
-struct Requests {
-    issue: Vec<u8>,
-    issued: Vec<u8>,
-    table: Vec<u8>,
-    listed: Vec<u8>,
-}
-
-impl Requests {
-    fn new(alloc: Global) -> Result<Requests, Fail> {
-        Ok(Requests {
-            issue: post(alloc, "ana", "i1", ISSUE.as_bytes())?,
-            issued: response(alloc, OK, TEXT, ISSUED_1.as_bytes())?,
-            table: get(alloc, "/v1/table")?,
-            listed: response(alloc, OK, TEXT, TABLE_PENDING.as_bytes())?,
-        })
-    }
-
-    // Whether a writer that takes so many bytes of the response is a fault, and a repeat is answered whole.
-    fn is_repeated(&self, alloc: Global, office: &mut MemoryOffice, room: usize) -> bool {
-        let issue = self.issue.as_slice();
-        let (done, written) = served(alloc, office, issue, 1000, 0x33, room);
+// Whether a writer that takes so many bytes of the response is a fault, and a repeat is answered whole.
+fn is_repeated(alloc: Global, office: &mut MemoryOffice, room: usize) -> Result<bool, Fail> {
+    let issue = request_of(alloc, "ana/i1", ISSUE)?;
+    let table = request_of(alloc, "/v1/table", "")?;
+    let (issue, table) = (issue.as_slice(), table.as_slice());
+    let issued = ISSUED.as_bytes();
+    let (done, written) = served(alloc, office, issue, 1000, 0x33, room);
+    Ok(
         done == Err(ServeFault::Write)
-            && self.issued.get(..room) == Some(written.as_slice())
-            && is_served(alloc, office, issue, 1999, 0x34, self.issued.as_slice())
-            && is_served(
-                alloc,
-                office,
-                self.table.as_slice(),
-                2000,
-                0x35,
-                self.listed.as_slice(),
-            )
-    }
+            && issued.get(..room) == Some(written.as_slice())
+            && is_served(alloc, office, issue, 1999, 0x34, issued)
+            && is_served(alloc, office, table, 2000, 0x35, LISTED.as_bytes()),
+    )
 }
 
 #[test]
 fn a_repeat_gets_what_was_not_written(rt: HostRuntime) -> Result<(), Fail> {
     let alloc = rt.alloc();
-    let requests = Requests::new(alloc)?;
-    assert_eq!(rt; requests.issued.len(), 165);
+    assert_eq!(rt; ISSUED.len(), 165);
     for room in 0..165 {
         let mut office = trial_office(alloc)?;
-        let is_repeated = requests.is_repeated(alloc, &mut office, room);
+        let is_repeated = is_repeated(alloc, &mut office, room);
         let _ = office.into_connection();
-        assert!(rt; is_repeated, "{room} bytes written");
+        assert!(rt; is_repeated?, "{room} bytes written");
     }
     Ok(())
 }
