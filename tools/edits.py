@@ -1,0 +1,176 @@
+"""Edits of sources: which function of a crate an edit changes, under the name that a check prints."""
+
+import os
+import re
+
+CLAUSE = re.compile(r"(?:requires|ensures)(?:\s*\*)?(?:\s+\w+)?\s*\{|ghost\s+\w+\s*:\s*\{")
+ITEM = re.compile(r"\b(?:fn\s+(?P<fn>\w+)|impl\b(?P<impl>[^{;]*)|const\s+(?P<const>\w+)\s*:)")
+
+
+class Item:
+    """A function or a constant of a source file: its name as a check prints it, and where its text lies."""
+
+    def __init__(self, name, start, end, is_constant=False):
+        self.name, self.start, self.end, self.is_constant = name, start, end, is_constant
+
+    def holds(self, start, end):
+        return self.start < start and end <= self.end
+
+
+class Pair:
+    """An old text of an edit, where it lies in its file, and the new text."""
+
+    def __init__(self, path, old, new):
+        self.path, self.old, self.new = path, old, new
+
+    def place(self, sources):
+        """Where the old text lies, or None unless it is in its file once."""
+        text = sources.get(self.path, "")
+        return text.index(self.old) if self.old and text.count(self.old) == 1 else None
+
+
+def closing(text, at):
+    """The place of the brace that closes the one at this place."""
+    depth = 0
+    for found in re.finditer(r"[{}]", text[at:]):
+        depth += 1 if found[0] == "{" else -1
+        if depth == 0:
+            return at + found.start()
+    return len(text)
+
+
+def body_of(text, at):
+    """The places of the braces around the body of the function whose name ends here, or None where it has no body."""
+    depth = 0
+    while at < len(text):
+        clause = CLAUSE.match(text, at) if depth == 0 and not re.match(r"\w", text[at - 1]) else None
+        if clause:
+            at = closing(text, clause.end() - 1) + 1
+            continue
+        depth += (text[at] in "([") - (text[at] in ")]")
+        if depth == 0 and text[at] == ";":
+            return None
+        if depth == 0 and text[at] == "{":
+            return at, closing(text, at)
+        at += 1
+    return None
+
+
+def last_name(path):
+    """`Display` for `fmt::Display`, `Vec` for `Vec<u8>`."""
+    bare = re.sub(r"<.*>", "", path, flags=re.S)
+    return re.sub(r"\W", "", bare.split("::")[-1])
+
+
+def without_parameters(head):
+    """The head of an impl behind its type parameters."""
+    head, depth = head.strip(), 0
+    if not head.startswith("<"):
+        return head
+    for at, letter in enumerate(head):
+        depth += (letter == "<") - (letter == ">" and head[at - 1] != "-")
+        if depth == 0:
+            return head[at + 1 :]
+    return head
+
+
+def impl_name(head):
+    """`Text` for `impl Text`, and `NoMemoryFromAllocError` for `impl From<AllocError> for NoMemory`."""
+    head = re.split(r"\bwhere\b", without_parameters(head))[0]
+    trait, found, of = head.rpartition(" for ")
+    if not found:
+        return last_name(head)
+    given = re.search(r"<(.*)>", trait, re.S)
+    arguments = [it for it in given[1].split(",") if not it.strip().startswith("'")] if given else []
+    return last_name(of) + last_name(trait) + "".join(map(last_name, arguments))
+
+
+def items_in(path, text):
+    """The functions and constants of a source file, whose comments and literals have been made blank."""
+    module = os.path.splitext(path)[0].split("/")[1:]
+    module = [] if module in (["lib"], ["main"]) else module
+    impls, found = [], []
+    for item in ITEM.finditer(text):
+        within = [name for start, end, name in impls if start < item.start() < end][-1:]
+        if item["const"]:
+            end = text.find(";", item.end())
+            found.append(Item(item["const"], item.start(), end, is_constant=True))
+        elif item["fn"]:
+            body = body_of(text, item.end())
+            if body:
+                found.append(Item("::".join([*module, *within, item["fn"]]), *body))
+        elif text[item.end() : item.end() + 1] == "{" and not re.search(r"[(,&=:>]\s*$", text[: item.start()]):
+            impls.append((item.end(), closing(text, item.end()), impl_name(item["impl"])))
+    return found
+
+
+def pairs_of(edit):
+    """The pairs of an edit, in their order."""
+    path, old, pairs = "", "", []
+    with open(edit, encoding="utf-8") as it:
+        for line in it.read().split("\n"):
+            if line.startswith("file: "):
+                path = line[len("file: ") :].strip()
+            elif line.startswith("old: "):
+                old = line[len("old: ") :]
+            elif line.startswith("new:"):
+                pairs.append(Pair(path, old, line[len("new:") :].removeprefix(" ")))
+    return pairs
+
+
+class Sources:
+    """The sources of a crate, and the functions and constants in them."""
+
+    def __init__(self, folder, blanked):
+        self.texts, self.blank, self.items = {}, {}, {}
+        for file, text in blanked.items():
+            if not file.endswith(".rt"):
+                continue
+            path = os.path.relpath(file, folder)
+            with open(file, encoding="utf-8") as it:
+                self.texts[path] = it.read()
+            # The blank text has a space for each byte, so that both are compared as bytes.
+            self.blank[path] = text.encode().decode("latin-1")
+            self.items[path] = items_in(path, self.blank[path])
+
+    def item_of(self, pair):
+        """The innermost function or constant that holds the old text, or None."""
+        at = pair.place(self.texts)
+        if at is None:
+            return None
+        start = len(self.texts[pair.path][:at].encode()) + len(pair.old) - len(pair.old.lstrip())
+        end = start + len(pair.old.strip().encode())
+        around = [it for it in self.items[pair.path] if it.holds(start - 1, end)]
+        return min(around, key=lambda it: it.end - it.start) if around else None
+
+    def changed(self, edit):
+        """The name of the one function in whose body an edit changes text, or None: it changes something else."""
+        items = [self.item_of(it) if it.path.startswith("src/") else None for it in pairs_of(edit)]
+        names = {it.name if it and not it.is_constant else None for it in items}
+        return names.pop() if len(names) == 1 else None
+
+    def user(self, edit):
+        """The name of the one function whose body names the one constant that an edit changes, or None."""
+        items = [self.item_of(it) if it.path.startswith("src/") else None for it in pairs_of(edit)]
+        names = {it.name if it and it.is_constant else None for it in items}
+        if len(names) != 1 or None in names:
+            return None
+        word, users = rf"\b{names.pop()}\b", []
+        for path, text in self.blank.items():
+            bodies = [it for it in self.items[path] if not it.is_constant]
+            users += [it.name for it in bodies if re.search(word, text[it.start : it.end])]
+        return users[0] if len(users) == 1 else None
+
+    def edited(self, edits):
+        """The texts of the files that these edits change, each of which changes another function."""
+        places = {}
+        for edit in edits:
+            for pair in pairs_of(edit):
+                places.setdefault(pair.path, []).append((pair.place(self.texts), pair))
+        texts = {}
+        for path, pairs in places.items():
+            text = self.texts[path]
+            for at, pair in sorted(pairs, key=lambda it: -it[0]):
+                text = text[:at] + pair.new + text[at + len(pair.old) :]
+            texts[path] = text
+        return texts

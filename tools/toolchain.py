@@ -1,0 +1,53 @@
+"""What the scripts of this folder take from the toolchain: the crates, the words of a check, and its order of tasks.
+
+The command `rt` is a Python program. Its own code decides how a crate is proved and how an edit is applied, so these
+scripts load that code and call it. They add only what is tried, and what counts as an answer.
+"""
+
+import importlib.machinery
+import importlib.util
+import os
+import shutil
+import sys
+
+TOP = os.path.dirname(os.path.dirname(os.path.realpath(__file__)))
+
+
+def stop(why):
+    """Ends the script with one sentence."""
+    print(f"{os.path.basename(sys.argv[0])}: {why}", file=sys.stderr)
+    sys.exit(2)
+
+
+def load():
+    """The code of `rt`, as a module."""
+    found = shutil.which("rt")
+    if not found:
+        stop("the toolchain's command rt isn't on the PATH, and the crates are proved by it")
+    sys.dont_write_bytecode = True
+    loader = importlib.machinery.SourceFileLoader("rt", os.path.realpath(found))
+    module = importlib.util.module_from_spec(importlib.util.spec_from_loader("rt", loader))
+    sys.modules["rt"] = module
+    loader.exec_module(module)
+    wanted = ("checked", "read_edit", "unread", "edits_of", "need", "free", "processors", "in_lanes", "rtlib")
+    missing = [name for name in wanted if not hasattr(module, name)]
+    if missing:
+        stop(f"this toolchain's rt has no {', '.join(missing)}: these scripts were written for rattle-kit-13b")
+    # Its first call sets a signal's handler, which only the main thread may do.
+    module.rtlib.guarded()
+    return module
+
+
+def crates_of(rt, names=()):
+    """The repository's crates by name, lowest first, or just those named."""
+    crates = {crate.name: crate for crate in rt.rtlib.crates_below(TOP)}
+    for name in names:
+        if name not in crates:
+            stop(f"crates.txt has no crate {name}")
+    return crates
+
+
+def standing_on(crates, names):
+    """The crates of these names and each that stands on one of them, lowest first."""
+    chosen = {*names}
+    return [crate for crate in crates.values() if chosen & {crate.name, *(it.name for it in crate.below())}]
