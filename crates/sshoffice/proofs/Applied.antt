@@ -1,17 +1,19 @@
 -- What is printed for a file, from what is given to its exchanges.
-use Rattle.std.proofs.Common.{◌≡◌, ℕ, List, [], ◌∷◌, Bool, Option, Result, Ok, Err, sym, ap, subst, ◌∙◌}
-use Rattle.std.specs.Prelude.{IfErr}
+use Rattle.std.proofs.Common.{◌≡◌, ℕ, List, [], ◌∷◌, Bool, Option, Result, Ok, Err, refl, sym, ap, subst, ◌∙◌}
+use Rattle.std.specs.Prelude.{OnOk}
 use Rattle.profile.specs.declared.limits.TheConstants.{LAST_SERIAL}
 use Rattle.office.specs.declared.opening.Opening.{Opening}
 use Rattle.office.specs.declared.arrival.Arrival.{Arrival}
 use Rattle.web.specs.declared.exchange.Exchange.{Exchange}
 use Rattle.sshoffice.specs.Applying.{Applies}
-use Rattle.sshoffice.specs.Exchanges.{AreExchanges, exchanges_text}
-use Rattle.sshoffice.specs.Faults.{IsOfARun}
+use Rattle.exchanges.specs.Exchanges.{AreExchanges, exchanges_text}
+use Rattle.exchanges.specs.declared.running.RunFault.{RunFault}
+use Rattle.exchanges.specs.declared.running.RunFault.TheVariants as run
+use Rattle.sshoffice.specs.Faults.{run_result}
 use Rattle.sshoffice.specs.declared.fault.JobFault.{JobFault}
-use Rattle.sshoffice.specs.declared.fault.JobFault.TheVariants.{BadExchange}
-use Rattle.sshoffice.specs.Printing.{Prints}
-use Rattle.sshoffice.specs.Trial.{opening_of, trial_arrival}
+use Rattle.sshoffice.specs.declared.fault.JobFault.TheVariants.{BadExchange, Fault}
+use Rattle.exchanges.specs.Printing.{Prints}
+use Rattle.trial.specs.Trial.{opening_of, trial_arrival}
 
 -- What a register that shows the trial office gives is due.
 pub applies : (file : List ℕ) (es run : List Exchange) (before after : Opening → List Arrival → Type 0)
@@ -30,7 +32,21 @@ applies file es run before after old new fault same are text shown prints =
       faults = prints.faults;
     }
 
+-- What is shown of a run that went well is shown of the job.
+pub of_ok : (r : Result Unit RunFault) (P : Type 0) → OnOk r P → OnOk (run_result r) P
+of_ok (Ok done) P shown = shown
+of_ok (Err fault) P shown = shown
+
+-- A fault that was printed was one of the run.
+pub was_fault : (r : Result Unit RunFault) → run_result r ≡ Err Fault → r ≡ Err run.Fault
+was_fault (Ok done) same = absurd cc
+was_fault (Err run.NoMemory) same = absurd cc
+was_fault (Err run.Write) same = absurd cc
+was_fault (Err run.Fault) same = refl
+
 -- No bad record is met where exchanges are run.
-pub not_bad : (r : Result Unit JobFault) (k : ℕ) → IfErr r IsOfARun → r ≡ Err (BadExchange k) → ⊥
-not_bad (Ok u) k is same = absurd cc
-not_bad (Err e) k is same = let bad : e ≡ BadExchange k = cc in subst IsOfARun bad is
+pub not_bad : (r : Result Unit RunFault) (k : ℕ) → run_result r ≡ Err (BadExchange k) → ⊥
+not_bad (Ok done) k same = cc
+not_bad (Err run.NoMemory) k same = cc
+not_bad (Err run.Write) k same = cc
+not_bad (Err run.Fault) k same = cc

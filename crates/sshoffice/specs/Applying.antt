@@ -6,9 +6,9 @@ use Rattle.office.specs.declared.arrival.Arrival.{Arrival}
 use Rattle.web.specs.declared.exchange.Exchange.{Exchange}
 use Rattle.web.specs.declared.exchange.Given.{Given}
 use Rattle.web.specs.Runs.{AllDue}
-use Rattle.sshoffice.specs.Exchanges.{AreExchanges, exchanges_text}
-use Rattle.sshoffice.specs.Printing.{all_given_text, has_fault}
-use Rattle.sshoffice.specs.Trial.{opening_of, trial_arrival}
+use Rattle.exchanges.specs.Exchanges.{AreExchanges, exchanges_text}
+use Rattle.exchanges.specs.Printing.{all_given_text, has_fault}
+use Rattle.trial.specs.Trial.{opening_of, trial_arrival}
 
 -- The file is the text of exchanges, and what is printed behind what the output held are the responses that are due to them
 -- from the trial office, whose department is there; an exchange that met a fault is no part of the history.

@@ -1,6 +1,7 @@
 //! Why a job was not done.
 
-use crate::exchanges::ExchangesFault;
+use exchanges::{ExchangesFault, RunFault};
+use headline::PublishFault;
 use krl::KrlFault;
 use lines::LineFault;
 use office::{OpeningFault, StoreFault};
@@ -85,6 +86,35 @@ impl From<ExchangesFault> for JobFault {
         match fault {
             ExchangesFault::BadExchange(record) => JobFault::BadExchange(record),
             ExchangesFault::NoMemory => JobFault::NoMemory,
+        }
+    }
+}
+
+impl From<RunFault> for JobFault {
+    ghost use Rattle.std.specs.Prelude.{◌≡◌};
+    ghost use Rattle.sshoffice.specs.Faults.{of_run};
+
+    ghost from_gives = { λ fault e. e ≡ of_run fault };
+
+    fn from(fault: RunFault) -> JobFault {
+        match fault {
+            RunFault::NoMemory => JobFault::NoMemory,
+            RunFault::Write => JobFault::Write,
+            RunFault::Fault => JobFault::Fault,
+        }
+    }
+}
+
+impl From<PublishFault> for JobFault {
+    ghost use Rattle.std.specs.Prelude.{◌≡◌};
+    ghost use Rattle.sshoffice.specs.Faults.{of_publishing};
+
+    ghost from_gives = { λ fault e. e ≡ of_publishing fault };
+
+    fn from(fault: PublishFault) -> JobFault {
+        match fault {
+            PublishFault::Store(fault) => JobFault::from(fault),
+            PublishFault::Write => JobFault::Write,
         }
     }
 }

@@ -3,8 +3,8 @@
 ghost use Rattle.std.specs.Prelude.{◌≡◌, ◌<◌, ◌≤◌, IfErr, IfOk, IfSome, vec_len};
 ghost use Rattle.sshoffice.specs.Faults.{IsOfAFile};
 
-use crate::exchanges::{MAX_EXCHANGES, MAX_REQUEST};
 use crate::fault::JobFault;
+use exchanges::{MAX_EXCHANGES, MAX_REQUEST};
 use lines::{KeyLine, read_key_line};
 use std::alloc::Global;
 use std::io::{ErrorKind, Read};

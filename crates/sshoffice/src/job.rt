@@ -5,7 +5,6 @@ ghost use Rattle.words.specs.Answers.{AreBad};
 
 use crate::applying::{apply_to_office, apply_to_trial};
 use crate::checking::check;
-use crate::exchanges::read_exchanges;
 use crate::fault::JobFault;
 use crate::files::read_exchange_file;
 use crate::founding::{Founding, found};
@@ -13,6 +12,7 @@ use crate::loopback::{Service, serve, test_itself};
 use crate::migrating::migrate;
 use crate::output::write_out;
 use crate::reporting::{Report, print_list, print_report};
+use exchanges::read_exchanges;
 use std::io::{ErrorKind, Write};
 use words::{Job, WordsFault, read_words};
 

@@ -5,11 +5,11 @@ ghost use Rattle.std.specs.Prelude.{◌≤◌, IfOk};
 use crate::database::{FileOffice, close_office, open_office};
 use crate::fault::JobFault;
 use crate::output::write_out;
-use crate::trial::trial_office;
 use server::{listen, selftest, serve_on};
 use std::fs;
 use std::fs::File;
 use std::io::{ErrorKind, Write};
+use trial::trial_office;
 use wire::FromRead;
 
 /// What is to be served, where and how often.

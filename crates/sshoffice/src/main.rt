@@ -1,28 +1,20 @@
 //! The program: words, files, printing, and the office over its tables.
 //!
-//! `headline` has what is promised of the office over its tables: each answer is that of the plain machine on first
-//! acceptances, and the list revokes exactly what accepted messages name. An exchange file is read exactly as its format
-//! says, and what is printed for exchanges is what the office gave to them. Files, the console and sockets are the
-//! system's, and nothing is proved of them.
+//! What is promised of the office over its tables stands in the crate `headline`, and of exchange files in `exchanges`.
+//! This crate calls both. Files, the console and sockets are the system's, and nothing is proved of them.
 #![tactic(auto)]
 
 mod applying;
 mod checking;
 mod database;
-mod exchanges;
 mod fault;
 mod files;
 mod founding;
-pub mod headline;
 mod job;
 mod loopback;
 mod migrating;
 mod output;
-mod printing;
 mod reporting;
-#[cfg(test)]
-mod tests;
-mod trial;
 
 use std::io::BufWriter;
 use std::process::ExitCode;

@@ -2,8 +2,8 @@
 
 use crate::database::{FileOffice, close_office, open_office};
 use crate::fault::JobFault;
-use crate::headline::{publish, respond};
 use crate::output::write_out;
+use headline::{publish, respond};
 use office::StoreFault;
 use std::alloc::Global;
 use std::io::Write;
@@ -70,5 +70,5 @@ pub(crate) fn print_list<O: Write>(
 ) -> Result<(), JobFault> {
     let mut office = open_office(rt, db)?;
     let done = publish(&mut office, rt.alloc(), &mut FromWrite::new(out));
-    close_office(office, done)
+    close_office(office, done.map_err(JobFault::from))
 }

@@ -1,0 +1,47 @@
+-- Exchange files: records one after the other until the end, each a line `exchange MOMENT NONCE LENGTH` and LENGTH bytes
+-- of a request.
+use Rattle.std.specs.Prelude.{◌≡◌, ◌≢◌, ℕ, ◌+◌, ◌^◌, ◌<◌, ◌≤◌, List, [], ◌∷◌, ◌++◌, length, codes}
+use Rattle.std.specs.Fmt.{decimal}
+use Rattle.std.specs.List.{AllByRecursion, flat_map}
+use Rattle.hex.specs.Hex.{IsBytes, encode_lower}
+use Rattle.web.specs.declared.exchange.Exchange.{Exchange}
+use Rattle.exchanges.specs.declared.reading.ExchangesFault.{ExchangesFault}
+use Rattle.exchanges.specs.declared.reading.ExchangesFault.TheVariants.{BadExchange, NoMemory}
+use Rattle.exchanges.specs.declared.reading.TheConstants.{MAX_EXCHANGES, MAX_REQUEST}
+
+-- a record
+abbrev pub exchange_text : Exchange → List ℕ
+exchange_text e =
+    codes "exchange "
+    ++ (decimal e.moment ++ 32 ∷ (encode_lower e.nonce ++ 32 ∷ (decimal (length e.request) ++ 10 ∷ e.request)))
+
+-- records one after the other
+abbrev pub exchanges_text : List Exchange → List ℕ
+exchanges_text es = flat_map exchange_text es
+
+-- an exchange that a record can hold
+pub record IsExchange (e : Exchange) : Type 0 where
+  pub moment : e.moment < 2 ^ 64
+  pub nonce : length e.nonce ≡ 32
+  pub bytes : IsBytes e.nonce
+  pub size : length e.request ≤ MAX_REQUEST
+
+-- exchanges that a file can hold
+pub record AreExchanges (es : List Exchange) : Type 0 where
+  pub each : AllByRecursion IsExchange es
+  pub count : length es ≤ MAX_EXCHANGES
+
+-- Behind k - 1 records something stands, and k is over the limit or no record begins there.
+pub record IsBadRecord (file : List ℕ) (k : ℕ) : Type 0 where
+  pub before : List Exchange
+  pub rest : List ℕ
+  pub are : AreExchanges before
+  pub text : file ≡ exchanges_text before ++ rest
+  pub number : k ≡ length before + 1
+  pub more : rest ≢ []
+  pub first : k ≤ MAX_EXCHANGES → (e : Exchange) (after : List ℕ) → IsExchange e → rest ≢ exchange_text e ++ after
+
+-- what an answered fault says of the file
+abbrev pub IsFault : List ℕ → ExchangesFault → Type 0
+IsFault file (BadExchange k) = IsBadRecord file k
+IsFault file NoMemory = Unit {0}

@@ -1,0 +1,4 @@
+pub mod Exchanges
+pub mod Printing
+pub mod Reading
+pub mod Running

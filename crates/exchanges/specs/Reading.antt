@@ -1,0 +1,57 @@
+-- Records read from the left.
+use Rattle.std.specs.Prelude.{ℕ, List, length, take, drop, codes, ◌&&◌, nat_le, nat_lt, ◌==◌, if◌then◌else◌, Option, Some, None, option_map}
+use Rattle.std.specs.List.{before_first, after_first}
+use Rattle.std.specs.Option.{option_and_then}
+use Rattle.std.specs.Result.{result_ok}
+use Rattle.std.specs.Str.{bytes_eq}
+use Rattle.hex.specs.Hex.{decode_sized, encode_lower}
+use Rattle.profile.specs.Decimals.{number_of}
+use Rattle.web.specs.declared.exchange.Exchange.{Exchange}
+use Rattle.exchanges.specs.declared.reading.Record.{Record}
+use Rattle.exchanges.specs.declared.reading.TheConstants.{MAX_REQUEST}
+
+-- what follows these bytes
+abbrev pub after : List ℕ → List ℕ → Option (List ℕ)
+after head t = if bytes_eq (take (length head) t) head then Some (drop (length head) t) else None
+
+-- what stands before the first such byte, and what stands behind it
+abbrev pub cut_of : ℕ → List ℕ → Option (List ℕ × List ℕ)
+cut_of byte t =
+    if nat_lt (length (before_first (λ b. b == byte) t)) (length t)
+    then Some (before_first (λ b. b == byte) t, after_first (λ b. b == byte) t)
+    else None
+
+-- the number up to the first such byte, and what stands behind it
+abbrev pub number_up_to : ℕ → List ℕ → Option (ℕ × List ℕ)
+number_up_to byte t = option_and_then (λ p. option_map (λ n. (n, p.1)) (number_of p.0)) (cut_of byte t)
+
+-- the bytes, where the text is theirs in lower case
+abbrev pub if_lower : List ℕ → List ℕ → Option (List ℕ)
+if_lower t bytes = if bytes_eq (encode_lower bytes) t then Some bytes else None
+
+-- the 32 bytes that lower case hexadecimal digits write
+abbrev pub nonce_of : List ℕ → Option (List ℕ)
+nonce_of t = option_and_then (if_lower t) (result_ok (decode_sized t 32))
+
+-- the first bytes, so many, and those behind them
+abbrev pub request_in : ℕ → List ℕ → Option (List ℕ × List ℕ)
+request_in size t = if nat_le size MAX_REQUEST && nat_le size (length t) then Some (take size t, drop size t) else None
+
+infixl 10 ◌>>=◌
+abbrev pub ◌>>=◌ : {A B : Type 0} → Option A → (A → Option B) → Option B
+o >>= f = option_and_then f o
+
+-- the exchange of a record
+abbrev pub exchange_of : Record → Exchange
+exchange_of r = record { request = r.request.now; moment = r.moment; nonce = r.nonce }
+
+-- the exchange of the first record, and what stands behind it
+unfoldable pub exchange_at : List ℕ → Option (Exchange × List ℕ)
+exchange_at t = do
+  words ← after (codes "exchange ") t
+  moment ← number_up_to 32 words
+  digits ← cut_of 32 moment.1
+  nonce ← nonce_of digits.0
+  size ← number_up_to 10 digits.1
+  request ← request_in size.0 size.1
+  Some (record { request = request.0; moment = moment.0; nonce = nonce }, request.1)

@@ -1,0 +1,13 @@
+//! Exchange files: how they are read, how their exchanges are run over an office, and what is printed for them.
+//!
+//! A file is read exactly as its format says, and the first bad record is named. What is printed is what the office gave
+//! to each exchange, one after the other.
+#![tactic(auto)]
+
+mod printing;
+mod reading;
+mod running;
+
+pub use printing::{has_fault, print_given};
+pub use reading::{ExchangesFault, MAX_EXCHANGES, MAX_REQUEST, read_exchanges};
+pub use running::{RunFault, apply_exchanges, print_all};

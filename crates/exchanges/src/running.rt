@@ -1,0 +1,82 @@
+//! Exchanges run over an office.
+
+ghost use Rattle.std.specs.Prelude.{◌≡◌, Err, IfErr, OnOk, false, true};
+ghost use Rattle.std.specs.Io.KnownBytes.{Appends};
+ghost use Rattle.exchanges.specs.Printing.{Prints, all_given_text, has_fault};
+ghost use Rattle.exchanges.specs.Running.{IsOfPrinting};
+
+use crate::printing::{has_fault, print_given};
+use office::Registry;
+use std::alloc::Global;
+use std::io::Write;
+use text::NoMemory;
+use web::{Exchange, Given, run};
+
+/// Why exchanges were not run and printed well.
+#[derive(Clone, Copy, Debug, PartialEq, Eq)]
+pub enum RunFault {
+    /// A growth was refused, and nothing was run.
+    NoMemory,
+    /// The output can't be written.
+    Write,
+    /// All is printed, and an exchange was given no response.
+    Fault,
+}
+
+impl From<NoMemory> for RunFault {
+    ghost use Rattle.std.specs.Prelude.{◌≡◌};
+    ghost use Rattle.exchanges.specs.declared.running.RunFault.TheVariants.{NoMemory};
+
+    ghost from_gives = { λ _ e. e ≡ NoMemory };
+
+    fn from(_e: NoMemory) -> RunFault {
+        RunFault::NoMemory
+    }
+}
+
+/// Prints what exchanges were given, whole where some were given a fault.
+///
+/// # Errors
+///
+/// `Write` where the output can't be written, and `Fault` where all is printed and an exchange was given a fault.
+pub fn print_all<W: Write>(out: &mut W, given: &[Given]) -> Result<(), RunFault>
+    ensures ok { OnOk result (Appends (W.contents out.old) (W.contents out.new) (all_given_text given.now)) }
+    ensures whole { OnOk result (has_fault given.now ≡ false) }
+    ensures fault { result ≡ Err RunFault.Fault
+        → Appends (W.contents out.old) (W.contents out.new) (all_given_text given.now) }
+    ensures faulty { result ≡ Err RunFault.Fault → has_fault given.now ≡ true }
+    ensures only { IfErr result IsOfPrinting }
+{
+    if print_given(out, given).is_err() {
+        return Err(RunFault::Write);
+    }
+    if has_fault(given) {
+        return Err(RunFault::Fault);
+    }
+    Ok(())
+}
+
+/// Runs the exchanges and prints what each was given, whole where some were given a fault.
+///
+/// # Errors
+///
+/// `NoMemory` where nothing was run, `Write` where the output can't be written, and `Fault` where all is printed and an
+/// exchange was given a fault.
+pub fn apply_exchanges<R: Registry, W: Write>(
+    registry: &mut R,
+    alloc: Global,
+    exchanges: &[Exchange],
+    out: &mut W,
+) -> Result<(), RunFault>
+    ensures honest { R.is_honest registry.new → R.is_honest registry.old }
+    ensures ok { R.is_honest registry.new → OnOk result (Prints (R.means registry.old) (R.means registry.new)
+        exchanges.now (W.contents out.old) (W.contents out.new) false) }
+    ensures fault { R.is_honest registry.new → result ≡ Err RunFault.Fault → Prints (R.means registry.old)
+        (R.means registry.new) exchanges.now (W.contents out.old) (W.contents out.new) true }
+
+    // Nothing was run.
+    ensures unrun { result ≡ Err RunFault.NoMemory → registry.new ≡ registry.old }
+{
+    let given = run(registry, alloc, exchanges)?;
+    print_all(out, given.as_slice())
+}

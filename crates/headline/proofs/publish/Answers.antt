@@ -1,0 +1,10 @@
+use Rattle.sqlite.specs.Held.{state}
+use Rattle.store.specs.Meaning.{Tells}
+use Rattle.headline.proofs.Listed.{listed}
+use Rattle.headline.proofs.publish.Goals as goal
+
+pub returns-clause-list : goal.returns-clause-list
+returns-clause-list g c honest =
+    listed c.the_list_is_exact.ensures (Tells (state g.S.Store c.args.store.now.conn)) (λ o l m. m.history.office)
+    c.write_found.result c.in_ok-revoked.revoked (g.W.Sink.taken c.args.sink.now) (g.W.Sink.taken c.write_found.new.sink)
+    (λ o l m. c.in_ok-revoked.ensures.row honest o l m) c.write_found.ensures.fits c.write_found.ensures.ok

@@ -1,0 +1,145 @@
+//! The office over its tables: what is promised of all that it answers, in the words of the plain machine.
+//!
+//! Tables tell an opening and a history where they hold the rows of the plain machine that was opened so and was given
+//! the history's arrivals. The clauses are asked of a disk that has returned what was written, as the call ends, and of
+//! a connection that no failed disk has shut.
+#![tactic(auto)]
+
+mod fault;
+
+ghost use Rattle.std.specs.Prelude.{◌≡◌, ◌≢◌, ◌<◌, ℕ, List, Err, IfErr, IfOk, IsTrue, OnErr, OnOk, false, true};
+ghost use Rattle.std.specs.Io.KnownBytes.{Appends};
+ghost use Rattle.krl.specs.Published.{fits, published_text};
+ghost use Rattle.sqlite.specs.Held.{state};
+ghost use Rattle.sqlite.specs.State.{HasCleanDisk};
+ghost use Rattle.requests.specs.declared.resource.Resource.TheVariants.{RevocationList};
+ghost use Rattle.requests.specs.Asks.{Asks, get};
+ghost use Rattle.office.specs.declared.opening.Opening.{Opening};
+ghost use Rattle.office.specs.declared.arrival.Arrival.{Arrival};
+ghost use Rattle.office.specs.Faults.{IsOfARegister};
+ghost use Rattle.exchanges.specs.Printing.{Prints};
+ghost use Rattle.store.specs.Meaning.{OutlastsCrashes, Tells};
+ghost use Rattle.web.specs.Answers.{Answers};
+ghost use Rattle.laws.specs.Counting.{CountsUp};
+ghost use Rattle.headline.specs.Headline.{BodiesNameTheirSigners, BodiesStay, EqualVersionsAreEqualLists, IsList, IsListResponse, ListsForgetNothing};
+
+pub use exchanges::RunFault;
+use exchanges::apply_exchanges;
+pub use fault::PublishFault;
+use krl::{krl_len, write_krl};
+use office::{MOST_CAS, Registry, Revoked, StoreFault};
+use sqlite::Alter;
+use std::alloc::Global;
+use std::io::Write;
+use store::{Store, a_crash_leaves_the_history};
+use web::{Exchange, answer};
+use wire::Sink;
+
+/// Exchanges, one after the other, over the tables of an office: whatever was lost, repeated or put in another order. What
+/// each is given is printed, whole where some are given a fault.
+pub fn replay<S: Alter, W: Write>(
+    store: &mut Store<S>,
+    alloc: Global,
+    exchanges: &[Exchange],
+    out: &mut W,
+) -> Result<(), RunFault>
+    // Each exchange is given the response that the plain machine gives after the first acceptances among the arrivals
+    // before it that met no fault. The tables then tell the history with all arrivals.
+    ensures ok { HasCleanDisk (state S.Store store.new.conn) → OnOk result (Prints (Tells (state S.Store store.old.conn)) (Tells (state S.Store store.new.conn)) exchanges.now (W.contents out.old) (W.contents out.new) false) }
+
+    // The same, but some are given a fault, and are no part of the history.
+    ensures fault { HasCleanDisk (state S.Store store.new.conn) → result ≡ Err RunFault.Fault → Prints (Tells (state S.Store store.old.conn)) (Tells (state S.Store store.new.conn)) exchanges.now (W.contents out.old) (W.contents out.new) true }
+
+    // No crash afterwards loses what they tell.
+    ensures crash { OutlastsCrashes (state S.Store store.new.conn) }
+
+    // The kth message that makes a certificate gets the serial first + k - 1 and the digest of the kth body, so no serial
+    // names two bodies; a body stays, and names the CA that signs it.
+    ensures serials { (o : Opening) (l : List Arrival) → CountsUp o l }
+    ensures bodies { BodiesStay }
+    ensures signers { BodiesNameTheirSigners }
+{
+    laws::serials_count_up();
+    laws::a_body_stays();
+    laws::a_body_names_its_signer();
+    let printed = apply_exchanges(store, alloc, exchanges, out);
+    a_crash_leaves_the_history(store);
+    printed
+}
+
+/// The response to one request over the tables of an office.
+pub fn respond<S: Alter>(
+    store: &mut Store<S>,
+    alloc: Global,
+    request: &[u8],
+    moment: u64,
+    nonce: &[u8; 32],
+) -> Result<Vec<u8>, StoreFault>
+    // It is the one that is due, and the tables then tell the history with the request's arrival, where it has one.
+    ensures answered { HasCleanDisk (state S.Store store.new.conn) → IfOk result (λ v. (o : Opening) (l : List Arrival) → Tells (state S.Store store.old.conn) o l → Answers o l request.now moment nonce.now v.items (Tells (state S.Store store.new.conn) o)) }
+
+    // After a fault they tell what they told.
+    ensures fault { HasCleanDisk (state S.Store store.new.conn) → OnErr result ((o : Opening) (l : List Arrival) → Tells (state S.Store store.old.conn) o l → Tells (state S.Store store.new.conn) o l) }
+
+    // Such a fault is want of memory, or the database failed, or refused a row that was due.
+    ensures only { HasCleanDisk (state S.Store store.new.conn) → IfErr result (λ e. (o : Opening) (l : List Arrival) → Tells (state S.Store store.old.conn) o l → IsOfARegister e) }
+
+    // No crash afterwards loses what they tell.
+    ensures crash { OutlastsCrashes (state S.Store store.new.conn) }
+
+    // To GET of the list it is the list, which revokes exactly what accepted messages named.
+    ensures list { HasCleanDisk (state S.Store store.new.conn) → Asks request.now (get RevocationList) → IfOk result (λ v. (o : Opening) (l : List Arrival) → Tells (state S.Store store.old.conn) o l → IsListResponse o l v.items) }
+    ensures forgets { ListsForgetNothing }
+    ensures versions { EqualVersionsAreEqualLists }
+{
+    laws::the_list_is_exact();
+    laws::a_later_list_revokes_as_much();
+    laws::equal_versions_are_equal_lists();
+    requests::one_ask();
+    let response = answer(store, alloc, request, moment, nonce);
+    a_crash_leaves_the_history(store);
+    response
+}
+
+// Writes a list that was found.
+fn write_found<W: Sink>(revoked: &Revoked, sink: &mut W) -> Result<(), PublishFault>
+    requires { W.failed sink.old < u64.MAX }
+    ensures fits { OnOk result (IsTrue (fits revoked.now.parts.items revoked.now.key_ids)) }
+    ensures ok { OnOk result (Appends (W.taken sink.old) (W.taken sink.new) (published_text revoked.now.head revoked.now.parts.items revoked.now.key_ids)) }
+    ensures unwritten { IfErr result (λ e. e ≢ PublishFault.Write → sink.new ≡ sink.old) }
+{
+    let parts = revoked.parts.as_slice();
+    if MOST_CAS < parts.len() {
+        return Err(PublishFault::Store(StoreFault::Damaged));
+    }
+    if krl_len(parts, &revoked.key_ids).is_none() {
+        return Err(PublishFault::Store(StoreFault::NoMemory));
+    }
+    match write_krl(&revoked.head, parts, &revoked.key_ids, sink) {
+        Ok(()) => Ok(()),
+        Err(_) => Err(PublishFault::Write),
+    }
+}
+
+/// Writes the key revocation list from front to back, without holding it. Where a section would be too long it is a fault
+/// of memory. The writer is lent with fewer than 18446744073709551615 failures.
+pub fn publish<S: Alter, W: Sink>(
+    store: &mut Store<S>,
+    alloc: Global,
+    sink: &mut W,
+) -> Result<(), PublishFault>
+    requires { W.failed sink.old < u64.MAX }
+
+    // What is written is the list, which revokes exactly what accepted messages named.
+    ensures list { HasCleanDisk (state S.Store store.new.conn) → OnOk result ((o : Opening) (l : List Arrival) → Tells (state S.Store store.old.conn) o l → (bytes : List ℕ) × IsList o l bytes × Appends (W.taken sink.old) (W.taken sink.new) bytes) }
+
+    // The tables tell what they told.
+    ensures same { HasCleanDisk (state S.Store store.new.conn) → (o : Opening) (l : List Arrival) → Tells (state S.Store store.old.conn) o l → Tells (state S.Store store.new.conn) o l }
+
+    // After any other fault than that of the writer nothing is written.
+    ensures unwritten { IfErr result (λ e. e ≢ PublishFault.Write → sink.new ≡ sink.old) }
+{
+    laws::the_list_is_exact();
+    let revoked = store.revoked(alloc)?;
+    write_found(&revoked, sink)
+}

@@ -1,0 +1,19 @@
+-- The trial office: an opening, and the arrival that comes first.
+use Rattle.std.specs.Prelude.{ℕ, codes}
+use Rattle.office.specs.declared.opening.Opening.{Opening}
+use Rattle.office.specs.declared.arrival.Arrival.{Arrival}
+use Rattle.trial.specs.declared.memory.TheConstants.{CA_KEY, MESSAGE, NO_NONCE}
+
+-- what an office of these serials begins with
+abbrev pub opening_of : ℕ → ℕ → Opening
+opening_of first last = record { ca = CA_KEY; root = codes "root"; station = codes "station"; first = first; last = last }
+
+-- the department `web`, put by root
+abbrev pub trial_arrival : Arrival
+trial_arrival = record {
+  caller = codes "root";
+  key = codes "trial-web";
+  bytes = MESSAGE.now;
+  moment = 0;
+  nonce = NO_NONCE;
+}
