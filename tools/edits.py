@@ -149,16 +149,18 @@ class Sources:
         names = {it.name if it and not it.is_constant else None for it in items}
         return names.pop() if len(names) == 1 else None
 
-    def user(self, edit):
-        """The name of the one function whose body names the one constant that an edit changes, or None."""
+    def constant(self, edit):
+        """The name of the one constant that an edit changes, or None: it changes something else."""
         items = [self.item_of(it) if it.path.startswith("src/") else None for it in pairs_of(edit)]
         names = {it.name if it and it.is_constant else None for it in items}
-        if len(names) != 1 or None in names:
-            return None
-        word, users = rf"\b{names.pop()}\b", []
+        return names.pop() if len(names) == 1 else None
+
+    def user(self, constant):
+        """The name of the one function whose body names a constant, or None."""
+        users = []
         for path, text in self.blank.items():
-            bodies = [it for it in self.items[path] if not it.is_constant]
-            users += [it.name for it in bodies if re.search(word, text[it.start : it.end])]
+            functions = [it for it in self.items[path] if not it.is_constant]
+            users += [it.name for it in functions if re.search(rf"\b{constant}\b", text[it.start : it.end])]
         return users[0] if len(users) == 1 else None
 
     def edited(self, edits):

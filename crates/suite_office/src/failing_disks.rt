@@ -47,15 +47,15 @@ struct Play {
 
 impl Play {
     fn new(alloc: Global) -> Result<Play, Fail> {
-        let exchanges = exchanges(alloc, FIVE.as_slice())?;
+        let asked = exchanges(alloc, FIVE.as_slice())?;
         let mut plain = founded_plain(alloc)?;
-        let due = run(&mut plain, alloc, exchanges.as_slice())?;
+        let due = run(&mut plain, alloc, asked.as_slice())?;
         if !due.iter().all(is_accepted) {
             return Err(Fail::from("one of the five is refused"));
         }
         Ok(Play {
             saved: founded(alloc)?,
-            exchanges,
+            exchanges: asked,
             due,
             telling: exchanges(alloc, TELLING.as_slice())?,
         })
