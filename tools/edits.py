@@ -4,6 +4,7 @@ import os
 import re
 
 CLAUSE = re.compile(r"(?:requires|ensures)(?:\s*\*)?(?:\s+\w+)?\s*\{|ghost\s+\w+\s*:\s*\{")
+TYPE = re.compile(r"\b(?:struct|enum|union)\s+(\w+)")
 ITEM = re.compile(r"\b(?:fn\s+(?P<fn>\w+)|impl\b(?P<impl>[^{;]*)|const\s+(?P<const>\w+)\s*:)")
 
 
@@ -74,33 +75,39 @@ def without_parameters(head):
     return head
 
 
-def impl_name(head):
-    """`Text` for `impl Text`, and `NoMemoryFromAllocError` for `impl From<AllocError> for NoMemory`."""
+def impl_name(head, module, types):
+    """What a check calls an impl: `bytes::Text` for `impl Text`, by the module that declares the type, and
+    `memory::NoMemoryFromAllocError` for `impl From<AllocError> for NoMemory`, by the module of the impl."""
     head = re.split(r"\bwhere\b", without_parameters(head))[0]
     trait, found, of = head.rpartition(" for ")
     if not found:
-        return last_name(head)
+        return "::".join([*types.get(last_name(head), module), last_name(head)])
     given = re.search(r"<(.*)>", trait, re.S)
     arguments = [it for it in given[1].split(",") if not it.strip().startswith("'")] if given else []
-    return last_name(of) + last_name(trait) + "".join(map(last_name, arguments))
+    return "::".join([*module, last_name(of) + last_name(trait) + "".join(map(last_name, arguments))])
 
 
-def items_in(path, text):
-    """The functions and constants of a source file, whose comments and literals have been made blank."""
+def module_of(path):
+    """The names of a source file's module, below the crate."""
     module = os.path.splitext(path)[0].split("/")[1:]
-    module = [] if module in (["lib"], ["main"]) else module
-    impls, found = [], []
+    return [] if module in (["lib"], ["main"]) else module
+
+
+def items_in(path, text, types):
+    """The functions and constants of a source file, whose comments and literals have been made blank. The module that
+    declares a type of the crate is in `types`."""
+    module, impls, found = module_of(path), [], []
     for item in ITEM.finditer(text):
-        within = [name for start, end, name in impls if start < item.start() < end][-1:]
+        within = [name for start, end, name in impls if start < item.start() < end]
         if item["const"]:
             end = text.find(";", item.end())
             found.append(Item(item["const"], item.start(), end, is_constant=True))
         elif item["fn"]:
             body = body_of(text, item.end())
             if body:
-                found.append(Item("::".join([*module, *within, item["fn"]]), *body))
+                found.append(Item("::".join([*(within[-1:] or module), item["fn"]]), *body))
         elif text[item.end() : item.end() + 1] == "{" and not re.search(r"[(,&=:>]\s*$", text[: item.start()]):
-            impls.append((item.end(), closing(text, item.end()), impl_name(item["impl"])))
+            impls.append((item.end(), closing(text, item.end()), impl_name(item["impl"], module, types)))
     return found
 
 
@@ -122,7 +129,7 @@ class Sources:
     """The sources of a crate, and the functions and constants in them."""
 
     def __init__(self, folder, blanked):
-        self.texts, self.blank, self.items = {}, {}, {}
+        self.texts, self.blank = {}, {}
         for file, text in blanked.items():
             if not file.endswith(".rt"):
                 continue
@@ -131,7 +138,8 @@ class Sources:
                 self.texts[path] = it.read()
             # The blank text has a space for each byte, so that both are compared as bytes.
             self.blank[path] = text.encode().decode("latin-1")
-            self.items[path] = items_in(path, self.blank[path])
+        types = {it: module_of(path) for path, text in self.blank.items() for it in TYPE.findall(text)}
+        self.items = {path: items_in(path, text, types) for path, text in self.blank.items()}
 
     def item_of(self, pair):
         """The innermost function or constant that holds the old text, or None."""
