@@ -12,8 +12,6 @@ mod option_fault;
 mod options;
 mod reading;
 mod signature;
-#[cfg(test)]
-mod tests;
 mod writing;
 
 pub use cert_fault::CertFault;

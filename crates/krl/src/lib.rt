@@ -11,8 +11,6 @@ mod parts;
 mod reader;
 mod run;
 mod runs;
-#[cfg(test)]
-mod tests;
 mod writer;
 
 pub use ca_part::CaPart;

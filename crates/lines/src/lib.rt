@@ -13,8 +13,6 @@ mod laws;
 mod reading;
 mod signature;
 mod signers;
-#[cfg(test)]
-mod tests;
 mod writing;
 
 pub use blob::{key_blob_of, read_key_blob, read_signature_blob, signature_blob_of};

@@ -35,6 +35,3 @@ pub use reading::read_message;
 pub use renewal::Renewal;
 pub use serial_range::SerialRange;
 pub use writing::write_message;
-
-#[cfg(test)]
-mod tests;

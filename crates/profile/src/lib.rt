@@ -17,8 +17,6 @@ mod option_value;
 mod refusal;
 mod rule;
 mod serial;
-#[cfg(test)]
-mod tests;
 
 pub use decimal::{put_decimal, read_decimal};
 pub use kind::Kind;

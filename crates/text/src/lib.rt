@@ -10,8 +10,6 @@ mod cutting;
 mod memory;
 mod pair;
 mod pairs;
-#[cfg(test)]
-mod tests;
 mod texts;
 
 pub use bytes::Text;

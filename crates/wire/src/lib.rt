@@ -13,8 +13,6 @@ mod put;
 mod scripted;
 mod sink;
 mod source;
-#[cfg(test)]
-mod tests;
 mod vec_sink;
 
 pub use cursor::Cursor;

@@ -1,9 +1,8 @@
 //! Lists that `ssh-keygen -k -s ca.pub` of OpenSSH 9.2 wrote, `ca.pub` being the key of 32 bytes 0x11, and what
 //! `ssh-keygen -Q -l` says of them.
 
-use crate::fault::KrlFault;
-use crate::reader::check;
-use crate::tests::writing::{CA, CA2};
+use super::writing::{CA, CA2};
+use krl::{KrlFault, check};
 
 // From the lines `serial: 1`, `serial: 1000000`, `serial: 5000000-9000000`, `id: web/alice`, `id: web/bob`.
 const FEW: [u8; 179] = [

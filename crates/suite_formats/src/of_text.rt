@@ -1,6 +1,6 @@
 //! Each call once, on bytes that are easy to tell apart.
 
-use crate::*;
+use text::{NoMemory, Pair, Pairs, Text, Texts, cut};
 
 #[test]
 fn texts_are_copied_byte_by_byte(rt: HostRuntime) -> Result<(), NoMemory> {

@@ -1,6 +1,6 @@
 //! Allowed signers.
 
-use crate::{OutFault, SignerRow, write_signers};
+use lines::{OutFault, SignerRow, write_signers};
 use std::alloc::Global;
 use text::{NoMemory, Text, Texts};
 use wire::{Pace, ScriptedWriter, Sink};

@@ -6,7 +6,7 @@ mod lists;
 mod requests;
 mod worked;
 
-use crate::{MessageFault, read_message};
+use message::{MessageFault, read_message};
 use std::alloc::{AllocError, Global};
 
 /// Lines, each with its line feed, with another line in place of the one at the index.

@@ -3,8 +3,7 @@
 ghost use Rattle.std.specs.Prelude.{◌≡◌, ◌≤◌, ◌<◌, ◌-◌, ◌^◌};
 ghost use Rattle.std.specs.List.Sorted.{IsStrictlyIncreasing};
 
-use crate::run::Run;
-use crate::runs::{Runs, runs_of};
+use krl::{Run, Runs, runs_of};
 use std::alloc::Global;
 use text::NoMemory;
 

@@ -3,7 +3,7 @@
 use super::departments::{HOSTS, USERS};
 use super::requests::{DELIVERY, RENEWAL, ROLLOVER};
 use super::{is_bad_line, issues, text};
-use crate::{read_message, write_message};
+use message::{read_message, write_message};
 use std::alloc::Global;
 
 const OPTIONS: [&str; 10] = [

@@ -1,7 +1,7 @@
 //! Signatures read and joined.
 
 use super::vectors::{HOST_SIGNATURE, MADE_HOST, MADE_USER, PLAIN, USER_SIGNATURE};
-use crate::{Signature, join_signature, read_signature};
+use cert::{Signature, join_signature, read_signature};
 use std::alloc::Global;
 use text::NoMemory;
 

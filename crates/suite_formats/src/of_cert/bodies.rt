@@ -8,7 +8,7 @@ ghost use Rattle.cert.specs.Bodies.{IsCertFields};
 
 use super::pairs;
 use super::vectors::{MADE_HOST, MADE_USER, PLAIN, WITH_COMMAND, WITH_PTY, WITH_THREE};
-use crate::{CertFault, CertFields, Options, read_body, write_body};
+use cert::{CertFault, CertFields, Options, read_body, write_body};
 use profile::{Kind, OptionField};
 use std::alloc::Global;
 use text::{NoMemory, Pair, Text, Texts};

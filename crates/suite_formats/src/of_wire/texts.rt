@@ -1,7 +1,7 @@
 //! Worked examples from the standards, written and read.
 
-use crate::{Cursor, put_string, put_u32, put_u64};
 use std::alloc::Global;
+use wire::{Cursor, put_string, put_u32, put_u64};
 
 /// RFC 4251, section 5: 699921578 is stored as `29 b7 f4 aa`, and "testing" as `00 00 00 07 t e s t i n g`.
 const RFC_EXAMPLES: &[u8] = b"\x29\xb7\xf4\xaa\x00\x00\x00\x07testing";

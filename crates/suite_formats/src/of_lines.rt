@@ -1,5 +1,5 @@
 //! Worked lines, and lines that OpenSSH's ssh-keygen made.
 
+mod key_lines;
 mod keys;
-mod lines;
 mod out;

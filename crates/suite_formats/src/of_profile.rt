@@ -1,6 +1,10 @@
 //! Values from outside at and past each limit.
 
-use crate::*;
+use profile::{
+    OptionField, Refusal, are_distinct, are_networks, department_of, is_flag, is_key_id, is_known,
+    is_member, is_name, is_namespace, is_network, is_option_value, is_principal, is_rule,
+    is_serial, meets, put_decimal, read_decimal,
+};
 use text::{Text, Texts};
 
 /// 201 bytes of which prefixes are taken.

@@ -1,7 +1,7 @@
 //! Key lines and certificate lines.
 
-use crate::{KeyLine, LineFault, fingerprint, read_key_line, write_cert_line, write_key_line};
 use base64::engine::general_purpose::STANDARD;
+use lines::{KeyLine, LineFault, fingerprint, read_key_line, write_cert_line, write_key_line};
 use std::alloc::Global;
 use text::NoMemory;
 

@@ -1,8 +1,7 @@
 //! Worked examples of lists that are read.
 
-use crate::fault::KrlFault;
-use crate::reader::check;
-use crate::tests::writing::{CA, CA2, ONE_RANGE};
+use super::writing::{CA, CA2, ONE_RANGE};
+use krl::{KrlFault, check};
 
 /// Serials, and whether `ONE_RANGE` revokes them under `CA`.
 const SERIALS: [(u64, bool); 5] = [(4, false), (5, true), (6, true), (7, true), (8, false)];

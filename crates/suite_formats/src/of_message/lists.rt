@@ -1,6 +1,6 @@
 //! Lists and options by themselves.
 
-use crate::{
+use message::{
     are_administrators, are_extension_names, are_namespaces, are_option_names, are_principals,
     are_rules, is_option,
 };

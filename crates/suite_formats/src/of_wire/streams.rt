@@ -2,13 +2,13 @@
 
 ghost use Rattle.std.specs.Prelude.{◌<◌, ◌+◌, ◌≤◌, IfOk};
 
-use crate::{
-    Ending, Failed, FromRead, FromWrite, Pace, ScriptedNonces, ScriptedReader, ScriptedWriter,
-    Sink, Source, VecSink, read_full, write_all,
-};
 use std::alloc::Global;
 use std::io;
 use std::io::{ErrorKind, Read, Write};
+use wire::{
+    Ending, Failed, FromRead, FromWrite, Pace, ScriptedNonces, ScriptedReader, ScriptedWriter,
+    Sink, Source, VecSink, read_full, write_all,
+};
 
 const TEXT: &[u8] = b"testing";
 

@@ -1,6 +1,6 @@
 //! Blobs and digests.
 
-use crate::{
+use lines::{
     KeyLine, body_digest, fingerprint, key_blob_of, read_key_blob, read_signature_blob,
     signature_blob_of,
 };

@@ -1,7 +1,7 @@
 //! Options built of pairs.
 
 use super::pairs;
-use crate::{OptionFault, Options};
+use cert::{OptionFault, Options};
 use profile::{Kind, OptionField};
 use std::alloc::Global;
 use text::{NoMemory, Pair, Pairs};

@@ -4,13 +4,7 @@ ghost use Rattle.std.specs.Prelude.{◌≡◌, ◌≤◌, length, IsTrue};
 ghost use Rattle.std.specs.List.Sorted.{IsStrictlyIncreasing};
 ghost use Rattle.krl.specs.Published.{fits};
 
-use crate::ca_part::CaPart;
-use crate::krl_head::KrlHead;
-use crate::lengths::krl_len;
-use crate::reader::check;
-use crate::run::Run;
-use crate::runs::{Runs, runs_of};
-use crate::writer::write_krl;
+use krl::{CaPart, KrlHead, Run, Runs, check, krl_len, runs_of, write_krl};
 use lines::OutFault;
 use std::alloc::Global;
 use text::{NoMemory, Text, Texts};

@@ -1,7 +1,7 @@
 //! Bytes that are no body.
 
 use super::vectors::{MADE_HOST, PLAIN, WITH_COMMAND};
-use crate::{CertFault, read_body};
+use cert::{CertFault, read_body};
 use std::alloc::Global;
 use text::NoMemory;
 
