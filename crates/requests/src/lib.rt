@@ -16,8 +16,6 @@ mod resource;
 mod response;
 mod route;
 mod router;
-#[cfg(test)]
-mod tests;
 
 pub use asked::{Asked, asks, body_size};
 pub use head::{Head, read_head};

@@ -7,8 +7,6 @@
 mod fault;
 mod serve;
 mod taking;
-#[cfg(test)]
-mod tests;
 
 pub use fault::ServeFault;
 pub use serve::{serve_by, serve_one};

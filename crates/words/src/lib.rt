@@ -11,8 +11,6 @@ mod fault;
 mod help;
 mod job;
 mod reading;
-#[cfg(test)]
-mod tests;
 mod values;
 
 pub use command::MOST_CONNECTIONS;

@@ -1,8 +1,8 @@
 //! Paths that have a route, and paths that have none.
 
-use crate::tests::{have_refusal, joined};
-use crate::{Asked, Resource, Routes, asks};
+use super::{have_refusal, joined};
 use profile::Refusal;
+use requests::{Asked, Resource, Routes, asks};
 use std::alloc::Global;
 use text::NoMemory;
 

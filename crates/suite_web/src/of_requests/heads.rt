@@ -1,8 +1,8 @@
 //! Heads, and reading them byte by byte.
 
-use crate::tests::{BODY, joined, refusal_of};
-use crate::{Progress, Routes, progress_of};
+use super::{BODY, joined, refusal_of};
 use profile::Refusal;
+use requests::{Progress, Routes, progress_of};
 use std::alloc::{AllocError, Global};
 use text::NoMemory;
 

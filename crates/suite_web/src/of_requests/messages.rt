@@ -1,8 +1,8 @@
 //! Messages that are posted, and how long they are.
 
-use crate::tests::{BODY, MESSAGE, POST, have_refusal, joined, refusal_of};
-use crate::{Asked, Routes, asks, body_size, read_head};
+use super::{BODY, MESSAGE, POST, have_refusal, joined, refusal_of};
 use profile::Refusal;
+use requests::{Asked, Routes, asks, body_size, read_head};
 use std::alloc::{AllocError, Global};
 use text::NoMemory;
 

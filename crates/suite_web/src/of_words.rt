@@ -4,9 +4,9 @@ mod faults;
 mod help;
 mod jobs;
 
-use crate::{Job, WordsFault, read_words};
 use std::alloc::Global;
 use std::test::Fail;
+use words::{Job, WordsFault, read_words};
 
 // The program's name and these words, which a space cuts.
 fn words(alloc: Global, text: &str) -> Result<Vec<String>, Fail> {

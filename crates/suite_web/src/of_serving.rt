@@ -2,8 +2,8 @@
 
 mod register;
 
-use crate::{ServeFault, serve_one};
 use register::Register;
+use serving::{ServeFault, serve_one};
 use std::alloc::{AllocError, Global};
 use wire::{Ending, Pace, ScriptedNonces, ScriptedReader, ScriptedWriter};
 

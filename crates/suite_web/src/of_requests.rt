@@ -5,8 +5,8 @@ mod messages;
 mod paths;
 mod replies;
 
-use crate::{Asked, Routes, asks};
 use profile::Refusal;
+use requests::{Asked, Routes, asks};
 use std::alloc::{AllocError, Global};
 
 /// An issue message of 162 bytes.

@@ -2,8 +2,8 @@
 
 ghost use Rattle.std.specs.Prelude.{◌≤◌, length};
 
-use crate::{MediaType, begin_response, refuse, respond};
 use profile::Refusal;
+use requests::{MediaType, begin_response, refuse, respond};
 use std::alloc::{AllocError, Global};
 
 fn is_refusal(alloc: Global, refusal: Refusal, wanted: &[u8]) -> bool {
