@@ -2,6 +2,7 @@
 
 import copy
 import os
+import re
 import sys
 import threading
 import time
@@ -94,3 +95,10 @@ def end_of(file, count=40):
     """The last lines of a file."""
     with open(file, errors="replace") as it:
         return "".join(it.readlines()[-count:])
+
+
+def complaints(file, count=40):
+    """What a check complains of, or its last lines where it names nothing."""
+    with open(file, errors="replace") as it:
+        lines = [line for line in it if re.search(r"error|: not proved|: no proof|must prove", line)]
+    return "".join(lines[:count]) or end_of(file, count)

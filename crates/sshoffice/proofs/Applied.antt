@@ -33,9 +33,9 @@ applies file es run before after old new fault same are text shown prints =
     }
 
 -- What is shown of a run that went well is shown of the job.
-pub of_ok : (r : Result Unit RunFault) (P : Type 0) → OnOk r P → OnOk (run_result r) P
-of_ok (Ok done) P shown = shown
-of_ok (Err fault) P shown = shown
+pub of_ok : (r : Result Unit RunFault) (done : Result Unit JobFault) (P : Type 0) → done ≡ run_result r → OnOk r P → OnOk done P
+of_ok (Ok u) done P same shown = subst (λ (d : Result Unit JobFault). OnOk d P) (sym same) shown
+of_ok (Err fault) done P same shown = subst (λ (d : Result Unit JobFault). OnOk d P) (sym same) tt
 
 -- A fault that was printed was one of the run.
 pub was_fault : (r : Result Unit RunFault) → run_result r ≡ Err Fault → r ≡ Err run.Fault

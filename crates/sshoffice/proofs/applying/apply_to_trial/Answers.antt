@@ -1,5 +1,4 @@
-use Rattle.std.proofs.Common.{◌≡◌, Result, Err, sym, subst, ◌∙◌}
-use Rattle.std.specs.Prelude.{OnOk}
+use Rattle.std.proofs.Common.{sym, ◌∙◌}
 use Rattle.std.proofs.lemmas.Result.{IfOk-weaker}
 use Rattle.sqlite.proofs.Callers.{memory_is_clean}
 use Rattle.sshoffice.proofs.Applied.{applies, not_bad, of_ok, was_fault}
@@ -7,11 +6,10 @@ use Rattle.sshoffice.proofs.applying.apply_to_trial.Goals as goal
 
 pub returns-clause-ok : goal.returns-clause-ok
 returns-clause-ok g c =
-    subst (λ r. OnOk r _) (sym c.of_a_run.ensures)
-    (of_ok c.apply_exchanges-done.result _
+    of_ok c.apply_exchanges-done.result c.of_a_run.result _ c.of_a_run.ensures
     (IfOk-weaker c.apply_exchanges-done.result _ _ (λ _ prints. applies c.args.file.now _ _ _ _ _ _ _ c.as_slice.ensures.value
     c.in_ok-exchanges.ensures.found.0 c.in_ok-exchanges.ensures.found.1 c.in_ok-office.ensures prints)
-    (c.apply_exchanges-done.ensures.ok (memory_is_clean c.apply_exchanges-done.new.registry.conn))))
+    (c.apply_exchanges-done.ensures.ok (memory_is_clean c.apply_exchanges-done.new.registry.conn)))
 
 pub returns-clause-fault : goal.returns-clause-fault
 returns-clause-fault g c = λ failed.
