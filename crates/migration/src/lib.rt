@@ -10,6 +10,3 @@ mod migrating;
 mod moving;
 
 pub use migrating::migrate;
-
-#[cfg(test)]
-mod tests;

@@ -17,8 +17,6 @@ mod revocations;
 mod serials;
 mod settling;
 mod taking;
-#[cfg(test)]
-mod tests;
 
 pub use crashes::a_crash_leaves_the_history;
 pub use krl::{CaPart, KrlHead, Run, Runs};

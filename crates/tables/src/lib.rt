@@ -37,6 +37,3 @@ pub use requests::{RequestRow, find_request, insert_request};
 pub use revoked::{every_revoked, find_revoked, insert_revoked};
 pub use runs::{RunRow, delete_runs, every_run, find_runs, insert_run};
 pub use transaction::{begin, commit, rollback};
-
-#[cfg(test)]
-mod tests;

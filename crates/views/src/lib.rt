@@ -19,6 +19,3 @@ pub use departments::find_department;
 pub use kept::kept_for;
 pub use key_ids::{has_revoked_key_ids, is_key_id_revoked};
 pub use runs::{are_revoked, revoked_runs};
-
-#[cfg(test)]
-mod tests;

@@ -1,6 +1,6 @@
 //! Migrations over a database in memory.
 
-use super::*;
+use migration::migrate;
 use office::StoreFault;
 use rows::number;
 use sqlite::{Connection, MemStore};

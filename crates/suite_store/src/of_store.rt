@@ -4,10 +4,12 @@ ghost use Rattle.std.specs.Prelude.{◌≡◌, false, IfOk, None};
 ghost use Rattle.sqlite.specs.Held.{state};
 ghost use Rattle.sqlite.specs.Steps.{over_memory};
 
-use super::*;
+use krl::Run;
+use office::{Arrival, Opening, Outcome, Registry, StoreFault};
 use sqlite::{Connection, MemStore};
 use std::alloc::Global;
 use std::test::Fail;
+use store::Store;
 use text::Text;
 
 const DEPARTMENT: &[u8] =

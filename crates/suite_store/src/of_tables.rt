@@ -1,9 +1,16 @@
 //! Each call once, over a database in memory.
 
-use super::*;
 use sqlite::{Connection, MemStore};
 use std::alloc::Global;
 use std::test::Fail;
+use tables::{
+    CaRow, CertRow, Counters, DepartmentRow, Fault, Number, OfficeRow, RequestRow, RunRow, begin,
+    commit, create_tables, delete_runs, every_ca, every_cert, every_department, every_office,
+    every_revoked, every_run, find_cert, find_department, find_request, find_revoked, find_runs,
+    has_any_table, has_office, insert_ca, insert_cert, insert_office, insert_request,
+    insert_revoked, insert_run, put_department, rollback, update_office, update_schema,
+    update_signature,
+};
 use text::Text;
 
 fn number(value: u64) -> Result<Number, Fail> {

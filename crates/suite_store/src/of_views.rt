@@ -1,6 +1,5 @@
 //! Each call over a database in memory.
 
-use super::*;
 use message::Message;
 use sqlite::{Connection, MemStore};
 use std::alloc::Global;
@@ -10,6 +9,10 @@ use tables::{
     insert_revoked, insert_run, put_department,
 };
 use text::Text;
+use views::{
+    are_revoked, concerned_rows, find_certificate, find_department, has_revoked_key_ids,
+    is_key_id_revoked, kept_for, revoked_runs,
+};
 
 fn number(value: u64) -> Result<Number, Fail> {
     Ok(Number::new(value).ok_or("a number below 2^63")?)
