@@ -1,7 +1,8 @@
-//! The tests of the formats: `text`, `profile`, `wire`, `lines`, `cert`, `krl` and `message`.
+//! The tests of what only calls can show of `text`, `wire`, `lines`, `cert` and `krl`.
 //!
-//! They call what any crate can call. Expected values come from outside: worked examples, the standards, and lines,
-//! certificates and lists of OpenSSH's own programs.
+//! They call what any crate can call. Expected values come from outside: worked examples, the standards, and certificates
+//! of OpenSSH's own programs. Messages, key lines and lists are shown by the built program, in `interop/messages` and
+//! `interop/checking`.
 #![tactic(auto)]
 
 #[cfg(test)]
@@ -10,10 +11,6 @@ mod of_cert;
 mod of_krl;
 #[cfg(test)]
 mod of_lines;
-#[cfg(test)]
-mod of_message;
-#[cfg(test)]
-mod of_profile;
 #[cfg(test)]
 mod of_text;
 #[cfg(test)]

@@ -1,6 +1,4 @@
 //! Worked examples.
 
-mod reading;
 mod runs;
-mod ssh_keygen;
 mod writing;

@@ -1,5 +1,3 @@
-//! Worked lines, and lines that OpenSSH's ssh-keygen made.
+//! Lines that are written.
 
-mod key_lines;
-mod keys;
 mod out;

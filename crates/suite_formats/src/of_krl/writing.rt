@@ -12,7 +12,7 @@ use wire::{Pace, ScriptedWriter, Sink, VecSink};
 
 pub(crate) const CA: [u8; 32] = [0x11; 32];
 
-pub(crate) const CA2: [u8; 32] = [0x12; 32];
+const CA2: [u8; 32] = [0x12; 32];
 
 const CA3: [u8; 32] = [0x13; 32];
 
@@ -29,7 +29,7 @@ const ONE_SERIAL: &[u8; 121] =
     \x20\0\0\0\x08\0\0\0\0\0\0\0\x01";
 
 /// The serials from 5 to 7.
-pub(crate) const ONE_RANGE: &[u8; 129] =
+const ONE_RANGE: &[u8; 129] =
     b"SSHKRL\n\0\0\0\0\x01\0\0\0\0\0\0\0\x03\0\0\0\0\0\0\x0b\xbe\0\0\0\0\0\0\0\0\0\0\0\0\0\0\0\0\
     \x01\0\0\0\x50\0\0\0\x33\0\0\0\x0bssh-ed25519\0\0\0\x20\x11\x11\x11\x11\x11\x11\x11\x11\x11\x11\x11\
     \x11\x11\x11\x11\x11\x11\x11\x11\x11\x11\x11\x11\x11\x11\x11\x11\x11\x11\x11\x11\x11\0\0\0\0\
