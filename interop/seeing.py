@@ -25,7 +25,12 @@ def seen(what, wanted, got):
 
 
 def show_difference(wanted, got):
-    """The lines that differ, or of other bytes the place of the first one."""
+    """The lines that differ, or of other bytes the place of the first one. Of several values, those that differ."""
+    if isinstance(wanted, tuple) and isinstance(got, tuple) and len(wanted) == len(got):
+        for one, other in zip(wanted, got):
+            if one != other:
+                show_difference(one, other)
+        return
     try:
         lines = [side.decode().splitlines(keepends=True) if isinstance(side, bytes) else [repr(side)]
                  for side in (wanted, got)]

@@ -1,4 +1,4 @@
-"""Words that ask for help, and words that are no job: what is printed to the output, or to the errors.
+"""Words that ask for help or for the version, and words that are no job: what is printed.
 
 The texts are those that clap 4 writes for the same command line.
 """
@@ -21,7 +21,18 @@ Commands:
   help      Print this message or the help of the given subcommand(s)
 
 Options:
-  -h, --help  Print help
+  -h, --help     Print help
+  -V, --version  Print version
+
+In this order:
+  1. init makes an office in a new database.
+  2. serve answers requests. A front before the server knows who asks.
+  3. The signing station asks for what waits, signs, and delivers.
+
+Status:
+  0  it is done
+  1  there was a fault, and its name stands on the standard error
+  2  the words are no command
 
 Example:
   sshoffice apply first.exchange
@@ -69,6 +80,8 @@ HELP = {
     "check --help": OF_CHECK,
     "help check": OF_CHECK,
     "selftest -h": OF_SELFTEST,
+    "--version": "sshoffice 1.0.0 (rattle-kit-13b)\n",
+    "-V": "sshoffice 1.0.0 (rattle-kit-13b)\n",
 }
 
 # What is said first of words that are no job. After it comes MORE.
@@ -116,7 +129,8 @@ MISTAKES = {
         "Usage: sshoffice init --db <PATH> --ca <PATH> --root <NAME> --station <NAME> --first <N> --last <N>",
     "migrate --db": "error: a value is required for '--db <PATH>' but none was supplied",
     "frobnicate": "error: unrecognized subcommand 'frobnicate'\n\nUsage: sshoffice <COMMAND>",
-    "--version": "error: unexpected argument '--version' found\n\nUsage: sshoffice <COMMAND>",
+    "--verbose": "error: unexpected argument '--verbose' found\n\nUsage: sshoffice <COMMAND>",
+    "krl --version": "error: unexpected argument '--version' found\n\nUsage: sshoffice krl --db <PATH>",
     "krl --db d --port 7": "error: unexpected argument '--port' found\n\nUsage: sshoffice krl --db <PATH>",
     "krl --db d --db e":
         "error: the argument '--db <PATH>' cannot be used multiple times\n"

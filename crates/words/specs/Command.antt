@@ -68,9 +68,9 @@ check_command = subcommand (codes "check") (
 abbrev pub selftest_command : Shape
 selftest_command = subcommand (codes "selftest") []
 
--- `sshoffice`, which wants a subcommand
+-- `sshoffice`, which has a version and wants a subcommand
 abbrev pub top_command : Shape
-top_command = record (subcommand (codes "sshoffice") []) { subcommand_required = true }
+top_command = record (subcommand (codes "sshoffice") []) { subcommand_required = true; has_version = true }
 
 -- the whole command
 abbrev pub office_command : App

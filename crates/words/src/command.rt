@@ -69,7 +69,7 @@ fn top_command<'a>(alloc: Global) -> Command<'a>
     ensures { app_of result ≡ record { top = top_command; subs = [] } }
 {
     let office = plain_command(alloc, "sshoffice", help::OFFICE, help::OFFICE_MORE);
-    office.subcommand_required(true)
+    office.version(help::VERSION).subcommand_required(true)
 }
 
 fn init_command<'a>(alloc: Global) -> Result<Command<'a>, AllocError>

@@ -2,48 +2,87 @@
 
 pub const OFFICE: &str = "An SSH certificate office";
 
-pub const OFFICE_MORE: &str =
-    "Example:\n  sshoffice apply first.exchange\n\nEach command has its own help, as sshoffice init --help.\nA value that begins with '-' is written --name=-value, and a word that begins with '-' comes after --.";
+/// The crate's version, and the toolchain by which it is proved.
+pub const VERSION: &str = "1.0.0 (rattle-kit-13b)";
+
+pub const OFFICE_MORE: &str = "In this order:
+  1. init makes an office in a new database.
+  2. serve answers requests. A front before the server knows who asks.
+  3. The signing station asks for what waits, signs, and delivers.
+
+Status:
+  0  it is done
+  1  there was a fault, and its name stands on the standard error
+  2  the words are no command
+
+Example:
+  sshoffice apply first.exchange
+
+Each command has its own help, as sshoffice init --help.
+A value that begins with '-' is written --name=-value, and a word that begins with '-' comes after --.";
 
 pub const INIT: &str = "Makes an office in a new database";
 
-pub const INIT_MORE: &str =
-    "Example:\n  sshoffice init --db office.db --ca ca.pub --root root --station station --first 1 --last 1000000\n\nA value that begins with '-' is written --root=-value.";
+pub const INIT_MORE: &str = "Example:
+  sshoffice init --db office.db --ca ca.pub --root root --station station --first 1 --last 1000000
+
+A value that begins with '-' is written --root=-value.";
 
 pub const APPLY: &str = "Runs the exchanges of a file and prints the answers";
 
-pub const APPLY_MORE: &str =
-    "Example:\n  sshoffice apply --db office.db first.exchange\n\nA file whose name begins with '-' comes after --.";
+pub const APPLY_MORE: &str = "Example:
+  sshoffice apply --db office.db first.exchange
+
+A file whose name begins with '-' comes after --.
+While a server has the database open, --db is the fault Device. Send the requests to the server.";
 
 pub const SERVE: &str = "Answers HTTP requests on 127.0.0.1, one connection after the other";
 
-pub const SERVE_MORE: &str =
-    "Example:\n  sshoffice serve --db office.db --port 8022 --connections 100 --nonces /dev/urandom";
+pub const SERVE_MORE: &str = "Example:
+  sshoffice serve --db office.db --port 8022 --connections 100 --nonces /dev/urandom
+
+Once listening, the server prints the port. It ends with status 0 after so many connections, so that
+whatever started it starts it again. A connection that met a fault is named on the standard error, as
+connection 7 Read, and the next one is served.
+No other program can open the database meanwhile.";
 
 pub const KRL: &str = "Prints the revocation list";
 
-pub const KRL_MORE: &str = "Example:\n  sshoffice krl --db office.db > office.krl";
+pub const KRL_MORE: &str = "Example:
+  sshoffice krl --db office.db > office.krl
+
+While a server has the database open, this is the fault Device. Ask the server for /v1/krl.";
 
 pub const SIGNERS: &str = "Prints the allowed signers";
 
-pub const SIGNERS_MORE: &str = "Example:\n  sshoffice signers --db office.db > allowed_signers";
+pub const SIGNERS_MORE: &str = "Example:
+  sshoffice signers --db office.db > allowed_signers
+
+While a server has the database open, this is the fault Device. Ask the server for /v1/signers.";
 
 pub const TABLE: &str = "Prints the table of certificates";
 
-pub const TABLE_MORE: &str = "Example:\n  sshoffice table --db office.db";
+pub const TABLE_MORE: &str = "Example:
+  sshoffice table --db office.db
+
+While a server has the database open, this is the fault Device. Ask the server for /v1/table.";
 
 pub const CHECK: &str = "Says whether a revocation list revokes a certificate";
 
-pub const CHECK_MORE: &str =
-    "Example:\n  sshoffice check --ca ca.pub office.krl 7 web/alice\n\nWords that begin with '-' come after --, as in check --ca ca.pub -- office.krl 7 -web/alice";
+pub const CHECK_MORE: &str = "Example:
+  sshoffice check --ca ca.pub office.krl 7 web/alice
+
+Words that begin with '-' come after --, as in check --ca ca.pub -- office.krl 7 -web/alice";
 
 pub const MIGRATE: &str = "Brings a database of schema 1 to schema 2";
 
-pub const MIGRATE_MORE: &str = "Example:\n  sshoffice migrate --db office.db";
+pub const MIGRATE_MORE: &str = "Example:
+  sshoffice migrate --db office.db";
 
 pub const SELFTEST: &str = "Asks a trial office over a socket and compares the answer";
 
-pub const SELFTEST_MORE: &str = "Example:\n  sshoffice selftest";
+pub const SELFTEST_MORE: &str = "Example:
+  sshoffice selftest";
 
 pub const DATABASE: &str = "The office's database";
 
