@@ -72,13 +72,20 @@ selftest_command = subcommand (codes "selftest") []
 abbrev pub top_command : Shape
 top_command = record (subcommand (codes "sshoffice") []) { subcommand_required = true; has_version = true }
 
+-- the command with these subcommands
+abbrev pub with_commands : List Shape → App
+with_commands subs = record { top = record top_command { is_leaf = false }; subs = subs }
+
+-- the command with its first five subcommands
+abbrev pub first_half : App
+first_half = with_commands (init_command ∷ apply_command ∷ serve_command ∷ on_database (codes "krl")
+    ∷ on_database (codes "signers") ∷ [])
+
 -- the whole command
 abbrev pub office_command : App
-office_command = record {
-  top = record top_command { is_leaf = false };
-  subs = init_command ∷ apply_command ∷ serve_command ∷ on_database (codes "krl") ∷ on_database (codes "signers")
-      ∷ on_database (codes "table") ∷ check_command ∷ on_database (codes "migrate") ∷ selftest_command ∷ [];
-}
+office_command = with_commands (init_command ∷ apply_command ∷ serve_command ∷ on_database (codes "krl")
+    ∷ on_database (codes "signers") ∷ on_database (codes "table") ∷ check_command ∷ on_database (codes "migrate")
+    ∷ selftest_command ∷ [])
 
 -- The argument has this rule, at its own level alone.
 abbrev pub IsArgument : Rule → Arg → Type 0
