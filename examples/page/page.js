@@ -12,7 +12,8 @@ const byId = (id) => document.getElementById(id);
 // ---- answers: of each route its bytes as a value. Bytes of another form are a fault.
 
 const asText = (bytes) => new TextDecoder("utf-8", {fatal: true}).decode(bytes);
-const ROW = /^ *([1-9]\d*)  (user|host)  (revoked|signed |pending)  +(\d+)  +(\d+)  (([a-z0-9-]{1,32})\/[!-~]{1,64})$/;
+const ROW = new RegExp("^ *([1-9]\\d*)  (user|host)  (revoked|signed |pending)  +(\\d{1,12})  +(\\d{1,12})  "
+  + "(([a-z0-9-]{1,32})/[!-~]{1,64})$");
 
 // What the expression finds in each line.
 function partsOf(text, form) {
@@ -23,7 +24,7 @@ function partsOf(text, form) {
 
 function readTable(bytes) {
   const text = asText(bytes), end = text.lastIndexOf("\n", text.length - 2) + 1;
-  const [[, count, version] = []] = partsOf(text.slice(end), /^total (\d+) version (\d+)$/);
+  const [[, count, version] = [null, "nothing"]] = partsOf(text.slice(end), /^total (\d+) version (\d+)$/);
   const rows = partsOf(text.slice(0, end), ROW).map(([, serial, kind, state, after, before, keyId, department]) =>
     ({serial, kind, state: state.trim(), after: Number(after), before: Number(before), keyId, department}));
   if (rows.length !== Number(count)) throw new Error(`the table has ${rows.length} lines, and its end says ${count}`);
@@ -33,8 +34,9 @@ function readTable(bytes) {
 function readList(bytes) {
   const view = new DataView(bytes);
   const isList = bytes.byteLength >= 44 && view.getBigUint64(0) === 0x5353484b524c0a00n && view.getUint32(8) === 1;
-  if (!isList) throw new Error("the answer is no revocation list");
-  return {version: String(view.getBigUint64(12)), date: Number(view.getBigUint64(20)), length: bytes.byteLength};
+  const date = isList ? Number(view.getBigUint64(20)) : Infinity;
+  if (date >= 1e12) throw new Error("the answer is no revocation list");
+  return {version: String(view.getBigUint64(12)), date, length: bytes.byteLength};
 }
 
 const readPending = (bytes) => partsOf(asText(bytes), /^([1-9]\d*) ([0-9a-f]{64})$/);
@@ -76,8 +78,8 @@ async function readAll() {
   if (byId("main").ariaBusy === "true") return;
   byId("main").ariaBusy = "true";
   await Promise.all(Object.keys(routes).map(ask));
-  show();
   byId("main").ariaBusy = "false";
+  show();
 }
 
 // ---- elements
@@ -106,8 +108,8 @@ const nextAfter = (limit) => Math.min(10 * limit, limit + 1000);
 // Puts a row for each item into a table, the first cell as its heading. Rows that are there already stay.
 function fill(id, route, items, cellsOf) {
   const table = byId(id), body = table.tBodies[0], before = [...body.rows], limit = Number(table.dataset.rows);
-  const rows = items.slice(0, limit).map((item) => element("tr", cellsOf(item).map((cell, column) =>
-    column === 0 ? element("th", cell, {scope: "row"}) : element("td", cell))));
+  const rows = items.slice(0, limit).map((item, place) => element("tr", cellsOf(item, items[place + 1])
+    .map((cell, column) => column === 0 ? element("th", cell, {scope: "row"}) : element("td", cell))));
   const none = element("td", route.value ? "none" : "not read", {colSpan: table.tHead.rows[0].cells.length});
   if (!rows.length) rows.push(element("tr", none));
   rows.forEach((row, place) => {
@@ -148,9 +150,8 @@ function show() {
     return [serial, ...(row ? [code(row.keyId), [moment(row.after), element("small", begun(row.after, now))],
       [moment(row.before), element("small", row.before <= now ? "has ended" : "")]] : ["", "", ""]), code(digest)];
   });
-  fill("cas", cas, authorities, ({number, since, fingerprint}, place = Number(number)) => [
-    `${number}${place === authorities.length ? " (issues)" : ""}`,
-    `${since} to ${place === authorities.length ? "the last" : authorities[place].since - 1n}`,
+  fill("cas", cas, authorities, ({number, since, fingerprint}, next) => [
+    `${number}${next ? "" : " (issues)"}`, `${since} to ${next ? next.since - 1n : "the last"}`,
     String(rows.filter((row) => authorityOf(row, authorities) === number).length), code(fingerprint)]);
   showDepartments(table, rows);
   showCertificates(table, rows, authorities);
