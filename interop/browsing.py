@@ -91,7 +91,7 @@ class Front:
             with contextlib.suppress(OSError), socket.create_connection(("127.0.0.1", self.port), timeout=1):
                 return
             time.sleep(0.05)
-        raise SystemExit("the front doesn't start")
+        raise RuntimeError("the front doesn't start")
 
     def ask(self, path, name="watch", method="GET", lines=None):
         """Status, header lines and body of a request with the certificate of this name, or with none."""
@@ -212,17 +212,17 @@ class Browser:
             message = self.message()
             if message.get("id") == self.number:
                 if "error" in message:
-                    raise SystemExit(f"{method}: {message['error']}")
+                    raise RuntimeError(f"{method}: {message['error']}")
                 return message["result"]
             self.events.append(message)
 
     def message(self):
         while b"\0" not in self.got:
             if not select.select([self.input], [], [], 60)[0]:
-                raise SystemExit("the browser says nothing")
+                raise RuntimeError("the browser says nothing")
             piece = os.read(self.input, 1 << 20)
             if not piece:
-                raise SystemExit("the browser has ended")
+                raise RuntimeError("the browser has ended")
             self.got += piece
         text, _, self.got = self.got.partition(b"\0")
         return json.loads(text)
