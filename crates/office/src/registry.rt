@@ -19,12 +19,17 @@ use text::Text;
 
 /// An office's register: what the tables, or the lists in memory, do for the layers above.
 ///
-/// Each call's clauses are asked of an honest register alone, as the call leaves it: honesty only falls. A reading call
-/// leaves what the register means as it is. `Device` is answered only where the database failed, or refused what was to be
-/// kept of an arrival, and a register that means a history answers no other fault but want of memory.
+/// Each call's clauses are asked of an honest register alone, as the call leaves it: honesty only falls. What a call
+/// answers was asked of an open register, and the register is open after the answer. A register that a failed disk has
+/// shut stays shut, and answers faults alone. A reading call leaves what the register means as it is. `Device` is
+/// answered only where the database failed, or refused what was to be kept of an arrival, and a register that means a
+/// history answers no other fault but want of memory.
 pub trait Registry {
     /// So far every answer of the disk was true.
     ghost is_honest: { Self → Type 0 };
+
+    /// No failed disk has shut it.
+    ghost is_open: { Self → Type 0 };
 
     /// Between the two the database failed, or it was shut before.
     ghost fails: { Self → Self → Type 0 };
@@ -39,6 +44,8 @@ pub trait Registry {
     /// register is as before.
     fn apply(&mut self, alloc: Global, arrival: Arrival) -> Result<Outcome, StoreFault>
         ensures honest { is_honest self.new → is_honest self.old }
+        ensures was_open { is_honest self.new → is_open self.new → is_open self.old }
+        ensures stays_open { is_honest self.new → OnOk result (is_open self.new) }
         ensures due { is_honest self.new → IfOk result (λ outcome. (o : Opening) (l : List Arrival) → means self.old o l → outcome ≡ due o l arrival) }
         ensures next { is_honest self.new → OnOk result ((o : Opening) (l : List Arrival) → means self.old o l → means self.new o (l ++ arrival ∷ [])) }
         ensures fault { is_honest self.new → OnErr result ((o : Opening) (l : List Arrival) → means self.old o l → means self.new o l) }
@@ -48,6 +55,8 @@ pub trait Registry {
     /// The CAs by number.
     fn cas(&mut self, alloc: Global) -> Result<Vec<Ca>, StoreFault>
         ensures honest { is_honest self.new → is_honest self.old }
+        ensures was_open { is_honest self.new → is_open self.new → is_open self.old }
+        ensures stays_open { is_honest self.new → OnOk result (is_open self.new) }
         ensures row { is_honest self.new → IfOk result (λ cas. (o : Opening) (l : List Arrival) → means self.old o l → cas.items ≡ (state o l).cas) }
         ensures same { is_honest self.new → (o : Opening) (l : List Arrival) → means self.old o l → means self.new o l }
         ensures cause { IfErr result (λ e. HasCause e (fails self.old self.new)) }
@@ -56,6 +65,8 @@ pub trait Registry {
     /// The certificates that are neither signed nor revoked, by serial.
     fn pending(&mut self, alloc: Global) -> Result<Vec<Pending>, StoreFault>
         ensures honest { is_honest self.new → is_honest self.old }
+        ensures was_open { is_honest self.new → is_open self.new → is_open self.old }
+        ensures stays_open { is_honest self.new → OnOk result (is_open self.new) }
         ensures row { is_honest self.new → IfOk result (λ rows. (o : Opening) (l : List Arrival) → means self.old o l → rows.items ≡ pending_of (state o l)) }
         ensures same { is_honest self.new → (o : Opening) (l : List Arrival) → means self.old o l → means self.new o l }
         ensures cause { IfErr result (λ e. HasCause e (fails self.old self.new)) }
@@ -64,6 +75,8 @@ pub trait Registry {
     /// The body of a serial, or `None` where it wasn't issued.
     fn body(&mut self, alloc: Global, serial: u64) -> Result<Option<Text>, StoreFault>
         ensures honest { is_honest self.new → is_honest self.old }
+        ensures was_open { is_honest self.new → is_open self.new → is_open self.old }
+        ensures stays_open { is_honest self.new → OnOk result (is_open self.new) }
         ensures row { is_honest self.new → IfOk result (λ body. (o : Opening) (l : List Arrival) → means self.old o l → body ≡ body_of (state o l) serial) }
         ensures same { is_honest self.new → (o : Opening) (l : List Arrival) → means self.old o l → means self.new o l }
         ensures cause { IfErr result (λ e. HasCause e (fails self.old self.new)) }
@@ -72,6 +85,8 @@ pub trait Registry {
     /// The certificate of a serial, or `None` where it wasn't issued.
     fn certificate(&mut self, alloc: Global, serial: u64) -> Result<Option<Issued>, StoreFault>
         ensures honest { is_honest self.new → is_honest self.old }
+        ensures was_open { is_honest self.new → is_open self.new → is_open self.old }
+        ensures stays_open { is_honest self.new → OnOk result (is_open self.new) }
         ensures row { is_honest self.new → IfOk result (λ issued. (o : Opening) (l : List Arrival) → means self.old o l → issued ≡ issued_of (state o l) serial) }
         ensures same { is_honest self.new → (o : Opening) (l : List Arrival) → means self.old o l → means self.new o l }
         ensures cause { IfErr result (λ e. HasCause e (fails self.old self.new)) }
@@ -80,6 +95,8 @@ pub trait Registry {
     /// What the published list is made of.
     fn revoked(&mut self, alloc: Global) -> Result<Revoked, StoreFault>
         ensures honest { is_honest self.new → is_honest self.old }
+        ensures was_open { is_honest self.new → is_open self.new → is_open self.old }
+        ensures stays_open { is_honest self.new → OnOk result (is_open self.new) }
         ensures row { is_honest self.new → IfOk result (λ revoked. (o : Opening) (l : List Arrival) → means self.old o l → AreRevoked revoked (state o l)) }
         ensures same { is_honest self.new → (o : Opening) (l : List Arrival) → means self.old o l → means self.new o l }
         ensures cause { IfErr result (λ e. HasCause e (fails self.old self.new)) }
@@ -88,6 +105,8 @@ pub trait Registry {
     /// The departments by name.
     fn departments(&mut self, alloc: Global) -> Result<Vec<Department>, StoreFault>
         ensures honest { is_honest self.new → is_honest self.old }
+        ensures was_open { is_honest self.new → is_open self.new → is_open self.old }
+        ensures stays_open { is_honest self.new → OnOk result (is_open self.new) }
         ensures row { is_honest self.new → IfOk result (λ rows. (o : Opening) (l : List Arrival) → means self.old o l → rows.items ≡ departments_of (state o l)) }
         ensures same { is_honest self.new → (o : Opening) (l : List Arrival) → means self.old o l → means self.new o l }
         ensures cause { IfErr result (λ e. HasCause e (fails self.old self.new)) }
@@ -96,6 +115,8 @@ pub trait Registry {
     /// Every certificate, by serial.
     fn certificates(&mut self, alloc: Global) -> Result<Vec<Entry>, StoreFault>
         ensures honest { is_honest self.new → is_honest self.old }
+        ensures was_open { is_honest self.new → is_open self.new → is_open self.old }
+        ensures stays_open { is_honest self.new → OnOk result (is_open self.new) }
         ensures row { is_honest self.new → IfOk result (λ rows. (o : Opening) (l : List Arrival) → means self.old o l → rows.items ≡ entries_of (state o l)) }
         ensures same { is_honest self.new → (o : Opening) (l : List Arrival) → means self.old o l → means self.new o l }
         ensures cause { IfErr result (λ e. HasCause e (fails self.old self.new)) }
