@@ -1,5 +1,5 @@
 -- What the calls do, from what their texts mean.
-use Rattle.std.proofs.Common.{◌≡◌, ◌⊎◌, inl, inr, ℕ, List, [], length, true, false, None, Option, Ok, Result, refl, subst, IfOk, IfErr}
+use Rattle.std.proofs.Common.{◌≡◌, ◌⊎◌, inl, inr, ℕ, List, [], length, true, false, None, Option, Ok, Err, Result, refl, sym, ap, ◌∙◌, subst, IfOk, IfErr}
 use Rattle.std.specs.Prelude.{Vec, ◌||◌}
 use Rattle.std.specs.declared.alloc.Global.{Global}
 use Rattle.std.specs.List.Sorted.{IsPermutation}
@@ -15,22 +15,25 @@ use Rattle.sqlite_typing.specs.Types.{accepts_program}
 use Rattle.sqlite.specs.Does.{Tally, Does}
 use Rattle.sqlite.specs.Effect.{Database, is_query}
 use Rattle.sqlite.specs.Calls.{IsWrite}
-use Rattle.sqlite.specs.Listing.{understood, reads_listing}
+use Rattle.sqlite.specs.Listing.{is_select, understood, reads_listing}
+use Rattle.sqlite_resolve.specs.declared.compiled.Compiled.{Compiled}
 use Rattle.sqlite.specs.declared.error.Error.{Error}
 use Rattle.sqlite.specs.State.{State, Survives, Writes, Runs, Executes, CommitsBy, Shown, FailsToQuery, CommitsShowing, is_pragma}
 use Rattle.sqlite.proofs.Callers.{IsPlain, command_of, statement_of}
 use Rattle.tables.specs.declared.fault.Fault.{Fault}
 use Rattle.tables.specs.Schema.{whole}
 use Rattle.tables.specs.Contents.{Contents, Holds, Means}
-use Rattle.tables.specs.Calls.{Changes, Finds, FindsOne, FailsBy, Leaves, Never, WasOpen}
+use Rattle.tables.specs.Calls.{Changes, Finds, FindsOne, FailsBy, Leaves, Never, WasOpen, Stays}
 use Rattle.tables.specs.Done.{IsDone, IsRead, IsFirstRead}
 use Rattle.tables.specs.Faults.{fault_of, HasCause}
 use Rattle.tables.proofs.Statements.{mode, survives_as}
-use Rattle.tables.proofs.Queries.{answers_open}
+use Rattle.tables.proofs.Forms.{closes, ends_nowhere, is_compiled, query_everywhere}
+use Rattle.tables.proofs.Staying.{stays_done}
+use Rattle.tables.proofs.Queries.{answers_still}
 use Rattle.tables.proofs.Texts.{Shows, changes, leaves, finds, never}
 use Rattle.tables.proofs.FaultLemmas.{HasWriteCause, IsWhole, faults, write_faults}
 use Rattle.tables.proofs.DoneLemmas.{changes_done, fault_done}
-use Rattle.tables.proofs.FoundLemmas.{finds_read, finds_first, causes_read, causes_first, open_read, open_first}
+use Rattle.tables.proofs.FoundLemmas.{finds_read, finds_first, causes_read, causes_first, read_only, first_only}
 
 -- ---- writes
 
@@ -85,8 +88,23 @@ saves_none : (command : Command) → IsOnRows command → (name : List ℕ) → 
 saves_none command on name (inl e) = subst IsOnRows e on
 saves_none command on name (inr e) = subst IsOnRows e on
 
+closes_none : (command : Command) → IsOnRows command → closes command ≡ false
+closes_none (Insert at from) on = refl
+closes_none (InsertOr at way from clauses) on = refl
+closes_none (Update at q) on = refl
+closes_none (Delete at q) on = refl
+closes_none _ on = absurd on
+
 module _ {X : Type 0} {sql : List ℕ} {params : Row} {after : Contents → Contents} (w : Write sql params after)
     (old new : State) where
+  pub write_stays : (answer : Result ℕ Error) (r : Result X Fault) → IsDone answer r
+      → Executes sql params old new answer → Stays old new r
+  write_stays answer r done ran =
+      let known = is_compiled (understood whole sql) w.plain in
+      stays_done sql params old new
+      (λ c is. ends_nowhere whole old.now.schema sql known.0 c known.1 is
+      (ap closes (sym (ap command_of known.1) ∙ w.is) ∙ closes_none w.command w.on_rows)) answer r done ran
+
   pub write_changes : (answer : Result ℕ Error) (r : Result X Fault) → IsDone answer r
       → Executes sql params old new answer → Changes after old new r
   write_changes answer r done ran =
@@ -139,11 +157,17 @@ module _ {X : Type 0} {sql : List ℕ} {params : Row} {cells : X → Row} {of : 
   pub find_all_fails : (r : Result (Vec X Global) Fault) → IsRead cells answer r → FailsBy HasCause old new r
   find_all_fails r read = causes_read cells of f.apart old new answer r read shown causes
 
+  silent : (c : Compiled) → understood old.now.schema sql ≡ Ok c → c.returning ≡ None
+  silent c is =
+      let known = is_compiled (understood whole sql) f.plain in
+      query_everywhere whole old.now.schema sql known.0 c known.1 is
+      (ap is_select (sym (ap command_of known.1) ∙ f.is))
+
   pub find_all_open : (r : Result (Vec X Global) Fault) → IsRead cells answer r → WasOpen old new r
-  find_all_open r read = open_read cells of old new answer r read (answers_open sql params old new answer ok) shown
+  find_all_open r read = read_only cells of old new answer r read (answers_still sql params old new answer silent ok) shown
 
   pub find_one_open : (r : Result (Option X) Fault) → IsFirstRead cells answer r → WasOpen old new r
-  find_one_open r read = open_first cells of old new answer r read (answers_open sql params old new answer ok) shown
+  find_one_open r read = first_only cells of old new answer r read (answers_still sql params old new answer silent ok) shown
 
   pub find_one : (r : Result (Option X) Fault) → IsFirstRead cells answer r → FindsOne of old new r
   find_one r read = finds_first cells of f.apart old new answer r read shown

@@ -6,7 +6,7 @@ use Rattle.std.specs.List.Sorted.{IsPermutation}
 use Rattle.std.proofs.lemmas.List.Sorted.{length_permutation}
 use Rattle.sqlite.specs.Order.{Row}
 use Rattle.sqlite.specs.declared.error.Error.{Error}
-use Rattle.sqlite.specs.State.{State}
+use Rattle.sqlite.specs.State.{State, IsUnchanged}
 use Rattle.tables.specs.declared.fault.Fault.{Fault}
 use Rattle.tables.specs.declared.fault.Fault.TheVariants.{Device, Damaged, NoMemory}
 use Rattle.tables.specs.Faults.{fault_of, is_out_of_memory, HasCause, Misread}
@@ -96,25 +96,21 @@ undamaged : (e : Error) → fault_of e ≡ Damaged → ⊥
 undamaged e is = elim (is_out_of_memory e) as (λ b. (if b then NoMemory else Device) ≡ Damaged → ⊥)
     [ true ↦ λ h. cc | false ↦ λ h. cc ] is
 
-was_open : (old new : State) → Fails old new → IsTrue new.is_open → IsTrue old.is_open
-was_open old new (inl same) still = same.0.was_open
-was_open old new (inr back) still = back.was_open still
-
--- an answer that was had was asked of an open connection
-pub open_read : {X : Type 0} (cells : X → Row) (of : Contents → List X) (old new : State)
+-- an answer that was had changed nothing
+pub read_only : {X : Type 0} (cells : X → Row) (of : Contents → List X) (old new : State)
     (answer : Result (Vec Row Global) Error) (r : Result (Vec X Global) Fault) → IsRead cells answer r
-    → OnOk answer (IsTrue old.is_open) → Shows cells of old new answer → WasOpen old new r
-open_read cells of old new (Ok rows) (Ok xs) read was shows = was
-open_read cells of old new (Ok rows) (Err f) read was shows = (λ _. was, λ _. was)
-open_read cells of old new (Err e) (Ok xs) read was shows = absurd read
-open_read cells of old new (Err e) (Err f) read was shows =
-    (was_open old new shows, λ damaged. absurd (undamaged e (sym read ∙ damaged)))
+    → OnOk answer (IsUnchanged old new) → Shows cells of old new answer → WasOpen old new r
+read_only cells of old new (Ok rows) (Ok xs) read same shows = same
+read_only cells of old new (Ok rows) (Err f) read same shows = (inl same, λ _. same)
+read_only cells of old new (Err e) (Ok xs) read same shows = absurd read
+read_only cells of old new (Err e) (Err f) read same shows =
+    (shows, λ damaged. absurd (undamaged e (sym read ∙ damaged)))
 
-pub open_first : {X : Type 0} (cells : X → Row) (of : Contents → List X) (old new : State)
+pub first_only : {X : Type 0} (cells : X → Row) (of : Contents → List X) (old new : State)
     (answer : Result (Vec Row Global) Error) (r : Result (Option X) Fault) → IsFirstRead cells answer r
-    → OnOk answer (IsTrue old.is_open) → Shows cells of old new answer → WasOpen old new r
-open_first cells of old new (Ok rows) (Ok xs) read was shows = was
-open_first cells of old new (Ok rows) (Err f) read was shows = (λ _. was, λ _. was)
-open_first cells of old new (Err e) (Ok xs) read was shows = absurd read
-open_first cells of old new (Err e) (Err f) read was shows =
-    (was_open old new shows, λ damaged. absurd (undamaged e (sym read ∙ damaged)))
+    → OnOk answer (IsUnchanged old new) → Shows cells of old new answer → WasOpen old new r
+first_only cells of old new (Ok rows) (Ok xs) read same shows = same
+first_only cells of old new (Ok rows) (Err f) read same shows = (inl same, λ _. same)
+first_only cells of old new (Err e) (Ok xs) read same shows = absurd read
+first_only cells of old new (Err e) (Err f) read same shows =
+    (shows, λ damaged. absurd (undamaged e (sym read ∙ damaged)))

@@ -12,6 +12,7 @@ pub mod Edits
 pub mod Elsewhere
 pub mod Ends
 pub mod FaultLemmas
+pub mod Forms
 pub mod FoundLemmas
 pub mod Growth
 pub mod InsertReasons
@@ -35,6 +36,7 @@ pub mod Rising
 pub mod Rows
 pub mod RunTable
 pub mod Statements
+pub mod Staying
 pub mod Stops
 pub mod Texts
 pub mod Unmapped

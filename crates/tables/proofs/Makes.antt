@@ -15,7 +15,11 @@ use Rattle.sqlite.specs.State.{State, Writes, Executes, CommitsBy}
 use Rattle.sqlite.proofs.Callers.{IsPlain, command_of, statement_of, runs_as}
 use Rattle.tables.specs.declared.sql.TheConstants.{CREATE_OFFICE, CREATE_DEPARTMENT, CREATE_CERT, CREATE_REQUEST, CREATE_RUN, CREATE_REVOKED, CREATE_CA}
 use Rattle.tables.specs.Schema.{no_schema, with_office, with_department, with_cert, with_request, with_run, without_ca, office, department, cert, request, run, revoked_keyid, ca}
-use Rattle.tables.specs.Calls.{Creates, Waits}
+use Rattle.tables.specs.Calls.{Creates, Stays, Waits}
+use Rattle.tables.specs.Done.{IsDone}
+use Rattle.tables.specs.declared.fault.Fault.{Fault}
+use Rattle.tables.proofs.Forms.{closes, ends_nowhere, is_compiled}
+use Rattle.tables.proofs.Staying.{stays_done}
 use Rattle.tables.proofs.Statements.{went, same_value, stopped, commits_as}
 
 -- a text that makes this table of the schema before
@@ -55,6 +59,14 @@ module _ {text : List ℕ} {before : Schema} {table : Table} (t : Create text be
         mode = w.shown.mode;
         marks = w.marks;
       }
+
+  pub create_stays : {X : Type 0} (old new : State) (answer : Result ℕ Error) (r : Result X Fault) → IsDone answer r
+      → Executes text [] old new answer → Stays old new r
+  create_stays old new answer r done ran =
+      let known = is_compiled (understood before text) t.plain in
+      stays_done text [] old new
+      (λ c is. ends_nowhere before old.now.schema text known.0 c known.1 is (ap closes (sym (ap command_of known.1) ∙ t.is)))
+      answer r done ran
 
   pub creates_left : (old : State) (trees : Trees) → CommitsBy text [] old trees → Waits before old trees
   creates_left old trees h has = (commits_as text [] old before has CreateTable t.is t.plain tt trees h).0

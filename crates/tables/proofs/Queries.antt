@@ -22,6 +22,7 @@ use Rattle.sqlite.specs.Program.{overlay}
 use Rattle.sqlite.specs.Tree.{Trees}
 use Rattle.sqlite.specs.declared.error.Error.{Error}
 use Rattle.sqlite.specs.State.{State, FailsToQuery, FailsToShow, IsNotRun, IsUnchanged, IsRolledBack, Shown, ShowsRows}
+use Rattle.sqlite_resolve.specs.declared.compiled.Compiled.{Compiled}
 use Rattle.sqlite_schema.specs.declared.command.Returning.{Returning}
 use Rattle.sqlite.specs.Clock.{timed}
 use Rattle.sqlite.specs.Listing.{understood}
@@ -193,18 +194,16 @@ pub lists_left : {X : Type 0} (cells : X → Row) (mine : X → Bool) (places : 
 lists_left cells mine places tests tested rows xs h = chosen cells cells mine places tests (λ v. v) tested (λ x. refl)
     rows _ xs h (IsPermutation-refl _)
 
--- a query that answered was asked of an open connection
-pub shown_open : (sql : List ℕ) (params : Row) (old new : State) (rows : List Row) → Shown sql params old new rows
-    → IsTrue old.is_open
+-- a query that answered changed nothing, whatever the tables are
+pub shown_still : (sql : List ℕ) (params : Row) (old new : State) (rows : List Row)
+    → ((c : Compiled) → understood old.now.schema sql ≡ Ok c → c.returning ≡ None) → Shown sql params old new rows
+    → IsUnchanged old new
 unfolding Shown
-shown_open sql params old new rows h = go h.0.returning h.2
-  where
-    go : (o : Option Returning) → ShowsRows old new sql h.0 (timed params h.0.formats h.1.now) rows o
-        → IsTrue old.is_open
-    go None shows = shows.3.0.was_open
-    go (Some what) shows = shows.1.shown.was_open
+shown_still sql params old new rows silent h =
+    (subst (ShowsRows old new sql h.0 (timed params h.0.formats h.1.now) rows) (silent h.0 h.1.is) h.2).3
 
-pub answers_open : (sql : List ℕ) (params : Row) (old new : State) (r : Result (Vec Row Global) Error)
-    → IfOk r (λ rows. Shown sql params old new rows.items) → OnOk r (IsTrue old.is_open)
-answers_open sql params old new (Ok rows) h = shown_open sql params old new rows.items h
-answers_open sql params old new (Err e) h = tt
+pub answers_still : (sql : List ℕ) (params : Row) (old new : State) (r : Result (Vec Row Global) Error)
+    → ((c : Compiled) → understood old.now.schema sql ≡ Ok c → c.returning ≡ None)
+    → IfOk r (λ rows. Shown sql params old new rows.items) → OnOk r (IsUnchanged old new)
+answers_still sql params old new (Ok rows) silent h = shown_still sql params old new rows.items silent h
+answers_still sql params old new (Err e) silent h = tt

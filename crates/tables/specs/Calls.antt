@@ -51,10 +51,16 @@ abbrev pub Rises : {X K E : Type 0} → (X → K) → (K → K → Ordering) →
 Rises key cmp old (Ok found) = (c : Contents) → Means old.now c → IsSortedByKey key cmp found.items
 Rises key cmp old (Err e) = Unit {0}
 
--- what is answered was asked of an open connection, and so was what is told damaged; one that is open was so before
+-- Of any tables: what is answered was asked of an open connection, and nothing has changed; or the call fails, and where it
+-- tells damage nothing has changed either.
 abbrev pub WasOpen : {X : Type 0} → State → State → Result X Fault → Type 0
-WasOpen old new (Ok x) = IsTrue old.is_open
-WasOpen old new (Err f) = (IsTrue new.is_open → IsTrue old.is_open) × (f ≡ Damaged → IsTrue old.is_open)
+WasOpen old new (Ok x) = IsUnchanged old new
+WasOpen old new (Err f) = Fails old new × (f ≡ Damaged → IsUnchanged old new)
+
+-- Of any tables, inside a transaction: it goes on, and what was committed stays; or, with a fault, what was committed stays.
+abbrev pub Stays : {X : Type 0} → State → State → Result X Fault → Type 0
+Stays old new (Ok x) = IsTrue old.in_transaction → Shows old new new.now old.committed old.in_transaction
+Stays old new (Err f) = IsTrue old.in_transaction → KeepsCommit old new
 
 -- what a call that a crash cuts off may have committed
 abbrev pub Leaves : (Contents → Contents) → State → Trees → Type 0

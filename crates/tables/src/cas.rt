@@ -6,7 +6,7 @@ ghost use Rattle.sqlite.specs.Held.{state};
 ghost use Rattle.sqlite.specs.State.{HasCleanDisk, Survives};
 ghost use Rattle.tables.specs.Cells.{ca_cells};
 ghost use Rattle.tables.specs.Changes.{with_ca};
-ghost use Rattle.tables.specs.Calls.{Changes, FailsBy, Finds, Leaves, Never, Rises, WasOpen};
+ghost use Rattle.tables.specs.Calls.{Changes, FailsBy, Finds, Leaves, Never, Rises, Stays, WasOpen};
 ghost use Rattle.tables.specs.Faults.{HasCause};
 ghost use Rattle.tables.specs.Refusals.{RefusedFor, RefusesCa};
 
@@ -79,6 +79,8 @@ pub fn insert_ca<S: Alter>(conn: &mut Connection<S>, ca: &CaRow) -> Result<(), F
     ensures fault { HasCleanDisk (state S.Store conn.new) →
         RefusedFor (RefusesCa ca.now) (state S.Store conn.old) (state S.Store conn.new)
         result }
+    ensures stays { HasCleanDisk (state S.Store conn.new)
+        → Stays (state S.Store conn.old) (state S.Store conn.new) result }
     ensures survives { Survives (state S.Store conn.old) (state S.Store conn.new)
         (Leaves (with_ca ca.now) (state S.Store conn.old)) }
 {

@@ -7,7 +7,7 @@ ghost use Rattle.sqlite.specs.State.{HasCleanDisk, Survives};
 ghost use Rattle.sqlite.specs.declared.types.Value.TheVariants.{Int, Blob};
 ghost use Rattle.tables.specs.Cells.{cert_cells};
 ghost use Rattle.tables.specs.Changes.{certs_numbered, with_cert, with_signature};
-ghost use Rattle.tables.specs.Calls.{Changes, FailsBy, Finds, FindsOne, Leaves, Never, Rises, WasOpen};
+ghost use Rattle.tables.specs.Calls.{Changes, FailsBy, Finds, FindsOne, Leaves, Never, Rises, Stays, WasOpen};
 ghost use Rattle.tables.specs.Faults.{HasCause};
 ghost use Rattle.tables.specs.Refusals.{RefusedFor, RefusesCert, RefusesSignature};
 
@@ -96,6 +96,8 @@ pub fn insert_cert<S: Alter>(conn: &mut Connection<S>, cert: &CertRow) -> Result
     ensures fault { HasCleanDisk (state S.Store conn.new) →
         RefusedFor (RefusesCert cert.now) (state S.Store conn.old)
         (state S.Store conn.new) result }
+    ensures stays { HasCleanDisk (state S.Store conn.new)
+        → Stays (state S.Store conn.old) (state S.Store conn.new) result }
     ensures survives { Survives (state S.Store conn.old) (state S.Store conn.new)
         (Leaves (with_cert cert.now) (state S.Store conn.old)) }
 {
@@ -145,6 +147,8 @@ pub fn update_signature<S: Alter>(
     ensures fault { HasCleanDisk (state S.Store conn.new) →
         RefusedFor (RefusesSignature serial signature.now) (state S.Store conn.old)
         (state S.Store conn.new) result }
+    ensures stays { HasCleanDisk (state S.Store conn.new)
+        → Stays (state S.Store conn.old) (state S.Store conn.new) result }
     ensures survives { Survives (state S.Store conn.old) (state S.Store conn.new)
         (Leaves (with_signature serial signature.now) (state S.Store conn.old)) }
 {

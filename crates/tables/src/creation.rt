@@ -5,7 +5,7 @@ ghost use Rattle.sqlite.specs.Held.{state};
 ghost use Rattle.sqlite.specs.State.{HasCleanDisk, Survives};
 ghost use Rattle.tables.specs.Schema.{no_schema, with_office, with_department, with_cert, with_request, with_run, without_ca, office, department, cert, request, run, revoked_keyid, ca};
 ghost use Rattle.tables.specs.Faults.{HasCause, IsOfStatement};
-ghost use Rattle.tables.specs.Calls.{AddsCa, Completes, Creates, IsBare, Waits};
+ghost use Rattle.tables.specs.Calls.{AddsCa, Completes, Creates, IsBare, Stays, Waits};
 
 use crate::fault::{Fault, done};
 use crate::sql::{
@@ -20,6 +20,8 @@ fn create_office<S: Alter>(conn: &mut Connection<S>) -> Result<(), Fault>
     ensures fault { HasCleanDisk (state S.Store conn.new) → (state S.Store conn.old).now.schema ≡ no_schema
         → IfErr result (HasCause (state S.Store conn.old) (state S.Store conn.new)) }
     ensures undamaged { IfErr result IsOfStatement }
+    ensures stays { HasCleanDisk (state S.Store conn.new)
+        → Stays (state S.Store conn.old) (state S.Store conn.new) result }
     ensures survives { Survives (state S.Store conn.old) (state S.Store conn.new)
         (Waits no_schema (state S.Store conn.old)) }
 {
@@ -32,6 +34,8 @@ fn create_department<S: Alter>(conn: &mut Connection<S>) -> Result<(), Fault>
     ensures fault { HasCleanDisk (state S.Store conn.new) → (state S.Store conn.old).now.schema ≡ with_office
         → IfErr result (HasCause (state S.Store conn.old) (state S.Store conn.new)) }
     ensures undamaged { IfErr result IsOfStatement }
+    ensures stays { HasCleanDisk (state S.Store conn.new)
+        → Stays (state S.Store conn.old) (state S.Store conn.new) result }
     ensures survives { Survives (state S.Store conn.old) (state S.Store conn.new)
         (Waits with_office (state S.Store conn.old)) }
 {
@@ -44,6 +48,8 @@ fn create_cert<S: Alter>(conn: &mut Connection<S>) -> Result<(), Fault>
     ensures fault { HasCleanDisk (state S.Store conn.new) → (state S.Store conn.old).now.schema ≡ with_department
         → IfErr result (HasCause (state S.Store conn.old) (state S.Store conn.new)) }
     ensures undamaged { IfErr result IsOfStatement }
+    ensures stays { HasCleanDisk (state S.Store conn.new)
+        → Stays (state S.Store conn.old) (state S.Store conn.new) result }
     ensures survives { Survives (state S.Store conn.old) (state S.Store conn.new)
         (Waits with_department (state S.Store conn.old)) }
 {
@@ -56,6 +62,8 @@ fn create_request<S: Alter>(conn: &mut Connection<S>) -> Result<(), Fault>
     ensures fault { HasCleanDisk (state S.Store conn.new) → (state S.Store conn.old).now.schema ≡ with_cert
         → IfErr result (HasCause (state S.Store conn.old) (state S.Store conn.new)) }
     ensures undamaged { IfErr result IsOfStatement }
+    ensures stays { HasCleanDisk (state S.Store conn.new)
+        → Stays (state S.Store conn.old) (state S.Store conn.new) result }
     ensures survives { Survives (state S.Store conn.old) (state S.Store conn.new)
         (Waits with_cert (state S.Store conn.old)) }
 {
@@ -68,6 +76,8 @@ fn create_run<S: Alter>(conn: &mut Connection<S>) -> Result<(), Fault>
     ensures fault { HasCleanDisk (state S.Store conn.new) → (state S.Store conn.old).now.schema ≡ with_request
         → IfErr result (HasCause (state S.Store conn.old) (state S.Store conn.new)) }
     ensures undamaged { IfErr result IsOfStatement }
+    ensures stays { HasCleanDisk (state S.Store conn.new)
+        → Stays (state S.Store conn.old) (state S.Store conn.new) result }
     ensures survives { Survives (state S.Store conn.old) (state S.Store conn.new)
         (Waits with_request (state S.Store conn.old)) }
 {
@@ -80,6 +90,8 @@ fn create_revoked<S: Alter>(conn: &mut Connection<S>) -> Result<(), Fault>
     ensures fault { HasCleanDisk (state S.Store conn.new) → (state S.Store conn.old).now.schema ≡ with_run
         → IfErr result (HasCause (state S.Store conn.old) (state S.Store conn.new)) }
     ensures undamaged { IfErr result IsOfStatement }
+    ensures stays { HasCleanDisk (state S.Store conn.new)
+        → Stays (state S.Store conn.old) (state S.Store conn.new) result }
     ensures survives { Survives (state S.Store conn.old) (state S.Store conn.new)
         (Waits with_run (state S.Store conn.old)) }
 {
@@ -95,6 +107,8 @@ pub fn create_ca<S: Alter>(conn: &mut Connection<S>) -> Result<(), Fault>
     ensures fault { HasCleanDisk (state S.Store conn.new) → (state S.Store conn.old).now.schema ≡ without_ca
         → IfErr result (HasCause (state S.Store conn.old) (state S.Store conn.new)) }
     ensures undamaged { IfErr result IsOfStatement }
+    ensures stays { HasCleanDisk (state S.Store conn.new)
+        → Stays (state S.Store conn.old) (state S.Store conn.new) result }
     ensures survives { Survives (state S.Store conn.old) (state S.Store conn.new)
         (Waits without_ca (state S.Store conn.old)) }
 {
@@ -107,6 +121,8 @@ fn complete_revoked<S: Alter>(conn: &mut Connection<S>) -> Result<(), Fault>
     ensures fault { HasCleanDisk (state S.Store conn.new) → IsBare with_run (state S.Store conn.old).now
         → IfErr result (HasCause (state S.Store conn.old) (state S.Store conn.new)) }
     ensures undamaged { IfErr result IsOfStatement }
+    ensures stays { HasCleanDisk (state S.Store conn.new)
+        → Stays (state S.Store conn.old) (state S.Store conn.new) result }
     ensures survives { Survives (state S.Store conn.old) (state S.Store conn.new)
         (Waits with_run (state S.Store conn.old)) }
 {
@@ -120,6 +136,8 @@ fn complete_run<S: Alter>(conn: &mut Connection<S>) -> Result<(), Fault>
     ensures fault { HasCleanDisk (state S.Store conn.new) → IsBare with_request (state S.Store conn.old).now
         → IfErr result (HasCause (state S.Store conn.old) (state S.Store conn.new)) }
     ensures undamaged { IfErr result IsOfStatement }
+    ensures stays { HasCleanDisk (state S.Store conn.new)
+        → Stays (state S.Store conn.old) (state S.Store conn.new) result }
     ensures survives { Survives (state S.Store conn.old) (state S.Store conn.new)
         (Waits with_request (state S.Store conn.old)) }
 {
@@ -133,6 +151,8 @@ fn complete_request<S: Alter>(conn: &mut Connection<S>) -> Result<(), Fault>
     ensures fault { HasCleanDisk (state S.Store conn.new) → IsBare with_cert (state S.Store conn.old).now
         → IfErr result (HasCause (state S.Store conn.old) (state S.Store conn.new)) }
     ensures undamaged { IfErr result IsOfStatement }
+    ensures stays { HasCleanDisk (state S.Store conn.new)
+        → Stays (state S.Store conn.old) (state S.Store conn.new) result }
     ensures survives { Survives (state S.Store conn.old) (state S.Store conn.new)
         (Waits with_cert (state S.Store conn.old)) }
 {
@@ -146,6 +166,8 @@ fn complete_cert<S: Alter>(conn: &mut Connection<S>) -> Result<(), Fault>
     ensures fault { HasCleanDisk (state S.Store conn.new) → IsBare with_department (state S.Store conn.old).now
         → IfErr result (HasCause (state S.Store conn.old) (state S.Store conn.new)) }
     ensures undamaged { IfErr result IsOfStatement }
+    ensures stays { HasCleanDisk (state S.Store conn.new)
+        → Stays (state S.Store conn.old) (state S.Store conn.new) result }
     ensures survives { Survives (state S.Store conn.old) (state S.Store conn.new)
         (Waits with_department (state S.Store conn.old)) }
 {
@@ -159,6 +181,8 @@ fn complete_department<S: Alter>(conn: &mut Connection<S>) -> Result<(), Fault>
     ensures fault { HasCleanDisk (state S.Store conn.new) → IsBare with_office (state S.Store conn.old).now
         → IfErr result (HasCause (state S.Store conn.old) (state S.Store conn.new)) }
     ensures undamaged { IfErr result IsOfStatement }
+    ensures stays { HasCleanDisk (state S.Store conn.new)
+        → Stays (state S.Store conn.old) (state S.Store conn.new) result }
     ensures survives { Survives (state S.Store conn.old) (state S.Store conn.new)
         (Waits with_office (state S.Store conn.old)) }
 {
@@ -173,6 +197,8 @@ pub fn create_tables<S: Alter>(conn: &mut Connection<S>) -> Result<(), Fault>
     ensures fault { HasCleanDisk (state S.Store conn.new) → IsBare no_schema (state S.Store conn.old).now
         → IfErr result (HasCause (state S.Store conn.old) (state S.Store conn.new)) }
     ensures undamaged { IfErr result IsOfStatement }
+    ensures stays { HasCleanDisk (state S.Store conn.new)
+        → Stays (state S.Store conn.old) (state S.Store conn.new) result }
     ensures survives { Survives (state S.Store conn.old) (state S.Store conn.new)
         (Waits no_schema (state S.Store conn.old)) }
 {

@@ -7,7 +7,7 @@ ghost use Rattle.sqlite.specs.Held.{state};
 ghost use Rattle.sqlite.specs.State.{HasCleanDisk, Survives};
 ghost use Rattle.tables.specs.Cells.{department_cells};
 ghost use Rattle.tables.specs.Changes.{departments_named, with_department};
-ghost use Rattle.tables.specs.Calls.{Changes, FailsBy, Finds, FindsOne, Leaves, Never, Rises, WasOpen};
+ghost use Rattle.tables.specs.Calls.{Changes, FailsBy, Finds, FindsOne, Leaves, Never, Rises, Stays, WasOpen};
 ghost use Rattle.tables.specs.Faults.{HasCause};
 ghost use Rattle.tables.specs.Refusals.{RefusedFor, RefusesDepartment};
 
@@ -109,6 +109,8 @@ pub fn put_department<S: Alter>(
     ensures fault { HasCleanDisk (state S.Store conn.new) →
         RefusedFor (RefusesDepartment department.now) (state S.Store conn.old)
         (state S.Store conn.new) result }
+    ensures stays { HasCleanDisk (state S.Store conn.new)
+        → Stays (state S.Store conn.old) (state S.Store conn.new) result }
     ensures survives { Survives (state S.Store conn.old) (state S.Store conn.new)
         (Leaves (with_department department.now) (state S.Store conn.old)) }
 {

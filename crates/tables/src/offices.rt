@@ -7,7 +7,7 @@ ghost use Rattle.sqlite.specs.State.{HasCleanDisk, Survives};
 ghost use Rattle.sqlite.specs.declared.types.Value.TheVariants.{Int};
 ghost use Rattle.tables.specs.Cells.{office_cells, counter_cells};
 ghost use Rattle.tables.specs.Changes.{with_office, with_counters, with_schema};
-ghost use Rattle.tables.specs.Calls.{Changes, FailsBy, Finds, Leaves, Never, Rises, WasOpen};
+ghost use Rattle.tables.specs.Calls.{Changes, FailsBy, Finds, Leaves, Never, Rises, Stays, WasOpen};
 ghost use Rattle.tables.specs.Faults.{HasCause};
 ghost use Rattle.tables.specs.Refusals.{RefusedFor, RefusesCounters, RefusesNumber, RefusesOffice};
 
@@ -144,6 +144,8 @@ pub fn insert_office<S: Alter>(conn: &mut Connection<S>, office: &OfficeRow) -> 
     ensures fault { HasCleanDisk (state S.Store conn.new) →
         RefusedFor (RefusesOffice office.now) (state S.Store conn.old)
         (state S.Store conn.new) result }
+    ensures stays { HasCleanDisk (state S.Store conn.new)
+        → Stays (state S.Store conn.old) (state S.Store conn.new) result }
     ensures survives { Survives (state S.Store conn.old) (state S.Store conn.new)
         (Leaves (with_office office.now) (state S.Store conn.old)) }
 {
@@ -175,6 +177,8 @@ pub fn update_office<S: Alter>(conn: &mut Connection<S>, counters: &Counters) ->
     ensures fault { HasCleanDisk (state S.Store conn.new) →
         RefusedFor (RefusesCounters counters.now) (state S.Store conn.old)
         (state S.Store conn.new) result }
+    ensures stays { HasCleanDisk (state S.Store conn.new)
+        → Stays (state S.Store conn.old) (state S.Store conn.new) result }
     ensures survives { Survives (state S.Store conn.old) (state S.Store conn.new)
         (Leaves (with_counters counters.now) (state S.Store conn.old)) }
 {
@@ -189,6 +193,8 @@ pub fn update_schema<S: Alter>(conn: &mut Connection<S>, schema: Number) -> Resu
     ensures fault { HasCleanDisk (state S.Store conn.new) →
         RefusedFor (RefusesNumber schema) (state S.Store conn.old)
         (state S.Store conn.new) result }
+    ensures stays { HasCleanDisk (state S.Store conn.new)
+        → Stays (state S.Store conn.old) (state S.Store conn.new) result }
     ensures survives { Survives (state S.Store conn.old) (state S.Store conn.new)
         (Leaves (with_schema schema) (state S.Store conn.old)) }
 {

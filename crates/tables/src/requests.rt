@@ -5,7 +5,7 @@ ghost use Rattle.sqlite.specs.Held.{state};
 ghost use Rattle.sqlite.specs.State.{HasCleanDisk, Survives};
 ghost use Rattle.tables.specs.Cells.{request_cells};
 ghost use Rattle.tables.specs.Changes.{requests_for, with_request};
-ghost use Rattle.tables.specs.Calls.{Changes, FailsBy, FindsOne, Leaves, Never, WasOpen};
+ghost use Rattle.tables.specs.Calls.{Changes, FailsBy, FindsOne, Leaves, Never, Stays, WasOpen};
 ghost use Rattle.tables.specs.Faults.{HasCause};
 ghost use Rattle.tables.specs.Refusals.{RefusedFor, RefusesRequest};
 
@@ -77,6 +77,8 @@ pub fn insert_request<S: Alter>(conn: &mut Connection<S>, request: &RequestRow) 
     ensures fault { HasCleanDisk (state S.Store conn.new) →
         RefusedFor (RefusesRequest request.now) (state S.Store conn.old)
         (state S.Store conn.new) result }
+    ensures stays { HasCleanDisk (state S.Store conn.new)
+        → Stays (state S.Store conn.old) (state S.Store conn.new) result }
     ensures survives { Survives (state S.Store conn.old) (state S.Store conn.new)
         (Leaves (with_request request.now) (state S.Store conn.old)) }
 {

@@ -6,7 +6,7 @@ ghost use Rattle.sqlite.specs.Held.{state};
 ghost use Rattle.sqlite.specs.State.{HasCleanDisk, Survives};
 ghost use Rattle.tables.specs.Cells.{key_id_cells};
 ghost use Rattle.tables.specs.Changes.{revoked_as, with_revoked};
-ghost use Rattle.tables.specs.Calls.{Changes, FailsBy, Finds, FindsOne, Leaves, Never, Rises, WasOpen};
+ghost use Rattle.tables.specs.Calls.{Changes, FailsBy, Finds, FindsOne, Leaves, Never, Rises, Stays, WasOpen};
 ghost use Rattle.tables.specs.Faults.{HasCause};
 ghost use Rattle.tables.specs.Refusals.{RefusedFor, RefusesKeyId};
 
@@ -47,6 +47,8 @@ pub fn insert_revoked<S: Alter>(conn: &mut Connection<S>, key_id: &[u8]) -> Resu
     ensures fault { HasCleanDisk (state S.Store conn.new) →
         RefusedFor (RefusesKeyId key_id.now) (state S.Store conn.old)
         (state S.Store conn.new) result }
+    ensures stays { HasCleanDisk (state S.Store conn.new)
+        → Stays (state S.Store conn.old) (state S.Store conn.new) result }
     ensures survives { Survives (state S.Store conn.old) (state S.Store conn.new)
         (Leaves (with_revoked key_id.now) (state S.Store conn.old)) }
 {

@@ -6,7 +6,7 @@ ghost use Rattle.sqlite.specs.Held.{state};
 ghost use Rattle.sqlite.specs.State.{HasCleanDisk, Survives};
 ghost use Rattle.tables.specs.Cells.{run_cells};
 ghost use Rattle.tables.specs.Changes.{runs_meeting, with_run, without_runs};
-ghost use Rattle.tables.specs.Calls.{Changes, FailsBy, Finds, Leaves, Never, Rises, WasOpen};
+ghost use Rattle.tables.specs.Calls.{Changes, FailsBy, Finds, Leaves, Never, Rises, Stays, WasOpen};
 ghost use Rattle.tables.specs.Faults.{HasCause};
 ghost use Rattle.tables.specs.Refusals.{RefusedFor, RefusesRun};
 
@@ -70,6 +70,8 @@ pub fn insert_run<S: Alter>(conn: &mut Connection<S>, run: &RunRow) -> Result<()
     ensures fault { HasCleanDisk (state S.Store conn.new) →
         RefusedFor (RefusesRun run.now) (state S.Store conn.old) (state S.Store conn.new)
         result }
+    ensures stays { HasCleanDisk (state S.Store conn.new)
+        → Stays (state S.Store conn.old) (state S.Store conn.new) result }
     ensures survives { Survives (state S.Store conn.old) (state S.Store conn.new)
         (Leaves (with_run run.now) (state S.Store conn.old)) }
 {
@@ -117,6 +119,8 @@ pub fn delete_runs<S: Alter>(conn: &mut Connection<S>, ends: &RunRow) -> Result<
     ensures fault { HasCleanDisk (state S.Store conn.new) →
         FailsBy HasCause (state S.Store conn.old) (state S.Store conn.new)
         result }
+    ensures stays { HasCleanDisk (state S.Store conn.new)
+        → Stays (state S.Store conn.old) (state S.Store conn.new) result }
     ensures survives { Survives (state S.Store conn.old) (state S.Store conn.new)
         (Leaves (without_runs ends.now) (state S.Store conn.old)) }
 {

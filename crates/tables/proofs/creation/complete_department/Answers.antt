@@ -4,6 +4,7 @@ use Rattle.sqlite.specs.State.{HasCleanDisk}
 use Rattle.tables.specs.Schema.{with_office, department}
 use Rattle.tables.specs.Calls.{Waits}
 use Rattle.tables.proofs.Growth.{completes_fails, completes_then, completes_waits}
+use Rattle.tables.proofs.Staying.{stays_then}
 use Rattle.tables.proofs.creation.complete_department.Goals as goal
 
 pub returns-clause-completes : goal.returns-clause-completes
@@ -23,6 +24,13 @@ returns-clause-fault g c clean =
     let still : HasCleanDisk mid = omega (arith, c.complete_cert.ensures.survives.clean) in
     completes_fails with_office department (Waits with_office old) old mid new c.complete_cert.result c.create_department.ensures.survives
     (λ bare. c.in_ok-create_department.ensures.creates still bare.0) (c.complete_cert.ensures.fault clean)
+
+pub returns-clause-stays : goal.returns-clause-stays
+returns-clause-stays g c clean =
+    let mid = state g.S.Store c.create_department.new.conn in
+    let still : HasCleanDisk mid = omega (arith, c.complete_cert.ensures.survives.clean) in
+    stays_then {X = Unit {0}} (state g.S.Store c.args.conn.now) mid (state g.S.Store c.complete_cert.new.conn) tt c.complete_cert.result
+    (c.in_ok-create_department.ensures.stays still) (c.complete_cert.ensures.stays clean)
 
 pub returns-clause-survives : goal.returns-clause-survives
 returns-clause-survives g c =

@@ -4,6 +4,7 @@ use Rattle.sqlite.specs.State.{HasCleanDisk}
 use Rattle.tables.specs.Schema.{with_cert, request}
 use Rattle.tables.specs.Calls.{Waits}
 use Rattle.tables.proofs.Growth.{completes_fails, completes_then, completes_waits}
+use Rattle.tables.proofs.Staying.{stays_then}
 use Rattle.tables.proofs.creation.complete_request.Goals as goal
 
 pub returns-clause-completes : goal.returns-clause-completes
@@ -23,6 +24,13 @@ returns-clause-fault g c clean =
     let still : HasCleanDisk mid = omega (arith, c.complete_run.ensures.survives.clean) in
     completes_fails with_cert request (Waits with_cert old) old mid new c.complete_run.result c.create_request.ensures.survives
     (λ bare. c.in_ok-create_request.ensures.creates still bare.0) (c.complete_run.ensures.fault clean)
+
+pub returns-clause-stays : goal.returns-clause-stays
+returns-clause-stays g c clean =
+    let mid = state g.S.Store c.create_request.new.conn in
+    let still : HasCleanDisk mid = omega (arith, c.complete_run.ensures.survives.clean) in
+    stays_then {X = Unit {0}} (state g.S.Store c.args.conn.now) mid (state g.S.Store c.complete_run.new.conn) tt c.complete_run.result
+    (c.in_ok-create_request.ensures.stays still) (c.complete_run.ensures.stays clean)
 
 pub returns-clause-survives : goal.returns-clause-survives
 returns-clause-survives g c =

@@ -4,6 +4,7 @@ use Rattle.sqlite.specs.State.{HasCleanDisk}
 use Rattle.tables.specs.Schema.{with_request, run}
 use Rattle.tables.specs.Calls.{Waits}
 use Rattle.tables.proofs.Growth.{completes_fails, completes_then, completes_waits}
+use Rattle.tables.proofs.Staying.{stays_then}
 use Rattle.tables.proofs.creation.complete_run.Goals as goal
 
 pub returns-clause-completes : goal.returns-clause-completes
@@ -23,6 +24,13 @@ returns-clause-fault g c clean =
     let still : HasCleanDisk mid = omega (arith, c.complete_revoked.ensures.survives.clean) in
     completes_fails with_request run (Waits with_request old) old mid new c.complete_revoked.result c.create_run.ensures.survives
     (λ bare. c.in_ok-create_run.ensures.creates still bare.0) (c.complete_revoked.ensures.fault clean)
+
+pub returns-clause-stays : goal.returns-clause-stays
+returns-clause-stays g c clean =
+    let mid = state g.S.Store c.create_run.new.conn in
+    let still : HasCleanDisk mid = omega (arith, c.complete_revoked.ensures.survives.clean) in
+    stays_then {X = Unit {0}} (state g.S.Store c.args.conn.now) mid (state g.S.Store c.complete_revoked.new.conn) tt c.complete_revoked.result
+    (c.in_ok-create_run.ensures.stays still) (c.complete_revoked.ensures.stays clean)
 
 pub returns-clause-survives : goal.returns-clause-survives
 returns-clause-survives g c =

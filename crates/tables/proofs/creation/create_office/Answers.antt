@@ -5,7 +5,7 @@ use Rattle.tables.specs.Faults.{HasCause}
 use Rattle.tables.proofs.CreateFaults.{create_faults}
 use Rattle.tables.proofs.Makeable.{office_made}
 use Rattle.tables.proofs.DoneLemmas.{creates_done, fault_done}
-use Rattle.tables.proofs.Makes.{creates, creates_left, office_text}
+use Rattle.tables.proofs.Makes.{create_stays, creates, creates_left, office_text}
 use Rattle.tables.proofs.creation.create_office.Goals as goal
 
 pub returns : goal.returns
@@ -18,5 +18,6 @@ returns g c =
       fault = λ clean has. fault_done (HasCause old new) c.execute.result c.done.result c.done.ensures.is
           (create_faults office_made old new has c.execute.result (c.execute.ensures.runs clean));
       undamaged = c.done.ensures.undamaged;
+      stays = λ clean. create_stays office_text old new c.execute.result c.done.result c.done.ensures.is (c.execute.ensures.runs clean);
       survives = survives_as old new _ _ (creates_left office_text old) c.execute.ensures.survives;
     }

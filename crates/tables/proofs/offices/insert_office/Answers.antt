@@ -1,6 +1,6 @@
 use Rattle.sqlite.specs.Held.{state}
 use Rattle.tables.proofs.NumberReasons.{office_fails}
-use Rattle.tables.proofs.CallLemmas.{write_changes, write_fails, write_survives}
+use Rattle.tables.proofs.CallLemmas.{write_changes, write_fails, write_stays, write_survives}
 use Rattle.tables.proofs.OfficeTable.{put}
 use Rattle.tables.proofs.offices.insert_office.Goals as goal
 
@@ -13,5 +13,7 @@ returns g c =
       changes = λ clean. write_changes write old new c.execute.result c.done.result c.done.ensures.is
           (rw c.values.ensures.is at (c.execute.ensures.runs clean));
       fault = λ clean. office_fails c.args.office.now c.values.ensures.low old new c.done.result (write_fails write old new c.execute.result c.done.result c.done.ensures.is (rw c.values.ensures.is at (c.execute.ensures.runs clean)));
+      stays = λ clean. write_stays write old new c.execute.result c.done.result c.done.ensures.is
+          (rw c.values.ensures.is at (c.execute.ensures.runs clean));
       survives = write_survives write old new (rw c.values.ensures.is at c.execute.ensures.survives);
     }

@@ -1,6 +1,6 @@
 use Rattle.sqlite.specs.Held.{state}
 use Rattle.tables.proofs.NumberReasons.{run_fails}
-use Rattle.tables.proofs.CallLemmas.{write_changes, write_fails, write_survives}
+use Rattle.tables.proofs.CallLemmas.{write_changes, write_fails, write_stays, write_survives}
 use Rattle.tables.proofs.RunTable.{put}
 use Rattle.tables.proofs.runs.insert_run.Goals as goal
 
@@ -13,5 +13,7 @@ returns g c =
       changes = λ clean. write_changes write old new c.execute.result c.done.result c.done.ensures.is
           (rw c.values.ensures.is at (c.execute.ensures.runs clean));
       fault = λ clean. run_fails c.args.run.now c.values.ensures.low old new c.done.result (write_fails write old new c.execute.result c.done.result c.done.ensures.is (rw c.values.ensures.is at (c.execute.ensures.runs clean)));
+      stays = λ clean. write_stays write old new c.execute.result c.done.result c.done.ensures.is
+          (rw c.values.ensures.is at (c.execute.ensures.runs clean));
       survives = write_survives write old new (rw c.values.ensures.is at c.execute.ensures.survives);
     }

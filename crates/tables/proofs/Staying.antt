@@ -1,0 +1,125 @@
+-- What a statement that ends no transaction leaves of one, whatever the tables are.
+use Rattle.std.proofs.Common.{◌≡◌, inl, inr, ℕ, List, true, false, Option, Ok, Err, Result, refl, sym, subst, IsTrue, ◌∙◌}
+use Rattle.std.proofs.lemmas.Bool.{cases_Bool}
+use Rattle.sqlite.specs.Order.{Row}
+use Rattle.sqlite.specs.Command.{Command}
+use Rattle.sqlite.specs.Command.TheVariants.{Select, Insert, InsertOr, Update, Delete, CreateTable, CreateIndex, CreateView, DropTable, DropIndex, DropView, Begin, Commit, Rollback, Savepoint, Release, RollbackTo, Rows, Nothing}
+use Rattle.sqlite_schema.specs.declared.command.Returning.{Returning}
+use Rattle.sqlite_resolve.specs.declared.compiled.Compiled.{Compiled}
+use Rattle.sqlite.specs.Listing.{understood}
+use Rattle.sqlite.specs.declared.error.Error.{Error}
+use Rattle.sqlite.specs.State.{State, Executes, ExecutesIn, IsUnchanged, Runs, Shows, Writes, shows_rows}
+use Rattle.sqlite.proofs.Callers.{unchanged_then}
+use Rattle.tables.specs.declared.fault.Fault.{Fault}
+use Rattle.tables.specs.Done.{IsDone}
+use Rattle.tables.specs.Calls.{WasOpen, Stays}
+use Rattle.tables.proofs.Forms.{closes}
+use Rattle.tables.proofs.Later.{inside_is, stops, stops_then as later_fails}
+use Rattle.tables.proofs.Statements.{stopped}
+
+-- the transaction goes on, with what was committed
+abbrev pub GoesOn : State → State → Type 0
+GoesOn old new = Shows old new new.now old.committed old.in_transaction
+
+unchanged_goes : (old new : State) → IsUnchanged old new → GoesOn old new
+unchanged_goes old new same = record {
+  was_open = same.0.was_open;
+  is_open = same.0.is_open;
+  now_is = refl;
+  committed_is = same.0.committed_is;
+  mode = same.0.mode;
+}
+
+module _ (old new : State) (returning : Option Returning) (text : List ℕ) (params : Row) (count : ℕ) (inside : IsTrue old.in_transaction)
+    where
+  writes_go : (command : Command) → Writes old new returning command text params count → GoesOn old new
+  writes_go command w = record {
+    was_open = w.shown.was_open;
+    is_open = w.shown.is_open;
+    now_is = refl;
+    committed_is = inside_is old.in_transaction old.committed new.now new.committed inside w.shown.committed_is;
+    mode = w.shown.mode;
+  }
+
+  runs_go : (command : Command) → closes command ≡ false → Runs old new returning command text params count → GoesOn old new
+  runs_go (Select q names) none h = absurd h
+  runs_go (Insert at from) none h = writes_go (Insert at from) h
+  runs_go (InsertOr at how from clauses) none h = writes_go (InsertOr at how from clauses) h
+  runs_go (Update at q) none h = writes_go (Update at q) h
+  runs_go (Delete at q) none h = writes_go (Delete at q) h
+  runs_go CreateTable none h = writes_go CreateTable h
+  runs_go (CreateIndex at) none h = writes_go (CreateIndex at) h
+  runs_go (DropTable at) none h = writes_go (DropTable at) h
+  runs_go (DropIndex at) none h = writes_go (DropIndex at) h
+  runs_go CreateView none h = writes_go CreateView h
+  runs_go (DropView at) none h = writes_go (DropView at) h
+  runs_go Begin none h = absurd (let wrong : true ≡ false = sym inside ∙ h.0 in cc)
+  runs_go Commit none h = absurd (cc)
+  runs_go Rollback none h = absurd (cc)
+  runs_go (Release name) none h = absurd (cc)
+  runs_go (Savepoint name) none h = goes_inside h.0.0
+    where
+      goes_inside : Shows old new old.now old.committed true → GoesOn old new
+      goes_inside s = record {
+        was_open = s.was_open;
+        is_open = s.is_open;
+        now_is = refl;
+        committed_is = s.committed_is;
+        mode = s.mode ∙ sym inside;
+      }
+  runs_go (RollbackTo name) none h =
+      let s = h.2.2 in record {
+        was_open = s.was_open;
+        is_open = s.is_open;
+        now_is = refl;
+        committed_is = s.committed_is;
+        mode = s.mode ∙ sym inside;
+      }
+  runs_go (Rows values width names) none h = unchanged_goes old new h.0
+  runs_go Nothing none h = unchanged_goes old new h.0
+
+module _ (sql : List ℕ) (params : Row) (old new : State)
+    (none : (c : Compiled) → understood old.now.schema sql ≡ Ok c → closes c.command ≡ false) where
+  executes_go : (count : ℕ) → Executes sql params old new (Ok count) → IsTrue old.in_transaction → GoesOn old new
+  unfolding ExecutesIn
+  executes_go count h inside = elim (cases_Bool (shows_rows false h.0)) [
+    | inl shows ↦ absurd (let e = (rw shows at h.2).0 in cc)
+    | inr runs ↦ runs_go old new h.0.returning _ _ count inside h.0.command (none h.0 h.1.is) (rw runs at h.2)
+  ]
+
+  pub stays_done : {X : Type 0} (answer : Result ℕ Error) (r : Result X Fault) → IsDone answer r → Executes sql params old new answer
+      → Stays old new r
+  stays_done (Ok count) (Ok x) done ran = executes_go count ran
+  stays_done (Ok count) (Err f) done ran = absurd done
+  stays_done (Err e) (Ok x) done ran = absurd done
+  stays_done (Err e) (Err f) done ran = λ inside. stops old new (stopped sql params old new e ran)
+
+-- ---- one call after another
+
+-- a call that only reads
+pub reads_stay : {X : Type 0} (old new : State) (r : Result X Fault) → WasOpen old new r → Stays old new r
+reads_stay old new (Ok x) same = λ inside. unchanged_goes old new same
+reads_stay old new (Err f) fails = λ inside. stops old new fails.0
+
+pub stays_then : {X Y : Type 0} (a b c : State) (x : X) (r : Result Y Fault) → Stays a b (Ok x) → Stays b c r → Stays a c r
+stays_then a b c x (Ok y) one rest = λ inside.
+    let p = one inside in
+    let q = rest (subst IsTrue (sym p.mode) inside) in record {
+      was_open = p.was_open;
+      is_open = q.is_open;
+      now_is = refl;
+      committed_is = q.committed_is ∙ p.committed_is;
+      mode = q.mode ∙ p.mode;
+    }
+stays_then a b c x (Err f) one rest = λ inside.
+    let p = one inside in
+    let q = rest (subst IsTrue (sym p.mode) inside) in
+    record { was_open = λ _. p.was_open; committed = λ still. q.committed still ∙ p.committed_is }
+
+-- nothing was called
+pub stays_same : (X : Type 0) (old : State) (f : Fault) → Stays {X = X} old old (Err f)
+stays_same X old f = λ inside. record { was_open = λ still. still; committed = λ _. refl }
+
+pub reads_then : {X Y : Type 0} (a b c : State) (x : X) (r : Result Y Fault) → WasOpen a b (Ok x) → WasOpen b c r → WasOpen a c r
+reads_then a b c x (Ok y) one rest = unchanged_then a b c one rest
+reads_then a b c x (Err f) one rest = (later_fails a b c one rest.0, λ damaged. unchanged_then a b c one (rest.1 damaged))
