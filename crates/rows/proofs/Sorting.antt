@@ -22,10 +22,10 @@ use Rattle.rows.specs.Reading.{IsRead, each, vec_of}
 use Rattle.rows.specs.Rows.{contents_of}
 use Rattle.rows.specs.Showing.{Shows}
 
--- what comes after an answer was asked of an open connection too
-pub asked : {X : Type 0} (old new : Connection) → IsTrue old.is_open → (r : Result X Fault) → WasOpen old new r
-asked old new was (Ok x) = was
-asked old new was (Err f) = (λ _. was, λ _. was)
+-- what is made of an answer changes nothing either
+pub asked : {X : Type 0} (old new : Connection) → IsUnchanged old new → (r : Result X Fault) → WasOpen old new r
+asked old new same (Ok x) = same
+asked old new same (Err f) = (inl same, λ _. same)
 
 module _ {R X K : Type 0} (value : R → Option X) (of : Contents → List R) (key : R → K) (cmp : K → K → Ordering)
     (total : IsTotalOrder cmp) (values : State → List X)
