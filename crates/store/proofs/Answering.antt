@@ -1,6 +1,6 @@
 -- What a reading call answers of tables that tell a history.
-use Rattle.std.proofs.Common.{◌≡◌, inl, inr, Bool, true, false, List, Ok, Err, Result, refl, subst, sym, ◌∙◌}
-use Rattle.std.specs.Prelude.{IfOk, IfErr}
+use Rattle.std.proofs.Common.{◌≡◌, inl, inr, Bool, true, false, List, Ok, Err, Result, IsTrue, refl, subst, sym, ◌∙◌}
+use Rattle.std.specs.Prelude.{IfOk, IfErr, OnOk}
 use Rattle.sqlite.specs.State.{State as Connection, HasCleanDisk}
 use Rattle.tables.specs.Calls.{WasOpen}
 use Rattle.tables.specs.declared.fault.Fault.{Fault}
@@ -16,35 +16,26 @@ use Rattle.rows.specs.Faults.{fault_of, told}
 use Rattle.rows.specs.Rows.{office_contents}
 use Rattle.store.specs.Meaning.{DiskFailed, HasFailed, Tells}
 use Rattle.store.specs.Showing.{ShowsOffice}
-use Rattle.store.proofs.Telling.{disk_failed, rests_still}
+use Rattle.store.proofs.Telling.{disk_failed, open_before, tells_still}
 
 module _ {X : Type 0} (Shown : State → List Kept → X → Type 0) (old new : Connection) where
   shown : (x : X) (o : Opening) (l : List Arrival) → Tells old o l → WasOpen old new (Ok x)
       → ShowsOffice Shown old new (Ok x) → Shown (state o l) (kept_by (first_accepted o l)) x
-  shown x o l tells was shows = (shows o l tells.history (tells.rows was).now).0
+  shown x o l tells was shows = (shows o l tells.history (tells.rows was.0.was_open).now).0
 
   still : (r : Result X Fault) (o : Opening) (l : List Arrival) → new.step_limit ≡ old.step_limit → Tells old o l
-      → WasOpen old new r → ShowsOffice Shown old new r → Tells new o l
-  still (Ok x) o l limit tells was shows = record {
-    history = tells.history;
-    unlimited = limit ∙ tells.unlimited;
-    rows = λ now.
-        rests_still old new (office_contents o l) (inl (shows o l tells.history (tells.rows was).now).1) now (tells.rows was);
-  }
-  still (Err f) o l limit tells was shows = record {
-    history = tells.history;
-    unlimited = limit ∙ tells.unlimited;
-    rows = λ now.
-        let rests = tells.rows (was.0 now) in
-        rests_still old new (office_contents o l) (shows o l tells.history rests.now).0 now rests;
-  }
+      → WasOpen old new r → Tells new o l
+  still (Ok x) o l limit tells was =
+      tells_still old new limit (λ _. was.0.was_open) (λ c means. inl was) o l tells
+  still (Err f) o l limit tells was =
+      tells_still old new limit (open_before old new was.0) (λ c means. was.0) o l tells
 
   -- no fault but want of memory and a failure
   of_a_register : (f : Fault) (o : Opening) (l : List Arrival) → Tells old o l → WasOpen {X = X} old new (Err f)
       → ShowsOffice Shown old new (Err f) → IsOfARegister (fault_of f)
   of_a_register NoMemory o l tells was shows = tt
   of_a_register Device o l tells was shows = tt
-  of_a_register Damaged o l tells was shows = absurd (shows o l tells.history (tells.rows (was.1 refl)).now).1
+  of_a_register Damaged o l tells was shows = absurd (shows o l tells.history (tells.rows (was.1 refl).0.was_open).now).1
 
   -- a failure has its cause
   failed : (o : Opening) (l : List Arrival) → Tells old o l → ShowsOffice Shown old new (Err Device) → DiskFailed old new
@@ -70,7 +61,23 @@ module _ {X : Type 0} (Shown : State → List Kept → X → Type 0) (old new : 
     -- the tables tell it still
     pub same_told : new.step_limit ≡ old.step_limit → HasCleanDisk new → (o : Opening) (l : List Arrival) → Tells old o l
         → Tells new o l
-    same_told limit clean o l tells = still r o l limit tells (was clean) (shows clean)
+    same_told limit clean o l tells = still r o l limit tells (was clean)
+
+    -- what is open was open
+    pub open_told : HasCleanDisk new → IsTrue new.is_open → IsTrue old.is_open
+    open_told clean is_open = go r (was clean)
+      where
+        go : (r : Result X Fault) → WasOpen old new r → IsTrue old.is_open
+        go (Ok x) was = was.0.was_open
+        go (Err f) was = open_before old new was.0 is_open
+
+    -- and is after an answer
+    pub stays_told : HasCleanDisk new → OnOk q (IsTrue new.is_open)
+    stays_told clean = subst (λ z. OnOk z (IsTrue new.is_open)) (sym is) (go r (was clean))
+      where
+        go : (r : Result X Fault) → WasOpen old new r → OnOk (told r) (IsTrue new.is_open)
+        go (Ok x) was = was.0.is_open
+        go (Err f) was = tt
 
     abbrev IsCaused : StoreFault → Type 0
     IsCaused e = HasCause e (HasFailed old new)

@@ -11,13 +11,13 @@ use Rattle.tables.specs.Contents.{Contents}
 use Rattle.tables.specs.declared.offices.OfficeRow.{OfficeRow}
 use Rattle.office.specs.declared.fault.StoreFault.{StoreFault}
 use Rattle.office.specs.declared.fault.StoreFault.TheVariants.{AlreadyAnOffice, NotAnOffice, WrongSchema, Damaged, Device, NoMemory}
-use Rattle.sqlite.specs.State.{State}
+use Rattle.sqlite.specs.State.{State, IsUnchanged}
 use Rattle.tables.specs.Refusals.{HasCauseOr}
 use Rattle.tables.specs.declared.fault.Fault.{Fault}
 use Rattle.tables.specs.declared.fault.Fault.TheVariants as table_fault
 use Rattle.rows.specs.Faults.{fault_of}
 use Rattle.migration.specs.Migrating.{HasStopped, IsExcused, RefusesFirstCa}
-use Rattle.store.specs.Meaning.{DiskFailed, Looks, opened_by}
+use Rattle.store.specs.Meaning.{DiskFailed, Looks, LooksOn, opened_by}
 use Rattle.store.proofs.Telling.{disk_failed}
 
 -- the office's tables are seen
@@ -105,3 +105,8 @@ excused_by_disk old new c AlreadyAnOffice unlimited never h = h
 excused_by_disk old new c NotAnOffice unlimited never h = h
 excused_by_disk old new c WrongSchema unlimited never h = h
 excused_by_disk old new c Damaged unlimited never h = h
+
+-- rows that were read changed nothing, whatever they say
+pub looked_still : (old new : State) (r : Result (Unit {0}) StoreFault) → IsUnchanged old new → LooksOn old new r
+looked_still old new (Ok x) same = same
+looked_still old new (Err e) same = λ _. inl same

@@ -51,6 +51,23 @@ has_of s o l rests = record { autocommit = rests.autocommit; now = rests.now.mea
 
 module _ (a : Arrival) (old new : Connection) (r : Result Outcome Fault) (q : Result Outcome StoreFault) (is : q ≡ told r)
     (ends : Ends (IsAfter IsAny) (IsAnswered a) (contents_with a) old new r) where
+  -- what is open was open
+  pub open_told : IsTrue new.is_open → IsTrue old.is_open
+  open_told is_open = go r ends
+    where
+      go : (r : Result Outcome Fault) → Ends (IsAfter IsAny) (IsAnswered a) (contents_with a) old new r → IsTrue old.is_open
+      go (Ok x) ends = ends.0
+      go (Err f) ends = (ends is_open).0
+
+  -- and is after an answer
+  pub stays_told : OnOk q (IsTrue new.is_open)
+  stays_told = subst (λ z. OnOk z (IsTrue new.is_open)) (sym is) (go r ends)
+    where
+      go : (r : Result Outcome Fault) → Ends (IsAfter IsAny) (IsAnswered a) (contents_with a) old new r
+          → OnOk (told r) (IsTrue new.is_open)
+      go (Ok x) ends = ends.1
+      go (Err f) ends = tt
+
   abbrev IsDue : Outcome → Type 0
   IsDue outcome = (o : Opening) (l : List Arrival) → Tells old o l → outcome ≡ due o l a
 

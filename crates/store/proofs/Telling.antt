@@ -18,6 +18,11 @@ disk_failed old new unlimited (inr (inl shut)) = inr shut
 disk_failed old new unlimited (inr (inr limited)) =
     let wrong : true ≡ false = sym limited ∙ ap (λ (limit : Option ℕ). is_some limit) unlimited in cc
 
+-- what a failure leaves open was open
+pub open_before : (old new : State) → Fails old new → IsTrue new.is_open → IsTrue old.is_open
+open_before old new (inl same) still = same.0.was_open
+open_before old new (inr back) still = back.was_open still
+
 -- nothing changed, or a transaction was undone that was not there
 pub rests_still : (old new : State) (c : Contents) → Fails old new → IsTrue new.is_open → Rests (Has c) old → Rests (Has c) new
 rests_still old new c (inl same) still r = record {

@@ -3,7 +3,7 @@ use Rattle.std.specs.Prelude.{◌≡◌, ◌⊎◌, false, List, [], ◌∷◌, 
 use Rattle.std.specs.List.{AllByRecursion}
 use Rattle.sqlite_disk.specs.Disk.{MoreFaults}
 use Rattle.sqlite.specs.Tree.{Trees}
-use Rattle.sqlite.specs.State.{State, HasCleanDisk}
+use Rattle.sqlite.specs.State.{State, HasCleanDisk, IsUnchanged}
 use Rattle.office.specs.declared.opening.Opening.{Opening}
 use Rattle.office.specs.declared.arrival.Arrival.{Arrival}
 use Rattle.office.specs.declared.fault.StoreFault.{StoreFault}
@@ -15,7 +15,7 @@ use Rattle.tables.specs.declared.fault.Fault.{Fault}
 use Rattle.tables.specs.declared.fault.Fault.TheVariants as table_fault
 use Rattle.text.specs.declared.memory.NoMemory as text
 use Rattle.tables.specs.Schema.{no_schema}
-use Rattle.tables.specs.Calls.{IsBare}
+use Rattle.tables.specs.Calls.{Fails, IsBare}
 use Rattle.rows.specs.Rows.{office_contents}
 use Rattle.rows.specs.Transactions.{Rests, Has}
 
@@ -47,6 +47,21 @@ HasFailed old new = HasCleanDisk new → (o : Opening) (l : List Arrival) → Te
 abbrev pub OutlastsCrashes : State → Type 0
 OutlastsCrashes s = (o : Opening) (l : List Arrival) → Tells s o l → IsTrue s.is_open
     → (trees : Trees) → s.may_leave trees → Kept trees (office_contents o l)
+
+-- what is known of a register that is open: the tables tell the history, and so they do after a crash
+pub record Stores (s : State) (o : Opening) (l : List Arrival) : Type 0 where
+  pub tells : Tells s o l
+  pub is_open : IsTrue s.is_open
+  pub crash : (trees : Trees) → s.may_leave trees → Kept trees (office_contents o l)
+
+-- what tells a history, and is open, stores it
+abbrev pub StoresWhereOpen : State → Type 0
+StoresWhereOpen s = (o : Opening) (l : List Arrival) → Tells s o l → IsTrue s.is_open → Stores s o l
+
+-- a look that answers changed nothing; else nothing has changed, or a transaction is undone, or the connection is shut
+abbrev pub LooksOn : State → State → Result (Unit {0}) StoreFault → Type 0
+LooksOn old new (Ok x) = IsUnchanged old new
+LooksOn old new (Err e) = IsTrue new.is_open → Fails old new
 
 -- what an open answers to the rows of the table of the office: there is one, of the schema that this store has
 abbrev pub opened_by : List OfficeRow → Result (Unit {0}) StoreFault

@@ -1,7 +1,7 @@
 //! What a crash leaves between two calls.
 
 ghost use Rattle.sqlite.specs.Held.{state};
-ghost use Rattle.store.specs.Meaning.{OutlastsCrashes};
+ghost use Rattle.store.specs.Meaning.{OutlastsCrashes, StoresWhereOpen};
 
 use crate::register::Store;
 use sqlite::Alter;
@@ -12,4 +12,12 @@ pub fn a_crash_leaves_the_history<S: Alter>(store: &Store<S>)
     ensures { OutlastsCrashes (state S.Store store.now.conn) }
 {
     let _ = store;
+}
+
+/// What tells a history, and is open, stores it: a crash at any moment between two calls leaves just its tables. After an
+/// answer the register is open, so what was answered is stored.
+pub fn what_is_open_is_stored<S: Alter>(store: &Store<S>)
+    ensures { StoresWhereOpen (state S.Store store.now.conn) }
+{
+    a_crash_leaves_the_history(store)
 }

@@ -18,7 +18,7 @@ mod serials;
 mod settling;
 mod taking;
 
-pub use crashes::a_crash_leaves_the_history;
+pub use crashes::{a_crash_leaves_the_history, what_is_open_is_stored};
 pub use krl::{CaPart, KrlHead, Run, Runs};
 pub use message::Department;
 pub use office::{

@@ -10,7 +10,7 @@ ghost use Rattle.tables.specs.Contents.{Contents, Means};
 ghost use Rattle.tables.specs.Faults.{HasFailed};
 ghost use Rattle.office.specs.declared.opening.Opening.{Opening};
 ghost use Rattle.office.specs.declared.arrival.Arrival.{Arrival};
-ghost use Rattle.store.specs.Meaning.{Looks, Tells, opened_by};
+ghost use Rattle.store.specs.Meaning.{Looks, LooksOn, Tells, opened_by};
 
 use crate::creating::SCHEMA;
 use office::StoreFault;
@@ -42,6 +42,8 @@ pub(crate) fn look<S: Alter>(alloc: Global, conn: &mut Connection<S>) -> Result<
         → Tells (state S.Store conn.old) o l → Tells (state S.Store conn.new) o l }
     ensures none { list_any is_office_table (state S.Store conn.old).now.schema.tables ≡ false
         → (result ≡ Err StoreFault.NotAnOffice) × (conn.new ≡ conn.old) }
+    ensures still { HasCleanDisk (state S.Store conn.new)
+        → LooksOn (state S.Store conn.old) (state S.Store conn.new) result }
     ensures clean { HasCleanDisk (state S.Store conn.new) → HasCleanDisk (state S.Store conn.old) }
 {
     if !has_office(conn) {

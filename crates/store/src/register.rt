@@ -47,6 +47,8 @@ impl<S: Alter> Store<S> {
         requires lawful { IsOpening opening.now }
         ensures made { IfOk result (λ s. HasCleanDisk (state S.Store s.conn) → IsBlank (state S.Store conn)
             → Tells (state S.Store s.conn) opening.now []) }
+        ensures stays_open { IfOk result (λ s. HasCleanDisk (state S.Store s.conn)
+            → IsTrue (state S.Store s.conn).is_open) }
         ensures already { IsTrue (list_any is_office_name (state S.Store conn).now.schema.tables)
             → result ≡ Err (record { 0 = StoreFault.AlreadyAnOffice; 1 = conn }) }
         ensures blank { IfErr result (λ e. HasCleanDisk (state S.Store e.1) → IsBlank (state S.Store conn)
@@ -80,6 +82,8 @@ impl<S: Alter> Store<S> {
         requires unlimited { (state S.Store conn).step_limit ≡ None }
         ensures opened { IfOk result (λ s. HasCleanDisk (state S.Store s.conn) → (c : Contents)
             → Means (state S.Store conn).now c → opened_by c.offices ≡ Ok tt) }
+        ensures stays_open { IfOk result (λ s. HasCleanDisk (state S.Store s.conn)
+            → IsTrue (state S.Store s.conn).is_open) }
         ensures refused { IfErr result (λ e. HasCleanDisk (state S.Store e.1) → (c : Contents)
             → Means (state S.Store conn).now c
             → Looks c (DiskFailed (state S.Store conn) (state S.Store e.1)) (Err e.0)) }
@@ -113,6 +117,8 @@ impl<S: Alter> Store<S> {
         requires unlimited { (state S.Store conn).step_limit ≡ None }
         ensures carried { IfOk result (λ s. HasCleanDisk (state S.Store s.conn) → (o : Opening) (l : List Arrival)
             → IsHistory o l → TellsBefore (state S.Store conn) o l → Tells (state S.Store s.conn) o l) }
+        ensures stays_open { IfOk result (λ s. HasCleanDisk (state S.Store s.conn)
+            → IsTrue (state S.Store s.conn).is_open) }
         ensures back { IfErr result (λ e. HasCleanDisk (state S.Store e.1) → (o : Opening) (l : List Arrival)
             → TellsBefore (state S.Store conn) o l → TellsBefore (state S.Store e.1) o l) }
         ensures only { IfErr result (λ e. HasCleanDisk (state S.Store e.1) → IsTrue (state S.Store conn).is_open

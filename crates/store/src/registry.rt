@@ -1,6 +1,6 @@
 //! The tables are a register.
 
-ghost use Rattle.std.specs.Prelude.{List};
+ghost use Rattle.std.specs.Prelude.{IsTrue, List};
 ghost use Rattle.sqlite.specs.Held.{state};
 ghost use Rattle.sqlite.specs.State.{HasCleanDisk};
 ghost use Rattle.office.specs.declared.opening.Opening.{Opening};
@@ -22,6 +22,8 @@ use text::Text;
 
 impl<S: Alter> Registry for Store<S> {
     ghost is_honest = { λ s. HasCleanDisk (state S.Store s.conn) };
+
+    ghost is_open = { λ s. IsTrue (state S.Store s.conn).is_open };
 
     ghost fails = { λ old new. HasFailed (state S.Store old.conn) (state S.Store new.conn) };
 

@@ -120,6 +120,16 @@ stays_then a b c x (Err f) one rest = λ inside.
 pub stays_same : (X : Type 0) (old : State) (f : Fault) → Stays {X = X} old old (Err f)
 stays_same X old f = λ inside. record { was_open = λ still. still; committed = λ _. refl }
 
-pub reads_then : {X Y : Type 0} (a b c : State) (x : X) (r : Result Y Fault) → WasOpen a b (Ok x) → WasOpen b c r → WasOpen a c r
-reads_then a b c x (Ok y) one rest = unchanged_then a b c one rest
-reads_then a b c x (Err f) one rest = (later_fails a b c one rest.0, λ damaged. unchanged_then a b c one (rest.1 damaged))
+pub reads_then : {X Y : Type 0} (a b c : State) (x : X) (r : Result Y Fault) → WasOpen a b (Ok x)
+    → (IsTrue b.is_open → WasOpen b c r) → WasOpen a c r
+reads_then a b c x (Ok y) one rest = unchanged_then a b c one (rest one.0.is_open)
+reads_then a b c x (Err f) one rest =
+    let q = rest one.0.is_open in (later_fails a b c one q.0, λ damaged. unchanged_then a b c one (q.1 damaged))
+
+-- nothing was asked
+pub reads_none : {X : Type 0} (s : State) (x : X) → IsTrue s.is_open → WasOpen s s (Ok x)
+reads_none s x is_open = (
+  record { was_open = is_open; is_open = is_open; now_is = refl; committed_is = refl; mode = refl },
+  record { changes = refl; last_rowid = refl },
+  refl,
+)

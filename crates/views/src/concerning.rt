@@ -97,6 +97,8 @@ fn with_subject<S: Alter>(
         → IsSubject subject s message.now → AreConcerned rows s message.now)
         (state S.Store conn.old) (state S.Store conn.new) result }
     ensures lawful { IfOk result AreLawful }
+    ensures was_open { HasCleanDisk (state S.Store conn.new) → IsTrue (state S.Store conn.old).is_open
+        → WasOpen (state S.Store conn.old) (state S.Store conn.new) result }
     ensures survives { Survives (state S.Store conn.old) (state S.Store conn.new)
         (NeverWhereOpen (state S.Store conn.old)) }
 {
@@ -124,6 +126,8 @@ fn with_cas<S: Alter>(
         → Shows (λ s kept rows. IsOfHistory s kept → IsOfficeOf office s → cas.items ≡ s.cas
         → AreConcerned rows s message.now) (state S.Store conn.old) (state S.Store conn.new) result }
     ensures lawful { IfOk result AreLawful }
+    ensures was_open { HasCleanDisk (state S.Store conn.new) → IsTrue (state S.Store conn.old).is_open
+        → WasOpen (state S.Store conn.old) (state S.Store conn.new) result }
     ensures survives { Survives (state S.Store conn.old) (state S.Store conn.new)
         (NeverWhereOpen (state S.Store conn.old)) }
 {
@@ -145,6 +149,8 @@ fn with_office<S: Alter>(
         → Shows (λ s kept rows. IsOfHistory s kept → IsOfficeOf office s → AreConcerned rows s message.now)
         (state S.Store conn.old) (state S.Store conn.new) result }
     ensures lawful { IfOk result AreLawful }
+    ensures was_open { HasCleanDisk (state S.Store conn.new)
+        → WasOpen (state S.Store conn.old) (state S.Store conn.new) result }
     ensures survives { Survives (state S.Store conn.old) (state S.Store conn.new)
         (NeverOfOffice (state S.Store conn.old)) }
 {

@@ -5,7 +5,7 @@ ghost use Rattle.sqlite.specs.Held.{state};
 ghost use Rattle.sqlite.specs.State.{HasCleanDisk, Survives};
 ghost use Rattle.message.specs.Values.{is_message};
 ghost use Rattle.office.specs.Decided.{SaysAnyKeyIdRevoked, SaysKeyIdRevoked, SaysRevoked, certificate_concerned};
-ghost use Rattle.tables.specs.Calls.{Never};
+ghost use Rattle.tables.specs.Calls.{Never, WasOpen};
 ghost use Rattle.rows.specs.Showing.{Shows};
 ghost use Rattle.views.specs.Concerning.{AreMarks};
 ghost use Rattle.views.specs.Finding.{NeverWhereOpen};
@@ -39,6 +39,8 @@ fn is_revoked<S: Alter>(
     ensures shows { HasCleanDisk (state S.Store conn.new) → IsTrue (state S.Store conn.old).is_open
         → Shows (λ s kept is. IsOfHistory s kept → SaysRevoked is s message.now)
         (state S.Store conn.old) (state S.Store conn.new) result }
+    ensures was_open { HasCleanDisk (state S.Store conn.new) → IsTrue (state S.Store conn.old).is_open
+        → WasOpen (state S.Store conn.old) (state S.Store conn.new) result }
     ensures survives { Survives (state S.Store conn.old) (state S.Store conn.new) (Never (state S.Store conn.old)) }
 {
     let concern = concerned(message);
@@ -58,6 +60,8 @@ fn is_concerned_key_id_revoked<S: Alter>(
     ensures shows { HasCleanDisk (state S.Store conn.new) → IsTrue (state S.Store conn.old).is_open
         → Shows (λ s kept is. option_copied certificate.entry ≡ certificate_concerned s message.now
         → SaysKeyIdRevoked is s message.now) (state S.Store conn.old) (state S.Store conn.new) result }
+    ensures was_open { HasCleanDisk (state S.Store conn.new) → IsTrue (state S.Store conn.old).is_open
+        → WasOpen (state S.Store conn.old) (state S.Store conn.new) result }
     ensures survives { Survives (state S.Store conn.old) (state S.Store conn.new) (Never (state S.Store conn.old)) }
 {
     match (certificate, concerned(message).key_id) {
@@ -77,6 +81,8 @@ fn is_any_key_id_revoked<S: Alter>(
     ensures shows { HasCleanDisk (state S.Store conn.new) → IsTrue (state S.Store conn.old).is_open
         → Shows (λ s kept is. SaysAnyKeyIdRevoked is s message.now)
         (state S.Store conn.old) (state S.Store conn.new) result }
+    ensures was_open { HasCleanDisk (state S.Store conn.new) → IsTrue (state S.Store conn.old).is_open
+        → WasOpen (state S.Store conn.old) (state S.Store conn.new) result }
     ensures survives { Survives (state S.Store conn.old) (state S.Store conn.new) (Never (state S.Store conn.old)) }
 {
     match message {
@@ -95,6 +101,8 @@ fn with_any_key_id<S: Alter>(
     ensures shows { HasCleanDisk (state S.Store conn.new) → IsTrue (state S.Store conn.old).is_open
         → Shows (λ s kept marks. SaysRevoked is_revoked s message.now → SaysKeyIdRevoked is_key_id_revoked s message.now
         → AreMarks marks s message.now) (state S.Store conn.old) (state S.Store conn.new) result }
+    ensures was_open { HasCleanDisk (state S.Store conn.new) → IsTrue (state S.Store conn.old).is_open
+        → WasOpen (state S.Store conn.old) (state S.Store conn.new) result }
     ensures survives { Survives (state S.Store conn.old) (state S.Store conn.new) (Never (state S.Store conn.old)) }
 {
     match is_any_key_id_revoked(alloc, conn, message) {
@@ -118,6 +126,8 @@ fn with_key_ids<S: Alter>(
         → Shows (λ s kept marks. option_copied certificate.entry ≡ certificate_concerned s message.now
         → SaysRevoked is_revoked s message.now → AreMarks marks s message.now)
         (state S.Store conn.old) (state S.Store conn.new) result }
+    ensures was_open { HasCleanDisk (state S.Store conn.new) → IsTrue (state S.Store conn.old).is_open
+        → WasOpen (state S.Store conn.old) (state S.Store conn.new) result }
     ensures survives { Survives (state S.Store conn.old) (state S.Store conn.new)
         (NeverWhereOpen (state S.Store conn.old)) }
 {
@@ -144,6 +154,8 @@ pub(crate) fn marks_of<S: Alter>(
     ensures shows { HasCleanDisk (state S.Store conn.new) → IsTrue (state S.Store conn.old).is_open
         → Shows (λ s kept marks. IsOfHistory s kept → option_copied certificate.entry ≡ certificate_concerned s message.now
         → AreMarks marks s message.now) (state S.Store conn.old) (state S.Store conn.new) result }
+    ensures was_open { HasCleanDisk (state S.Store conn.new) → IsTrue (state S.Store conn.old).is_open
+        → WasOpen (state S.Store conn.old) (state S.Store conn.new) result }
     ensures survives { Survives (state S.Store conn.old) (state S.Store conn.new)
         (NeverWhereOpen (state S.Store conn.old)) }
 {

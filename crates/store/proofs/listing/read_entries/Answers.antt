@@ -1,7 +1,7 @@
 use Rattle.std.proofs.Common.{◌≡◌, map, ◌∙◌, arith}
 use Rattle.sqlite.specs.Held.{state}
 use Rattle.sqlite.specs.State.{HasCleanDisk}
-use Rattle.rows.proofs.Sorting.{asked}
+use Rattle.tables.proofs.Staying.{reads_then as open_then}
 use Rattle.store.specs.Showing.{Never}
 use Rattle.office.specs.Publication.{entries_of, entry_of}
 use Rattle.office.specs.History.{state as after}
@@ -29,7 +29,8 @@ pub returns-in-Ok-clause-was_open : goal.returns-in-Ok-clause-was_open
 returns-in-Ok-clause-was_open g c clean =
     let mid = state g.S.Store c.read_revocations.new.conn in
     let still : HasCleanDisk mid = omega (arith, c.entries_beside.ensures.survives.clean) in
-    asked (state g.S.Store c.args.conn.now) (state g.S.Store c.entries_beside.new.conn) (c.in-Ok.ensures.was_open still) c.entries_beside.result
+    open_then (state g.S.Store c.args.conn.now) mid (state g.S.Store c.entries_beside.new.conn) c.in-Ok.revocations c.entries_beside.result
+    (c.in-Ok.ensures.was_open still) (λ _. c.entries_beside.ensures.was_open clean)
 
 pub returns-in-Ok-clause-survives : goal.returns-in-Ok-clause-survives
 returns-in-Ok-clause-survives g c =

@@ -1,7 +1,7 @@
 use Rattle.std.proofs.Common.{◌≡◌, ℕ, List, Ok, Err, ap, ◌∙◌, arith}
 use Rattle.sqlite.specs.Held.{state}
 use Rattle.sqlite.specs.State.{HasCleanDisk}
-use Rattle.rows.proofs.Sorting.{asked}
+use Rattle.tables.proofs.Staying.{reads_then as open_then}
 use Rattle.store.specs.Showing.{Never}
 use Rattle.krl.specs.declared.run.Run.{Run}
 use Rattle.krl.specs.Sets.{contains}
@@ -28,7 +28,8 @@ pub returns-in-Ok-clause-was_open : goal.returns-in-Ok-clause-was_open
 returns-in-Ok-clause-was_open g c clean =
     let mid = state g.S.Store c.revoked_runs.new.conn in
     let still : HasCleanDisk mid = omega (arith, c.with_key_ids.ensures.survives.clean) in
-    asked (state g.S.Store c.args.conn.now) (state g.S.Store c.with_key_ids.new.conn) (c.in-Ok.ensures.was_open still) c.with_key_ids.result
+    open_then (state g.S.Store c.args.conn.now) mid (state g.S.Store c.with_key_ids.new.conn) c.in-Ok.serials c.with_key_ids.result
+    (c.in-Ok.ensures.was_open still) (λ _. c.with_key_ids.ensures.was_open clean)
 
 pub returns-in-Ok-clause-survives : goal.returns-in-Ok-clause-survives
 returns-in-Ok-clause-survives g c =

@@ -1,8 +1,9 @@
 use Rattle.std.proofs.Common.{inl}
 use Rattle.sqlite.specs.Held.{state}
 use Rattle.tables.specs.Faults.{HasFailed}
-use Rattle.store.proofs.OfficeRows.{looked, unseen}
-use Rattle.store.proofs.Telling.{tells_still}
+use Rattle.store.proofs.OfficeRows.{looked, looked_still, unseen}
+use Rattle.store.proofs.Telling.{open_before, tells_still}
+use Rattle.tables.proofs.Staying.{reads_none}
 use Rattle.store.proofs.looking.look.Goals as goal
 
 pub returns-then-not-has_office-clause-looks : goal.returns-then-not-has_office-clause-looks
@@ -20,9 +21,21 @@ returns-in-Ok-clause-looks g c clean con means =
 pub returns-in-Ok-clause-same : goal.returns-in-Ok-clause-same
 returns-in-Ok-clause-same g c clean =
     tells_still (state g.S.Store c.args.conn.now) (state g.S.Store c.every_office.new.conn) c.in-Ok.ensures.survives.limit
-    (λ _. c.in-Ok.ensures.was_open clean) (λ con means. inl (c.in-Ok.ensures.finds clean con means).0)
+    (λ _. (c.in-Ok.ensures.was_open clean).0.was_open) (λ con means. inl (c.in-Ok.ensures.was_open clean))
 
 pub returns-in-Err-clause-same : goal.returns-in-Err-clause-same
 returns-in-Err-clause-same g c clean =
     tells_still (state g.S.Store c.args.conn.now) (state g.S.Store c.every_office.new.conn) c.in-Err.ensures.survives.limit
-    (c.in-Err.ensures.was_open clean).0 (c.in-Err.ensures.finds clean)
+    (open_before (state g.S.Store c.args.conn.now) (state g.S.Store c.every_office.new.conn) (c.in-Err.ensures.was_open clean).0)
+    (c.in-Err.ensures.finds clean)
+
+pub returns-in-Ok-clause-still : goal.returns-in-Ok-clause-still
+returns-in-Ok-clause-still g c clean = looked_still (state g.S.Store c.args.conn.now) (state g.S.Store c.every_office.new.conn)
+    c.opened_by.result (c.in-Ok.ensures.was_open clean)
+
+pub returns-in-Err-clause-still : goal.returns-in-Err-clause-still
+returns-in-Err-clause-still g c clean still = (c.in-Err.ensures.was_open clean).0
+
+pub returns-then-not-has_office-clause-still : goal.returns-then-not-has_office-clause-still
+returns-then-not-has_office-clause-still g c clean still =
+    inl (reads_none {X = Unit {0}} (state g.S.Store c.args.conn.now) tt still)

@@ -1,7 +1,7 @@
 use Rattle.std.proofs.Common.{ℕ, Ok, Err, refl, ap₂, ◌∙◌, arith}
 use Rattle.sqlite.specs.Held.{state}
 use Rattle.sqlite.specs.State.{HasCleanDisk}
-use Rattle.rows.proofs.Sorting.{asked}
+use Rattle.tables.proofs.Staying.{reads_then as open_then}
 use Rattle.store.specs.Showing.{Never}
 use Rattle.office.specs.Publication.{AreRevoked}
 use Rattle.rows.specs.Offices.{IsOfficeOf}
@@ -31,7 +31,8 @@ pub returns-in-Ok-clause-was_open : goal.returns-in-Ok-clause-was_open
 returns-in-Ok-clause-was_open g c clean =
     let mid = state g.S.Store c.read_office.new.conn in
     let still : HasCleanDisk mid = omega (arith, c.revoked_with.ensures.survives.clean) in
-    asked (state g.S.Store c.args.conn.now) (state g.S.Store c.revoked_with.new.conn) (c.in-Ok.ensures.was_open still) c.revoked_with.result
+    open_then (state g.S.Store c.args.conn.now) mid (state g.S.Store c.revoked_with.new.conn) c.in-Ok.office c.revoked_with.result
+    (c.in-Ok.ensures.was_open still) (λ _. c.revoked_with.ensures.was_open clean)
 
 pub returns-in-Ok-clause-survives : goal.returns-in-Ok-clause-survives
 returns-in-Ok-clause-survives g c =

@@ -3,10 +3,10 @@ use Rattle.sqlite.specs.Held.{state}
 use Rattle.sqlite.specs.State.{HasCleanDisk}
 use Rattle.tables.specs.Calls.{Never}
 use Rattle.rows.specs.Offices.{IsOfficeOf}
-use Rattle.rows.proofs.Sorting.{asked}
 use Rattle.views.specs.Concerning.{AreConcerned}
 use Rattle.views.specs.Histories.{IsOfHistory}
 use Rattle.views.proofs.Showing.{never_of_office, reads_then, shows_then, where_open}
+use Rattle.tables.proofs.Staying.{reads_then as asked_then}
 use Rattle.views.proofs.concerning.concerned_rows.Goals as goal
 
 pub returns-in-Ok-clause-shows : goal.returns-in-Ok-clause-shows
@@ -22,13 +22,6 @@ returns-in-Ok-clause-shows g c clean =
     (Never old) c.lawful_office.ensures.survives (λ s kept y lawful first rest history. rest history first)
     (c.in-Ok.ensures.shows still) (λ is_open. c.with_office.ensures.shows clean)
 
-pub returns-in-Ok-clause-was_open : goal.returns-in-Ok-clause-was_open
-returns-in-Ok-clause-was_open g c clean =
-    let mid = state g.S.Store c.lawful_office.new.conn in
-    let still : HasCleanDisk mid = omega (arith, c.with_office.ensures.survives.clean) in
-    asked (state g.S.Store c.args.conn.now) (state g.S.Store c.with_office.new.conn)
-    (c.in-Ok.ensures.was_open still) c.with_office.result
-
 pub returns-in-Ok-clause-survives : goal.returns-in-Ok-clause-survives
 returns-in-Ok-clause-survives g c =
     let mid = state g.S.Store c.lawful_office.new.conn in
@@ -40,3 +33,10 @@ pub returns-in-Err-clause-survives : goal.returns-in-Err-clause-survives
 returns-in-Err-clause-survives g c =
     never_of_office (state g.S.Store c.args.conn.now) (state g.S.Store c.lawful_office.new.conn)
     c.lawful_office.ensures.survives
+
+pub returns-in-Ok-clause-was_open : goal.returns-in-Ok-clause-was_open
+returns-in-Ok-clause-was_open g c clean =
+    let mid = state g.S.Store c.lawful_office.new.conn in
+    let still : HasCleanDisk mid = omega (arith, c.with_office.ensures.survives.clean) in
+    asked_then (state g.S.Store c.args.conn.now) mid (state g.S.Store c.with_office.new.conn) c.in-Ok.office c.with_office.result
+    (c.in-Ok.ensures.was_open still) (λ _. c.with_office.ensures.was_open clean)

@@ -6,6 +6,7 @@ use Rattle.views.specs.Concerning.{AreConcerned, IsSubject}
 use Rattle.views.specs.Finding.{NeverWhereOpen}
 use Rattle.views.specs.Histories.{IsOfHistory}
 use Rattle.views.proofs.Showing.{reads_then_where_open, shows_then}
+use Rattle.tables.proofs.Staying.{reads_then}
 use Rattle.views.proofs.concerning.with_cas.Goals as goal
 
 pub returns-in-Ok-clause-shows : goal.returns-in-Ok-clause-shows
@@ -29,3 +30,10 @@ returns-in-Ok-clause-survives g c =
     reads_then_where_open (λ s kept subject. IsOfHistory s kept → IsSubject subject s m)
     (state g.S.Store c.args.conn.now) (state g.S.Store c.subject_of.new.conn) (state g.S.Store c.with_subject.new.conn)
     c.in-Ok.subject c.in-Ok.ensures.shows c.subject_of.ensures.survives c.with_subject.ensures.survives
+
+pub returns-in-Ok-clause-was_open : goal.returns-in-Ok-clause-was_open
+returns-in-Ok-clause-was_open g c clean is_open =
+    let mid = state g.S.Store c.subject_of.new.conn in
+    let still : HasCleanDisk mid = omega (arith, c.with_subject.ensures.survives.clean) in
+    reads_then (state g.S.Store c.args.conn.now) mid (state g.S.Store c.with_subject.new.conn) c.in-Ok.subject c.with_subject.result
+    (c.in-Ok.ensures.was_open still is_open) (c.with_subject.ensures.was_open clean)

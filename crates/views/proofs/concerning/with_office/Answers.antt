@@ -6,6 +6,7 @@ use Rattle.rows.specs.Offices.{IsOfficeOf}
 use Rattle.views.specs.Concerning.{AreConcerned}
 use Rattle.views.specs.Histories.{IsOfHistory}
 use Rattle.views.proofs.Showing.{never_of_office, reads_then, shows_then}
+use Rattle.tables.proofs.Staying.{reads_then as asked_then}
 use Rattle.views.proofs.concerning.with_office.Goals as goal
 
 pub returns-in-Ok-clause-shows : goal.returns-in-Ok-clause-shows
@@ -31,3 +32,10 @@ returns-in-Ok-clause-survives g c =
 pub returns-in-Err-clause-survives : goal.returns-in-Err-clause-survives
 returns-in-Err-clause-survives g c =
     never_of_office (state g.S.Store c.args.conn.now) (state g.S.Store c.read_cas.new.conn) c.read_cas.ensures.survives
+
+pub returns-in-Ok-clause-was_open : goal.returns-in-Ok-clause-was_open
+returns-in-Ok-clause-was_open g c clean =
+    let mid = state g.S.Store c.read_cas.new.conn in
+    let still : HasCleanDisk mid = omega (arith, c.with_cas.ensures.survives.clean) in
+    asked_then (state g.S.Store c.args.conn.now) mid (state g.S.Store c.with_cas.new.conn) c.in-Ok.cas c.with_cas.result
+    (c.in-Ok.ensures.was_open still) (c.with_cas.ensures.was_open clean)

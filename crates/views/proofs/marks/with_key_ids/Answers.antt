@@ -6,6 +6,7 @@ use Rattle.tables.specs.Calls.{Never}
 use Rattle.office.specs.Decided.{SaysKeyIdRevoked, SaysRevoked, certificate_concerned}
 use Rattle.views.specs.Concerning.{AreMarks}
 use Rattle.views.proofs.Showing.{never_where_open, reads_then_where_open, shows_then}
+use Rattle.tables.proofs.Staying.{reads_then}
 use Rattle.views.proofs.marks.with_key_ids.Goals as goal
 
 pub returns-in-Ok-clause-shows : goal.returns-in-Ok-clause-shows
@@ -40,3 +41,10 @@ pub returns-in-Err-clause-survives : goal.returns-in-Err-clause-survives
 returns-in-Err-clause-survives g c =
     never_where_open (state g.S.Store c.args.conn.now) (state g.S.Store c.is_concerned_key_id_revoked.new.conn)
     c.is_concerned_key_id_revoked.ensures.survives
+
+pub returns-in-Ok-clause-was_open : goal.returns-in-Ok-clause-was_open
+returns-in-Ok-clause-was_open g c clean is_open =
+    let mid = state g.S.Store c.is_concerned_key_id_revoked.new.conn in
+    let still : HasCleanDisk mid = omega (arith, c.with_any_key_id.ensures.survives.clean) in
+    reads_then (state g.S.Store c.args.conn.now) mid (state g.S.Store c.with_any_key_id.new.conn) c.in-Ok.is_key_id_revoked c.with_any_key_id.result
+    (c.in-Ok.ensures.was_open still is_open) (c.with_any_key_id.ensures.was_open clean)

@@ -6,6 +6,7 @@ use Rattle.office.specs.Decided.{certificate_concerned}
 use Rattle.views.specs.Concerning.{IsSubject}
 use Rattle.views.specs.Histories.{IsOfHistory}
 use Rattle.views.proofs.Showing.{never_where_open, reads_then_where_open, shows_then}
+use Rattle.tables.proofs.Staying.{reads_then}
 use Rattle.views.proofs.subject.subject_of.Goals as goal
 
 pub returns-in-Ok-clause-shows : goal.returns-in-Ok-clause-shows
@@ -36,3 +37,10 @@ pub returns-in-Err-clause-survives : goal.returns-in-Err-clause-survives
 returns-in-Err-clause-survives g c =
     never_where_open (state g.S.Store c.args.conn.now) (state g.S.Store c.certificate_of.new.conn)
     c.certificate_of.ensures.survives
+
+pub returns-in-Ok-clause-was_open : goal.returns-in-Ok-clause-was_open
+returns-in-Ok-clause-was_open g c clean is_open =
+    let mid = state g.S.Store c.certificate_of.new.conn in
+    let still : HasCleanDisk mid = omega (arith, c.with_department.ensures.survives.clean) in
+    reads_then (state g.S.Store c.args.conn.now) mid (state g.S.Store c.with_department.new.conn) c.in-Ok.certificate c.with_department.result
+    (c.in-Ok.ensures.was_open still is_open) (c.with_department.ensures.was_open clean)

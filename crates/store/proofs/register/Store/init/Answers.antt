@@ -47,3 +47,6 @@ returns-in-Err-clause-only g c clean blank =
     let new = state g.S.Store c.create.new.conn in
     rw c.fault_of.ensures (excused_unless old new (RefusesOpening c.args.opening.now) c.in-Err.fault c.requires.unlimited
     (opening_fits c.args.opening.now c.requires.lawful) (c.in-Err.ensures.cause clean blank))
+
+pub returns-in-Ok-clause-stays_open : goal.returns-in-Ok-clause-stays_open
+returns-in-Ok-clause-stays_open g c clean = (c.in-Ok.ensures.ends clean).1

@@ -21,3 +21,6 @@ returns-in-Err-clause-only g c clean still o l tells =
     not_missed (office_contents o l) (DiskFailed old new) c.in-Err.fault refl
     (looks_weaker (office_contents o l) (HasFailed old new) (DiskFailed old new) (Err c.in-Err.fault)
     (disk_failed old new c.requires.unlimited) (c.in-Err.ensures.looks clean (office_contents o l) (tells.rows still).now))
+
+pub returns-in-Ok-clause-stays_open : goal.returns-in-Ok-clause-stays_open
+returns-in-Ok-clause-stays_open g c clean = (c.in-Ok.ensures.still clean).0.is_open

@@ -1,5 +1,5 @@
 use Rattle.sqlite.specs.Held.{state}
-use Rattle.store.proofs.Taken.{cause_of_take, due_told, fault_told, next_told, only_of_take}
+use Rattle.store.proofs.Taken.{cause_of_take, due_told, fault_told, next_told, only_of_take, open_told, stays_told}
 use Rattle.store.proofs.registry.StoreRegistry.apply.Goals as goal
 
 pub returns-clause-due : goal.returns-clause-due
@@ -26,3 +26,13 @@ pub returns-clause-only : goal.returns-clause-only
 returns-clause-only g c clean =
     only_of_take c.args.arrival (state g.S.Store c.args.self.now.conn) (state g.S.Store c.take.new.conn) c.take.result c.told.result
     c.told.ensures c.take.ensures.cause clean
+
+pub returns-clause-was_open : goal.returns-clause-was_open
+returns-clause-was_open g c clean =
+    open_told c.args.arrival (state g.S.Store c.args.self.now.conn) (state g.S.Store c.take.new.conn) c.take.result c.told.result
+    c.told.ensures (c.take.ensures.ends clean)
+
+pub returns-clause-stays_open : goal.returns-clause-stays_open
+returns-clause-stays_open g c clean =
+    stays_told c.args.arrival (state g.S.Store c.args.self.now.conn) (state g.S.Store c.take.new.conn) c.take.result c.told.result
+    c.told.ensures (c.take.ensures.ends clean)

@@ -1,6 +1,6 @@
 use Rattle.std.specs.Prelude.{◌≡◌}
 use Rattle.sqlite.specs.Held.{state}
-use Rattle.store.proofs.Answering.{cause_told, only_told, row_told, same_told}
+use Rattle.store.proofs.Answering.{cause_told, only_told, open_told, row_told, same_told, stays_told}
 use Rattle.store.proofs.Reading.{shows_office}
 use Rattle.store.proofs.registry.StoreRegistry.cas.Goals as goal
 
@@ -31,3 +31,17 @@ returns-clause-only g c clean =
     let new = state g.S.Store c.read_cas.new.conn in
     only_told (λ s kept cas. cas.items ≡ s.cas) old new c.read_cas.result c.told.result c.told.ensures c.read_cas.ensures.was_open
     (λ clean. shows_office (λ s kept cas. cas.items ≡ s.cas) old new c.read_cas.result (c.read_cas.ensures.shows clean)) clean
+
+pub returns-clause-was_open : goal.returns-clause-was_open
+returns-clause-was_open g c clean =
+    let old = state g.S.Store c.args.self.now.conn in
+    let new = state g.S.Store c.read_cas.new.conn in
+    open_told (λ s kept cas. cas.items ≡ s.cas) old new c.read_cas.result c.told.result c.told.ensures
+    c.read_cas.ensures.was_open (λ clean. shows_office (λ s kept cas. cas.items ≡ s.cas) old new c.read_cas.result (c.read_cas.ensures.shows clean)) clean
+
+pub returns-clause-stays_open : goal.returns-clause-stays_open
+returns-clause-stays_open g c clean =
+    let old = state g.S.Store c.args.self.now.conn in
+    let new = state g.S.Store c.read_cas.new.conn in
+    stays_told (λ s kept cas. cas.items ≡ s.cas) old new c.read_cas.result c.told.result c.told.ensures
+    c.read_cas.ensures.was_open (λ clean. shows_office (λ s kept cas. cas.items ≡ s.cas) old new c.read_cas.result (c.read_cas.ensures.shows clean)) clean

@@ -1,7 +1,7 @@
 use Rattle.std.specs.Prelude.{◌≡◌}
 use Rattle.sqlite.specs.Held.{state}
 use Rattle.office.specs.Publication.{issued_of}
-use Rattle.store.proofs.Answering.{cause_told, only_told, row_told, same_told}
+use Rattle.store.proofs.Answering.{cause_told, only_told, open_told, row_told, same_told, stays_told}
 use Rattle.store.proofs.registry.StoreRegistry.certificate.Goals as goal
 
 pub returns-clause-row : goal.returns-clause-row
@@ -31,3 +31,17 @@ returns-clause-only g c clean =
     let new = state g.S.Store c.read_issued.new.conn in
     only_told (λ s kept issued. issued ≡ issued_of s c.args.serial) old new c.read_issued.result c.told.result c.told.ensures c.read_issued.ensures.was_open
     c.read_issued.ensures.shows clean
+
+pub returns-clause-was_open : goal.returns-clause-was_open
+returns-clause-was_open g c clean =
+    let old = state g.S.Store c.args.self.now.conn in
+    let new = state g.S.Store c.read_issued.new.conn in
+    open_told (λ s kept issued. issued ≡ issued_of s c.args.serial) old new c.read_issued.result c.told.result c.told.ensures
+    c.read_issued.ensures.was_open c.read_issued.ensures.shows clean
+
+pub returns-clause-stays_open : goal.returns-clause-stays_open
+returns-clause-stays_open g c clean =
+    let old = state g.S.Store c.args.self.now.conn in
+    let new = state g.S.Store c.read_issued.new.conn in
+    stays_told (λ s kept issued. issued ≡ issued_of s c.args.serial) old new c.read_issued.result c.told.result c.told.ensures
+    c.read_issued.ensures.was_open c.read_issued.ensures.shows clean

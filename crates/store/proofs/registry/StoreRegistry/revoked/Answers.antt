@@ -1,6 +1,6 @@
 use Rattle.sqlite.specs.Held.{state}
 use Rattle.office.specs.Publication.{AreRevoked}
-use Rattle.store.proofs.Answering.{cause_told, only_told, row_told, same_told}
+use Rattle.store.proofs.Answering.{cause_told, only_told, open_told, row_told, same_told, stays_told}
 use Rattle.store.proofs.registry.StoreRegistry.revoked.Goals as goal
 
 pub returns-clause-row : goal.returns-clause-row
@@ -30,3 +30,17 @@ returns-clause-only g c clean =
     let new = state g.S.Store c.read_revoked.new.conn in
     only_told (λ s kept revoked. AreRevoked revoked s) old new c.read_revoked.result c.told.result c.told.ensures c.read_revoked.ensures.was_open
     c.read_revoked.ensures.shows clean
+
+pub returns-clause-was_open : goal.returns-clause-was_open
+returns-clause-was_open g c clean =
+    let old = state g.S.Store c.args.self.now.conn in
+    let new = state g.S.Store c.read_revoked.new.conn in
+    open_told (λ s kept revoked. AreRevoked revoked s) old new c.read_revoked.result c.told.result c.told.ensures
+    c.read_revoked.ensures.was_open c.read_revoked.ensures.shows clean
+
+pub returns-clause-stays_open : goal.returns-clause-stays_open
+returns-clause-stays_open g c clean =
+    let old = state g.S.Store c.args.self.now.conn in
+    let new = state g.S.Store c.read_revoked.new.conn in
+    stays_told (λ s kept revoked. AreRevoked revoked s) old new c.read_revoked.result c.told.result c.told.ensures
+    c.read_revoked.ensures.was_open c.read_revoked.ensures.shows clean
