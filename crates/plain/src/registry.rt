@@ -17,6 +17,8 @@ use text::Text;
 impl Registry for PlainStore {
     ghost is_honest = { λ _. Unit {0} };
 
+    ghost is_open = { λ _. Unit {0} };
+
     ghost fails = { λ _ _. ⊥ };
 
     ghost stops = { λ _ _ _. ⊥ };
