@@ -28,9 +28,13 @@ abbrev pub has_fault : List Given → Bool
 has_fault given = list_any is_fault given
 
 -- What a register gave to the exchanges is printed behind what the output held, and one of it is a fault or none.
-pub record Prints (before after : Opening → List Arrival → Type 0) (exchanges : List Exchange) (old new : Option (List ℕ))
-    (fault : Bool) : Type 0 where
+pub record Prints (before after keeps : Opening → List Arrival → Type 0) (exchanges : List Exchange)
+    (old new : Option (List ℕ)) (fault : Bool) : Type 0 where
   pub given : List Given
-  pub serves : Serves before after exchanges given
+  pub serves : Serves before after keeps exchanges given
   pub printed : Appends old new (all_given_text given)
   pub faults : has_fault given ≡ fault
+
+-- A register gave something to each of the exchanges, whatever was printed of it.
+abbrev pub AreRun : (before after keeps : Opening → List Arrival → Type 0) → List Exchange → Type 0
+AreRun before after keeps exchanges = (given : List Given) × Serves before after keeps exchanges given

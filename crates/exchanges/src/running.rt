@@ -2,7 +2,8 @@
 
 ghost use Rattle.std.specs.Prelude.{◌≡◌, Err, IfErr, OnOk, false, true};
 ghost use Rattle.std.specs.Io.KnownBytes.{Appends};
-ghost use Rattle.exchanges.specs.Printing.{Prints, all_given_text, has_fault};
+ghost use Rattle.web.specs.Answers.{Keeps};
+ghost use Rattle.exchanges.specs.Printing.{AreRun, Prints, all_given_text, has_fault};
 ghost use Rattle.exchanges.specs.Running.{IsOfPrinting};
 
 use crate::printing::{has_fault, print_given};
@@ -17,7 +18,7 @@ use web::{Exchange, Given, run};
 pub enum RunFault {
     /// A growth was refused, and nothing was run.
     NoMemory,
-    /// The output can't be written.
+    /// All were run, and the output can't be written.
     Write,
     /// All is printed, and an exchange was given no response.
     Fault,
@@ -60,8 +61,8 @@ pub fn print_all<W: Write>(out: &mut W, given: &[Given]) -> Result<(), RunFault>
 ///
 /// # Errors
 ///
-/// `NoMemory` where nothing was run, `Write` where the output can't be written, and `Fault` where all is printed and an
-/// exchange was given a fault.
+/// `NoMemory` where nothing was run, `Write` where all were run and the output can't be written, and `Fault` where all is
+/// printed and an exchange was given a fault.
 pub fn apply_exchanges<R: Registry, W: Write>(
     registry: &mut R,
     alloc: Global,
@@ -69,10 +70,15 @@ pub fn apply_exchanges<R: Registry, W: Write>(
     out: &mut W,
 ) -> Result<(), RunFault>
     ensures honest { R.is_honest registry.new → R.is_honest registry.old }
+    ensures was_open { R.is_honest registry.new → R.is_open registry.new → R.is_open registry.old }
     ensures ok { R.is_honest registry.new → OnOk result (Prints (R.means registry.old) (R.means registry.new)
-        exchanges.now (W.contents out.old) (W.contents out.new) false) }
-    ensures fault { R.is_honest registry.new → result ≡ Err RunFault.Fault → Prints (R.means registry.old)
-        (R.means registry.new) exchanges.now (W.contents out.old) (W.contents out.new) true }
+        (Keeps R.means R.is_open registry.new) exchanges.now (W.contents out.old) (W.contents out.new) false) }
+    ensures fault { R.is_honest registry.new → result ≡ Err RunFault.Fault → Prints (R.means registry.old) (R.means registry.new)
+        (Keeps R.means R.is_open registry.new) exchanges.now (W.contents out.old) (W.contents out.new) true }
+
+    // All were run, whatever of it was printed.
+    ensures write { R.is_honest registry.new → result ≡ Err RunFault.Write → AreRun (R.means registry.old)
+        (R.means registry.new) (Keeps R.means R.is_open registry.new) exchanges.now }
 
     // Nothing was run.
     ensures unrun { result ≡ Err RunFault.NoMemory → registry.new ≡ registry.old }

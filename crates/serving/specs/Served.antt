@@ -3,12 +3,14 @@ use Rattle.std.specs.Prelude.{◌≡◌, ℕ, List, length, Option}
 use Rattle.std.specs.Io.KnownBytes.{Consumes}
 use Rattle.office.specs.declared.opening.Opening.{Opening}
 use Rattle.office.specs.declared.arrival.Arrival.{Arrival}
-use Rattle.web.specs.Answers.{Answers}
+use Rattle.web.specs.Answers.{IsAnswered}
 use Rattle.serving.specs.Requests.{IsOneRequest}
 
 -- Exactly one request and one nonce were taken of what the reader and the nonce source had left, and the response is the
--- one that is due to them. The register then means the history with the request's arrival, where it has one.
-pub record Served (reader reader' nonces nonces' : Option (List ℕ)) (moment : ℕ) (honest : Type 0) (before after : Opening → List Arrival → Type 0) : Type 0 where
+-- one that is due to them. The register then means the history with the request's arrival, where it has one. Where
+-- something was asked of the register, it keeps that history.
+pub record Served (reader reader' nonces nonces' : Option (List ℕ)) (moment : ℕ) (honest : Type 0)
+    (before after keeps : Opening → List Arrival → Type 0) : Type 0 where
   pub request : List ℕ
   pub nonce : List ℕ
   pub response : List ℕ
@@ -16,7 +18,7 @@ pub record Served (reader reader' nonces nonces' : Option (List ℕ)) (moment : 
   pub one : IsOneRequest reader' request
   pub nonce_taken : Consumes nonces nonces' nonce
   pub nonce_size : length nonce ≡ 32
-  pub answered : honest → (o : Opening) (l : List Arrival) → before o l → Answers o l request moment nonce response (after o)
+  pub answered : honest → IsAnswered before after keeps request moment nonce response
 
 -- Exactly one request and one nonce were taken so, and the register was stopped in answering them.
 pub record Stopped (reader reader' nonces nonces' : Option (List ℕ)) (stops : (request nonce : List ℕ) → Type 0) : Type 0 where

@@ -5,6 +5,7 @@ ghost use Rattle.std.specs.Io.KnownBytes.{Appends};
 ghost use Rattle.wire.specs.Streams.{AppendsBeginning};
 ghost use Rattle.office.specs.declared.opening.Opening.{Opening};
 ghost use Rattle.office.specs.declared.arrival.Arrival.{Arrival};
+ghost use Rattle.web.specs.Answers.{Keeps};
 ghost use Rattle.web.specs.Causes.{StopsAt};
 ghost use Rattle.serving.specs.Faults.{is_read, is_write, IfUnserved};
 ghost use Rattle.serving.specs.Nonces.{FailsBy};
@@ -36,12 +37,19 @@ pub fn serve_one<R: Source, W: Sink, S: Registry, N: Source>(
     requires writes { W.failed writer.old < u64.MAX }
     requires draws { N.failed nonces.old < u64.MAX }
     ensures honest { S.is_honest registry.new → S.is_honest registry.old }
+    ensures was_open { S.is_honest registry.new → S.is_open registry.new → S.is_open registry.old }
+    ensures stays_open { S.is_honest registry.new → OnOk result (S.is_open registry.old → S.is_open registry.new) }
 
-    // One request and one nonce were taken, and the response that is due to them was written.
-    ensures ok { OnOk result ((x : Served (R.remaining reader.old) (R.remaining reader.new) (N.remaining nonces.old) (N.remaining nonces.new) moment (S.is_honest registry.new) (S.means registry.old) (S.means registry.new)) × Appends (W.taken writer.old) (W.taken writer.new) x.response) }
+    // One request and one nonce were taken, and the response that is due to them was written. Where something was asked of
+    // the register, it is open and so keeps the history.
+    ensures ok { OnOk result ((x : Served (R.remaining reader.old) (R.remaining reader.new) (N.remaining nonces.old)
+        (N.remaining nonces.new) moment (S.is_honest registry.new) (S.means registry.old) (S.means registry.new)
+        (Keeps S.means S.is_open registry.new)) × Appends (W.taken writer.old) (W.taken writer.new) x.response) }
 
     // The same, but the writer failed after a beginning of the response.
-    ensures write { result ≡ Err ServeFault.Write → (x : Served (R.remaining reader.old) (R.remaining reader.new) (N.remaining nonces.old) (N.remaining nonces.new) moment (S.is_honest registry.new) (S.means registry.old) (S.means registry.new)) × AppendsBeginning (W.taken writer.old) (W.taken writer.new) x.response }
+    ensures write { result ≡ Err ServeFault.Write → (x : Served (R.remaining reader.old) (R.remaining reader.new)
+        (N.remaining nonces.old) (N.remaining nonces.new) moment (S.is_honest registry.new) (S.means registry.old)
+        (S.means registry.new) (Keeps S.means S.is_open registry.new)) × AppendsBeginning (W.taken writer.old) (W.taken writer.new) x.response }
 
     // After any other fault nothing was written, and the register means what it meant.
     ensures unwritten { IfUnserved result (writer.new ≡ writer.old) }
@@ -72,12 +80,19 @@ pub fn serve_by<R: Source, W: Sink, S: Registry, N: Source>(
     requires writes { W.failed writer.old < u64.MAX }
     requires draws { N.failed nonces.old < u64.MAX }
     ensures honest { S.is_honest registry.new → S.is_honest registry.old }
+    ensures was_open { S.is_honest registry.new → S.is_open registry.new → S.is_open registry.old }
+    ensures stays_open { S.is_honest registry.new → OnOk result (S.is_open registry.old → S.is_open registry.new) }
 
-    // One request and one nonce were taken, and the response that is due to them was written.
-    ensures ok { OnOk result ((x : Served (R.remaining reader.old) (R.remaining reader.new) (N.remaining nonces.old) (N.remaining nonces.new) moment (S.is_honest registry.new) (S.means registry.old) (S.means registry.new)) × Appends (W.taken writer.old) (W.taken writer.new) x.response) }
+    // One request and one nonce were taken, and the response that is due to them was written. Where something was asked of
+    // the register, it is open and so keeps the history.
+    ensures ok { OnOk result ((x : Served (R.remaining reader.old) (R.remaining reader.new) (N.remaining nonces.old)
+        (N.remaining nonces.new) moment (S.is_honest registry.new) (S.means registry.old) (S.means registry.new)
+        (Keeps S.means S.is_open registry.new)) × Appends (W.taken writer.old) (W.taken writer.new) x.response) }
 
     // The same, but the writer failed after a beginning of the response.
-    ensures write { result ≡ Err ServeFault.Write → (x : Served (R.remaining reader.old) (R.remaining reader.new) (N.remaining nonces.old) (N.remaining nonces.new) moment (S.is_honest registry.new) (S.means registry.old) (S.means registry.new)) × AppendsBeginning (W.taken writer.old) (W.taken writer.new) x.response }
+    ensures write { result ≡ Err ServeFault.Write → (x : Served (R.remaining reader.old) (R.remaining reader.new)
+        (N.remaining nonces.old) (N.remaining nonces.new) moment (S.is_honest registry.new) (S.means registry.old)
+        (S.means registry.new) (Keeps S.means S.is_open registry.new)) × AppendsBeginning (W.taken writer.old) (W.taken writer.new) x.response }
 
     // After any other fault nothing was written, and the register means what it meant.
     ensures unwritten { IfUnserved result (writer.new ≡ writer.old) }

@@ -1,3 +1,4 @@
 pub mod Underway
 pub mod Replies
 pub mod Lists
+pub mod Answered

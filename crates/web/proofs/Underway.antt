@@ -1,54 +1,96 @@
 -- A run of exchanges over a register, some of which are done.
-use Rattle.std.proofs.Common.{ℕ, List, [], ◌∷◌, ◌++◌, refl, sym, subst, append_assoc}
+use Rattle.std.proofs.Common.{◌≡◌, ◌⊎◌, inl, inr, ℕ, List, [], ◌∷◌, ◌++◌, refl, sym, subst, append_assoc}
 use Rattle.std.proofs.lemmas.List.{append-nil}
+use Rattle.requests.proofs.OneAsk.{one_of}
+use Rattle.requests.specs.Asks.{Ask}
 use Rattle.office.specs.declared.opening.Opening.{Opening}
 use Rattle.office.specs.declared.arrival.Arrival.{Arrival}
 use Rattle.web.specs.declared.exchange.Exchange.{Exchange}
 use Rattle.web.specs.declared.exchange.Given.{Given}
 use Rattle.web.specs.declared.exchange.Given.TheVariants.{Answer, Fault}
-use Rattle.web.specs.Answers.{Answers, with_ask}
-use Rattle.web.specs.Runs.{AllDue, Serves}
+use Rattle.web.specs.Answers.{AsksTheRegister, IsAnswered, IsOfTheRegister, with_ask}
+use Rattle.web.specs.Runs.{AllDue, HasAnswered, Serves}
+
+-- what is known to have answered before is known of more
+answered_still : (A B : Type 0) (xs : List Exchange) (given : List Given) → (A → B) → HasAnswered A xs given → HasAnswered B xs given
+answered_still A B [] [] f h = f h
+answered_still A B [] (g ∷ given) f h = absurd h
+answered_still A B (x ∷ xs) [] f h = absurd h
+answered_still A B (x ∷ xs) (Answer response ∷ given) f h =
+    answered_still (A ⊎ AsksTheRegister x.request) (B ⊎ AsksTheRegister x.request) xs given (λ e. elim e [
+      | inl a ↦ inl (f a)
+      | inr asks ↦ inr asks
+    ]) h
+answered_still A B (x ∷ xs) (Fault ∷ given) f h = h
 
 -- the history h is reached, and whatever the rest is given, it goes on from there
-abbrev pub Reaches : Opening → (Opening → List Arrival → Type 0) → List Arrival → List Exchange → List Exchange → List Given → Type 0
-Reaches o now l all rest given =
-    (h : List Arrival) × now o h × ((more : List Given) (last : List Arrival) → AllDue o h rest more last → AllDue o l all (given ++ more) last)
+pub record Reaches (o : Opening) (now : Opening → List Arrival → Type 0) (is_open : Type 0) (l : List Arrival) (all rest : List Exchange)
+    (given : List Given) : Type 0 where
+  pub h : List Arrival
+  pub means : now o h
+  pub due : (more : List Given) (last : List Arrival) → AllDue o h rest more last → AllDue o l all (given ++ more) last
+  pub answered : (more : List Given) → HasAnswered ⊥ all (given ++ more) → HasAnswered is_open rest more
 
-abbrev pub IsUnderway : (before now : Opening → List Arrival → Type 0) → (all rest : List Exchange) → List Given → Type 0
-IsUnderway before now all rest given = (o : Opening) (l : List Arrival) → before o l → Reaches o now l all rest given
+abbrev pub IsUnderway : (before now : Opening → List Arrival → Type 0) → (is_open : Type 0) → (all rest : List Exchange) → List Given → Type 0
+IsUnderway before now is_open all rest given = (o : Opening) (l : List Arrival) → before o l → Reaches o now is_open l all rest given
 
-pub starts : (means : Opening → List Arrival → Type 0) (all : List Exchange) → IsUnderway means means all all []
-starts means all = λ o l m. (l, m, λ more last due. due)
+pub starts : (means : Opening → List Arrival → Type 0) (is_open : Type 0) (all : List Exchange) → IsUnderway means means is_open all all []
+starts means is_open all = λ o l m. record {
+  h = l;
+  means = m;
+  due = λ more last due. due;
+  answered = λ more answered. answered_still ⊥ is_open all more (λ none. absurd none) answered;
+}
 
 -- the next was answered
-pub goes_on : (before now new : Opening → List Arrival → Type 0) (all rest : List Exchange) (x : Exchange) (given : List Given) (response : List ℕ)
-    → ((o : Opening) (l : List Arrival) → now o l → Answers o l x.request x.moment x.nonce response (new o))
-    → IsUnderway before now all (x ∷ rest) given → IsUnderway before new all rest (given ++ Answer response ∷ [])
-goes_on before now new all rest x given response answers u = λ o l m.
+pub goes_on : (before now new : Opening → List Arrival → Type 0) (was_open is_open : Type 0) (all rest : List Exchange) (x : Exchange)
+    (given : List Given) (response : List ℕ)
+    → IsAnswered now new (λ o l. new o l × is_open) x.request x.moment x.nonce response → (was_open → is_open)
+    → IsUnderway before now was_open all (x ∷ rest) given → IsUnderway before new is_open all rest (given ++ Answer response ∷ [])
+goes_on before now new was_open is_open all rest x given response answers stays u = λ o l m.
     let r = u o l m in
-    let a = answers o r.0 r.1 in (
-      with_ask r.0 a.ask x.moment x.nonce,
-      a.history,
-      λ more last due.
+    let a = answers o r.h r.means in
+    let opens : AsksTheRegister x.request → is_open = λ asks.
+    let same : asks.0 ≡ a.ask = one_of x.request asks.0 a.ask asks.1 a.asks in
+    (a.kept (subst (λ (k : Ask). IsOfTheRegister k) same asks.2)).1 in
+    record {
+      h = with_ask r.h a.ask x.moment x.nonce;
+      means = a.history;
+      due = λ more last due.
           subst (λ (g : List Given). AllDue o l all g last) (sym (append_assoc given (Answer response ∷ []) more))
-          (r.2 (Answer response ∷ more) last (a.ask, a.asks, a.text, due)),
-    )
+          (r.due (Answer response ∷ more) last (a.ask, a.asks, a.text, a.list, due));
+      answered = λ more answered.
+          answered_still (was_open ⊎ AsksTheRegister x.request) is_open rest more
+          (λ e. elim e [
+            | inl opened ↦ stays opened
+            | inr asks ↦ opens asks
+          ]) (r.answered (Answer response ∷ more)
+          (subst (λ (g : List Given). HasAnswered ⊥ all g) (append_assoc given (Answer response ∷ []) more) answered));
+    }
 
 -- the next met a fault
-pub goes_by : (before now new : Opening → List Arrival → Type 0) (all rest : List Exchange) (x : Exchange) (given : List Given)
-    → ((o : Opening) (l : List Arrival) → now o l → new o l)
-    → IsUnderway before now all (x ∷ rest) given → IsUnderway before new all rest (given ++ Fault ∷ [])
-goes_by before now new all rest x given same u = λ o l m.
-    let r = u o l m in (
-      r.0,
-      same o r.0 r.1,
-      λ more last due.
-          subst (λ (g : List Given). AllDue o l all g last) (sym (append_assoc given (Fault ∷ []) more)) (r.2 (Fault ∷ more) last due),
-    )
+pub goes_by : (before now new : Opening → List Arrival → Type 0) (was_open is_open : Type 0) (all rest : List Exchange) (x : Exchange)
+    (given : List Given) → ((o : Opening) (l : List Arrival) → now o l → new o l)
+    → IsUnderway before now was_open all (x ∷ rest) given → IsUnderway before new is_open all rest (given ++ Fault ∷ [])
+goes_by before now new was_open is_open all rest x given same u = λ o l m.
+    let r = u o l m in
+    record {
+      h = r.h;
+      means = same o r.h r.means;
+      due = λ more last due.
+          subst (λ (g : List Given). AllDue o l all g last) (sym (append_assoc given (Fault ∷ []) more)) (r.due (Fault ∷ more) last due);
+      answered = λ more answered.
+          answered_still ⊥ is_open rest more (λ none. absurd none) (r.answered (Fault ∷ more)
+          (subst (λ (g : List Given). HasAnswered ⊥ all g) (append_assoc given (Fault ∷ []) more) answered));
+    }
 
 -- nothing is left
-pub is_done : (before now : Opening → List Arrival → Type 0) (all : List Exchange) (given : List Given) → IsUnderway before now all [] given
-    → Serves before now all given
-is_done before now all given u = λ o l m.
-    let r = u o l m in
-    (r.0, subst (λ (g : List Given). AllDue o l all g r.0) (append-nil given) (r.2 [] r.0 refl), r.1)
+pub is_done : (before now : Opening → List Arrival → Type 0) (is_open : Type 0) (all : List Exchange) (given : List Given)
+    → IsUnderway before now is_open all [] given → Serves before now (λ o l. now o l × is_open) all given
+is_done before now is_open all given u = λ o l m.
+    let r = u o l m in (
+      r.h,
+      subst (λ (g : List Given). AllDue o l all g r.h) (append-nil given) (r.due [] r.h refl),
+      r.means,
+      λ answered. (r.means, r.answered [] (subst (λ (g : List Given). HasAnswered ⊥ all g) (sym (append-nil given)) answered)),
+    )

@@ -16,6 +16,7 @@ use Rattle.office.specs.declared.publication.Issued.{Issued}
 use Rattle.office.specs.State.{State, body_of}
 use Rattle.office.specs.Publication.{issued_of, published_list, published_parts}
 use Rattle.office.specs.History.{state, due}
+use Rattle.office.specs.Shows.{IsOffice}
 use Rattle.web.specs.Reports.{pending_report, ca_report, signers_report, table_report}
 
 -- the response to an arrival
@@ -55,6 +56,11 @@ resource_response s Cas = response_text 200 PlainText (ca_report s)
 abbrev pub ListFits : State → Type 0
 ListFits s = IsTrue (fits (published_parts s) s.revoked_key_ids)
 
+-- a history after which the list may be given: it is an office's, and the list fits. Of such a history the list is exact.
+pub record MayList (o : Opening) (l : List Arrival) : Type 0 where
+  pub office : IsOffice o l
+  pub fits : ListFits (state o l)
+
 abbrev pub arrival_by : (caller key message : List ℕ) → ℕ → List ℕ → Arrival
 arrival_by caller key message moment nonce = record { caller = caller; key = key; bytes = message; moment = moment; nonce = nonce }
 
@@ -70,9 +76,34 @@ with_ask l (refused refusal) moment nonce = l
 with_ask l (get resource) moment nonce = l
 with_ask l (post caller key message) moment nonce = l ++ arrival_by caller key message moment nonce ∷ []
 
--- The response is the one that is due to what the request asks, and the register then means the history with its arrival.
-pub record Answers (o : Opening) (l : List Arrival) (request : List ℕ) (moment : ℕ) (nonce response : List ℕ) (means : List Arrival → Type 0) : Type 0 where
+-- something is asked of the register; a refusal asks nothing of it, and is given by the bytes of the request alone
+abbrev pub IsOfTheRegister : Ask → Type 0
+IsOfTheRegister (refused refusal) = ⊥
+IsOfTheRegister (get resource) = Unit {0}
+IsOfTheRegister (post caller key message) = Unit {0}
+
+-- the bytes of a request ask something of the register
+abbrev pub AsksTheRegister : List ℕ → Type 0
+AsksTheRegister request = (ask : Ask) × Asks request ask × IsOfTheRegister ask
+
+-- a register means a history and is open, so that it keeps the history
+abbrev pub Keeps : {S : Type 0} → (means : S → Opening → List Arrival → Type 0) → (is_open : S → Type 0)
+    → S → Opening → List Arrival → Type 0
+Keeps means is_open s o l = means s o l × is_open s
+
+-- The response is the one that is due to what the request asks, and the list is given only where it may be. The register
+-- then means the history with the request's arrival. Where something was asked of the register, it keeps that history.
+pub record Answers (o : Opening) (l : List Arrival) (request : List ℕ) (moment : ℕ) (nonce response : List ℕ)
+    (means keeps : List Arrival → Type 0) : Type 0 where
   pub ask : Ask
   pub asks : Asks request ask
   pub text : response ≡ answer_text o l ask moment nonce
+  pub list : ask ≡ get RevocationList → MayList o l
   pub history : means (with_ask l ask moment nonce)
+  pub kept : IsOfTheRegister ask → keeps (with_ask l ask moment nonce)
+
+-- so it does, whatever office the register meant before
+abbrev pub IsAnswered : (before after keeps : Opening → List Arrival → Type 0) → (request : List ℕ) → ℕ
+    → (nonce response : List ℕ) → Type 0
+IsAnswered before after keeps request moment nonce response = (o : Opening) (l : List Arrival) → before o l
+    → Answers o l request moment nonce response (after o) (keeps o)

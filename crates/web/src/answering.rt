@@ -39,6 +39,8 @@ pub(crate) fn to_arrival<R: Registry>(
     arrival: Arrival,
 ) -> Result<Vec<u8>, StoreFault>
     ensures honest { R.is_honest registry.new → R.is_honest registry.old }
+    ensures was_open { R.is_honest registry.new → R.is_open registry.new → R.is_open registry.old }
+    ensures stays_open { R.is_honest registry.new → OnOk result (R.is_open registry.new) }
     ensures due { R.is_honest registry.new → IfOk result (λ v. (o : Opening) (l : List Arrival) → R.means registry.old o l → v.items ≡ outcome_response (due o l arrival)) }
     ensures next { R.is_honest registry.new → OnOk result ((o : Opening) (l : List Arrival) → R.means registry.old o l → R.means registry.new o (l ++ arrival ∷ [])) }
     ensures fault { R.is_honest registry.new → OnErr result ((o : Opening) (l : List Arrival) → R.means registry.old o l → R.means registry.new o l) }

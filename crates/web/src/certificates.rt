@@ -28,6 +28,8 @@ pub(crate) fn to_serial_body<R: Registry>(
     serial: u64,
 ) -> Result<Vec<u8>, StoreFault>
     ensures honest { R.is_honest registry.new → R.is_honest registry.old }
+    ensures was_open { R.is_honest registry.new → R.is_open registry.new → R.is_open registry.old }
+    ensures stays_open { R.is_honest registry.new → OnOk result (R.is_open registry.new) }
     ensures row { R.is_honest registry.new → IfOk result (λ v. (o : Opening) (l : List Arrival) → R.means registry.old o l → v.items ≡ body_response (body_of (state o l) serial)) }
     ensures same { R.is_honest registry.new → (o : Opening) (l : List Arrival) → R.means registry.old o l → R.means registry.new o l }
     ensures cause { IfErr result (λ e. HasCause e (R.fails registry.old registry.new)) }
@@ -61,6 +63,8 @@ pub(crate) fn to_certificate<R: Registry>(
     serial: u64,
 ) -> Result<Vec<u8>, StoreFault>
     ensures honest { R.is_honest registry.new → R.is_honest registry.old }
+    ensures was_open { R.is_honest registry.new → R.is_open registry.new → R.is_open registry.old }
+    ensures stays_open { R.is_honest registry.new → OnOk result (R.is_open registry.new) }
     ensures row { R.is_honest registry.new → IfOk result (λ v. (o : Opening) (l : List Arrival) → R.means registry.old o l → v.items ≡ certificate_response (issued_of (state o l) serial)) }
     ensures same { R.is_honest registry.new → (o : Opening) (l : List Arrival) → R.means registry.old o l → R.means registry.new o l }
     ensures cause { IfErr result (λ e. HasCause e (R.fails registry.old registry.new)) }
@@ -95,6 +99,8 @@ pub(crate) fn to_pending<R: Registry>(
     alloc: Global,
 ) -> Result<Vec<u8>, StoreFault>
     ensures honest { R.is_honest registry.new → R.is_honest registry.old }
+    ensures was_open { R.is_honest registry.new → R.is_open registry.new → R.is_open registry.old }
+    ensures stays_open { R.is_honest registry.new → OnOk result (R.is_open registry.new) }
     ensures row { R.is_honest registry.new → IfOk result (λ v. (o : Opening) (l : List Arrival) → R.means registry.old o l → v.items ≡ response_text 200 PlainText (pending_report (state o l))) }
     ensures same { R.is_honest registry.new → (o : Opening) (l : List Arrival) → R.means registry.old o l → R.means registry.new o l }
     ensures cause { IfErr result (λ e. HasCause e (R.fails registry.old registry.new)) }

@@ -92,6 +92,8 @@ fn table_lines(alloc: Global, entries: &[Entry], version: u64) -> Result<Vec<u8>
 /// The response with the table.
 pub(crate) fn to_table<R: Registry>(registry: &mut R, alloc: Global) -> Result<Vec<u8>, StoreFault>
     ensures honest { R.is_honest registry.new → R.is_honest registry.old }
+    ensures was_open { R.is_honest registry.new → R.is_open registry.new → R.is_open registry.old }
+    ensures stays_open { R.is_honest registry.new → OnOk result (R.is_open registry.new) }
     ensures row { R.is_honest registry.new → IfOk result (λ v. (o : Opening) (l : List Arrival) → R.means registry.old o l → v.items ≡ response_text 200 PlainText (table_report (state o l))) }
     ensures same { R.is_honest registry.new → (o : Opening) (l : List Arrival) → R.means registry.old o l → R.means registry.new o l }
     ensures cause { R.is_honest registry.new → IfErr result (λ e. HasCause e (FailsWithin R.means R.fails registry.old registry.new)) }

@@ -2,12 +2,11 @@
 
 ghost use Rattle.std.specs.Prelude.{◌≡◌, List, IfOk, OnOk, OnErr, IfErr};
 ghost use Rattle.requests.specs.declared.resource.Resource.TheVariants.{RevocationList};
-ghost use Rattle.requests.specs.Asks.{Asks, get};
 ghost use Rattle.office.specs.declared.opening.Opening.{Opening};
 ghost use Rattle.office.specs.declared.arrival.Arrival.{Arrival};
 ghost use Rattle.office.specs.Faults.{HasCause, IsOfARegister};
 ghost use Rattle.office.specs.History.{state};
-ghost use Rattle.web.specs.Answers.{Answers, ListFits, arrival_by, resource_response};
+ghost use Rattle.web.specs.Answers.{IsAnswered, Keeps, ListFits, arrival_by, resource_response};
 ghost use Rattle.web.specs.Causes.{FailsWithin, StopsAt};
 
 use crate::answering::to_arrival;
@@ -46,6 +45,8 @@ fn to_resource<R: Registry>(
     resource: Resource,
 ) -> Result<Vec<u8>, StoreFault>
     ensures honest { R.is_honest registry.new → R.is_honest registry.old }
+    ensures was_open { R.is_honest registry.new → R.is_open registry.new → R.is_open registry.old }
+    ensures stays_open { R.is_honest registry.new → OnOk result (R.is_open registry.new) }
     ensures row { R.is_honest registry.new → IfOk result (λ v. (o : Opening) (l : List Arrival) → R.means registry.old o l → v.items ≡ resource_response (state o l) resource) }
     ensures fits { R.is_honest registry.new → resource ≡ RevocationList → OnOk result ((o : Opening) (l : List Arrival) → R.means registry.old o l → ListFits (state o l)) }
     ensures same { R.is_honest registry.new → (o : Opening) (l : List Arrival) → R.means registry.old o l → R.means registry.new o l }
@@ -73,11 +74,10 @@ pub fn answer_by<R: Registry>(
     nonce: &[u8; 32],
 ) -> Result<Vec<u8>, StoreFault>
     ensures honest { R.is_honest registry.new → R.is_honest registry.old }
-    ensures answered { R.is_honest registry.new → IfOk result (λ v. (o : Opening) (l : List Arrival) → R.means registry.old o l → Answers o l request.now moment nonce.now v.items (R.means registry.new o)) }
-
-    // The list is answered only where it fits.
-    ensures fits { R.is_honest registry.new → Asks request.now (get RevocationList) → OnOk result ((o : Opening) (l : List Arrival) → R.means registry.old o l → ListFits (state o l)) }
-
+    ensures was_open { R.is_honest registry.new → R.is_open registry.new → R.is_open registry.old }
+    ensures stays_open { R.is_honest registry.new → OnOk result (R.is_open registry.old → R.is_open registry.new) }
+    ensures answered { R.is_honest registry.new → IfOk result (λ v. IsAnswered (R.means registry.old)
+        (R.means registry.new) (Keeps R.means R.is_open registry.new) request.now moment nonce.now v.items) }
     ensures fault { R.is_honest registry.new → OnErr result ((o : Opening) (l : List Arrival) → R.means registry.old o l → R.means registry.new o l) }
     ensures cause { R.is_honest registry.new → IfErr result (λ e. HasCause e (StopsAt R.means R.fails R.stops request.now moment nonce.now registry.old registry.new)) }
     ensures only { R.is_honest registry.new → IfErr result (λ e. (o : Opening) (l : List Arrival) → R.means registry.old o l → IsOfARegister e) }
@@ -113,11 +113,10 @@ pub fn answer<R: Registry>(
     nonce: &[u8; 32],
 ) -> Result<Vec<u8>, StoreFault>
     ensures honest { R.is_honest registry.new → R.is_honest registry.old }
-    ensures answered { R.is_honest registry.new → IfOk result (λ v. (o : Opening) (l : List Arrival) → R.means registry.old o l → Answers o l request.now moment nonce.now v.items (R.means registry.new o)) }
-
-    // The list is answered only where it fits.
-    ensures fits { R.is_honest registry.new → Asks request.now (get RevocationList) → OnOk result ((o : Opening) (l : List Arrival) → R.means registry.old o l → ListFits (state o l)) }
-
+    ensures was_open { R.is_honest registry.new → R.is_open registry.new → R.is_open registry.old }
+    ensures stays_open { R.is_honest registry.new → OnOk result (R.is_open registry.old → R.is_open registry.new) }
+    ensures answered { R.is_honest registry.new → IfOk result (λ v. IsAnswered (R.means registry.old)
+        (R.means registry.new) (Keeps R.means R.is_open registry.new) request.now moment nonce.now v.items) }
     ensures fault { R.is_honest registry.new → OnErr result ((o : Opening) (l : List Arrival) → R.means registry.old o l → R.means registry.new o l) }
     ensures cause { R.is_honest registry.new → IfErr result (λ e. HasCause e (StopsAt R.means R.fails R.stops request.now moment nonce.now registry.old registry.new)) }
     ensures only { R.is_honest registry.new → IfErr result (λ e. (o : Opening) (l : List Arrival) → R.means registry.old o l → IsOfARegister e) }

@@ -1,6 +1,7 @@
 //! Exchanges one after the other.
 
 ghost use Rattle.std.specs.Prelude.{◌≡◌, IfOk, OnErr};
+ghost use Rattle.web.specs.Answers.{Keeps};
 ghost use Rattle.web.specs.Runs.{Serves};
 
 use crate::exchange::{Exchange, Given};
@@ -19,10 +20,13 @@ pub fn run<R: Registry>(
     exchanges: &[Exchange],
 ) -> Result<Vec<Given>, NoMemory>
     ensures honest { R.is_honest registry.new → R.is_honest registry.old }
+    ensures was_open { R.is_honest registry.new → R.is_open registry.new → R.is_open registry.old }
 
     // Each exchange is given the response that is due after the arrivals before it that met no fault, or a fault, and the
-    // register then means the history with all arrivals that met none.
-    ensures serves { R.is_honest registry.new → IfOk result (λ given. Serves (R.means registry.old) (R.means registry.new) exchanges.now given.items) }
+    // list only where it may be given. The register then means the history with all arrivals that met none. Where it has
+    // answered since the last fault, it is open, and so keeps that history.
+    ensures serves { R.is_honest registry.new → IfOk result (λ given. Serves (R.means registry.old)
+        (R.means registry.new) (Keeps R.means R.is_open registry.new) exchanges.now given.items) }
     ensures err { OnErr result (registry.new ≡ registry.old) }
 {
     let mut given = Vec::with_capacity(alloc, exchanges.len())?;

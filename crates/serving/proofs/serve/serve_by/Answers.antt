@@ -1,7 +1,7 @@
 use Rattle.std.proofs.Common.{ℕ, List, subst}
 use Rattle.std.specs.Io.KnownBytes.{Appends}
 use Rattle.wire.specs.Streams.{AppendsBeginning}
-use Rattle.web.specs.Answers.{Answers}
+use Rattle.web.specs.Answers.{IsAnswered, Keeps}
 use Rattle.web.specs.Causes.{StopsAt}
 use Rattle.serving.proofs.Stores.{cause_of_store}
 use Rattle.serving.proofs.serve.serve_by.Goals as goal
@@ -18,9 +18,10 @@ returns-in-Ok-clause-ok g c =
         one = c.in_ok-request.ensures.one;
         nonce_taken = c.in_ok-nonce.ensures.consumed;
         nonce_size = c.in_ok-nonce.ensures.size;
-        answered = λ honest o l means. subst (λ (t : List ℕ). Answers o l t c.args.moment c.in_ok-nonce.nonce
-            c.in_ok-response.response.items (g.S.Registry.means c.answer_by.new.registry o)) c.deref.ensures.value
-            (c.in_ok-response.ensures.answered honest o l means);
+        answered = λ honest. subst (λ (t : List ℕ). IsAnswered (g.S.Registry.means c.args.registry.now)
+            (g.S.Registry.means c.answer_by.new.registry)
+            (Keeps g.S.Registry.means g.S.Registry.is_open c.answer_by.new.registry) t c.args.moment c.in_ok-nonce.nonce
+            c.in_ok-response.response.items) c.deref.ensures.value (c.in_ok-response.ensures.answered honest);
       },
       sent,
     )
@@ -37,9 +38,10 @@ returns-clause-write g c _ =
         one = c.in_ok-request.ensures.one;
         nonce_taken = c.in_ok-nonce.ensures.consumed;
         nonce_size = c.in_ok-nonce.ensures.size;
-        answered = λ honest o l means. subst (λ (t : List ℕ). Answers o l t c.args.moment c.in_ok-nonce.nonce
-            c.in_ok-response.response.items (g.S.Registry.means c.answer_by.new.registry o)) c.deref.ensures.value
-            (c.in_ok-response.ensures.answered honest o l means);
+        answered = λ honest. subst (λ (t : List ℕ). IsAnswered (g.S.Registry.means c.args.registry.now)
+            (g.S.Registry.means c.answer_by.new.registry)
+            (Keeps g.S.Registry.means g.S.Registry.is_open c.answer_by.new.registry) t c.args.moment c.in_ok-nonce.nonce
+            c.in_ok-response.response.items) c.deref.ensures.value (c.in_ok-response.ensures.answered honest);
       },
       sent,
     )

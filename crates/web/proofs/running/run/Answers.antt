@@ -4,8 +4,8 @@ use Rattle.std.proofs.Math.ListN.{drop_of_length-le}
 use Rattle.web.specs.declared.exchange.Exchange.{Exchange}
 use Rattle.web.specs.declared.exchange.Given.{Given}
 use Rattle.web.specs.declared.exchange.Given.TheVariants.{Answer}
-use Rattle.web.specs.Answers.{Answers}
-use Rattle.web.proofs.Underway.{IsUnderway, goes_on, goes_by, is_done}
+use Rattle.web.specs.Answers.{IsAnswered}
+use Rattle.web.proofs.Underway.{IsUnderway, goes_on, goes_by, is_done, starts}
 use Rattle.web.proofs.running.run.Goals.{in-Ok, in-Err}
 use Rattle.web.proofs.running.run.Goals as goal
 
@@ -16,6 +16,8 @@ loop-exchange-preserved g c =
     let before = g.R.Registry.means c.args.registry.now in
     let now = g.R.Registry.means c.loop-exchange.registry in
     let new = g.R.Registry.means c.answer_by.new.registry in
+    let was_open = g.R.Registry.is_open c.loop-exchange.registry in
+    let is_open = g.R.Registry.is_open c.answer_by.new.registry in
     let all = c.args.exchanges.now in
     let given = c.loop-exchange.given.items in
     let rest : List Exchange = drop (i + 1) all in
@@ -24,17 +26,19 @@ loop-exchange-preserved g c =
     rw (add-one, drop-cons all i x c.loop-exchange-test.true) (ap (λ (y : Exchange). y ∷ drop (suc i) all) (sym c.exchange-item.is)) in
     record {
       honest = λ h. c.loop-exchange.invariant.honest (c.answer_by.ensures.honest h);
+      was_open = λ h is. c.loop-exchange.invariant.was_open (c.answer_by.ensures.honest h) (c.answer_by.ensures.was_open h is);
       underway = λ h.
-          let u : IsUnderway before now all (x ∷ rest) given =
-          subst (λ (r : List Exchange). IsUnderway before now all r given) left (c.loop-exchange.invariant.underway (c.answer_by.ensures.honest h)) in
+          let u : IsUnderway before now was_open all (x ∷ rest) given =
+          subst (λ (r : List Exchange). IsUnderway before now was_open all r given) left (c.loop-exchange.invariant.underway (c.answer_by.ensures.honest h)) in
           elim c.match-answer_by.branch [
-            | in-Ok w ↦ subst (λ (g : List Given). IsUnderway before new all rest g)
+            | in-Ok w ↦ subst (λ (g : List Given). IsUnderway before new is_open all rest g)
                 (ap (λ (y : Given). given ++ y ∷ []) (ap (λ (t : List ℕ). Answer t) (sym w.from_vec.ensures) ∙ sym w.one-is) ∙ sym pushed)
-                (goes_on before now new all rest x given w.in-Ok.response.items
-                (λ o l m. subst (λ (t : List ℕ). Answers o l t x.moment x.nonce w.in-Ok.response.items (new o)) c.as_slice-request.ensures (w.in-Ok.ensures.answered h o l m)) u)
-            | in-Err w ↦ subst (λ (g : List Given). IsUnderway before new all rest g)
+                (goes_on before now new was_open is_open all rest x given w.in-Ok.response.items
+                (subst (λ (t : List ℕ). IsAnswered now new (λ o l. new o l × is_open) t x.moment x.nonce w.in-Ok.response.items)
+                c.as_slice-request.ensures (w.in-Ok.ensures.answered h)) (w.in-Ok.ensures.stays_open h) u)
+            | in-Err w ↦ subst (λ (g : List Given). IsUnderway before new is_open all rest g)
                 (ap (λ (y : Given). given ++ y ∷ []) (sym w.one-is) ∙ sym pushed)
-                (goes_by before now new all rest x given (w.in-Err.ensures.fault h) u)
+                (goes_by before now new was_open is_open all rest x given (w.in-Err.ensures.fault h) u)
           ];
       room = grind (arith, common_steps);
     }
@@ -44,5 +48,19 @@ returns-clause-serves g c honest =
     let before = g.R.Registry.means c.args.registry.now in
     let now = g.R.Registry.means c.loop-exchange.registry in
     let ended : drop c.loop-exchange.exchange-index c.args.exchanges.now ≡ [] = drop_of_length-le c.args.exchanges.now c.loop-exchange-test.false in
-    is_done before now c.args.exchanges.now c.loop-exchange.given.items
-    (subst (λ (r : List Exchange). IsUnderway before now c.args.exchanges.now r c.loop-exchange.given.items) ended (c.loop-exchange.invariant.underway honest))
+    let is_open = g.R.Registry.is_open c.loop-exchange.registry in
+    is_done before now is_open c.args.exchanges.now c.loop-exchange.given.items
+    (subst (λ (r : List Exchange). IsUnderway before now is_open c.args.exchanges.now r c.loop-exchange.given.items) ended (c.loop-exchange.invariant.underway honest))
+
+pub loop-exchange-init : goal.loop-exchange-init
+loop-exchange-init g c =
+    let means = g.R.Registry.means c.args.registry.now in
+    let is_open = g.R.Registry.is_open c.args.registry.now in
+    let all = c.args.exchanges.now in
+    record {
+      honest = λ h. h;
+      was_open = λ h is. is;
+      underway = λ h. subst (λ (g : List Given). IsUnderway means means is_open all all g) (sym c.in_ok-given.ensures.items)
+          (starts means is_open all);
+      room = grind (arith, common_steps);
+    }

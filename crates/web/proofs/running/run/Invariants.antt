@@ -6,6 +6,8 @@ use Rattle.web.proofs.running.run.Given as goal
 abbrev pub invariant-loop-exchange : goal.invariant-loop-exchange
 invariant-loop-exchange g l = record {
   honest : g.R.Registry.is_honest l.registry → g.R.Registry.is_honest l.fn.registry;
-  underway : g.R.Registry.is_honest l.registry → IsUnderway (g.R.Registry.means l.fn.registry) (g.R.Registry.means l.registry) l.exchanges (drop l.exchange-index l.exchanges) l.given.items;
+  was_open : g.R.Registry.is_honest l.registry → g.R.Registry.is_open l.registry → g.R.Registry.is_open l.fn.registry;
+  underway : g.R.Registry.is_honest l.registry → IsUnderway (g.R.Registry.means l.fn.registry)
+      (g.R.Registry.means l.registry) (g.R.Registry.is_open l.registry) l.exchanges (drop l.exchange-index l.exchanges) l.given.items;
   room : vec_len l.given + (length l.exchanges) ≤ vec_capacity l.given + l.exchange-index;
 }
