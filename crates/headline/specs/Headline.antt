@@ -1,13 +1,17 @@
 -- The office over its tables, in the words of the plain machine.
-use Rattle.std.specs.Prelude.{◌≡◌, ℕ, List, ◌++◌, Some, slice_get, true}
+use Rattle.std.specs.Prelude.{◌≡◌, ℕ, List, [], ◌∷◌, ◌++◌, Bool, Option, Some, Result, Ok, Err, slice_get, false, true}
+use Rattle.sqlite.specs.State.{State}
 use Rattle.lines.specs.Keys.{key_blob}
 use Rattle.krl.specs.Format.{RevocationList, revokes}
+use Rattle.requests.specs.declared.resource.Resource.TheVariants.{RevocationList as the_list}
 use Rattle.requests.specs.declared.response.MediaType.TheVariants.{Bytes}
+use Rattle.requests.specs.Asks.{Ask, Asks, get}
 use Rattle.requests.specs.Responses.{response_text}
 use Rattle.office.specs.declared.opening.Opening.{Opening}
 use Rattle.office.specs.declared.arrival.Arrival.{Arrival}
 use Rattle.office.specs.declared.ca.Ca.{Ca}
 use Rattle.office.specs.declared.certificate.Certificate.{Certificate}
+use Rattle.office.specs.declared.fault.StoreFault.{StoreFault}
 use Rattle.office.specs.Openings.{IsOpening}
 use Rattle.office.specs.State.{body_of, certificate_of}
 use Rattle.office.specs.Publication as publication
@@ -15,6 +19,16 @@ use Rattle.office.specs.History.{state}
 use Rattle.laws.specs.Bodies.{IsBodyFor}
 use Rattle.laws.specs.Lists.{AreExactList, IsExact}
 use Rattle.laws.specs.Signers.{signer_of}
+use Rattle.store.specs.Arriving.{IsStopped}
+use Rattle.store.specs.Meaning.{HasFailed, Stores, Tells}
+use Rattle.web.specs.declared.exchange.Exchange.{Exchange}
+use Rattle.web.specs.declared.exchange.Given.{Given}
+use Rattle.web.specs.declared.exchange.Given.TheVariants.{Answer, Fault}
+use Rattle.web.specs.Answers.{IsAnswered, with_ask}
+use Rattle.web.specs.Causes.{StopsAt}
+use Rattle.exchanges.specs.Printing.{AreRun, Prints}
+use Rattle.headline.specs.declared.fault.PublishFault.{PublishFault}
+use Rattle.headline.specs.declared.fault.PublishFault.TheVariants.{Store, Write}
 
 -- ---- serials and bodies, after every history
 
@@ -55,3 +69,56 @@ ListsForgetNothing = (o : Opening) (l later : List Arrival) (old new : Revocatio
 abbrev pub EqualVersionsAreEqualLists : Type 0
 EqualVersionsAreEqualLists = (o : Opening) (l later : List Arrival) → (state o l).version ≡ (state o (l ++ later)).version
     → list_bytes o l ≡ list_bytes o (l ++ later)
+
+-- ---- over tables
+
+-- The response to a request is the one that is due. The tables then tell the history with the request's arrival, where it
+-- has one, and they store it where something was asked of them.
+abbrev pub OfficeAnswers : (old new : State) → (request : List ℕ) → ℕ → (nonce response : List ℕ) → Type 0
+OfficeAnswers old new request moment nonce response =
+    IsAnswered (Tells old) (Tells new) (Stores new) request moment nonce response
+
+-- The database failed in answering this request, or its rules refused what was to be kept of the request's arrival.
+abbrev pub OfficeStops : {S : Type 0} → (S → State) → (request : List ℕ) → ℕ → (nonce : List ℕ) → S → S → Type 0
+OfficeStops of request moment nonce old new =
+    StopsAt (λ s. Tells (of s)) (λ a b. HasFailed (of a) (of b)) (λ a b x. IsStopped (of a) (of b) x)
+    request moment nonce old new
+
+-- Of what exchanges were given, each response to a GET of the list is the list, exact, of the history before it.
+abbrev pub AreExactLists : Opening → List Arrival → List Exchange → List Given → Type 0
+AreExactLists o l (x ∷ xs) (Answer response ∷ given) =
+    (Asks x.request (get the_list) → IsListResponse o l response)
+    × ((a : Ask) → Asks x.request a → AreExactLists o (with_ask l a x.moment x.nonce) xs given)
+AreExactLists o l (x ∷ xs) (Fault ∷ given) = AreExactLists o l xs given
+AreExactLists o l [] given = Unit {0}
+AreExactLists o l (x ∷ xs) [] = Unit {0}
+
+-- What is due to exchanges is printed behind what the output held, and one of it is a fault or none. The tables then tell
+-- the history with the arrivals that met no fault, and they store it where they have answered since the last fault.
+pub record OfficePrints (old new : State) (exchanges : List Exchange) (held holds : Option (List ℕ)) (fault : Bool)
+    : Type 0 where
+  pub prints : Prints (Tells old) (Tells new) (Stores new) exchanges held holds fault
+  pub lists : (o : Opening) (l : List Arrival) → Tells old o l → AreExactLists o l exchanges prints.given
+
+-- So exchanges were run, whatever was printed.
+abbrev pub OfficeRuns : (old new : State) → List Exchange → Type 0
+OfficeRuns old new exchanges = AreRun (Tells old) (Tells new) (Stores new) exchanges
+
+-- ---- a list that is not written
+
+-- the writer failed
+abbrev pub is_write : Result (Unit {0}) PublishFault → Bool
+is_write (Ok done) = false
+is_write (Err (Store fault)) = false
+is_write (Err Write) = true
+
+-- what a fault of the register says
+abbrev pub OfStore : (StoreFault → Type 0) → PublishFault → Type 0
+OfStore P (Store fault) = P fault
+OfStore P Write = Unit {0}
+
+-- a fact of a call that found the list, and wrote it or a beginning of it
+abbrev pub IfFound : Result (Unit {0}) PublishFault → Type 0 → Type 0
+IfFound (Ok done) P = P
+IfFound (Err (Store fault)) P = Unit {0}
+IfFound (Err Write) P = P

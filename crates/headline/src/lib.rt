@@ -7,7 +7,7 @@
 
 mod fault;
 
-ghost use Rattle.std.specs.Prelude.{◌≡◌, ◌≢◌, ◌<◌, ℕ, List, Err, IfErr, IfOk, IsTrue, OnErr, OnOk, false, true};
+ghost use Rattle.std.specs.Prelude.{◌≡◌, ◌≢◌, ◌⊎◌, ◌<◌, ◌+◌, ℕ, List, length, Err, IfErr, IfOk, IsTrue, OnErr, OnOk, false, if◌then◌else◌, true};
 ghost use Rattle.std.specs.Io.KnownBytes.{Appends};
 ghost use Rattle.krl.specs.Published.{fits, published_text};
 ghost use Rattle.sqlite.specs.Held.{state};
@@ -16,12 +16,11 @@ ghost use Rattle.requests.specs.declared.resource.Resource.TheVariants.{Revocati
 ghost use Rattle.requests.specs.Asks.{Asks, get};
 ghost use Rattle.office.specs.declared.opening.Opening.{Opening};
 ghost use Rattle.office.specs.declared.arrival.Arrival.{Arrival};
-ghost use Rattle.office.specs.Faults.{IsOfARegister};
-ghost use Rattle.exchanges.specs.Printing.{Prints};
-ghost use Rattle.store.specs.Meaning.{OutlastsCrashes, Tells};
-ghost use Rattle.web.specs.Answers.{Answers};
+ghost use Rattle.office.specs.Faults.{HasCause, IsOfARegister};
+ghost use Rattle.store.specs.Meaning.{HasFailed, Stores, StoresWhereOpen, Tells};
+ghost use Rattle.web.specs.Causes.{IsOfAList};
 ghost use Rattle.laws.specs.Counting.{CountsUp};
-ghost use Rattle.headline.specs.Headline.{BodiesNameTheirSigners, BodiesStay, EqualVersionsAreEqualLists, IsList, IsListResponse, ListsForgetNothing};
+ghost use Rattle.headline.specs.Headline.{BodiesNameTheirSigners, BodiesStay, EqualVersionsAreEqualLists, IfFound, IsList, IsListResponse, ListsForgetNothing, OfStore, OfficeAnswers, OfficePrints, OfficeRuns, OfficeStops, is_write};
 
 pub use exchanges::RunFault;
 use exchanges::apply_exchanges;
@@ -31,7 +30,7 @@ use office::{MOST_CAS, Registry, Revoked, StoreFault};
 use sqlite::Alter;
 use std::alloc::Global;
 use std::io::Write;
-use store::{Store, a_crash_leaves_the_history};
+use store::{Store, what_is_open_is_stored};
 use web::{Exchange, answer};
 use wire::Sink;
 
@@ -44,14 +43,23 @@ pub fn replay<S: Alter, W: Write>(
     out: &mut W,
 ) -> Result<(), RunFault>
     // Each exchange is given the response that the plain machine gives after the first acceptances among the arrivals
-    // before it that met no fault. The tables then tell the history with all arrivals.
-    ensures ok { HasCleanDisk (state S.Store store.new.conn) → OnOk result (Prints (Tells (state S.Store store.old.conn)) (Tells (state S.Store store.new.conn)) exchanges.now (W.contents out.old) (W.contents out.new) false) }
+    // before it that met no fault; to a GET of the list the response is the list, exact. The tables then tell the history
+    // with all arrivals. Where an exchange asked something of them, they are open and store that history.
+    ensures ok { HasCleanDisk (state S.Store store.new.conn) → OnOk result (OfficePrints (state S.Store store.old.conn)
+        (state S.Store store.new.conn) exchanges.now (W.contents out.old) (W.contents out.new) false) }
 
-    // The same, but some are given a fault, and are no part of the history.
-    ensures fault { HasCleanDisk (state S.Store store.new.conn) → result ≡ Err RunFault.Fault → Prints (Tells (state S.Store store.old.conn)) (Tells (state S.Store store.new.conn)) exchanges.now (W.contents out.old) (W.contents out.new) true }
+    // The same, but some are given a fault, and are no part of the history. The tables store it where they have answered
+    // since the last fault.
+    ensures fault { HasCleanDisk (state S.Store store.new.conn) → result ≡ Err RunFault.Fault → OfficePrints (state S.Store
+        store.old.conn) (state S.Store store.new.conn) exchanges.now (W.contents out.old) (W.contents out.new) true }
 
-    // No crash afterwards loses what they tell.
-    ensures crash { OutlastsCrashes (state S.Store store.new.conn) }
+    // Where the output fails, all were run so, whatever of it was printed. For want of memory none was.
+    ensures write { HasCleanDisk (state S.Store store.new.conn) → result ≡ Err RunFault.Write
+        → OfficeRuns (state S.Store store.old.conn) (state S.Store store.new.conn) exchanges.now }
+    ensures unrun { result ≡ Err RunFault.NoMemory → store.new ≡ store.old }
+
+    // While the connection is open, the tables store what they tell: no crash afterwards loses it.
+    ensures crash { StoresWhereOpen (state S.Store store.new.conn) }
 
     // The kth message that makes a certificate gets the serial first + k - 1 and the digest of the kth body, so no serial
     // names two bodies; a body stays, and names the CA that signs it.
@@ -62,8 +70,10 @@ pub fn replay<S: Alter, W: Write>(
     laws::serials_count_up();
     laws::a_body_stays();
     laws::a_body_names_its_signer();
+    laws::the_list_is_exact();
+    requests::one_ask();
     let printed = apply_exchanges(store, alloc, exchanges, out);
-    a_crash_leaves_the_history(store);
+    what_is_open_is_stored(store);
     printed
 }
 
@@ -75,17 +85,22 @@ pub fn respond<S: Alter>(
     moment: u64,
     nonce: &[u8; 32],
 ) -> Result<Vec<u8>, StoreFault>
-    // It is the one that is due, and the tables then tell the history with the request's arrival, where it has one.
-    ensures answered { HasCleanDisk (state S.Store store.new.conn) → IfOk result (λ v. (o : Opening) (l : List Arrival) → Tells (state S.Store store.old.conn) o l → Answers o l request.now moment nonce.now v.items (Tells (state S.Store store.new.conn) o)) }
+    // It is the one that is due, and the tables then tell the history with the request's arrival, where it has one. Where
+    // something was asked of them, they are open and store that history, so that no crash loses it.
+    ensures answered { HasCleanDisk (state S.Store store.new.conn) → IfOk result (λ v. OfficeAnswers
+        (state S.Store store.old.conn) (state S.Store store.new.conn) request.now moment nonce.now v.items) }
 
     // After a fault they tell what they told.
     ensures fault { HasCleanDisk (state S.Store store.new.conn) → OnErr result ((o : Opening) (l : List Arrival) → Tells (state S.Store store.old.conn) o l → Tells (state S.Store store.new.conn) o l) }
 
-    // Such a fault is want of memory, or the database failed, or refused a row that was due.
+    // Such a fault is want of memory, or the database failed, or refused a row that was due. `Device` is answered only
+    // where one of the last two was.
     ensures only { HasCleanDisk (state S.Store store.new.conn) → IfErr result (λ e. (o : Opening) (l : List Arrival) → Tells (state S.Store store.old.conn) o l → IsOfARegister e) }
+    ensures cause { HasCleanDisk (state S.Store store.new.conn) → IfErr result (λ e. HasCause e (OfficeStops
+        (λ s. state S.Store s.conn) request.now moment nonce.now store.old store.new)) }
 
-    // No crash afterwards loses what they tell.
-    ensures crash { OutlastsCrashes (state S.Store store.new.conn) }
+    // While the connection is open, they store what they tell: no crash afterwards loses it.
+    ensures crash { StoresWhereOpen (state S.Store store.new.conn) }
 
     // To GET of the list it is the list, which revokes exactly what accepted messages named.
     ensures list { HasCleanDisk (state S.Store store.new.conn) → Asks request.now (get RevocationList) → IfOk result (λ v. (o : Opening) (l : List Arrival) → Tells (state S.Store store.old.conn) o l → IsListResponse o l v.items) }
@@ -97,7 +112,7 @@ pub fn respond<S: Alter>(
     laws::equal_versions_are_equal_lists();
     requests::one_ask();
     let response = answer(store, alloc, request, moment, nonce);
-    a_crash_leaves_the_history(store);
+    what_is_open_is_stored(store);
     response
 }
 
@@ -107,6 +122,8 @@ fn write_found<W: Sink>(revoked: &Revoked, sink: &mut W) -> Result<(), PublishFa
     ensures fits { OnOk result (IsTrue (fits revoked.now.parts.items revoked.now.key_ids)) }
     ensures ok { OnOk result (Appends (W.taken sink.old) (W.taken sink.new) (published_text revoked.now.head revoked.now.parts.items revoked.now.key_ids)) }
     ensures unwritten { IfErr result (λ e. e ≢ PublishFault.Write → sink.new ≡ sink.old) }
+    ensures failed { W.failed sink.new ≡ (if is_write result then W.failed sink.old + 1 else W.failed sink.old) }
+    ensures only { IfErr result (OfStore (IsOfAList (length revoked.now.parts.items))) }
 {
     let parts = revoked.parts.as_slice();
     if MOST_CAS < parts.len() {
@@ -133,13 +150,27 @@ pub fn publish<S: Alter, W: Sink>(
     // What is written is the list, which revokes exactly what accepted messages named.
     ensures list { HasCleanDisk (state S.Store store.new.conn) → OnOk result ((o : Opening) (l : List Arrival) → Tells (state S.Store store.old.conn) o l → (bytes : List ℕ) × IsList o l bytes × Appends (W.taken sink.old) (W.taken sink.new) bytes) }
 
-    // The tables tell what they told.
+    // The tables tell what they told. Where the list was found, they are open and store it, so that no crash loses it.
     ensures same { HasCleanDisk (state S.Store store.new.conn) → (o : Opening) (l : List Arrival) → Tells (state S.Store store.old.conn) o l → Tells (state S.Store store.new.conn) o l }
+    ensures found { HasCleanDisk (state S.Store store.new.conn) → IfFound result ((o : Opening) (l : List Arrival)
+        → Tells (state S.Store store.old.conn) o l → Stores (state S.Store store.new.conn) o l) }
 
-    // After any other fault than that of the writer nothing is written.
+    // While the connection is open, they store what they tell: no crash afterwards loses it.
+    ensures crash { StoresWhereOpen (state S.Store store.new.conn) }
+
+    // After any other fault than that of the writer nothing is written. That fault is answered just where the writer failed.
     ensures unwritten { IfErr result (λ e. e ≢ PublishFault.Write → sink.new ≡ sink.old) }
+    ensures failed { W.failed sink.new ≡ (if is_write result then W.failed sink.old + 1 else W.failed sink.old) }
+
+    // A fault of the register is want of memory, or the database failed. `Device` is answered only where it did.
+    ensures only { HasCleanDisk (state S.Store store.new.conn) → IfErr result (OfStore (λ e. (o : Opening)
+        (l : List Arrival) → Tells (state S.Store store.old.conn) o l → IsOfARegister e)) }
+    ensures cause { IfErr result (OfStore (λ e. HasCause e (HasFailed (state S.Store store.old.conn)
+        (state S.Store store.new.conn)))) }
 {
     laws::the_list_is_exact();
-    let revoked = store.revoked(alloc)?;
+    let found = store.revoked(alloc);
+    what_is_open_is_stored(store);
+    let revoked = found?;
     write_found(&revoked, sink)
 }
