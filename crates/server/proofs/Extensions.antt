@@ -48,18 +48,18 @@ ask_extends means l (post caller key message) moment nonce lawful size m =
     }
 
 -- A served request adds its arrival, or nothing.
-pub served_extends : (drawn left : Option (List ℕ)) (honest : Type 0) (before after : Opening → List Arrival → Type 0) → IsServed drawn left honest before after → honest → Extends 1 before after
-served_extends drawn left honest before after s h o l m =
+pub served_extends : (drawn left : Option (List ℕ)) (honest : Type 0) (before after keeps : Opening → List Arrival → Type 0) → IsServed drawn left honest before after keeps → honest → Extends 1 before after
+served_extends drawn left honest before after keeps s h o l m =
     let answers = s.served.answered h o l m in
     ask_extends (after o) l answers.ask s.moment s.served.nonce s.lawful s.served.nonce_size answers.history
 
 -- A connection adds one arrival at most.
-pub connection_extends : {A : Type 0} (result : Result A Fault) (drawn left : Option (List ℕ)) (honest : Type 0) (before after : Opening → List Arrival → Type 0) → honest → OnOk result (IsServed drawn left honest before after) → (result ≡ Err (Serving Write) → IsServed drawn left honest before after) → IfSilent result ((o : Opening) (l : List Arrival) → before o l → after o l) → Extends 1 before after
-connection_extends (Ok a) drawn left honest before after h ok write same = served_extends drawn left honest before after ok h
-connection_extends (Err Socket) drawn left honest before after h ok write same = extends_same before after same
-connection_extends (Err Clock) drawn left honest before after h ok write same = extends_same before after same
-connection_extends (Err (Serving Read)) drawn left honest before after h ok write same = extends_same before after same
-connection_extends (Err (Serving Nonces)) drawn left honest before after h ok write same = extends_same before after same
-connection_extends (Err (Serving Store)) drawn left honest before after h ok write same = extends_same before after same
-connection_extends (Err (Serving NoMemory)) drawn left honest before after h ok write same = extends_same before after same
-connection_extends (Err (Serving Write)) drawn left honest before after h ok write same = served_extends drawn left honest before after (write refl) h
+pub connection_extends : {A : Type 0} (result : Result A Fault) (drawn left : Option (List ℕ)) (honest : Type 0) (before after keeps : Opening → List Arrival → Type 0) → honest → OnOk result (IsServed drawn left honest before after keeps) → (result ≡ Err (Serving Write) → IsServed drawn left honest before after keeps) → IfSilent result ((o : Opening) (l : List Arrival) → before o l → after o l) → Extends 1 before after
+connection_extends (Ok a) drawn left honest before after keeps h ok write same = served_extends drawn left honest before after keeps ok h
+connection_extends (Err Socket) drawn left honest before after keeps h ok write same = extends_same before after same
+connection_extends (Err Clock) drawn left honest before after keeps h ok write same = extends_same before after same
+connection_extends (Err (Serving Read)) drawn left honest before after keeps h ok write same = extends_same before after same
+connection_extends (Err (Serving Nonces)) drawn left honest before after keeps h ok write same = extends_same before after same
+connection_extends (Err (Serving Store)) drawn left honest before after keeps h ok write same = extends_same before after same
+connection_extends (Err (Serving NoMemory)) drawn left honest before after keeps h ok write same = extends_same before after same
+connection_extends (Err (Serving Write)) drawn left honest before after keeps h ok write same = served_extends drawn left honest before after keeps (write refl) h

@@ -9,10 +9,11 @@ use Rattle.server.specs.declared.fault.Fault.{Fault}
 use Rattle.server.specs.declared.fault.Fault.TheVariants.{Socket, Clock, Serving}
 
 -- One request of a connection was served at a lawful moment, and took one nonce. Nothing is known of a socket's bytes.
-pub record IsServed (nonces nonces' : Option (List ℕ)) (honest : Type 0) (before after : Opening → List Arrival → Type 0) : Type 0 where
+pub record IsServed (nonces nonces' : Option (List ℕ)) (honest : Type 0)
+    (before after keeps : Opening → List Arrival → Type 0) : Type 0 where
   pub moment : ℕ
   pub lawful : moment ≤ LATEST_MOMENT
-  pub served : Served None None nonces nonces' moment honest before after
+  pub served : Served None None nonces nonces' moment honest before after keeps
 
 -- a fact of a connection on which nothing was written
 abbrev pub IfSilent : {A : Type 0} → Result A Fault → Type 0 → Type 0

@@ -4,6 +4,7 @@ ghost use Rattle.std.specs.Prelude.{◌≡◌, ◌≤◌, ◌<◌, ◌+◌, List
 ghost use Rattle.profile.specs.declared.limits.TheConstants.{LATEST_MOMENT};
 ghost use Rattle.office.specs.declared.opening.Opening.{Opening};
 ghost use Rattle.office.specs.declared.arrival.Arrival.{Arrival};
+ghost use Rattle.web.specs.Answers.{Keeps};
 ghost use Rattle.serving.specs.declared.fault.ServeFault.TheVariants.{Write};
 ghost use Rattle.server.specs.Connections.{IfSilent, IsServed};
 
@@ -50,8 +51,10 @@ pub(crate) fn serve_connection<R: Clock + AllocGlobal, S: Registry, N: Source>(
     ensures honest { S.is_honest store.new → S.is_honest store.old }
 
     // One request was served with one nonce; or it was, and the response could not be written whole.
-    ensures ok { OnOk result (IsServed (N.remaining nonces.old) (N.remaining nonces.new) (S.is_honest store.new) (S.means store.old) (S.means store.new)) }
-    ensures write { result ≡ Err (Fault.Serving Write) → IsServed (N.remaining nonces.old) (N.remaining nonces.new) (S.is_honest store.new) (S.means store.old) (S.means store.new) }
+    ensures ok { OnOk result (IsServed (N.remaining nonces.old) (N.remaining nonces.new) (S.is_honest store.new)
+        (S.means store.old) (S.means store.new) (Keeps S.means S.is_open store.new)) }
+    ensures write { result ≡ Err (Fault.Serving Write) → IsServed (N.remaining nonces.old) (N.remaining nonces.new)
+        (S.is_honest store.new) (S.means store.old) (S.means store.new) (Keeps S.means S.is_open store.new) }
 
     // After any other fault the register means what it meant.
     ensures unchanged { S.is_honest store.new → IfSilent result ((o : Opening) (l : List Arrival) → S.means store.old o l → S.means store.new o l) }

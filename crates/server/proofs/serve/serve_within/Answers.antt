@@ -13,7 +13,7 @@ loop-served-preserved g c =
       extends = λ h. extends_more at.served (means c.args.store.now) (means at.store) (means step.new.store)
           (at.invariant.extends (step.ensures.honest h))
           (connection_extends step.result (g.N.Source.remaining at.nonces) (g.N.Source.remaining step.new.nonces)
-          (g.S.Registry.is_honest step.new.store) (means at.store) (means step.new.store)
+          (g.S.Registry.is_honest step.new.store) (means at.store) (means step.new.store) _
           h step.ensures.ok step.ensures.write (step.ensures.unchanged h));
       failed = failed;
     }
