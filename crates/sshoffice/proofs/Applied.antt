@@ -16,10 +16,10 @@ use Rattle.exchanges.specs.Printing.{Prints}
 use Rattle.trial.specs.Trial.{opening_of, trial_arrival}
 
 -- What a register that shows the trial office gives is due.
-pub applies : (file : List ℕ) (es run : List Exchange) (before after : Opening → List Arrival → Type 0)
+pub applies : (file : List ℕ) (es run : List Exchange) (before after keeps : Opening → List Arrival → Type 0)
     (old new : Option (List ℕ)) (fault : Bool) → run ≡ es → AreExchanges es → file ≡ exchanges_text es
-    → before (opening_of 1 LAST_SERIAL) (trial_arrival ∷ []) → Prints before after run old new fault → Applies file old new fault
-applies file es run before after old new fault same are text shown prints =
+    → before (opening_of 1 LAST_SERIAL) (trial_arrival ∷ []) → Prints before after keeps run old new fault → Applies file old new fault
+applies file es run before after keeps old new fault same are text shown prints =
     let served = prints.serves (opening_of 1 LAST_SERIAL) (trial_arrival ∷ []) shown in
     record {
       exchanges = run;
