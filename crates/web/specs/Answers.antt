@@ -56,7 +56,8 @@ resource_response s Cas = response_text 200 PlainText (ca_report s)
 abbrev pub ListFits : State → Type 0
 ListFits s = IsTrue (fits (published_parts s) s.revoked_key_ids)
 
--- a history after which the list may be given: it is an office's, and the list fits. Of such a history the list is exact.
+-- A history after which the list may be given: it is an office's, and the list fits. By the laws of the list so much is
+-- enough for it to be exact.
 pub record MayList (o : Opening) (l : List Arrival) : Type 0 where
   pub office : IsOffice o l
   pub fits : ListFits (state o l)

@@ -20,8 +20,8 @@ AllDue o l [] [] last = last ≡ l
 AllDue o l (x ∷ xs) [] last = ⊥
 AllDue o l [] (g ∷ given) last = ⊥
 
--- The register has answered since the last fault, if it had answered before these exchanges where `so_far` says so. A
--- response that asks nothing of the register leaves that as it is.
+-- The register has answered since the last fault. Before these exchanges that held where `so_far` does. A response to a
+-- request that asks nothing of the register leaves it as it is.
 abbrev pub HasAnswered : (so_far : Type 0) → List Exchange → List Given → Type 0
 HasAnswered so_far (x ∷ xs) (Answer response ∷ given) = HasAnswered (so_far ⊎ AsksTheRegister x.request) xs given
 HasAnswered so_far (x ∷ xs) (Fault ∷ given) = HasAnswered ⊥ xs given

@@ -3,7 +3,7 @@
 //! `answer` gives to any bytes the one response that is due to what they ask, after the arrivals so far, over any
 //! register of an office, and `run` does so for exchanges one after the other. The text of each GET is a function of
 //! the plain office's state. Room for a response is reserved before anything is applied, so after a fault the register
-//! means what it meant.
+//! means what it meant. A register that has answered is open, so it keeps what it means.
 #![tactic(auto)]
 
 mod answering;

@@ -99,7 +99,9 @@ pub fn answer_by<R: Registry>(
 /// The response to the bytes of a request (RFC 9112): the one that is due after the arrivals so far. Bytes after the
 /// request aren't looked at.
 ///
-/// The routes and room for a response are made before the register is asked, so after a fault nothing was applied.
+/// The routes and room for a response are made before the register is asked, so after a fault nothing was applied. Where
+/// something was asked of the register and answered, the register is open, and so keeps what it means. A refusal that the
+/// bytes alone give asks nothing of it.
 ///
 /// # Errors
 ///
