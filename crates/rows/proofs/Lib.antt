@@ -7,3 +7,4 @@ pub mod OneOffice
 pub mod Same
 pub mod Steps
 pub mod Causes
+pub mod RunsApart

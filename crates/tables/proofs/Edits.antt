@@ -136,6 +136,18 @@ of_record cells places rows xs r h here =
     (all_from (Has (map cells xs)) (map cells xs) (λ e k. k)))
     (mapped_has (at_places places) rows r here))
 
+-- each record is a row's
+pub of_row : {X : Type 0} (cells : X → Row) (places : List ℕ) (rows : List Row) (xs : List X) (x : X)
+    → Lists cells places rows xs → Has xs x → (r : Row) × Has rows r × (at_places places r ≡ cells x)
+of_row cells places rows xs x h here =
+    let found = mapped_from (at_places places) rows (cells x)
+    (all_has (Has (map (at_places places) rows)) (map cells xs) (cells x)
+    (all-permutation (Has (map (at_places places) rows)) (map (at_places places) rows) (map cells xs)
+    (IsPermutation-sym _ _ h.same)
+    (all_from (Has (map (at_places places) rows)) (map (at_places places) rows) (λ e k. k)))
+    (mapped_has cells xs x here)) in
+    (found.0, found.1, sym found.2)
+
 -- ---- UPDATE
 
 given : (rows news : List Row) → numbered Given rows news ≡ news

@@ -19,6 +19,7 @@ pub mod InsertReasons
 pub mod Inserts
 pub mod KeyReasons
 pub mod KindLemmas
+pub mod LastRun
 pub mod Later
 pub mod Makeable
 pub mod Makes

@@ -1,5 +1,5 @@
 -- ORDER BY one column.
-use Rattle.std.proofs.Common.{◌≡◌, arith, ℕ, pos, List, [], ◌∷◌, map, Ok, Err, Result, refl, subst, ◌∙◌, IfOk, Ordering, Less, Equal, Greater, int_cmp, nat_cmp}
+use Rattle.std.proofs.Common.{◌≡◌, arith, true, ℕ, pos, List, [], ◌∷◌, map, Ok, Err, Result, refl, subst, ◌∙◌, IfOk, Ordering, Less, Equal, Greater, int_cmp, nat_cmp}
 use Rattle.std.specs.Cmp.Lexicographic.{slice_cmp}
 use Rattle.std.specs.Prelude.{Vec, IsSorted}
 use Rattle.std.specs.declared.alloc.Global.{Global}
@@ -17,6 +17,8 @@ use Rattle.sqlite.specs.declared.error.Error.{Error}
 use Rattle.sqlite.specs.State.{State, Shown}
 use Rattle.sqlite.proofs.Callers.{reads_as}
 use Rattle.tables.specs.declared.fault.Fault.{Fault}
+use Rattle.tables.specs.declared.runs.RunRow.{RunRow}
+use Rattle.tables.specs.Cells.{run_cells}
 use Rattle.tables.specs.Schema.{whole}
 use Rattle.tables.specs.Contents.{Contents}
 use Rattle.tables.specs.Calls.{Rises}
@@ -61,3 +63,23 @@ find_sorted {X} {K} {sql} {params} {cells} {of} f k key cmp rises told old new (
 find_sorted f k key cmp rises told old new (Ok rows) ok (Err e) read = tt
 find_sorted f k key cmp rises told old new (Err e) ok (Ok xs) read = absurd read
 find_sorted f k key cmp rises told old new (Err e) ok (Err g) read = tt
+
+-- ---- downwards
+
+-- rows descend by the column
+abbrev pub DescendBy : ℕ → List Row → Type 0
+DescendBy k = IsSorted (λ x y. key_cmp 0 (record { collation = Binary; descending = true } ∷ [])
+    (column x k ∷ []) (column y k ∷ []))
+
+down_cmp : (a b : Row) (o : Ordering) → value_cmp (column b 0) (column a 0) ≡ o
+    → key_cmp 0 (record { collation = Binary; descending = true } ∷ []) a b ≡ o
+down_cmp a b Less e = rw e refl
+down_cmp a b Equal e = rw e refl
+down_cmp a b Greater e = rw e refl
+
+pub falling : (zs : List RunRow) → DescendBy 0 (map run_cells zs) → IsSorted (λ x y. nat_cmp y.lo x.lo) zs
+falling zs down =
+    let mine = IsSorted-from_map (λ x y. key_cmp 0 (record { collation = Binary; descending = true } ∷ [])
+    (column x 0 ∷ []) (column y 0 ∷ [])) run_cells zs down in
+    subst (λ (o : RunRow → RunRow → Ordering). IsSorted o zs)
+    (λ i x y. down_cmp (Int (pos x.lo) ∷ []) (Int (pos y.lo) ∷ []) (nat_cmp y.lo x.lo) (number_cmp y.lo x.lo) i) mine

@@ -1,19 +1,25 @@
 -- The statements on the table of runs.
-use Rattle.std.proofs.Common.{◌≡◌, ℕ, pos, List, [], ◌∷◌, codes, map, Bool, true, false, not, Option, None, Ok, refl, ap, ap₂, subst, ◌∙◌, inl, inr}
-use Rattle.std.specs.Prelude.{◌&&◌, filter}
+use Rattle.std.proofs.Common.{◌≡◌, ℕ, pos, List, [], ◌∷◌, codes, map, Bool, true, false, not, Option, None, Ok, refl, sym, ap, ap₂, subst, ◌∙◌, inl, inr, take, IsSorted}
+use Rattle.std.specs.Prelude.{◌&&◌, filter, nat_le}
 use Rattle.std.specs.List.Sorted.{IsPermutation}
 use Rattle.std.proofs.Math.Bool.{and-true}
 use Rattle.std.proofs.lemmas.Simd.{map-map}
-use Rattle.std.proofs.lemmas.List.Sorted.{IsPermutation-map}
+use Rattle.std.proofs.lemmas.List.Sorted.{IsPermutation-map, IsPermutation-refl}
 use Rattle.sqlite.specs.Order.{Row, column}
 use Rattle.sqlite.specs.declared.types.Value.TheVariants.{Null, Int}
+use Rattle.std.proofs.lemmas.Cmp.{tied_itself}
+use Rattle.std.proofs.Common.{Equal}
+use Rattle.sqlite_value.proofs.OrderLemmas.{value_cmp_total}
+use Rattle.sqlite.specs.Order.{value_cmp}
+use Rattle.sqlite_rules.proofs.PlaceLemmas.{tied_same}
 use Rattle.sqlite_value.specs.Keys.{ascending}
+use Rattle.sqlite_value.specs.declared.keys.Key.{Key}
 use Rattle.sqlite.specs.Term.{Term, lit, col, op2}
 use Rattle.sqlite.specs.Ops.{binary, is_true}
 use Rattle.sqlite_sql.specs.declared.ops.BinaryOp.TheVariants.{Compare}
 use Rattle.sqlite_sql.specs.declared.ops.CompareOp.TheVariants.{Le, Ge}
 use Rattle.sqlite.specs.Collation.TheVariants.{Binary}
-use Rattle.sqlite.specs.Query.{Query, IsAnswer}
+use Rattle.sqlite.specs.Query.{Query, IsAnswer, Output}
 use Rattle.sqlite.specs.Program.{overlay}
 use Rattle.sqlite.specs.Source.TheVariants.{Values}
 use Rattle.sqlite.specs.Command.TheVariants.{Insert, Select, Delete}
@@ -32,12 +38,13 @@ use Rattle.sqlite.proofs.Callers.{IsPlain, command_of, statement_of}
 use Rattle.tables.specs.Schema.{whole, run_at}
 use Rattle.tables.specs.Cells.{run_cells}
 use Rattle.tables.specs.Contents.{Contents, Holds, Means, Lists, at_places, run_places}
-use Rattle.tables.specs.Changes.{meets, runs_meeting, with_run, without_runs}
-use Rattle.tables.specs.declared.sql.TheConstants.{INSERT_RUN, EVERY_RUN, FIND_RUNS, DELETE_RUNS}
+use Rattle.tables.specs.Changes.{with_run}
+use Rattle.tables.specs.Runs.{begins, last_run, without_runs}
+use Rattle.tables.specs.declared.sql.TheConstants.{INSERT_RUN, EVERY_RUN, LAST_RUN, DELETE_RUNS}
 use Rattle.tables.specs.declared.runs.RunRow.{RunRow}
 use Rattle.tables.proofs.Apart.{run_apart}
 use Rattle.tables.proofs.CallLemmas.{Write, Find}
-use Rattle.tables.proofs.Edits.{keep_all, of_record, left_is, filter_table}
+use Rattle.tables.proofs.Edits.{keep_all, of_record, of_row, left_is, filter_table}
 use Rattle.tables.proofs.Elsewhere.{spares, in_run}
 use Rattle.tables.proofs.FaultLemmas.{IsWhole, none_overflows}
 use Rattle.tables.proofs.Inserts.{no_works}
@@ -45,7 +52,9 @@ use Rattle.tables.proofs.Inserts as insert
 use Rattle.tables.proofs.Queries.{on_table, in_order, in_order, selected, chosen, lists_left, int_le_test, int_ge_test}
 use Rattle.tables.proofs.Rows.{cast_int}
 use Rattle.tables.proofs.Statements.{mode, deletes}
-use Rattle.tables.proofs.Rising.{AscendBy}
+use Rattle.tables.proofs.Rising.{AscendBy, DescendBy, falling}
+use Rattle.tables.proofs.LastRun.{falls, first_is_last, listed}
+use Rattle.tables.proofs.Unmapped.{unmapped}
 use Rattle.tables.proofs.Numbers.{le_number, ge_number}
 
 -- ---- INSERT
@@ -103,55 +112,114 @@ every = record {
   answers = every_answers;
 }
 
--- ---- the runs between two ends
+-- no two begin with the same serial
+begin_apart : (trees : Trees) (c : Contents) → Holds trees c → (x y : RunRow) → Has c.runs x → Has c.runs y
+    → x.lo ≡ y.lo → x ≡ y
+begin_apart trees c h x y here there equal =
+    let r = of_row run_cells run_places (trees 6) c.runs x h.runs here in
+    let s = of_row run_cells run_places (trees 6) c.runs y h.runs there in
+    let first : rowid r.0 ≡ Int (pos x.lo) = ap (λ v. column v 0) r.2 in
+    let second : rowid s.0 ≡ Int (pos x.lo) = ap (λ v. column v 0) s.2 ∙ ap (λ n. Int (pos n)) (sym equal) in
+    let tie : value_cmp (rowid r.0) (rowid s.0) ≡ Equal =
+    ap₂ value_cmp first second ∙ tied_itself value_cmp_total (Int (pos x.lo)) in
+    let same : r.0 ≡ s.0 = tied_same (trees 6) r.0 s.0 h.runs.apart r.1 s.1 tie in
+    run_apart x y (sym r.2 ∙ ap (at_places run_places) same ∙ s.2)
 
-abbrev pub tests : List Term
-tests = op2 (Compare Ge Binary) (col 1 2) (col 0 0) ∷ op2 (Compare Le Binary) (col 1 0) (col 0 1) ∷ []
+-- ---- SELECT of the last one that begins with a serial or before it
 
-abbrev pub passes : RunRow → Row → Bool
-passes ends v = is_true (binary (Compare Ge Binary) (column v 1) (Int (pos ends.lo))) &&
-    (is_true (binary (Compare Le Binary) (column v 0) (Int (pos ends.hi))) && true)
+abbrev last_sql : List ℕ
+last_sql = LAST_RUN.now
 
-passes_is : (ends r : RunRow) → passes ends (run_cells r) ≡ meets ends r
-passes_is ends r = ap₂ ◌&&◌ (int_ge_test (pos r.hi) (pos ends.lo) ∙ ge_number r.hi ends.lo)
-    (and-true _ ∙ int_le_test (pos r.lo) (pos ends.hi) ∙ le_number r.lo ends.hi)
+abbrev low_test : List Term
+low_test = op2 (Compare Le Binary) (col 1 0) (col 0 0) ∷ []
 
--- ---- SELECT of those between two ends
+abbrev downwards : List (Term × Key)
+downwards = (col 1 0, record { collation = Binary; descending = true }) ∷ []
 
-abbrev find_sql : List ℕ
-find_sql = FIND_RUNS.now
+abbrev low_query : Query
+low_query = on_table 6 low_test (col 1 0 ∷ col 1 2 ∷ []) downwards
 
-abbrev find_query : Query
-find_query = on_table 6 tests (col 1 0 ∷ col 1 2 ∷ []) ((col 1 0, ascending Binary) ∷ [])
+abbrev last_query : Query
+last_query = record low_query { limit = lit (Int (pos 1)) }
 
-find_is : (command_of (understood whole find_sql) ≡ Select (record { lets = []; body = find_query }) (codes "lo" ∷ codes "hi" ∷ [])) × (reads_listing whole find_sql ≡ false)
-    × IsPlain (understood whole find_sql) × IsWhole find_sql 2 (understood whole find_sql)
+last_is : (command_of (understood whole last_sql)
+    ≡ Select (record { lets = []; body = last_query }) (codes "lo" ∷ codes "hi" ∷ []))
+    × (reads_listing whole last_sql ≡ false)
+    × IsPlain (understood whole last_sql) × IsWhole last_sql 1 (understood whole last_sql)
 unfolding understood everything
-find_is = (refl, refl, (refl, refl), (refl, refl))
+last_is = (refl, refl, (refl, refl), (refl, refl))
 
-find_answers : (ends : RunRow) → (trees : Trees) (rows : List Row) (c : Contents) → Holds trees c
-    → IsAnswer find_query (overlay trees []) (run_cells ends) rows
-    → IsPermutation (map run_cells (runs_meeting ends c)) rows
-find_answers ends trees rows c h answer =
-    chosen run_cells run_cells (meets ends) run_places (λ v. passes ends v) (λ v. column v 0 ∷ column v 1 ∷ [])
-    (λ x. passes_is ends x) (λ x. refl) (trees 6) rows c.runs h.runs
-    (selected 6 _ _ _ trees (run_cells ends) rows refl answer)
+low_passes : (n : ℕ) (r : RunRow)
+    → (is_true (binary (Compare Le Binary) (column (run_cells r) 0) (Int (pos n))) && true) ≡ nat_le r.lo n
+low_passes n r = and-true _ ∙ int_le_test (pos r.lo) (pos n) ∙ le_number r.lo n
 
-pub find : (ends : RunRow) → Find find_sql (run_cells ends) run_cells (runs_meeting ends)
-find ends = record {
-  query = find_query;
+-- all that begin so, the last of them first
+module _ (n : ℕ) (trees : Trees) (rows : List Row) (c : Contents) (h : Holds trees c)
+    (answer : IsAnswer last_query (overlay trees []) (Int (pos n) ∷ []) rows) where
+  low_answer : IsAnswer low_query (overlay trees []) (Int (pos n) ∷ []) (map (λ (o : Output). o.1) answer.ordered)
+  low_answer = record {
+    staged = answer.staged;
+    grouped = answer.grouped;
+    kept = answer.kept;
+    distinct = answer.distinct;
+    ordered = answer.ordered;
+    same = answer.same;
+    sorted = answer.sorted;
+    shown = refl;
+  }
+
+  low_are : IsPermutation (map run_cells (filter (λ r. nat_le r.lo n) c.runs)) (map (λ (o : Output). o.1) answer.ordered)
+  low_are =
+      chosen run_cells run_cells (λ r. nat_le r.lo n) run_places
+      (λ v. is_true (binary (Compare Le Binary) (column v 0) (Int (pos n))) && true) (λ v. column v 0 ∷ column v 1 ∷ [])
+      (λ x. low_passes n x) (λ x. refl) (trees 6) (map (λ (o : Output). o.1) answer.ordered) c.runs h.runs
+      (selected 6 low_test (col 1 0 ∷ col 1 2 ∷ []) downwards trees (Int (pos n) ∷ [])
+      (map (λ (o : Output). o.1) answer.ordered) refl low_answer)
+
+  low_fall : DescendBy 0 (map (λ (o : Output). o.1) answer.ordered)
+  low_fall =
+      in_order 6 low_test (col 1 0 ∷ col 1 2 ∷ []) downwards trees (Int (pos n) ∷ [])
+      (map (λ (o : Output). o.1) answer.ordered) (λ v. column v 0 ∷ []) (λ r. refl) refl low_answer
+
+  last_answers : IsPermutation (map run_cells (listed (last_run n c))) rows
+  last_answers =
+      let all = unmapped run_cells (filter (λ r. nat_le r.lo n) c.runs) (map (λ (o : Output). o.1) answer.ordered) low_are in
+      let down : IsSorted falls all.0 = falling all.0 (subst (DescendBy 0) all.2 low_fall) in
+      let one : take 1 all.0 ≡ listed (last_run n c) =
+      first_is_last n c.runs all.0 (begin_apart trees c h) all.1 down in
+      let shown : rows ≡ map run_cells (take 1 all.0) = answer.shown ∙ ap (take 1) all.2 ∙ taken all.0 in
+      subst (IsPermutation (map run_cells (listed (last_run n c)))) (sym (shown ∙ ap (map run_cells) one)) (IsPermutation-refl _)
+    where
+      taken : (zs : List RunRow) → take 1 (map run_cells zs) ≡ map run_cells (take 1 zs)
+      taken [] = refl
+      taken (z ∷ zs) = refl
+
+pub last : (n : ℕ) → Find last_sql (Int (pos n) ∷ []) run_cells (λ c. listed (last_run n c))
+last n = record {
+  query = last_query;
   names = codes "lo" ∷ codes "hi" ∷ [];
-  is = find_is.0;
-  unlisted = find_is.1;
-  plain = find_is.2;
-  one = find_is.3;
+  is = last_is.0;
+  unlisted = last_is.1;
+  plain = last_is.2;
+  one = last_is.3;
   typed = refl;
   sure = λ trees h. elim h [ inl over ↦ over | inr fold ↦ none_overflows _ fold ];
   apart = run_apart;
-  answers = find_answers ends;
+  answers = last_answers n;
 }
 
 -- ---- DELETE
+
+abbrev pub tests : List Term
+tests = op2 (Compare Ge Binary) (col 1 0) (col 0 0) ∷ op2 (Compare Le Binary) (col 1 0) (col 0 1) ∷ []
+
+abbrev pub passes : RunRow → Row → Bool
+passes ends v = is_true (binary (Compare Ge Binary) (column v 0) (Int (pos ends.lo))) &&
+    (is_true (binary (Compare Le Binary) (column v 0) (Int (pos ends.hi))) && true)
+
+passes_is : (ends r : RunRow) → passes ends (run_cells r) ≡ begins ends r
+passes_is ends r = ap₂ ◌&&◌ (int_ge_test (pos r.lo) (pos ends.lo) ∙ ge_number r.lo ends.lo)
+    (and-true _ ∙ int_le_test (pos r.lo) (pos ends.hi) ∙ le_number r.lo ends.hi)
 
 abbrev pub delete_sql : List ℕ
 delete_sql = DELETE_RUNS.now
@@ -170,7 +238,7 @@ hit ends r = passes ends (at_places run_places r)
 left_runs : (ends : RunRow) (c : Contents) (db after : Trees) (rows : List Row) → Holds db c
     → IsAnswer delete_query (overlay db []) (run_cells ends) rows
     → Applies whole Enforced db (edit_of db run_at (ids_of rows) Given 0 []) after
-    → Lists run_cells run_places (after 6) (filter (λ r. not (meets ends r)) c.runs)
+    → Lists run_cells run_places (after 6) (filter (λ r. not (begins ends r)) c.runs)
 left_runs ends c db after rows h answer did =
     let all = selected 6 tests (col 1 0 ∷ []) [] db (run_cells ends) rows refl answer in
     let ids : IsPermutation (map (λ r. id_in (rowid r)) (filter (hit ends) (db 6))) (ids_of rows) =
@@ -183,7 +251,7 @@ left_runs ends c db after rows h answer did =
     let left : after 6 ≡ filter (λ r. not (hit ends r)) (db 6) = did.rows
     ∙ left_is (hit ends) (db 6) h.runs.apart ints (ids_of rows) ids in
     record {
-      same = rw left (lists_left run_cells (λ r. not (meets ends r)) run_places (λ v. not (passes ends v))
+      same = rw left (lists_left run_cells (λ r. not (begins ends r)) run_places (λ v. not (passes ends v))
           (λ r. ap not (passes_is ends r)) (db 6) c.runs h.runs);
       apart = rw left (filter_table _ (db 6) h.runs.apart);
     }
@@ -198,7 +266,7 @@ delete_does ends limit db next tally c means h =
     (no_works 6) in
     let left = left_runs ends c db.trees next.trees did.0 means.kept.holds (did.1.answer Null) did.2 in (
       did.3,
-      in_run db.trees next.trees c means.kept.holds (filter (λ r. not (meets ends r)) c.runs)
+      in_run db.trees next.trees c means.kept.holds (filter (λ r. not (begins ends r)) c.runs)
           (spares (edit_of db.trees run_at (ids_of did.0) Given 0 []) db.trees next.trees did.2) left,
     )
 
@@ -219,10 +287,3 @@ unfolding every
 every_rises trees rows answer =
     in_order 6 [] (col 1 0 ∷ col 1 2 ∷ []) ((col 1 0, ascending Binary) ∷ []) trees ([]) rows (λ v. column v 0 ∷ [])
     (λ r. refl) refl answer
-
-pub find_rises : (ends : RunRow) → (trees : Trees) (rows : List Row)
-    → IsAnswer (find ends).query (overlay trees []) (run_cells ends) rows → AscendBy 0 rows
-unfolding find
-find_rises ends trees rows answer =
-    in_order 6 tests (col 1 0 ∷ col 1 2 ∷ []) ((col 1 0, ascending Binary) ∷ []) trees (run_cells ends) rows
-    (λ v. column v 0 ∷ []) (λ r. refl) refl answer

@@ -1,5 +1,5 @@
 -- What each write makes of the contents.
-use Rattle.std.specs.Prelude.{ℕ, Bool, not, cond, ◌&&◌, ◌==◌, nat_le, List, ◌∷◌, map, filter, Some, bytes_eq}
+use Rattle.std.specs.Prelude.{ℕ, Bool, not, cond, ◌&&◌, ◌==◌, List, ◌∷◌, map, filter, Some, bytes_eq}
 use Rattle.tables.specs.declared.offices.OfficeRow.{OfficeRow}
 use Rattle.tables.specs.declared.offices.Counters.{Counters}
 use Rattle.tables.specs.declared.departments.DepartmentRow.{DepartmentRow}
@@ -72,18 +72,8 @@ with_request r c = record c { requests = r ∷ c.requests }
 
 -- ---- runs of revoked serials
 
--- the run has a serial from the one end to the other
-abbrev pub meets : RunRow → RunRow → Bool
-meets ends r = nat_le ends.lo r.hi && nat_le r.lo ends.hi
-
-abbrev pub runs_meeting : RunRow → Contents → List RunRow
-runs_meeting ends c = filter (meets ends) c.runs
-
 abbrev pub with_run : RunRow → Contents → Contents
 with_run r c = record c { runs = r ∷ c.runs }
-
-abbrev pub without_runs : RunRow → Contents → Contents
-without_runs ends c = record c { runs = filter (λ r. not (meets ends r)) c.runs }
 
 -- ---- revoked key ids
 

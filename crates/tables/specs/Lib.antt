@@ -5,6 +5,7 @@ pub mod Cells
 pub mod Contents
 pub mod Changes
 pub mod Calls
+pub mod Runs
 pub mod Done
 pub mod Look
 pub mod Refusals

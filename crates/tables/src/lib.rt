@@ -35,5 +35,5 @@ pub use number::Number;
 pub use offices::{Counters, OfficeRow, every_office, insert_office, update_office, update_schema};
 pub use requests::{RequestRow, find_request, insert_request};
 pub use revoked::{every_revoked, find_revoked, insert_revoked};
-pub use runs::{RunRow, delete_runs, every_run, find_runs, insert_run};
+pub use runs::{RunRow, delete_runs, every_run, insert_run, last_run};
 pub use transaction::{begin, commit, rollback};

@@ -5,16 +5,17 @@ ghost use Rattle.std.specs.Ordering.{nat_cmp};
 ghost use Rattle.sqlite.specs.Held.{state};
 ghost use Rattle.sqlite.specs.State.{HasCleanDisk, Survives};
 ghost use Rattle.tables.specs.Cells.{run_cells};
-ghost use Rattle.tables.specs.Changes.{runs_meeting, with_run, without_runs};
+ghost use Rattle.tables.specs.Changes.{with_run};
+ghost use Rattle.tables.specs.Runs.{FindsIts, last_run, without_runs};
 ghost use Rattle.tables.specs.Calls.{Changes, FailsBy, Finds, Leaves, Never, Rises, Stays, WasOpen};
 ghost use Rattle.tables.specs.Faults.{HasCause};
 ghost use Rattle.tables.specs.Refusals.{RefusedFor, RefusesRun};
 
-use crate::columns::{Columns, found};
+use crate::columns::{Columns, found, found_first};
 use crate::fault::{Fault, done};
 use crate::kind::{Kind, is_row_of, number_at};
 use crate::number::Number;
-use crate::sql::{DELETE_RUNS, EVERY_RUN, FIND_RUNS, INSERT_RUN};
+use crate::sql::{DELETE_RUNS, EVERY_RUN, INSERT_RUN, LAST_RUN};
 use sqlite::types::ValueRef;
 use sqlite::{Alter, Connection, Row};
 use std::alloc::Global;
@@ -93,26 +94,25 @@ pub fn every_run<S: Alter>(alloc: Global, conn: &mut Connection<S>) -> Result<Ve
     found(alloc, conn.query_all(EVERY_RUN, &[]))
 }
 
-/// The runs that have a serial between these ends, both included, ascending. `Damaged` where a row has another form.
-pub fn find_runs<S: Alter>(
+/// The last of the runs that begin with this serial or before it, if there is one. `Damaged` where its row has another
+/// form. It reads that row alone.
+pub fn last_run<S: Alter>(
     alloc: Global,
     conn: &mut Connection<S>,
-    ends: &RunRow,
-) -> Result<Vec<RunRow>, Fault>
+    serial: Number,
+) -> Result<Option<RunRow>, Fault>
     ensures finds { HasCleanDisk (state S.Store conn.new) →
-        Finds (runs_meeting ends.now) (state S.Store conn.old) (state S.Store conn.new) result }
-    ensures sorted { HasCleanDisk (state S.Store conn.new)
-        → Rises (λ r. r.lo) (nat_cmp) (state S.Store conn.old) result }
+        FindsIts (last_run serial) (state S.Store conn.old) (state S.Store conn.new) result }
     ensures was_open { HasCleanDisk (state S.Store conn.new)
         → WasOpen (state S.Store conn.old) (state S.Store conn.new) result }
     ensures fault { HasCleanDisk (state S.Store conn.new) →
         FailsBy HasCause (state S.Store conn.old) (state S.Store conn.new) result }
     ensures survives { Survives (state S.Store conn.old) (state S.Store conn.new) (Never (state S.Store conn.old)) }
 {
-    found(alloc, conn.query_all(FIND_RUNS, &ends.values()))
+    found_first(alloc, conn.query_all(LAST_RUN, &[serial.value()]))
 }
 
-/// Takes out the runs that have a serial between these ends, both included. The tables never refuse that.
+/// Takes out the runs that begin between these ends, both included. The tables never refuse that.
 pub fn delete_runs<S: Alter>(conn: &mut Connection<S>, ends: &RunRow) -> Result<(), Fault>
     ensures changes { HasCleanDisk (state S.Store conn.new) →
         Changes (without_runs ends.now) (state S.Store conn.old) (state S.Store conn.new) result }

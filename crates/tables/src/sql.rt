@@ -77,9 +77,9 @@ pub(crate) const INSERT_RUN: &str = "INSERT INTO run (lo, hi) VALUES (?1, ?2)";
 
 pub(crate) const EVERY_RUN: &str = "SELECT lo, hi FROM run ORDER BY lo";
 
-pub(crate) const FIND_RUNS: &str = "SELECT lo, hi FROM run WHERE hi >= ?1 AND lo <= ?2 ORDER BY lo";
+pub(crate) const LAST_RUN: &str = "SELECT lo, hi FROM run WHERE lo <= ?1 ORDER BY lo DESC LIMIT 1";
 
-pub(crate) const DELETE_RUNS: &str = "DELETE FROM run WHERE hi >= ?1 AND lo <= ?2";
+pub(crate) const DELETE_RUNS: &str = "DELETE FROM run WHERE lo >= ?1 AND lo <= ?2";
 
 // ---- revoked key ids
 

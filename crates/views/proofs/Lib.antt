@@ -2,6 +2,7 @@ pub mod Showing
 pub mod OneRow
 pub mod Numbered
 pub mod Rising
+pub mod Reaching
 pub mod RunsShown
 pub mod Named
 pub mod KeyIds

@@ -1,4 +1,4 @@
--- The runs of a set ascend, and so do those that meet an interval.
+-- The runs of a set ascend.
 use Rattle.std.proofs.Common.{◌≡◌, ℕ, zero, suc, ◌+◌, ◌<◌, ◌≤◌, ◌^◌, List, [], ◌∷◌, map, Bool, true, false, cond, ◌&&◌, ◌||◌, leb, Less, nat_cmp, refl, sym, ap, ◌∙◌, arith, inl, inr}
 use Rattle.std.specs.List.{AllByRecursion}
 use Rattle.std.specs.Cmp.{nat_cmp_is}
@@ -7,10 +7,8 @@ use Rattle.std.proofs.lemmas.Bool.Decides.{nat_tests}
 use Rattle.sqlite.specs.Tree.{IsAscending}
 use Rattle.krl.specs.declared.run.Run.{Run}
 use Rattle.krl.specs.Sets.{AreRunsFrom, contains, is_within, runs_in, with_first}
-use Rattle.tables.specs.declared.runs.RunRow.{RunRow}
-use Rattle.tables.specs.Changes.{meets}
 use Rattle.rows.specs.Rows.{run_row}
-use Rattle.views.specs.RunRows.{RiseFrom, meeting, runs_of}
+use Rattle.views.specs.RunRows.{RiseFrom, runs_of}
 
 -- ---- the runs of a set
 
@@ -50,36 +48,6 @@ pub rows_rise : (from : ℕ) (runs : List Run) → RiseFrom from runs
     → IsAscending (λ a b. nat_cmp a.lo b.lo ≡ Less) (map run_row runs)
 rows_rise from [] h = tt
 rows_rise from (r ∷ runs) h = (above r.lo (r.hi + 2) runs (omega (arith, h.1)) h.2, rows_rise (r.hi + 2) runs h.2)
-
--- ---- the runs that meet an interval
-
-pub meeting_rise : (ends : RunRow) (from : ℕ) (runs : List Run) → RiseFrom from runs → RiseFrom from (meeting ends runs)
-meeting_rise ends from [] h = tt
-meeting_rise ends from (r ∷ runs) h = by_test (meets ends (run_row r)) (meeting_rise ends (r.hi + 2) runs h.2)
-  where
-    by_test : (b : Bool) → RiseFrom (r.hi + 2) (meeting ends runs)
-        → RiseFrom from (cond b (r ∷ meeting ends runs) (meeting ends runs))
-    by_test true later = (h.0, h.1, later)
-    by_test false later = rise_lower from (r.hi + 2) (meeting ends runs) (omega (arith, h.0, h.1)) later
-
-out_of : (n : ℕ) (ends : RunRow) (r : Run) → ends.lo ≤ n → n ≤ ends.hi → meets ends (run_row r) ≡ false
-    → is_within n r ≡ false
-out_of n ends r low high none = by_case (leb r.lo n) (leb n r.hi) refl refl
-  where
-    by_case : (a b : Bool) → leb r.lo n ≡ a → leb n r.hi ≡ b → (leb r.lo n && leb n r.hi) ≡ false
-    by_case a b p q = grind (arith, nat_tests)
-
--- a serial of the interval is in one of these runs where it is in any
-pub contains_meeting : (n : ℕ) (ends : RunRow) (runs : List Run) → ends.lo ≤ n → n ≤ ends.hi
-    → contains (meeting ends runs) n ≡ contains runs n
-contains_meeting n ends [] low high = refl
-contains_meeting n ends (r ∷ runs) low high =
-    by_test (meets ends (run_row r)) refl (contains_meeting n ends runs low high)
-  where
-    by_test : (b : Bool) → meets ends (run_row r) ≡ b → contains (meeting ends runs) n ≡ contains runs n
-        → contains (cond b (r ∷ meeting ends runs) (meeting ends runs)) n ≡ (is_within n r || contains runs n)
-    by_test true is later = ap (λ (b : Bool). is_within n r || b) later
-    by_test false is later = later ∙ sym (ap (λ (b : Bool). b || contains runs n) (out_of n ends r low high is))
 
 -- ---- runs whose ends are small enough
 

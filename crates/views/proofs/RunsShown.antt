@@ -1,20 +1,20 @@
 -- The runs of the revoked serials, as rows show them.
-use Rattle.std.proofs.Common.{◌≡◌, ℕ, ◌+◌, ◌<◌, ◌≤◌, inl, List, length, map, Bool, true, false, ◌&&◌, leb, Ok, Err, Result, refl, sym, ap, subst, ◌∙◌, arith, IsPermutation, IsTrue}
+use Rattle.std.proofs.Common.{◌≡◌, ℕ, ◌+◌, ◌<◌, ◌≤◌, inl, List, length, map, ◌^◌, Option, Bool, true, false, ◌&&◌, leb, Ok, Err, Result, refl, sym, ap, subst, ◌∙◌, arith, IsPermutation, IsTrue}
 use Rattle.std.specs.Prelude.{◌↔◌, IsSortedByKey}
 use Rattle.std.specs.Ordering.{nat_cmp}
 use Rattle.std.proofs.lemmas.Bool.{and_parts, leb-true}
 use Rattle.std.proofs.lemmas.Cmp.{nat_cmp_total, on_total}
 use Rattle.sqlite_keyed.proofs.SortLemmas.{sorted_unique}
-use Rattle.sqlite_trees.proofs.ListLemmas.{filter-map}
 use Rattle.sqlite.specs.State.{State as Connection, IsUnchanged}
 use Rattle.krl.specs.declared.run.Run.{Run}
 use Rattle.krl.specs.Sets.{HasAll, contains, is_counted}
-use Rattle.krl.proofs.Counting.{contains_runs_in, are_counted}
+use Rattle.krl.proofs.Counting.{contains_runs_in, are_counted, runs_in_runs}
 use Rattle.profile.specs.declared.limits.TheConstants.{LAST_SERIAL}
 use Rattle.office.specs.declared.arrival.Kept.{Kept}
 use Rattle.office.specs.State.{State}
 use Rattle.tables.specs.declared.runs.RunRow.{RunRow}
-use Rattle.tables.specs.Changes.{meets, runs_meeting}
+use Rattle.tables.specs.Runs.{last_at, last_run}
+use Rattle.tables.proofs.LastRun.{is_last}
 use Rattle.tables.specs.Contents.{Contents, Means}
 use Rattle.tables.specs.declared.fault.Fault.{Fault}
 use Rattle.tables.specs.declared.fault.Fault.TheVariants.{Damaged, Device, NoMemory}
@@ -22,8 +22,10 @@ use Rattle.rows.specs.Lawful.{IsLawful}
 use Rattle.rows.specs.Rows.{contents_of, revoked_runs, run_row}
 use Rattle.rows.specs.Showing.{Shows}
 use Rattle.views.specs.Histories.{IsOfHistory}
-use Rattle.views.specs.RunRows.{AreRead, AreRevokedRuns, RiseFrom, meeting, runs_of}
-use Rattle.views.proofs.Rising.{back_again, contains_meeting, meeting_rise, rise_lower, rows_rise, runs_rise}
+use Rattle.views.specs.RunRows.{AreRead, AreRevokedRuns, RiseFrom, reaches, runs_of}
+use Rattle.views.proofs.Rising.{back_again, rise_lower, rows_rise, runs_rise}
+use Rattle.views.proofs.Reaching.{all_in}
+use Rattle.rows.proofs.RunsApart.{rows_apart}
 use Rattle.std.proofs.Math.Bool.{and-false}
 
 revoked_rise : (s : State) → RiseFrom 0 (revoked_runs s)
@@ -62,16 +64,6 @@ pub shows_every : (old new : Connection) (rows : List RunRow) (r : Result (List 
     → Shows (λ s kept x. x ≡ revoked_runs s) old new r
 shows_every = shows_runs (λ c. c.runs) revoked_runs (λ s kept. refl) revoked_rise
 
--- the runs that meet an interval
-pub shows_meeting : (ends : RunRow) (old new : Connection) (rows : List RunRow) (r : Result (List Run) Fault)
-    → ((c : Contents) → Means old.now c → IsUnchanged old new × IsPermutation (runs_meeting ends c) rows)
-    → ((c : Contents) → Means old.now c → IsSortedByKey (λ r. r.lo) nat_cmp rows) → AreRead rows r
-    → Shows (λ s kept x. x ≡ meeting ends (revoked_runs s)) old new r
-shows_meeting ends =
-    shows_runs (runs_meeting ends) (λ s. meeting ends (revoked_runs s))
-    (λ s kept. filter-map (meets ends) run_row (revoked_runs s))
-    (λ s. meeting_rise ends 0 (revoked_runs s) (revoked_rise s))
-
 -- ---- the serials in them
 
 counted : (first count n : ℕ) (b : Bool) → (b ≡ true → (first ≤ n) × (n < first + count))
@@ -79,13 +71,21 @@ counted : (first count n : ℕ) (b : Bool) → (b ≡ true → (first ≤ n) × 
 counted first count n true is = let p = is refl in rw (are_counted first count n p.0 p.1) refl
 counted first count n false is = and-false (is_counted first count n)
 
+-- so many serials are of 64 bits
+are_few : (s : State) (kept : List Kept) → IsLawful s → IsOfHistory s kept
+    → s.opening.first + length s.certificates ≤ 2 ^ 64
+are_few s kept lawful history =
+    let tests = and_parts (leb 1 s.opening.first) (leb s.opening.first s.opening.last && leb s.opening.last LAST_SERIAL)
+    lawful.opening.serials in
+    let last : s.opening.last ≤ LAST_SERIAL = leb-true _ _ (and_parts (leb s.opening.first s.opening.last)
+    (leb s.opening.last LAST_SERIAL) tests.1).1 in
+    omega (arith, last, history.range)
+
 -- just the revoked serials, where only issued ones are revoked
 pub revoked_in : (s : State) (kept : List Kept) → IsLawful s → IsOfHistory s kept → (n : ℕ)
     → contains (revoked_runs s) n ≡ s.revoked n
 revoked_in s kept lawful history n =
-    let tests = and_parts (leb 1 s.opening.first) (leb s.opening.first s.opening.last && leb s.opening.last LAST_SERIAL) lawful.opening.serials in
-    let last : s.opening.last ≤ LAST_SERIAL = leb-true _ _ (and_parts (leb s.opening.first s.opening.last) (leb s.opening.last LAST_SERIAL) tests.1).1 in
-    contains_runs_in s.revoked s.opening.first (length s.certificates) n (omega (arith, last, history.range))
+    contains_runs_in s.revoked s.opening.first (length s.certificates) n (are_few s kept lawful history)
     ∙ counted s.opening.first (length s.certificates) n (s.revoked n) (history.revoked n)
 
 pub are_revoked_runs : (s : State) (kept : List Kept) (runs : List Run) → IsLawful s → runs ≡ revoked_runs s
@@ -95,15 +95,18 @@ are_revoked_runs s kept runs lawful is = record {
   serials = λ history n. ap (λ (l : List Run). contains l n) is ∙ revoked_in s kept lawful history n;
 }
 
--- each serial of an interval is in the runs that meet it where it is revoked
-pub all_meeting : (s : State) (kept : List Kept) (ends : RunRow) (flag : Bool) (runs : List Run) → IsLawful s
-    → IsOfHistory s kept → runs ≡ meeting ends (revoked_runs s)
-    → (IsTrue flag ↔ HasAll (contains runs) ends.lo ends.hi)
-    → (IsTrue flag ↔ HasAll s.revoked ends.lo ends.hi)
-all_meeting s kept ends flag runs lawful history are says = (
-  λ is n low high. sym (same n low high) ∙ says.0 is n low high,
-  λ all. says.1 (λ n low high. same n low high ∙ all n low high),
-)
-  where
-    same : (n : ℕ) → ends.lo ≤ n → n ≤ ends.hi → contains runs n ≡ s.revoked n
-    same n low high = ap (λ (l : List Run). contains l n) are ∙ contains_meeting n ends (revoked_runs s) low high ∙ revoked_in s kept lawful history n
+-- ---- an interval of them
+
+-- where the last run that begins with a serial or before it ends with another or after it, each between them is revoked
+pub all_reached : (s : State) (kept : List Kept) (lo hi : ℕ) (found : Option RunRow) → lo ≤ hi → IsLawful s
+    → IsOfHistory s kept → found ≡ last_run lo (contents_of s kept)
+    → (IsTrue (reaches found hi) ↔ HasAll s.revoked lo hi)
+all_reached s kept lo hi found order lawful history is =
+    let runs = revoked_runs s in
+    let says = all_in lo hi runs (last_at lo (map run_row runs)) order
+    (rows_apart 0 runs (runs_in_runs s.revoked s.opening.first (length s.certificates) (are_few s kept lawful history)))
+    (is_last lo (map run_row runs)) in
+    rw is (
+      λ reached n low high. sym (revoked_in s kept lawful history n) ∙ says.0 reached n low high,
+      λ all. says.1 (λ n low high. revoked_in s kept lawful history n ∙ all n low high),
+    )

@@ -1,14 +1,13 @@
 -- Runs of rows.
-use Rattle.std.specs.Prelude.{◌≡◌, ℕ, ◌+◌, ◌≤◌, List, [], ◌∷◌, map, filter, Result, Ok, Err}
+use Rattle.std.specs.Prelude.{◌≡◌, ℕ, ◌+◌, ◌≤◌, Bool, false, nat_le, List, [], ◌∷◌, map, Option, Some, None, Result, Ok, Err}
 use Rattle.krl.specs.declared.run.Run.{Run}
 use Rattle.krl.specs.Sets.{contains}
 use Rattle.tables.specs.declared.runs.RunRow.{RunRow}
-use Rattle.tables.specs.Changes.{meets}
 use Rattle.tables.specs.declared.fault.Fault.{Fault}
 use Rattle.tables.specs.declared.fault.Fault.TheVariants.{Damaged, Device, NoMemory}
 use Rattle.office.specs.declared.arrival.Kept.{Kept}
 use Rattle.office.specs.State.{State}
-use Rattle.rows.specs.Rows.{revoked_runs, run_row}
+use Rattle.rows.specs.Rows.{revoked_runs}
 use Rattle.views.specs.Histories.{IsOfHistory}
 
 abbrev pub run_of : RunRow → Run
@@ -29,9 +28,10 @@ AreRead rows (Err NoMemory) = Unit {0}
 AreRead rows (Err Damaged) = ¬ RiseFrom 0 (runs_of rows)
 AreRead rows (Err Device) = ⊥
 
--- the runs that have a serial from the one end to the other
-abbrev pub meeting : RunRow → List Run → List Run
-meeting ends runs = filter (λ r. meets ends (run_row r)) runs
+-- the run is there, and ends with the serial or after it
+abbrev pub reaches : Option RunRow → ℕ → Bool
+reaches None hi = false
+reaches (Some r) hi = nat_le hi r.hi
 
 -- the maximal runs of the revoked serials, which have just these
 pub record AreRevokedRuns (runs : List Run) (s : State) (kept : List Kept) : Type 0 where

@@ -8,13 +8,13 @@ ghost use Rattle.tables.specs.Calls.{Never, WasOpen};
 ghost use Rattle.rows.specs.Rows.{revoked_runs};
 ghost use Rattle.rows.specs.Showing.{Shows};
 ghost use Rattle.views.specs.Histories.{IsOfHistory};
-ghost use Rattle.views.specs.RunRows.{AreRead, AreRevokedRuns, meeting, run_of, runs_of};
+ghost use Rattle.views.specs.RunRows.{AreRead, AreRevokedRuns, reaches, run_of, runs_of};
 
 use krl::{Run, Runs};
 use rows::number;
 use sqlite::{Alter, Connection};
 use std::alloc::Global;
-use tables::{Fault, RunRow, every_run, find_runs};
+use tables::{Fault, RunRow, every_run, last_run};
 use text::NoMemory;
 
 fn run_of(row: &RunRow) -> Run
@@ -74,26 +74,17 @@ pub fn revoked_runs<S: Alter>(alloc: Global, conn: &mut Connection<S>) -> Result
     every_revoked_run(alloc, conn)
 }
 
-fn runs_meeting<S: Alter>(
-    alloc: Global,
-    conn: &mut Connection<S>,
-    ends: &RunRow,
-) -> Result<Runs, Fault>
-    ensures shows { HasCleanDisk (state S.Store conn.new)
-        → Shows (λ s kept runs. runs ≡ meeting ends.now (revoked_runs s))
-        (state S.Store conn.old) (state S.Store conn.new) result }
-    ensures was_open { HasCleanDisk (state S.Store conn.new)
-        → WasOpen (state S.Store conn.old) (state S.Store conn.new) result }
-    ensures survives { Survives (state S.Store conn.old) (state S.Store conn.new) (Never (state S.Store conn.old)) }
+fn reaches(found: Option<RunRow>, hi: u64) -> bool
+    ensures { result ≡ reaches found hi }
 {
-    match find_runs(alloc, conn, ends) {
-        Ok(rows) => read_runs(alloc, rows.as_slice()),
-        Err(fault) => Err(fault),
+    match found {
+        Some(run) => hi <= run.hi.get(),
+        None => false,
     }
 }
 
-/// Whether each serial from `lo` to `hi`, both included and `lo` not above `hi`, is revoked. It reads what is between them
-/// alone.
+/// Whether each serial from `lo` to `hi`, both included and `lo` not above `hi`, is revoked. It reads one run: the
+/// last that begins with `lo` or before it.
 pub fn are_revoked<S: Alter>(
     alloc: Global,
     conn: &mut Connection<S>,
@@ -109,12 +100,8 @@ pub fn are_revoked<S: Alter>(
         → WasOpen (state S.Store conn.old) (state S.Store conn.new) result }
     ensures survives { Survives (state S.Store conn.old) (state S.Store conn.new) (Never (state S.Store conn.old)) }
 {
-    let ends = RunRow {
-        lo: number(lo),
-        hi: number(hi),
-    };
-    match runs_meeting(alloc, conn, &ends) {
-        Ok(runs) => Ok(runs.has_all(lo, hi)),
+    match last_run(alloc, conn, number(lo)) {
+        Ok(found) => Ok(reaches(found, hi)),
         Err(fault) => Err(fault),
     }
 }

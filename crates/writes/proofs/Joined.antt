@@ -1,10 +1,9 @@
 -- The rows of runs once a range is put among them.
-use Rattle.std.proofs.Common.{◌≡◌, ℕ, ◌+◌, ◌<◌, ◌≤◌, ◌^◌, List, [], ◌∷◌, ◌++◌, length, length-append, map, Bool, true, false, ◌&&◌, ◌||◌, refl, sym, ap, ◌∙◌, arith, IsPermutation}
+use Rattle.std.proofs.Common.{◌≡◌, ℕ, ◌+◌, ◌<◌, ◌≤◌, ◌^◌, List, [], ◌∷◌, ◌++◌, length, length-append, map, Bool, true, false, ◌&&◌, ◌||◌, refl, sym, ap, ap₂, subst, ◌∙◌, arith, IsPermutation}
 use Rattle.std.specs.Prelude.{not, min, max, filter}
-use Rattle.std.specs.List.{AllByRecursion}
 use Rattle.std.proofs.lemmas.Bool.Decides.{nat_tests}
-use Rattle.std.proofs.lemmas.List.Sorted.{IsPermutation-map, IsPermutation-sym}
-use Rattle.sqlite_trees.proofs.ListLemmas.{filter-map, all-permutation}
+use Rattle.std.proofs.lemmas.List.Sorted.{IsPermutation-map}
+use Rattle.sqlite_trees.proofs.ListLemmas.{filter-map}
 use Rattle.krl.specs.declared.run.Run.{Run}
 use Rattle.krl.specs.Sets.{is_within, is_counted, runs_in, AreRuns}
 use Rattle.krl.proofs.Joining.{joined, joined_runs, contains_joined}
@@ -15,52 +14,15 @@ use Rattle.office.specs.declared.certificate.Certificate.{Certificate}
 use Rattle.office.specs.State.{State, next_serial}
 use Rattle.office.specs.Machine.{with_certificate, with_range}
 use Rattle.tables.specs.declared.runs.RunRow.{RunRow}
-use Rattle.tables.specs.Changes.{meets}
+use Rattle.tables.specs.Runs.{begins, last_at}
+use Rattle.tables.proofs.Edits.{filter_alike}
+use Rattle.tables.proofs.LastRun.{is_last}
+use Rattle.rows.proofs.RunsApart.{AreApart, rows_apart}
 use Rattle.rows.specs.Rows.{revoked_runs, run_row}
-use Rattle.writes.specs.Ranges.{around, spanning}
+use Rattle.writes.specs.Ranges.{joined_high, joined_low}
+use Rattle.writes.proofs.Ends.{begin_within, spanning, touches, whole_is}
 use Rattle.writes.proofs.Spans.{is_near, is_far, span, spanned}
 use Rattle.std.proofs.Math.Bool.{and-false}
-
--- ---- the order of the runs is nothing
-
-least_low : (lo hi : ℕ) (rs : List RunRow) → ((spanning lo hi rs).lo ≤ lo) × AllByRecursion (λ r. (spanning lo hi rs).lo ≤ r.lo) rs
-least_low lo hi [] = (omega arith, tt)
-least_low lo hi (r ∷ rs) =
-    let later = least_low (min lo r.lo) (max hi r.hi) rs in
-    let least : (spanning lo hi (r ∷ rs)).lo ≤ min lo r.lo = later.0 in
-    (omega arith, (omega arith, later.1))
-
-low_above : (m lo hi : ℕ) (rs : List RunRow) → m ≤ lo → AllByRecursion (λ r. m ≤ r.lo) rs → m ≤ (spanning lo hi rs).lo
-low_above m lo hi [] le all = le
-low_above m lo hi (r ∷ rs) le all = low_above m (min lo r.lo) (max hi r.hi) rs (omega (arith, all.0)) all.1
-
-greatest_high : (lo hi : ℕ) (rs : List RunRow) → (hi ≤ (spanning lo hi rs).hi) × AllByRecursion (λ r. r.hi ≤ (spanning lo hi rs).hi) rs
-greatest_high lo hi [] = (omega arith, tt)
-greatest_high lo hi (r ∷ rs) =
-    let later = greatest_high (min lo r.lo) (max hi r.hi) rs in
-    let greatest : max hi r.hi ≤ (spanning lo hi (r ∷ rs)).hi = later.0 in
-    (omega arith, (omega arith, later.1))
-
-high_below : (m lo hi : ℕ) (rs : List RunRow) → hi ≤ m → AllByRecursion (λ r. r.hi ≤ m) rs → (spanning lo hi rs).hi ≤ m
-high_below m lo hi [] le all = le
-high_below m lo hi (r ∷ rs) le all = high_below m (min lo r.lo) (max hi r.hi) rs (omega (arith, all.0)) all.1
-
-low_le : (lo hi : ℕ) (xs ys : List RunRow) → IsPermutation xs ys → (spanning lo hi xs).lo ≤ (spanning lo hi ys).lo
-low_le lo hi xs ys same =
-    let low = least_low lo hi xs in
-    low_above (spanning lo hi xs).lo lo hi ys low.0 (all-permutation (λ r. (spanning lo hi xs).lo ≤ r.lo) xs ys same low.1)
-
-high_le : (lo hi : ℕ) (xs ys : List RunRow) → IsPermutation xs ys → (spanning lo hi ys).hi ≤ (spanning lo hi xs).hi
-high_le lo hi xs ys same =
-    let high = greatest_high lo hi xs in
-    high_below (spanning lo hi xs).hi lo hi ys high.0 (all-permutation (λ r. r.hi ≤ (spanning lo hi xs).hi) xs ys same high.1)
-
-pub spanning_same : (lo hi : ℕ) (xs ys : List RunRow) → IsPermutation xs ys → spanning lo hi xs ≡ spanning lo hi ys
-spanning_same lo hi xs ys same =
-    let back = IsPermutation-sym xs ys same in
-    let low : (spanning lo hi xs).lo ≡ (spanning lo hi ys).lo = omega (arith, low_le lo hi xs ys same, low_le lo hi ys xs back) in
-    let high : (spanning lo hi xs).hi ≡ (spanning lo hi ys).hi = omega (arith, high_le lo hi xs ys same, high_le lo hi ys xs back) in
-    λ i. record { lo = low i; hi = high i }
 
 -- ---- the set
 
@@ -96,20 +58,47 @@ spanning_rows lo hi (r ∷ rs) = spanning_rows (min lo r.lo) (max hi r.hi) rs
 in_order : (r : SerialRange) → is_range r ≡ true → (1 ≤ r.lo) × (r.lo ≤ r.hi)
 in_order r is = (grind (arith, nat_tests), grind (arith, nat_tests))
 
--- the range and the runs that it touches or overlaps as one, and the other runs, are the runs of the state with the range
-pub rows_joined : (s : State) (r : SerialRange) → is_range r ≡ true → s.opening.first ≤ r.lo → r.hi < next_serial s
+abbrev whole_run : State → SerialRange → RunRow
+whole_run s r = record {
+  lo = joined_low r.lo (last_at r.lo (map run_row (revoked_runs s)));
+  hi = joined_high r.hi (last_at (r.hi + 1) (map run_row (revoked_runs s)));
+}
+
+-- the range and the runs that touch or overlap it as one, and the other runs, are the runs of the state with the range
+rows_spanned : (s : State) (r : SerialRange) → is_range r ≡ true → s.opening.first ≤ r.lo → r.hi < next_serial s
     → next_serial s ≤ 2 ^ 64
-    → IsPermutation (spanning r.lo r.hi (filter (meets (around r)) (map run_row (revoked_runs s)))
-    ∷ filter (λ q. not (meets (around r) q)) (map run_row (revoked_runs s))) (map run_row (revoked_runs (with_range s r)))
-rows_joined s r is low high fits =
+    → IsPermutation (spanning r.lo r.hi (filter (touches r.lo r.hi) (map run_row (revoked_runs s)))
+    ∷ filter (λ q. not (touches r.lo r.hi q)) (map run_row (revoked_runs s))) (map run_row (revoked_runs (with_range s r)))
+rows_spanned s r is low high fits =
     let order = in_order r is in
     let rs = revoked_runs s in
-    let near : filter (meets (around r)) (map run_row rs) ≡ map run_row (filter (is_near r.lo r.hi) rs) = filter-map (meets (around r)) run_row rs in
-    let far : filter (λ q. not (meets (around r) q)) (map run_row rs) ≡ map run_row (filter (is_far r.lo r.hi) rs) =
-    filter-map (λ q. not (meets (around r) q)) run_row rs in
+    let near : filter (touches r.lo r.hi) (map run_row rs) ≡ map run_row (filter (is_near r.lo r.hi) rs) =
+    filter-map (touches r.lo r.hi) run_row rs in
+    let far : filter (λ q. not (touches r.lo r.hi q)) (map run_row rs) ≡ map run_row (filter (is_far r.lo r.hi) rs) =
+    filter-map (λ q. not (touches r.lo r.hi q)) run_row rs in
     rw (near, far, spanning_rows r.lo r.hi (filter (is_near r.lo r.hi) rs), sym (runs_after s r order.1 low high fits))
     (IsPermutation-map run_row (span r.lo r.hi (filter (is_near r.lo r.hi) rs) ∷ filter (is_far r.lo r.hi) rs) (joined r.lo r.hi rs)
     (spanned r.lo r.hi 0 rs order.0 order.1 (runs_in_runs s.revoked s.opening.first (length s.certificates) fits)))
+
+-- so they are where the ends of the one are had from the last runs that begin before its ends
+pub rows_joined : (s : State) (r : SerialRange) → is_range r ≡ true → s.opening.first ≤ r.lo → r.hi < next_serial s
+    → next_serial s ≤ 2 ^ 64
+    → IsPermutation (whole_run s r ∷ filter (λ q. not (begins (whole_run s r) q)) (map run_row (revoked_runs s)))
+    (map run_row (revoked_runs (with_range s r)))
+rows_joined s r is low high fits =
+    let order = in_order r is in
+    let rows = map run_row (revoked_runs s) in
+    let apart : AreApart rows =
+    rows_apart 0 (revoked_runs s) (runs_in_runs s.revoked s.opening.first (length s.certificates) fits) in
+    let first = is_last r.lo rows in
+    let last = is_last (r.hi + 1) rows in
+    let whole : spanning r.lo r.hi (filter (touches r.lo r.hi) rows) ≡ whole_run s r =
+    whole_is r.lo r.hi rows apart order.1 (last_at r.lo rows) (last_at (r.hi + 1) rows) first last in
+    let others : filter (λ q. not (touches r.lo r.hi q)) rows ≡ filter (λ q. not (begins (whole_run s r) q)) rows =
+    filter_alike (λ q. not (touches r.lo r.hi q)) (λ q. not (begins (whole_run s r) q)) rows
+    (λ q here. ap not (begin_within r.lo r.hi rows apart order.1 (last_at r.lo rows) (last_at (r.hi + 1) rows) first last q here)) in
+    subst (λ (l : List RunRow). IsPermutation l (map run_row (revoked_runs (with_range s r))))
+    (ap₂ (λ (x : RunRow) (xs : List RunRow). x ∷ xs) whole others) (rows_spanned s r is low high fits)
 
 -- ---- a certificate more
 

@@ -1,4 +1,5 @@
 pub mod Spans
+pub mod Ends
 pub mod Joined
 pub mod Named
 pub mod Serials

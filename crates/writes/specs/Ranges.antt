@@ -1,23 +1,32 @@
 -- A range of serials, put among the runs of those that are revoked.
-use Rattle.std.specs.Prelude.{ℕ, ◌+◌, ◌-◌, List, [], ◌∷◌, min, max}
+use Rattle.std.specs.Prelude.{ℕ, ◌+◌, nat_le, if◌then◌else◌, max, Option, Some, None}
 use Rattle.message.specs.declared.serial_range.SerialRange.{SerialRange}
 use Rattle.tables.specs.declared.runs.RunRow.{RunRow}
 use Rattle.tables.specs.Contents.{Contents}
-use Rattle.tables.specs.Changes.{runs_meeting, with_run, without_runs}
+use Rattle.tables.specs.Changes.{with_run}
+use Rattle.tables.specs.Runs.{last_run, without_runs}
 
--- the range with the serial below it and the one above it: a run that has one of these touches or overlaps it
-abbrev pub around : SerialRange → RunRow
-around r = record { lo = r.lo - 1; hi = r.hi + 1 }
+-- where a run that begins with the serial or before it touches or has the serial, its own begin, and else the serial
+abbrev pub joined_low : ℕ → Option RunRow → ℕ
+joined_low lo None = lo
+joined_low lo (Some x) = if nat_le lo (x.hi + 1) then x.lo else lo
 
--- from the least end of an interval and of runs up to the greatest
-abbrev pub spanning : ℕ → ℕ → List RunRow → RunRow
-spanning lo hi [] = record { lo = lo; hi = hi }
-spanning lo hi (r ∷ rs) = spanning (min lo r.lo) (max hi r.hi) rs
+-- the greater end
+abbrev pub joined_high : ℕ → Option RunRow → ℕ
+joined_high hi None = hi
+joined_high hi (Some x) = max hi x.hi
+
+-- from a serial up to the end of the range, or to that of the last run that it touches or overlaps
+abbrev pub run_from : ℕ → SerialRange → Contents → RunRow
+run_from lo r c = record { lo = lo; hi = joined_high r.hi (last_run (r.hi + 1) c) }
 
 -- the range and the runs that touch or overlap it, as one
 abbrev pub joined_run : SerialRange → Contents → RunRow
-joined_run r c = spanning r.lo r.hi (runs_meeting (around r) c)
+joined_run r c = run_from (joined_low r.lo (last_run r.lo c)) r c
 
--- that one, in place of those runs
+-- the run in place of those that begin within it
+abbrev pub with_joined : RunRow → Contents → Contents
+with_joined run c = with_run run (without_runs run c)
+
 abbrev pub with_range : SerialRange → Contents → Contents
-with_range r c = with_run (joined_run r c) (without_runs (around r) c)
+with_range r c = with_joined (joined_run r c) c

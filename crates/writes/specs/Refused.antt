@@ -10,16 +10,22 @@ use Rattle.tables.specs.declared.offices.Counters.{Counters}
 use Rattle.tables.specs.declared.requests.RequestRow.{RequestRow}
 use Rattle.tables.specs.Cells.{key_id_cells}
 use Rattle.tables.specs.Contents.{Contents}
-use Rattle.tables.specs.Changes.{with_counters, with_request, without_runs}
+use Rattle.tables.specs.Changes.{with_counters, with_request}
+use Rattle.tables.specs.Runs.{without_runs}
 use Rattle.tables.specs.Refusals.{IsFull, IsTooLong, RefusesCa, RefusesCert, RefusesCounters, RefusesDepartment, RefusesRequest, RefusesRun, RefusesSignature}
 use Rattle.rows.specs.Rows.{cert_row, department_row, request_row}
 use Rattle.writes.specs.Changing.{ca_from}
 use Rattle.writes.specs.Due.{counters_of, kept_of}
-use Rattle.writes.specs.Ranges.{around, joined_run}
+use Rattle.writes.specs.Ranges.{joined_run}
+use Rattle.tables.specs.declared.runs.RunRow.{RunRow}
 
--- the runs that touch or overlap the range are taken out, but the joined one is not put in
+-- the runs that begin within the run are taken out, but it is not put in
+abbrev pub RefusesJoined : RunRow → Contents → Type 0
+RefusesJoined run c = RefusesRun run (without_runs run c)
+
+-- so is the range with those that touch or overlap it
 abbrev pub RefusesRange : SerialRange → Contents → Type 0
-RefusesRange r c = RefusesRun (joined_run r c) (without_runs (around r) c)
+RefusesRange r c = RefusesJoined (joined_run r c) c
 
 -- the change is refused, of which a CA gets this number and serves from this serial on; a key id that is there is left
 abbrev pub RefusesChange : (number since : ℕ) → Change → Contents → Type 0

@@ -4,58 +4,80 @@ ghost use Rattle.std.specs.Prelude.{◌≡◌, ◌<◌, ◌≤◌, ◌^◌, IsTr
 ghost use Rattle.sqlite.specs.Held.{state};
 ghost use Rattle.sqlite.specs.State.{HasCleanDisk, Survives};
 ghost use Rattle.message.specs.Values.{is_range};
-ghost use Rattle.tables.specs.Changes.{with_run, without_runs};
-ghost use Rattle.tables.specs.Refusals.{RefusesRun};
 ghost use Rattle.rows.specs.Transactions.{FailsFor, Has, Makes, Waits};
-ghost use Rattle.writes.specs.Ranges.{around, joined_run, spanning, with_range};
-ghost use Rattle.writes.specs.Refused.{RefusesRange};
+ghost use Rattle.writes.specs.Ranges.{joined_high, joined_low, run_from, with_joined, with_range};
+ghost use Rattle.writes.specs.Refused.{RefusesJoined, RefusesRange};
 
 use message::SerialRange;
 use rows::number;
 use sqlite::{Alter, Connection};
 use std::alloc::Global;
-use tables::{Fault, RunRow, delete_runs, find_runs, insert_run};
+use tables::{Fault, Number, RunRow, delete_runs, insert_run, last_run};
 
-// What a run has a serial of, if it touches or overlaps the range.
-fn around(range: SerialRange) -> RunRow
-    requires { IsTrue (is_range range) }
-    ensures { result ≡ around range }
+// Where a range from this serial on begins, once it is one with the last run that begins there or before.
+fn joined_low(lo: u64, found: Option<RunRow>) -> Number
+    requires { lo < 2 ^ 63 }
+    ensures { result ≡ joined_low lo found }
 {
-    RunRow {
-        lo: number(range.lo - 1),
-        hi: number(range.hi + 1),
+    match found {
+        Some(run) => {
+            if lo <= run.hi.get() + 1 {
+                run.lo
+            } else {
+                number(lo)
+            }
+        }
+        None => number(lo),
     }
 }
 
-// From the least end of the range and the runs up to the greatest.
-fn spanning(range: SerialRange, rows: &[RunRow]) -> RunRow
-    requires { IsTrue (is_range range) }
-    ensures { result ≡ spanning range.lo range.hi rows.now }
+// Where a range up to this serial ends, once it is one with the last run that begins behind it or before.
+fn joined_high(hi: u64, found: Option<RunRow>) -> Number
+    requires { hi < 2 ^ 63 }
+    ensures { result ≡ joined_high hi found }
 {
-    let mut lo = range.lo;
-    let mut hi = range.hi;
-    for row in rows {
-        lo = lo.min(row.lo.get());
-        hi = hi.max(row.hi.get());
-    }
-    RunRow {
-        lo: number(lo),
-        hi: number(hi),
+    match found {
+        Some(run) => number(hi.max(run.hi.get())),
+        None => number(hi),
     }
 }
 
-fn replace<S: Alter>(conn: &mut Connection<S>, ends: &RunRow, run: &RunRow) -> Result<(), Fault>
-    ensures makes { HasCleanDisk (state S.Store conn.new) → Makes Has (λ c. with_run run.now (without_runs ends.now c))
+fn replace<S: Alter>(conn: &mut Connection<S>, run: &RunRow) -> Result<(), Fault>
+    ensures makes { HasCleanDisk (state S.Store conn.new) → Makes Has (with_joined run.now)
         (state S.Store conn.old) (state S.Store conn.new) result }
-    ensures fault { HasCleanDisk (state S.Store conn.new) → FailsFor Has (λ c. RefusesRun run.now (without_runs ends.now c))
+    ensures fault { HasCleanDisk (state S.Store conn.new) → FailsFor Has (RefusesJoined run.now)
         (state S.Store conn.old) (state S.Store conn.new) result }
     ensures survives { Survives (state S.Store conn.old) (state S.Store conn.new) (Waits Has (state S.Store conn.old)) }
 {
-    delete_runs(conn, ends)?;
+    delete_runs(conn, run)?;
     insert_run(conn, run)
 }
 
-/// Puts a range among the runs: it and those that it touches or overlaps become one.
+// Puts the run from this serial on.
+fn put_from<S: Alter>(
+    alloc: Global,
+    conn: &mut Connection<S>,
+    range: SerialRange,
+    lo: Number,
+) -> Result<(), Fault>
+    requires { IsTrue (is_range range) }
+    ensures makes { HasCleanDisk (state S.Store conn.new) → Makes Has (λ c. with_joined (run_from lo range c) c)
+        (state S.Store conn.old) (state S.Store conn.new) result }
+    ensures fault { HasCleanDisk (state S.Store conn.new) → FailsFor Has (λ c. RefusesJoined (run_from lo range c) c)
+        (state S.Store conn.old) (state S.Store conn.new) result }
+    ensures survives { Survives (state S.Store conn.old) (state S.Store conn.new) (Waits Has (state S.Store conn.old)) }
+{
+    match last_run(alloc, conn, number(range.hi + 1)) {
+        Ok(found) => {
+            let hi = joined_high(range.hi, found);
+            replace(conn, &RunRow { lo, hi })
+        }
+        Err(fault) => Err(fault),
+    }
+}
+
+/// Puts a range among the runs: it and those that it touches or overlaps become one. It reads two runs, however many
+/// there are.
 pub(crate) fn put_range<S: Alter>(
     alloc: Global,
     conn: &mut Connection<S>,
@@ -68,9 +90,8 @@ pub(crate) fn put_range<S: Alter>(
         (state S.Store conn.old) (state S.Store conn.new) result }
     ensures survives { Survives (state S.Store conn.old) (state S.Store conn.new) (Waits Has (state S.Store conn.old)) }
 {
-    let ends = around(range);
-    match find_runs(alloc, conn, &ends) {
-        Ok(rows) => replace(conn, &ends, &spanning(range, rows.as_slice())),
+    match last_run(alloc, conn, number(range.lo)) {
+        Ok(found) => put_from(alloc, conn, range, joined_low(range.lo, found)),
         Err(fault) => Err(fault),
     }
 }

@@ -1,7 +1,8 @@
 use Rattle.std.proofs.Common.{arith}
 use Rattle.sqlite.specs.Held.{state}
 use Rattle.sqlite.specs.State.{HasCleanDisk}
-use Rattle.tables.specs.Changes.{with_run, without_runs}
+use Rattle.tables.specs.Changes.{with_run}
+use Rattle.tables.specs.Runs.{without_runs}
 use Rattle.rows.specs.Transactions.{Has}
 use Rattle.tables.specs.Calls.{Leaves}
 use Rattle.tables.specs.Refusals.{RefusesRun}
@@ -15,7 +16,7 @@ returns-clause-makes g c clean =
     let mid = state g.S.Store c.delete_runs.new.conn in
     let new = state g.S.Store c.insert_run.new.conn in
     let still : HasCleanDisk mid = omega (arith, c.insert_run.ensures.survives.clean) in
-    makes_then (without_runs c.args.ends.now) (with_run c.args.run.now) old mid new c.insert_run.result
+    makes_then (without_runs c.args.run.now) (with_run c.args.run.now) old mid new c.insert_run.result
     (c.in_ok-delete_runs.ensures.changes still) (makes (with_run c.args.run.now) mid new c.insert_run.result (c.insert_run.ensures.changes clean))
 
 pub returns-clause-fault : goal.returns-clause-fault
@@ -25,7 +26,7 @@ returns-clause-fault g c clean =
     let new = state g.S.Store c.insert_run.new.conn in
     let still : HasCleanDisk mid = omega (arith, c.insert_run.ensures.survives.clean) in
     let run = c.args.run.now in
-    let ends = c.args.ends.now in
+    let ends = c.args.run.now in
     fails_then Has Has (RefusesRun run) (λ d. RefusesRun run (without_runs ends d)) (without_runs ends)
     (Leaves (without_runs ends) old) old mid new c.insert_run.result
     (leads (without_runs ends) old mid (c.in_ok-delete_runs.ensures.changes still)) (λ d means why. why)
@@ -37,7 +38,7 @@ returns-clause-survives g c =
     let old = state g.S.Store c.args.conn.now in
     let mid = state g.S.Store c.delete_runs.new.conn in
     let new = state g.S.Store c.insert_run.new.conn in
-    waits_then Has Has (without_runs c.args.ends.now) old mid new
-    (λ clean. leads (without_runs c.args.ends.now) old mid (c.in_ok-delete_runs.ensures.changes clean))
-    (waits (without_runs c.args.ends.now) old mid c.delete_runs.ensures.survives)
+    waits_then Has Has (without_runs c.args.run.now) old mid new
+    (λ clean. leads (without_runs c.args.run.now) old mid (c.in_ok-delete_runs.ensures.changes clean))
+    (waits (without_runs c.args.run.now) old mid c.delete_runs.ensures.survives)
     (waits (with_run c.args.run.now) mid new c.insert_run.ensures.survives)
