@@ -1,3 +1,4 @@
+pub mod LongFiles
 pub mod Printed
 pub mod RecordFiles
 pub mod Records

@@ -9,5 +9,8 @@ mod reading;
 mod running;
 
 pub use printing::{has_fault, print_given};
-pub use reading::{ExchangesFault, MAX_EXCHANGES, MAX_REQUEST, read_exchanges};
+pub use reading::{
+    ExchangesFault, MAX_EXCHANGES, MAX_FILE, MAX_RECORD_LINE, MAX_REQUEST, read_exchanges,
+    the_first_bytes_tell_of_a_file,
+};
 pub use running::{RunFault, apply_exchanges, print_all};

@@ -1,12 +1,30 @@
 //! Exchange files.
 
-ghost use Rattle.std.specs.Prelude.{◌≡◌, ◌==◌, List, ◌++◌, [], ◌∷◌, position, option_map, option_copied, IfOk, IfErr, OnOk, MatchResult, codes};
+ghost use Rattle.std.specs.Prelude.{
+  ◌≡◌,
+  ◌==◌,
+  ◌+◌,
+  ℕ,
+  List,
+  ◌++◌,
+  [],
+  ◌∷◌,
+  position,
+  take,
+  option_map,
+  option_copied,
+  IfOk,
+  IfErr,
+  OnOk,
+  MatchResult,
+  codes,
+};
 ghost use Rattle.std.specs.Result.{result_ok};
 ghost use Rattle.std.specs.Str.{bytes_eq};
 ghost use Rattle.hex.specs.Hex.{decode_sized, encode_lower};
 ghost use Rattle.web.specs.declared.exchange.Exchange.{Exchange};
 ghost use Rattle.exchanges.specs.Reading.{after, cut_of, exchange_at, exchange_of, nonce_of, number_up_to, request_in};
-ghost use Rattle.exchanges.specs.Exchanges.{AreExchanges, IsFault, exchanges_text};
+ghost use Rattle.exchanges.specs.Exchanges.{AreExchanges, IsFault, TellsOf, exchanges_text};
 
 use profile::read_decimal;
 use std::alloc::Global;
@@ -18,6 +36,12 @@ pub const MAX_EXCHANGES: usize = 10000;
 
 /// The most bytes of a record's request.
 pub const MAX_REQUEST: usize = 65536;
+
+/// The most bytes of a record's first line: a word, two numbers, a nonce, three spaces and a line feed.
+pub const MAX_RECORD_LINE: usize = 101;
+
+/// The most bytes of a file: 10000 records, each with the longest first line and the longest request.
+pub const MAX_FILE: usize = MAX_EXCHANGES * (MAX_RECORD_LINE + MAX_REQUEST);
 
 /// Why a file isn't one of exchanges.
 #[derive(Clone, Copy, Debug, PartialEq, Eq)]
@@ -216,3 +240,8 @@ pub fn read_exchanges(alloc: Global, file: &[u8]) -> Result<Vec<Exchange>, Excha
     }
     Ok(exchanges)
 }
+
+/// A file's first 656370001 bytes, one more than any file of exchanges has, tell of the file what reading asks.
+pub fn the_first_bytes_tell_of_a_file()
+    ensures { (file : List ℕ) → TellsOf file (take (MAX_FILE + 1) file) }
+{}

@@ -1,3 +1,4 @@
+pub mod Brought
 pub mod Inductions
 pub mod Named
 pub mod Changes

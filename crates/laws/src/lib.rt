@@ -2,10 +2,12 @@
 #![tactic(auto)]
 
 mod certificates;
+mod messages;
 mod publication;
 mod revocations;
 
 pub use certificates::{a_body_names_its_signer, a_body_stays, serials_count_up};
+pub use messages::an_arrival_brings_the_message_of_its_text;
 pub use publication::{
     a_later_list_revokes_as_much, equal_versions_are_equal_lists, the_list_is_exact,
 };

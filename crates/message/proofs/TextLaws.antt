@@ -1,6 +1,7 @@
 -- Messages as texts: a text is read as the message that it belongs to, and the fault is at the first line of none.
-use Rattle.std.proofs.Common.{◌≡◌, ◌↔◌, ℕ, zero, suc, ◌-◌, ◌<◌, ◌≤◌, List, [], ◌∷◌, ◌++◌, length, take, get_or, Bool, true, false, cond, eqb, ltb, Result, Ok, Err, refl, sym, ap, subst, ◌∙◌, arith, inl, inr}
+use Rattle.std.proofs.Common.{◌≡◌, ◌↔◌, ℕ, zero, suc, ◌-◌, ◌<◌, ◌≤◌, List, [], ◌∷◌, ◌++◌, length, take, get_or, Bool, true, false, cond, eqb, ltb, Some, Result, Ok, Err, refl, sym, ap, subst, ◌∙◌, arith, inl, inr}
 use Rattle.std.specs.Prelude.{IsTrue, IfOk}
+use Rattle.std.specs.Result.{result_ok}
 use Rattle.std.specs.List.{AllByRecursion, slice_split, onto_first, join_with_byte}
 use Rattle.std.proofs.lemmas.Bool.{cases_order}
 use Rattle.std.proofs.lemmas.List.Splits.{slice_split_at, join_with_byte-slice_split, length-slice_split}
@@ -10,7 +11,8 @@ use Rattle.message.specs.declared.fault.MessageFault.TheVariants as fault
 use Rattle.message.specs.declared.kinds.Message.{Message}
 use Rattle.message.specs.Values.{is_message}
 use Rattle.message.specs.Texts.{lines_text, message_lines, message_text}
-use Rattle.message.specs.Reading.{Gives, pieces, message_in, message_at}
+use Rattle.message.specs.Belonging.{BelongsTo}
+use Rattle.message.specs.Reading.{Gives, pieces, message_in, message_at, message_of}
 use Rattle.message.specs.Faults.{SharesLines, IsFirstBad}
 use Rattle.message.proofs.Readings.{IsLine, AreBytes, IsReading}
 use Rattle.message.proofs.Messages.{messages_read}
@@ -88,6 +90,17 @@ message_found bytes m fits e =
 -- the text of a lawful message is read as it
 pub message_again : (m : Message) → is_message m ≡ true → message_at (message_text m) ≡ Ok m
 message_again m is = reads.again (pieces (message_text m)) m is (pieces_of_message m is)
+
+was_ok : (r : Result Message ℕ) (m : Message) → result_ok r ≡ Some m → r ≡ Ok m
+was_ok (Ok x) m e = cc
+was_ok (Err n) m e = absurd cc
+
+-- a message is found exactly where the bytes are its text
+pub found_exactly : (bytes : List ℕ) (m : Message) → IsBytes bytes → (message_of bytes ≡ Some m) ↔ BelongsTo bytes m
+found_exactly bytes m fits = (
+  λ e. message_found bytes m fits (was_ok (message_at bytes) m e),
+  λ belongs. ap message_of belongs.1 ∙ ap result_ok (message_again m belongs.0),
+)
 
 -- what a function that reads returned
 pub found_from : (bytes : List ℕ) (r : Result Message MessageFault) → IsBytes bytes → Gives r (message_at bytes)

@@ -1,4 +1,5 @@
 pub mod Values
 pub mod Texts
+pub mod Belonging
 pub mod Reading
 pub mod Faults

@@ -1,12 +1,18 @@
 //! Laws of the texts of messages. The functions do nothing: their clauses are what is proved.
 
-ghost use Rattle.std.specs.Prelude.{◌≡◌, ◌↔◌, ℕ, List, IsTrue, Err};
+ghost use Rattle.std.specs.Prelude.{◌≡◌, ◌↔◌, ℕ, List, IsTrue, Err, Some};
 ghost use Rattle.base64.specs.GeneralPurpose.{IsBytes};
+ghost use Rattle.message.specs.Belonging.{BelongsTo};
 ghost use Rattle.message.specs.Faults.{IsFirstBad};
-ghost use Rattle.message.specs.Reading.{message_at};
+ghost use Rattle.message.specs.Reading.{message_at, message_of};
 ghost use Rattle.message.specs.Texts.{message_text};
 ghost use Rattle.message.specs.Values.{is_message};
 ghost use Rattle.message.specs.declared.kinds.Message.{Message};
+
+/// Reading finds a message exactly where the message is lawful and the bytes, numbers below 256, are its text.
+pub fn reading_finds_the_message_of_a_text()
+    ensures { (bytes : List ℕ) (m : Message) → IsBytes bytes → (message_of bytes ≡ Some m) ↔ BelongsTo bytes m }
+{}
 
 /// A text belongs to one message.
 pub fn a_text_belongs_to_one_message()

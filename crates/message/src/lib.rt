@@ -25,7 +25,9 @@ pub use department::{Department, fits_kind};
 pub use fault::MessageFault;
 pub use issue::Issue;
 pub use kinds::Message;
-pub use laws::{a_text_belongs_to_one_message, the_first_bad_line_is_named};
+pub use laws::{
+    a_text_belongs_to_one_message, reading_finds_the_message_of_a_text, the_first_bad_line_is_named,
+};
 pub use lists::{
     are_administrators, are_extension_names, are_namespaces, are_option_names, are_principals,
     are_rules,

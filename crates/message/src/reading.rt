@@ -1,6 +1,7 @@
 //! Messages read.
 
 ghost use Rattle.std.specs.Prelude.{◌≡◌, ℕ, IfOk, IsTrue, map};
+ghost use Rattle.message.specs.Belonging.{BelongsTo};
 ghost use Rattle.message.specs.Faults.{IsFirstBad};
 ghost use Rattle.message.specs.Reading.{Gives, begins, message_at, message_in, pieces};
 ghost use Rattle.message.specs.Texts.{message_text};
@@ -73,7 +74,7 @@ pub fn read_message(alloc: Global, bytes: &[u8]) -> Result<Message, MessageFault
     ensures exact { Gives result (message_at bytes.now) }
 
     // What is read is a lawful message, and the bytes are its text.
-    ensures found { IfOk result (λ m. IsTrue (is_message m) × (bytes.now ≡ message_text m)) }
+    ensures found { IfOk result (BelongsTo bytes.now) }
 
     // The text of a lawful message is read, or memory is refused.
     ensures only { (m : Message) → IsTrue (is_message m) → bytes.now ≡ message_text m → Gives result (Ok m) }

@@ -1,2 +1,2 @@
 pub mod Applied
-pub mod Whole
+pub mod Telling

@@ -1,10 +1,11 @@
 //! Files, read whole.
 
-ghost use Rattle.std.specs.Prelude.{◌≡◌, ◌<◌, ◌≤◌, IfErr, IfOk, IfSome, vec_len};
+ghost use Rattle.std.specs.Prelude.{◌≡◌, ◌<◌, ◌≤◌, IfErr, IfOk, IfSome, take, vec_len};
+ghost use Rattle.exchanges.specs.Exchanges.{TellsOf};
 ghost use Rattle.sshoffice.specs.Faults.{IsOfAFile};
 
 use crate::fault::JobFault;
-use exchanges::{MAX_EXCHANGES, MAX_REQUEST};
+use exchanges::MAX_FILE;
 use lines::{KeyLine, read_key_line};
 use std::alloc::Global;
 use std::io::{ErrorKind, Read};
@@ -13,12 +14,6 @@ use std::{fs, io};
 
 /// The most bytes of a file with a key line: some KiB more than any has.
 const MAX_KEY_FILE: u64 = 8192;
-
-/// The most bytes of a record's first line: a word, two numbers, a nonce, three spaces and a line feed.
-const MAX_RECORD_LINE: usize = 101;
-
-/// The most bytes of an exchange file.
-const MAX_EXCHANGE_FILE: u64 = (MAX_EXCHANGES * (MAX_RECORD_LINE + MAX_REQUEST)) as u64;
 
 /// The most bytes of a list: a header of 44 bytes, and a section of 4294967295 with its type and length.
 const MAX_LIST: u64 = 4_294_967_344;
@@ -33,6 +28,18 @@ fn fault_of(error: &io::Error) -> JobFault
     }
 }
 
+/// The first bytes that a reader gives, `most` of them where it gives so many.
+fn read_first<R: Read + Drop>(alloc: Global, reader: R, most: u64) -> Result<Vec<u8>, JobFault>
+    ensures first { IfOk result (λ v. IfSome (R.remaining reader) (λ bytes. v.items ≡ take most bytes)) }
+    ensures only { IfErr result IsOfAFile }
+{
+    let mut bytes = Vec::new(alloc);
+    match reader.take(most).read_to_end(&mut bytes) {
+        Ok(_) => Ok(bytes),
+        Err(error) => Err(fault_of(&error)),
+    }
+}
+
 /// All that a reader gives. It is a fault of the file if that is more than `most` bytes.
 pub(crate) fn read_whole<R: Read + Drop>(
     alloc: Global,
@@ -44,11 +51,7 @@ pub(crate) fn read_whole<R: Read + Drop>(
     ensures whole { IfOk result (λ v. IfSome (R.remaining reader) (λ bytes. v.items ≡ bytes)) }
     ensures only { IfErr result IsOfAFile }
 {
-    let mut bytes = Vec::new(alloc);
-    match reader.take(most + 1).read_to_end(&mut bytes) {
-        Ok(_) => {}
-        Err(error) => return Err(fault_of(&error)),
-    }
+    let bytes = read_first(alloc, reader, most + 1)?;
     if most < bytes.len() as u64 {
         return Err(JobFault::File);
     }
@@ -65,14 +68,28 @@ fn read_file<R: Files + AllocGlobal>(rt: &R, path: &str, most: u64) -> Result<Ve
     }
 }
 
-/// The bytes of an exchange file.
+/// The bytes of an exchange file. A longer one than any of exchanges is read to where its first bad record is sure.
+pub(crate) fn read_exchanges_of<R: Read + Drop>(
+    alloc: Global,
+    reader: R,
+) -> Result<Vec<u8>, JobFault>
+    ensures tells { IfOk result (λ v. IfSome (R.remaining reader) (λ file. TellsOf file v.items)) }
+    ensures only { IfErr result IsOfAFile }
+{
+    read_first(alloc, reader, MAX_FILE as u64 + 1)
+}
+
+/// The same of the file at a path.
 pub(crate) fn read_exchange_file<R: Files + AllocGlobal>(
     rt: &R,
     path: &str,
 ) -> Result<Vec<u8>, JobFault>
     ensures { IfErr result IsOfAFile }
 {
-    read_file(rt, path, MAX_EXCHANGE_FILE)
+    match fs::open(rt, path) {
+        Ok(file) => read_exchanges_of(rt.alloc(), file),
+        Err(error) => Err(fault_of(&error)),
+    }
 }
 
 /// The bytes of a list.
