@@ -1,5 +1,5 @@
 -- What reading a body gives says what the bytes are.
-use Rattle.std.proofs.Common.{◌≡◌, ℕ, ◌^◌, Bool, true, false, eqb, List, [], ◌++◌, length, Some, None, is_some, Result, Ok, Err, refl, sym, ap, ◌∙◌, subst, append_assoc, arith, inl, inr}
+use Rattle.std.proofs.Common.{◌≡◌, ℕ, ◌^◌, ◌<◌, Bool, true, false, eqb, List, ◌++◌, length, Option, Some, None, is_some, Result, Ok, Err, refl, sym, ap, ◌∙◌, subst, append_assoc, arith, inl, inr}
 use Rattle.std.specs.Int.{w32, w64}
 use Rattle.std.specs.Str.{bytes_eq}
 use Rattle.std.proofs.lemmas.Bool.{cases_Bool, both_ways, eqb-true, eq-eqb}
@@ -12,11 +12,11 @@ use Rattle.lines.specs.Keys.{key_blob, key_of}
 use Rattle.lines.proofs.Blobs.{key_of_found, key_of_again}
 use Rattle.profile.specs.Names.{is_key_id}
 use Rattle.profile.specs.declared.option_field.OptionField.TheVariants.{CriticalOptions, Extensions}
-use Rattle.cert.specs.Options.{options_text}
+use Rattle.cert.specs.Options.{is_options, options_text}
 use Rattle.profile.specs.Serials.{is_serial}
-use Rattle.cert.specs.Bodies.{IsCertFields, cert_type, kind_number, principals_text, front, body_text, is_validity}
+use Rattle.cert.specs.Bodies.{IsCertFields, are_principals, cert_type, kind_number, principals_text, front, body_text, is_validity}
 use Rattle.cert.specs.Reading.{◌>>=◌, check, kind_of, principals_of, options_of, type_at, bytes_32_at, serial_at, kind_at, key_id_at, principals_at, validity_at, options_at, reserved_at, ca_at, body_at}
-use Rattle.cert.specs.Faults.{IsFault, ends_at}
+use Rattle.cert.specs.Faults.{IsFault, ends_at, is_whole}
 use Rattle.cert.specs.declared.fields.CertFields.{CertFields}
 use Rattle.cert.specs.declared.cert_fault.CertFault.{CertFault}
 use Rattle.cert.specs.declared.cert_fault.CertFault.TheVariants.{Truncated, WrongType, BadNonce, BadKey, BadSerial, BadKind, BadKeyId, BadPrincipals, BadValidity, BadOptions, BadExtensions, BadReserved, BadCa, TrailingBytes}
@@ -70,128 +70,106 @@ says_end c l bytes rest text = by (eqb (length rest) 0) refl
     by true e = (l, text ∙ ap (λ r. front 12 c ++ r) (empty rest e) ∙ append-nil (front 12 c))
     by false e = (c, rest, record { lawful = l; text = text }, not_empty rest e)
 
+-- ---- a field that is a string
+
+-- The bytes begin with the first n of these lawful fields, and the next one is read from the rest.
+module _ (n : ℕ) (small : n < 12) (c : CertFields) (l : IsCertFields c) (bytes rest : List ℕ) (fits : IsBytes rest)
+    (text : bytes ≡ front n c ++ rest) (whole : is_whole n rest ≡ is_some (string_at rest)) {A : Type 0}
+    (read : Result (A × List ℕ) CertFault) (next : A × List ℕ → Result CertFields CertFault)
+    (is_cut : string_at rest ≡ None → read ≡ Err Truncated) (bad : CertFault) where
+  -- the string is cut, or its bytes are judged
+  says_string : ((s : List ℕ × List ℕ) → string_at rest ≡ Some s → rest ≡ string_text s.0 ++ s.1
+      → Says bytes (read >>= next)) → Says bytes (read >>= next)
+  says_string judged =
+      option_cases (string_at rest) (Says bytes (read >>= next))
+      (λ none. becomes bytes _ (Err Truncated) (bind_Err read next Truncated (is_cut none))
+      (n, small, c, rest, record { lawful = l; text = text }, whole ∙ ap is_some none))
+      (λ s is. judged s is (string_takes rest s.0 s.1 fits is))
+
+  -- the bytes of the string pass a test, or are bad
+  says_tested : (test : List ℕ → Bool) (value : List ℕ → A)
+      → ((s : List ℕ × List ℕ) → string_at rest ≡ Some s → test s.0 ≡ true → read ≡ Ok (value s.0, s.1))
+      → ((s : List ℕ × List ℕ) → string_at rest ≡ Some s → test s.0 ≡ false → read ≡ Err bad)
+      → ((s : List ℕ × List ℕ) → string_at rest ≡ Some s → test s.0 ≡ false → IsFault bytes bad)
+      → ((s left : List ℕ) → test s ≡ true → IsBytes left → bytes ≡ front n c ++ string_text s ++ left
+      → Says bytes (next (value s, left)))
+      → Says bytes (read >>= next)
+  says_tested test value goes_on is_bad fault on = says_string (λ s is here. elim (cases_Bool (test s.0)) [
+    | inl passes ↦
+        becomes bytes _ (next (value s.0, s.1)) (bind_Ok read next (value s.0, s.1) (goes_on s is passes))
+        (on s.0 s.1 passes (IsBytes_left rest (string_text s.0) s.1 here fits)
+        (advance bytes (front n c) rest (string_text s.0) s.1 text here))
+    | inr fails ↦ becomes bytes _ (Err bad) (bind_Err read next bad (is_bad s is fails)) (fault s is fails)
+  ])
+
+  -- the bytes of the string are the text of a value, or are bad
+  says_value : (of : List ℕ → Option A) (value_text : A → List ℕ) (IsLawful : A → Type 0)
+      → ((s : List ℕ) (x : A) → IsBytes s → of s ≡ Some x → (s ≡ value_text x) × IsLawful x)
+      → ((x : A) → IsLawful x → of (value_text x) ≡ Some x)
+      → ((s : List ℕ × List ℕ) (x : A) → string_at rest ≡ Some s → of s.0 ≡ Some x → read ≡ Ok (x, s.1))
+      → ((s : List ℕ × List ℕ) → string_at rest ≡ Some s → of s.0 ≡ None → read ≡ Err bad)
+      → ((s : List ℕ × List ℕ) → string_at rest ≡ Some s → ¬ ((x : A) × IsLawful x × (s.0 ≡ value_text x))
+      → IsFault bytes bad)
+      → ((x : A) (left : List ℕ) → IsLawful x → IsBytes left
+      → bytes ≡ front n c ++ string_text (value_text x) ++ left → Says bytes (next (x, left)))
+      → Says bytes (read >>= next)
+  says_value of value_text IsLawful found again goes_on is_bad fault on = says_string (λ s is here.
+      option_cases (of s.0) (Says bytes (read >>= next))
+      (λ none. becomes bytes _ (Err bad) (bind_Err read next bad (is_bad s is none)) (fault s is
+      (λ w. let there : None ≡ Some w.0 = sym none ∙ ap of w.2 ∙ again w.0 w.1 in cc)))
+      (λ x of_x.
+      let lawful = found s.0 x (IsBytes_string rest s.0 s.1 here fits) of_x in
+      let same : rest ≡ string_text (value_text x) ++ s.1 = here ∙ ap (λ t. string_text t ++ s.1) lawful.0 in
+      becomes bytes _ (next (x, s.1)) (bind_Ok read next (x, s.1) (goes_on s x is of_x))
+      (on x s.1 lawful.1 (IsBytes_left rest (string_text (value_text x)) s.1 same fits)
+      (advance bytes (front n c) rest (string_text (value_text x)) s.1 text same))))
+
+-- ---- field before field
+
 -- from the ca on
 pub says_ca : (c : CertFields) → IsCertFields c → (bytes rest : List ℕ) → IsBytes rest
     → bytes ≡ front 11 c ++ rest → Says bytes (Tails.from_ca c rest)
 says_ca c l bytes rest fits text =
-    option_cases (string_at rest) (Says bytes (Tails.from_ca c rest))
-    (λ none. becomes bytes _ (Err Truncated) (bind_Err (ca_at rest) (Tails.then_ca c) Truncated
-    (Tails.ca_is_cut rest none))
-    (11, omega arith, c, rest, record { lawful = l; text = text }, ap is_some none))
-    (λ s is.
-    let whole = string_takes rest s.0 s.1 fits is in
-    let inside = IsBytes_string rest s.0 s.1 whole fits in
-    option_cases (key_of s.0) (Says bytes (Tails.from_ca c rest))
-    (λ none. becomes bytes _ (Err BadCa) (bind_Err (ca_at rest) (Tails.then_ca c) BadCa
-    (Tails.ca_is_bad rest s is none)) (
-      c,
-      rest,
-      record { lawful = l; text = text },
-      (
-        s,
-        is,
-        λ w. absurd (let there : None ≡ Some w.0 = sym none
-            ∙ ap key_of w.2 ∙ key_of_again w.0 w.1 in cc),
-      ),
-    ))
-    (λ x read.
-    let lawful = key_of_found s.0 x read in
-    let here : rest ≡ string_text (key_blob x) ++ s.1 = whole ∙ ap (λ t. string_text t ++ s.1) lawful.0 in
-    becomes bytes _ (Tails.then_ca c (x, s.1)) (bind_Ok (ca_at rest) (Tails.then_ca c) (
-      x,
-      s.1,
-    ) (Tails.ca_goes_on rest s x is read))
-    (says_end (record c { ca = x }) (with_ca c l x lawful.1) bytes s.1 (advance bytes (front 11 c) rest
-    (string_text (key_blob x)) s.1 text here))))
+    says_value 11 (omega arith) c l bytes rest fits text refl (ca_at rest) (Tails.then_ca c) (Tails.ca_is_cut rest) BadCa
+    key_of key_blob (λ x. length x ≡ 32) (λ s x _ e. key_of_found s x e) key_of_again
+    (Tails.ca_goes_on rest) (Tails.ca_is_bad rest)
+    (λ s is none. (c, rest, record { lawful = l; text = text }, (s, is, none)))
+    (λ x left lawful fits text. says_end (record c { ca = x }) (with_ca c l x lawful) bytes left text)
 
 -- from the reserved on
 pub says_reserved : (c : CertFields) → IsCertFields c → (bytes rest : List ℕ) → IsBytes rest
     → bytes ≡ front 10 c ++ rest → Says bytes (Tails.from_reserved c rest)
 says_reserved c l bytes rest fits text =
-    option_cases (string_at rest) (Says bytes (Tails.from_reserved c rest))
-    (λ none. becomes bytes _ (Err Truncated) (bind_Err (reserved_at rest) (Tails.then_reserved c) Truncated
-    (Tails.reserved_is_cut rest none))
-    (10, omega arith, c, rest, record { lawful = l; text = text }, ap is_some none))
-    (λ s is. elim (cases_Bool (eqb (length s.0) 0)) [
-      | inl passes ↦
-          let here : rest ≡ string_text [] ++ s.1 = string_takes rest s.0 s.1 fits is
-          ∙ ap (λ t. string_text t ++ s.1) (empty s.0 passes) in
-          becomes bytes _ (Tails.then_reserved c (tt, s.1)) (bind_Ok (reserved_at rest) (Tails.then_reserved c) (
-            tt,
-            s.1,
-          ) (Tails.reserved_goes_on rest s is passes))
-          (says_ca c l bytes s.1 (IsBytes_left rest (string_text []) s.1 here fits) (advance bytes (front 10 c) rest
-          (string_text []) s.1 text here))
-      | inr fails ↦ becomes bytes _ (Err BadReserved) (bind_Err (reserved_at rest)
-          (Tails.then_reserved c) BadReserved (Tails.reserved_is_bad rest s is fails))
-          (c, rest, record { lawful = l; text = text }, (s, is, not_empty s.0 fails))
-    ])
+    says_tested 10 (omega arith) c l bytes rest fits text refl (reserved_at rest) (Tails.then_reserved c)
+    (Tails.reserved_is_cut rest) BadReserved (λ s. eqb (length s) 0) (λ _. tt)
+    (Tails.reserved_goes_on rest) (Tails.reserved_is_bad rest)
+    (λ s is fails. (c, rest, record { lawful = l; text = text }, (s, is, not_empty s.0 fails)))
+    (λ s left passes fits text. says_ca c l bytes left fits
+    (text ∙ ap (λ t. front 10 c ++ string_text t ++ left) (empty s passes)))
 
 -- from the extensions on
 pub says_extensions : (c : CertFields) → IsCertFields c → (bytes rest : List ℕ) → IsBytes rest
     → bytes ≡ front 9 c ++ rest → Says bytes (Tails.from_extensions c rest)
 says_extensions c l bytes rest fits text =
-    option_cases (string_at rest) (Says bytes (Tails.from_extensions c rest))
-    (λ none. becomes bytes _ (Err Truncated) (bind_Err (options_at Extensions c.kind rest)
-    (Tails.then_extensions c) Truncated (Tails.options_is_cut Extensions c.kind rest none))
-    (9, omega arith, c, rest, record { lawful = l; text = text }, ap is_some none))
-    (λ s is.
-    let whole = string_takes rest s.0 s.1 fits is in
-    let inside = IsBytes_string rest s.0 s.1 whole fits in
-    option_cases (options_of Extensions c.kind s.0) (Says bytes (Tails.from_extensions c rest))
-    (λ none. becomes bytes _ (Err BadExtensions) (bind_Err (options_at Extensions c.kind rest)
-    (Tails.then_extensions c) BadExtensions (Tails.options_is_bad Extensions c.kind rest s is none)) (
-      c,
-      rest,
-      record { lawful = l; text = text },
-      (
-        s,
-        is,
-        λ w. absurd (let there : None ≡ Some w.0 = sym none
-            ∙ ap (options_of Extensions c.kind) w.2 ∙ options_of_again Extensions c.kind w.0 w.1 in cc),
-      ),
-    ))
-    (λ x read.
-    let lawful = options_of_found Extensions c.kind s.0 x inside read in
-    let here : rest ≡ string_text (options_text x) ++ s.1 = whole ∙ ap (λ t. string_text t ++ s.1) lawful.0 in
-    becomes bytes _ (Tails.then_extensions c (x, s.1)) (bind_Ok (options_at Extensions c.kind rest)
-    (Tails.then_extensions c) (x, s.1) (Tails.options_goes_on Extensions c.kind rest s x is read))
-    (says_reserved (record c { extensions = x }) (with_extensions c l x lawful.1) bytes s.1 (IsBytes_left rest
-    (string_text (options_text x)) s.1 here fits) (advance bytes (front 9 c) rest (string_text
-    (options_text x)) s.1 text here))))
+    says_value 9 (omega arith) c l bytes rest fits text refl (options_at Extensions c.kind rest)
+    (Tails.then_extensions c) (Tails.options_is_cut Extensions c.kind rest) BadExtensions
+    (options_of Extensions c.kind) options_text (λ x. is_options Extensions c.kind x ≡ true)
+    (options_of_found Extensions c.kind) (options_of_again Extensions c.kind)
+    (Tails.options_goes_on Extensions c.kind rest) (Tails.options_is_bad Extensions c.kind rest)
+    (λ s is none. (c, rest, record { lawful = l; text = text }, (s, is, none)))
+    (λ x left lawful fits text. says_reserved (record c { extensions = x }) (with_extensions c l x lawful) bytes left fits text)
 
 -- from the options on
 pub says_options : (c : CertFields) → IsCertFields c → (bytes rest : List ℕ) → IsBytes rest
     → bytes ≡ front 8 c ++ rest → Says bytes (Tails.from_options c rest)
 says_options c l bytes rest fits text =
-    option_cases (string_at rest) (Says bytes (Tails.from_options c rest))
-    (λ none. becomes bytes _ (Err Truncated) (bind_Err (options_at CriticalOptions c.kind rest)
-    (Tails.then_options c) Truncated (Tails.options_is_cut CriticalOptions c.kind rest none))
-    (8, omega arith, c, rest, record { lawful = l; text = text }, ap is_some none))
-    (λ s is.
-    let whole = string_takes rest s.0 s.1 fits is in
-    let inside = IsBytes_string rest s.0 s.1 whole fits in
-    option_cases (options_of CriticalOptions c.kind s.0) (Says bytes (Tails.from_options c rest))
-    (λ none. becomes bytes _ (Err BadOptions) (bind_Err (options_at CriticalOptions c.kind rest)
-    (Tails.then_options c) BadOptions (Tails.options_is_bad CriticalOptions c.kind rest s is none)) (
-      c,
-      rest,
-      record { lawful = l; text = text },
-      (
-        s,
-        is,
-        λ w. absurd (let there : None ≡ Some w.0 = sym none
-            ∙ ap (options_of CriticalOptions c.kind) w.2 ∙ options_of_again CriticalOptions c.kind w.0 w.1 in cc),
-      ),
-    ))
-    (λ x read.
-    let lawful = options_of_found CriticalOptions c.kind s.0 x inside read in
-    let here : rest ≡ string_text (options_text x) ++ s.1 = whole ∙ ap (λ t. string_text t ++ s.1) lawful.0 in
-    becomes bytes _ (Tails.then_options c (x, s.1)) (bind_Ok (options_at CriticalOptions c.kind rest)
-    (Tails.then_options c) (x, s.1) (Tails.options_goes_on CriticalOptions c.kind rest s x is read))
-    (says_extensions (record c { options = x }) (with_options c l x lawful.1) bytes s.1 (IsBytes_left rest
-    (string_text (options_text x)) s.1 here fits) (advance bytes (front 8 c) rest (string_text
-    (options_text x)) s.1 text here))))
+    says_value 8 (omega arith) c l bytes rest fits text refl (options_at CriticalOptions c.kind rest)
+    (Tails.then_options c) (Tails.options_is_cut CriticalOptions c.kind rest) BadOptions
+    (options_of CriticalOptions c.kind) options_text (λ x. is_options CriticalOptions c.kind x ≡ true)
+    (options_of_found CriticalOptions c.kind) (options_of_again CriticalOptions c.kind)
+    (Tails.options_goes_on CriticalOptions c.kind rest) (Tails.options_is_bad CriticalOptions c.kind rest)
+    (λ s is none. (c, rest, record { lawful = l; text = text }, (s, is, none)))
+    (λ x left lawful fits text. says_extensions (record c { options = x }) (with_options c l x lawful) bytes left fits text)
 
 -- from the validity on
 pub says_validity : (c : CertFields) → IsCertFields c → (bytes rest : List ℕ) → IsBytes rest
@@ -232,54 +210,22 @@ says_validity c l bytes rest fits text =
 pub says_principals : (c : CertFields) → IsCertFields c → (bytes rest : List ℕ) → IsBytes rest
     → bytes ≡ front 6 c ++ rest → Says bytes (Tails.from_principals c rest)
 says_principals c l bytes rest fits text =
-    option_cases (string_at rest) (Says bytes (Tails.from_principals c rest))
-    (λ none. becomes bytes _ (Err Truncated) (bind_Err (principals_at rest) (Tails.then_principals c) Truncated
-    (Tails.principals_is_cut rest none))
-    (6, omega arith, c, rest, record { lawful = l; text = text }, ap is_some none))
-    (λ s is.
-    let whole = string_takes rest s.0 s.1 fits is in
-    let inside = IsBytes_string rest s.0 s.1 whole fits in
-    option_cases (principals_of s.0) (Says bytes (Tails.from_principals c rest))
-    (λ none. becomes bytes _ (Err BadPrincipals) (bind_Err (principals_at rest)
-    (Tails.then_principals c) BadPrincipals (Tails.principals_is_bad rest s is none)) (
-      c,
-      rest,
-      record { lawful = l; text = text },
-      (
-        s,
-        is,
-        λ w. absurd (let there : None ≡ Some w.0 = sym none
-            ∙ ap principals_of w.2 ∙ principals_again w.0 w.1 in cc),
-      ),
-    ))
-    (λ x read.
-    let lawful = principals_found s.0 x inside read in
-    let here : rest ≡ string_text (principals_text x) ++ s.1 = whole ∙ ap (λ t. string_text t ++ s.1) lawful.0 in
-    becomes bytes _ (Tails.then_principals c (x, s.1)) (bind_Ok (principals_at rest) (Tails.then_principals c)
-    (x, s.1) (Tails.principals_goes_on rest s x is read))
-    (says_validity (record c { principals = x }) (with_principals c l x lawful.1) bytes s.1 (IsBytes_left rest
-    (string_text (principals_text x)) s.1 here fits) (advance bytes (front 6 c) rest (string_text
-    (principals_text x)) s.1 text here))))
+    says_value 6 (omega arith) c l bytes rest fits text refl (principals_at rest) (Tails.then_principals c)
+    (Tails.principals_is_cut rest) BadPrincipals principals_of principals_text (λ x. are_principals x ≡ true)
+    principals_found principals_again (Tails.principals_goes_on rest) (Tails.principals_is_bad rest)
+    (λ s is none. (c, rest, record { lawful = l; text = text }, (s, is, none)))
+    (λ x left lawful fits text. says_validity (record c { principals = x }) (with_principals c l x lawful) bytes left
+    fits text)
 
 -- from the key id on
 pub says_key_id : (c : CertFields) → IsCertFields c → (bytes rest : List ℕ) → IsBytes rest
     → bytes ≡ front 5 c ++ rest → Says bytes (Tails.from_key_id c rest)
 says_key_id c l bytes rest fits text =
-    option_cases (string_at rest) (Says bytes (Tails.from_key_id c rest))
-    (λ none. becomes bytes _ (Err Truncated) (bind_Err (key_id_at rest) (Tails.then_key_id c) Truncated
-    (Tails.key_id_is_cut rest none))
-    (5, omega arith, c, rest, record { lawful = l; text = text }, ap is_some none))
-    (λ s is. elim (cases_Bool (is_key_id s.0)) [
-      | inl passes ↦
-          let here : rest ≡ string_text s.0 ++ s.1 = string_takes rest s.0 s.1 fits is in
-          becomes bytes _ (Tails.then_key_id c s) (bind_Ok (key_id_at rest) (Tails.then_key_id c) s
-          (Tails.key_id_goes_on rest s is passes))
-          (says_principals (record c { key_id = s.0 }) (with_key_id c l s.0 passes) bytes s.1 (IsBytes_left rest
-          (string_text s.0) s.1 here fits) (advance bytes (front 5 c) rest (string_text s.0) s.1 text here))
-      | inr fails ↦ becomes bytes _ (Err BadKeyId) (bind_Err (key_id_at rest) (Tails.then_key_id c) BadKeyId
-          (Tails.key_id_is_bad rest s is fails))
-          (c, rest, record { lawful = l; text = text }, (s, is, both_ways _ fails))
-    ])
+    says_tested 5 (omega arith) c l bytes rest fits text refl (key_id_at rest) (Tails.then_key_id c)
+    (Tails.key_id_is_cut rest) BadKeyId is_key_id (λ s. s) (Tails.key_id_goes_on rest) (Tails.key_id_is_bad rest)
+    (λ s is fails. (c, rest, record { lawful = l; text = text }, (s, is, both_ways _ fails)))
+    (λ s left passes fits text. says_principals (record c { key_id = s }) (with_key_id c l s passes) bytes left
+    fits text)
 
 -- from the kind on
 pub says_kind : (c : CertFields) → IsCertFields c → IsBare c → (bytes rest : List ℕ) → IsBytes rest
@@ -328,75 +274,39 @@ says_serial c l bare bytes rest fits text =
 pub says_key : (c : CertFields) → IsCertFields c → IsBare c → (bytes rest : List ℕ) → IsBytes rest
     → bytes ≡ front 2 c ++ rest → Says bytes (Tails.from_key c rest)
 says_key c l bare bytes rest fits text =
-    option_cases (string_at rest) (Says bytes (Tails.from_key c rest))
-    (λ none. becomes bytes _ (Err Truncated) (bind_Err (bytes_32_at BadKey rest) (Tails.then_key c) Truncated
-    (Tails.bytes_32_is_cut BadKey rest none))
-    (2, omega arith, c, rest, record { lawful = l; text = text }, ap is_some none))
-    (λ s is. elim (cases_Bool (eqb (length s.0) 32)) [
-      | inl passes ↦
-          let here : rest ≡ string_text s.0 ++ s.1 = string_takes rest s.0 s.1 fits is in
-          becomes bytes _ (Tails.then_key c s) (bind_Ok (bytes_32_at BadKey rest) (Tails.then_key c) s
-          (Tails.bytes_32_goes_on BadKey rest s is passes))
-          (says_serial (record c { key = s.0 }) (with_key c l s.0 (eqb-true _ _ passes)) bare bytes s.1
-          (IsBytes_left rest (string_text s.0) s.1 here fits) (advance bytes (front 2 c) rest
-          (string_text s.0) s.1 text here))
-      | inr fails ↦ becomes bytes _ (Err BadKey) (bind_Err (bytes_32_at BadKey rest) (Tails.then_key c) BadKey
-          (Tails.bytes_32_is_bad BadKey rest s is fails))
-          (c, rest, record { lawful = l; text = text }, (s, is, λ e. both_ways _ fails (eq-eqb _ _ e)))
-    ])
+    says_tested 2 (omega arith) c l bytes rest fits text refl (bytes_32_at BadKey rest) (Tails.then_key c)
+    (Tails.bytes_32_is_cut BadKey rest) BadKey (λ s. eqb (length s) 32) (λ s. s)
+    (Tails.bytes_32_goes_on BadKey rest) (Tails.bytes_32_is_bad BadKey rest)
+    (λ s is fails. (c, rest, record { lawful = l; text = text }, (s, is, λ e. both_ways _ fails (eq-eqb _ _ e))))
+    (λ s left passes fits text. says_serial (record c { key = s }) (with_key c l s (eqb-true _ _ passes)) bare
+    bytes left fits text)
 
 -- from the nonce on
 pub says_nonce : (c : CertFields) → IsCertFields c → IsBare c → (bytes rest : List ℕ) → IsBytes rest
     → bytes ≡ front 1 c ++ rest → Says bytes (Tails.from_nonce c rest)
 says_nonce c l bare bytes rest fits text =
-    option_cases (string_at rest) (Says bytes (Tails.from_nonce c rest))
-    (λ none. becomes bytes _ (Err Truncated) (bind_Err (bytes_32_at BadNonce rest) (Tails.then_nonce c) Truncated
-    (Tails.bytes_32_is_cut BadNonce rest none))
-    (1, omega arith, c, rest, record { lawful = l; text = text }, ap is_some none))
-    (λ s is. elim (cases_Bool (eqb (length s.0) 32)) [
-      | inl passes ↦
-          let here : rest ≡ string_text s.0 ++ s.1 = string_takes rest s.0 s.1 fits is in
-          becomes bytes _ (Tails.then_nonce c s) (bind_Ok (bytes_32_at BadNonce rest) (Tails.then_nonce c) s
-          (Tails.bytes_32_goes_on BadNonce rest s is passes))
-          (says_key (record c { nonce = s.0 }) (with_nonce c l s.0 (eqb-true _ _ passes)) bare bytes s.1
-          (IsBytes_left rest (string_text s.0) s.1 here fits) (advance bytes (front 1 c) rest
-          (string_text s.0) s.1 text here))
-      | inr fails ↦ becomes bytes _ (Err BadNonce) (bind_Err (bytes_32_at BadNonce rest)
-          (Tails.then_nonce c) BadNonce (Tails.bytes_32_is_bad BadNonce rest s is fails))
-          (c, rest, record { lawful = l; text = text }, (s, is, λ e. both_ways _ fails (eq-eqb _ _ e)))
-    ])
+    says_tested 1 (omega arith) c l bytes rest fits text refl (bytes_32_at BadNonce rest) (Tails.then_nonce c)
+    (Tails.bytes_32_is_cut BadNonce rest) BadNonce (λ s. eqb (length s) 32) (λ s. s)
+    (Tails.bytes_32_goes_on BadNonce rest) (Tails.bytes_32_is_bad BadNonce rest)
+    (λ s is fails. (c, rest, record { lawful = l; text = text }, (s, is, λ e. both_ways _ fails (eq-eqb _ _ e))))
+    (λ s left passes fits text. says_key (record c { nonce = s }) (with_nonce c l s (eqb-true _ _ passes)) bare
+    bytes left fits text)
 
 -- from the type on
 pub says_type : (c : CertFields) → IsCertFields c → IsBare c → (bytes rest : List ℕ) → IsBytes rest
     → bytes ≡ front 0 c ++ rest → Says bytes (Tails.from_type c rest)
 says_type c l bare bytes rest fits text =
-    option_cases (string_at rest) (Says bytes (Tails.from_type c rest))
-    (λ none. becomes bytes _ (Err Truncated) (bind_Err (type_at rest) (Tails.then_type c) Truncated
-    (Tails.type_is_cut rest none))
-    (0, omega arith, c, rest, record { lawful = l; text = text }, ap is_some none))
-    (λ s is. elim (cases_Bool (bytes_eq s.0 cert_type)) [
-      | inl passes ↦
-          let here : rest ≡ string_text cert_type ++ s.1 = string_takes rest s.0 s.1 fits is
-          ∙ ap (λ t. string_text t ++ s.1) ((bytes_eq-Decides s.0 cert_type).0 passes) in
-          becomes bytes _ (Tails.then_type c (tt, s.1)) (bind_Ok (type_at rest) (Tails.then_type c) (
-            tt,
-            s.1,
-          ) (Tails.type_goes_on rest s is passes))
-          (says_nonce c l bare bytes s.1 (IsBytes_left rest (string_text cert_type) s.1 here fits) (advance bytes
-          (front 0 c) rest (string_text cert_type) s.1 text here))
-      | inr fails ↦ becomes bytes _ (Err WrongType) (bind_Err (type_at rest) (Tails.then_type c) WrongType
-          (Tails.type_is_bad rest s is fails)) (
-            c,
-            rest,
-            record { lawful = l; text = text },
-            (
-              s,
-              is,
-              λ e. both_ways _ fails
-                  ((bytes_eq-Decides s.0 cert_type).1 e),
-            ),
-          )
-    ])
+    says_tested 0 (omega arith) c l bytes rest fits text refl (type_at rest) (Tails.then_type c)
+    (Tails.type_is_cut rest) WrongType (λ s. bytes_eq s cert_type) (λ _. tt)
+    (Tails.type_goes_on rest) (Tails.type_is_bad rest)
+    (λ s is fails. (
+      c,
+      rest,
+      record { lawful = l; text = text },
+      (s, is, λ e. both_ways _ fails ((bytes_eq-Decides s.0 cert_type).1 e)),
+    ))
+    (λ s left passes fits text. says_nonce c l bare bytes left fits
+    (text ∙ ap (λ t. front 0 c ++ string_text t ++ left) ((bytes_eq-Decides s cert_type).0 passes)))
 
 -- what reading gives says what the bytes are
 pub body_at-says : (bytes : List ℕ) → IsBytes bytes → Says bytes (body_at bytes)
