@@ -5,10 +5,11 @@ use Rattle.std.proofs.lemmas.Option.{same_Some}
 use Rattle.std.proofs.lemmas.Slice.Eq.{bytes_eq-Decides}
 use Rattle.wire.specs.Reading.{u32_at, u64_at, string_at}
 use Rattle.wire.proofs.Laws.{IsBytes, string_takes}
-use Rattle.lines.specs.Keys.{key_of}
+use Rattle.lines.specs.Keys.{key_blob, key_of}
+use Rattle.cert.specs.Options.{options_text}
 use Rattle.lines.proofs.Blobs.{key_of_found}
 use Rattle.profile.specs.declared.option_field.OptionField.TheVariants.{CriticalOptions, Extensions}
-use Rattle.cert.specs.Bodies.{IsCertFields, cert_type, front, body_text, is_validity}
+use Rattle.cert.specs.Bodies.{IsCertFields, cert_type, front, body_text, is_validity, principals_text}
 use Rattle.cert.specs.Reading.{
   ◌>>=◌,
   check,
@@ -50,7 +51,7 @@ use Rattle.cert.specs.declared.cert_fault.CertFault.TheVariants.{
 }
 use Rattle.cert.proofs.NestedLaws.{IsBytes_left, IsBytes_string, empty, principals_found, options_of_found}
 use Rattle.cert.proofs.Tails
-use Rattle.cert.proofs.BodyParts.{bind_Err, option_cases, none_of, kind_found, sample}
+use Rattle.cert.proofs.BodyParts.{bind_Err, no_value, option_cases, none_of, kind_found, sample}
 use Rattle.cert.proofs.BodySays.{Says, body_at-says}
 use Rattle.cert.proofs.BodyAgain.{
   upto_nonce,
@@ -192,9 +193,8 @@ body_at-fault bytes BadPrincipals fits other f =
     let c = f.0 in let rest = f.1 in let h = f.2 in let w = f.3 in
     ap body_at h.text ∙ reads_key_id c h.lawful rest ∙ bind_Err (principals_at rest) (Tails.then_principals
     (upto_key_id c)) BadPrincipals
-    (Tails.principals_is_bad rest w.0 w.1 (option_cases (principals_of w.0.0) (principals_of w.0.0 ≡ None)
-    (λ none. none) (λ x e. let is = principals_found w.0.0 x (inside bytes
-    (front 6 c) rest w.0 h.text w.1 fits) e in absurd (w.2 (x, is.1, is.0)))))
+    (Tails.principals_is_bad rest w.0 w.1 (no_value principals_of principals_text _ w.0.0
+    (λ x. principals_found w.0.0 x (inside bytes (front 6 c) rest w.0 h.text w.1 fits)) w.2))
 body_at-fault bytes BadValidity fits other f =
     let c = f.0 in let rest = f.1 in let h = f.2 in let w = f.3 in
     ap body_at h.text ∙ reads_principals c h.lawful rest ∙ bind_Err (validity_at rest) (Tails.then_validity
@@ -204,18 +204,16 @@ body_at-fault bytes BadOptions fits other f =
     let c = f.0 in let rest = f.1 in let h = f.2 in let w = f.3 in
     ap body_at h.text ∙ reads_validity c h.lawful rest ∙ bind_Err (options_at CriticalOptions c.kind rest)
     (Tails.then_options (upto_validity c)) BadOptions
-    (Tails.options_is_bad CriticalOptions c.kind rest w.0 w.1 (option_cases
-    (options_of CriticalOptions c.kind w.0.0) (options_of CriticalOptions c.kind w.0.0 ≡ None)
-    (λ none. none) (λ x e. let is = options_of_found CriticalOptions c.kind w.0.0 x (inside bytes
-    (front 8 c) rest w.0 h.text w.1 fits) e in absurd (w.2 (x, is.1, is.0)))))
+    (Tails.options_is_bad CriticalOptions c.kind rest w.0 w.1 (no_value (options_of CriticalOptions c.kind)
+    options_text _ w.0.0 (λ x. options_of_found CriticalOptions c.kind w.0.0 x (inside bytes
+    (front 8 c) rest w.0 h.text w.1 fits)) w.2))
 body_at-fault bytes BadExtensions fits other f =
     let c = f.0 in let rest = f.1 in let h = f.2 in let w = f.3 in
     ap body_at h.text ∙ reads_options c h.lawful rest ∙ bind_Err (options_at Extensions c.kind rest)
     (Tails.then_extensions (upto_options c)) BadExtensions
-    (Tails.options_is_bad Extensions c.kind rest w.0 w.1 (option_cases (options_of Extensions c.kind w.0.0)
-    (options_of Extensions c.kind w.0.0 ≡ None) (λ none. none)
-    (λ x e. let is = options_of_found Extensions c.kind w.0.0 x (inside bytes
-    (front 9 c) rest w.0 h.text w.1 fits) e in absurd (w.2 (x, is.1, is.0)))))
+    (Tails.options_is_bad Extensions c.kind rest w.0 w.1 (no_value (options_of Extensions c.kind)
+    options_text _ w.0.0 (λ x. options_of_found Extensions c.kind w.0.0 x (inside bytes
+    (front 9 c) rest w.0 h.text w.1 fits)) w.2))
 body_at-fault bytes BadReserved fits other f =
     let c = f.0 in let rest = f.1 in let h = f.2 in let w = f.3 in
     ap body_at h.text ∙ reads_extensions c h.lawful rest ∙ bind_Err (reserved_at rest) (Tails.then_reserved
@@ -224,8 +222,7 @@ body_at-fault bytes BadReserved fits other f =
 body_at-fault bytes BadCa fits other f =
     let c = f.0 in let rest = f.1 in let h = f.2 in let w = f.3 in
     ap body_at h.text ∙ reads_reserved c h.lawful rest ∙ bind_Err (ca_at rest) (Tails.then_ca (upto_extensions c)) BadCa
-    (Tails.ca_is_bad rest w.0 w.1 (option_cases (key_of w.0.0) (key_of w.0.0 ≡ None) (λ none. none)
-    (λ x e. let is = key_of_found w.0.0 x e in absurd (w.2 (x, is.1, is.0)))))
+    (Tails.ca_is_bad rest w.0 w.1 (no_value key_of key_blob _ w.0.0 (key_of_found w.0.0) w.2))
 body_at-fault bytes TrailingBytes fits other f =
     ap body_at f.2.text ∙ reads_ca f.0 f.2.lawful f.1 ∙ more f.0 f.1 f.3
 body_at-fault bytes Truncated fits other f =

@@ -25,6 +25,13 @@ pub option_cases : {A : Type 0} (o : Option A) (P : Type 0) → (o ≡ None → 
 option_cases None P none some = none refl
 option_cases (Some x) P none some = some x refl
 
+-- a text of no lawful value is read as none
+pub no_value : {X : Type 0} (of : List ℕ → Option X) (value_text : X → List ℕ) (IsLawful : X → Type 0) (s : List ℕ)
+    → ((x : X) → of s ≡ Some x → (s ≡ value_text x) × IsLawful x)
+    → ¬ ((x : X) × IsLawful x × (s ≡ value_text x)) → of s ≡ None
+no_value of value_text IsLawful s found none =
+    option_cases (of s) (of s ≡ None) (λ e. e) (λ x e. let is = found x e in absurd (none (x, is.1, is.0)))
+
 pub none_of : {A : Type 0} (o : Option A) → is_some o ≡ false → o ≡ None
 none_of None e = refl
 none_of (Some x) e = absurd cc

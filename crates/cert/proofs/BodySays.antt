@@ -130,8 +130,8 @@ module _ (n : ℕ) (small : n < 12) (c : CertFields) (l : IsCertFields c) (bytes
 pub says_ca : (c : CertFields) → IsCertFields c → (bytes rest : List ℕ) → IsBytes rest
     → bytes ≡ front 11 c ++ rest → Says bytes (Tails.from_ca c rest)
 says_ca c l bytes rest fits text =
-    says_value 11 (omega arith) c l bytes rest fits text refl (ca_at rest) (Tails.then_ca c) (Tails.ca_is_cut rest) BadCa
-    key_of key_blob (λ x. length x ≡ 32) (λ s x _ e. key_of_found s x e) key_of_again
+    says_value 11 (omega arith) c l bytes rest fits text refl (ca_at rest) (Tails.then_ca c) (Tails.ca_is_cut rest)
+    BadCa key_of key_blob (λ x. length x ≡ 32) (λ s x _ e. key_of_found s x e) key_of_again
     (Tails.ca_goes_on rest) (Tails.ca_is_bad rest)
     (λ s is none. (c, rest, record { lawful = l; text = text }, (s, is, none)))
     (λ x left lawful fits text. says_end (record c { ca = x }) (with_ca c l x lawful) bytes left text)
@@ -157,7 +157,8 @@ says_extensions c l bytes rest fits text =
     (options_of_found Extensions c.kind) (options_of_again Extensions c.kind)
     (Tails.options_goes_on Extensions c.kind rest) (Tails.options_is_bad Extensions c.kind rest)
     (λ s is none. (c, rest, record { lawful = l; text = text }, (s, is, none)))
-    (λ x left lawful fits text. says_reserved (record c { extensions = x }) (with_extensions c l x lawful) bytes left fits text)
+    (λ x left lawful fits text. says_reserved (record c { extensions = x }) (with_extensions c l x lawful) bytes left
+    fits text)
 
 -- from the options on
 pub says_options : (c : CertFields) → IsCertFields c → (bytes rest : List ℕ) → IsBytes rest
@@ -169,7 +170,8 @@ says_options c l bytes rest fits text =
     (options_of_found CriticalOptions c.kind) (options_of_again CriticalOptions c.kind)
     (Tails.options_goes_on CriticalOptions c.kind rest) (Tails.options_is_bad CriticalOptions c.kind rest)
     (λ s is none. (c, rest, record { lawful = l; text = text }, (s, is, none)))
-    (λ x left lawful fits text. says_extensions (record c { options = x }) (with_options c l x lawful) bytes left fits text)
+    (λ x left lawful fits text. says_extensions (record c { options = x }) (with_options c l x lawful) bytes left
+    fits text)
 
 -- from the validity on
 pub says_validity : (c : CertFields) → IsCertFields c → (bytes rest : List ℕ) → IsBytes rest
