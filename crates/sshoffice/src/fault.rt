@@ -11,7 +11,7 @@ use std::fmt;
 /// Why a job was not done. It is printed as its name.
 #[derive(Clone, Copy, Debug, PartialEq, Eq)]
 pub enum JobFault {
-    /// A file can't be read, or is longer than any of its kind.
+    /// A file can't be read, or one with a key line or a list is longer than any of its kind.
     File,
     /// The output can't be written.
     Write,
