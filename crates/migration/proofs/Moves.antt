@@ -1,6 +1,6 @@
 -- What each part of the transaction leaves to the next.
 use Rattle.std.proofs.Common.{◌≡◌, inl, inr, List, subst, ◌∙◌, Ok, Err, Result}
-use Rattle.std.specs.Prelude.{◌≤◌, IfErr, IsPermutation}
+use Rattle.std.specs.Prelude.{◌≤◌, IfErr, IsPermutation, OnErr}
 use Rattle.sqlite.specs.Tree.{Trees}
 use Rattle.sqlite.specs.State.{State, HasCleanDisk, IsUnchanged, Survives}
 use Rattle.sqlite.proofs.StateLemmas.{survives_weaker}
@@ -11,11 +11,12 @@ use Rattle.tables.specs.declared.cas.CaRow.{CaRow}
 use Rattle.tables.specs.Schema.{without_ca}
 use Rattle.tables.specs.Contents.{Contents, Means, MeansWithoutCa}
 use Rattle.tables.specs.Refusals.{HasCauseOr, RefusesCa, RefusesNumber}
-use Rattle.tables.specs.Calls.{Never, Steps, Waits as WaitsAt}
+use Rattle.tables.specs.Calls.{Never, Stays, Steps, Waits as WaitsAt}
 use Rattle.tables.specs.Changes.{with_ca, with_schema}
 use Rattle.rows.specs.Transactions.{Goes, Has, Makes, Waits}
 use Rattle.rows.proofs.Steps.{Leads, goes, goes_still, goes_then, stops_then}
 use Rattle.migration.specs.Former.{Had, ca_of, migrated}
+use Rattle.office.specs.declared.fault.StoreFault.{StoreFault}
 use Rattle.rows.specs.Faults.{told}
 use Rattle.migration.specs.Migrating.{HasNoCa, IsRefused, done}
 use Rattle.rows.proofs.Causes.{failed_late}
@@ -70,3 +71,13 @@ put_second P ca old mid new (Err Device) one clean le steps h = λ c means.
       | inr refused ↦ inr (inr refused)
     ]
 put_second P ca old mid new (Err Damaged) one clean le steps h = λ c means. h (with_ca ca c) (steps c means).means
+
+-- what a call leaves, as it is told
+pub stays_told : (old new : State) (r : Result (Unit {0}) Fault) → Stays old new r → Stays old new (done (told r))
+stays_told old new (Ok x) stays = stays
+stays_told old new (Err f) stays = stays
+
+-- what holds on each fault holds however that is told
+pub on_fault : (P : Type 0) (r : Result (Unit {0}) StoreFault) → OnErr (done r) P → OnErr r P
+on_fault P (Ok x) h = h
+on_fault P (Err f) h = h

@@ -1,6 +1,6 @@
 //! A migration, whole or not at all.
 
-ghost use Rattle.std.specs.Prelude.{◌≡◌, List, true, false, Err};
+ghost use Rattle.std.specs.Prelude.{◌≡◌, List, true, false, Err, OnErr};
 ghost use Rattle.std.specs.List.{list_any};
 ghost use Rattle.sqlite.specs.Held.{state};
 ghost use Rattle.sqlite.specs.State.{HasCleanDisk, Survives};
@@ -8,7 +8,7 @@ ghost use Rattle.office.specs.declared.opening.Opening.{Opening};
 ghost use Rattle.office.specs.declared.arrival.Arrival.{Arrival};
 ghost use Rattle.tables.specs.Look.{is_ca_name, is_office_table};
 ghost use Rattle.tables.specs.Contents.{Contents};
-ghost use Rattle.rows.specs.Transactions.{Ends, Leaves, Rests};
+ghost use Rattle.rows.specs.Transactions.{Ends, IsAsBefore, Leaves, Rests};
 ghost use Rattle.migration.specs.Former.{Had, TellsBefore, migrated};
 ghost use Rattle.migration.specs.Migrating.{Carries, HasStopped, Judges, Migrates, done};
 
@@ -25,6 +25,8 @@ fn migrate_whole<S: Alter>(alloc: Global, conn: &mut Connection<S>) -> Result<()
         Ends Had (λ _ _. Unit {0}) migrated (state S.Store conn.old) (state S.Store conn.new) (done result) }
     ensures judges { HasCleanDisk (state S.Store conn.new) → (c : Contents) → Rests (Had c) (state S.Store conn.old)
         → Judges c (HasStopped c (state S.Store conn.old) (state S.Store conn.new)) result }
+    ensures before { HasCleanDisk (state S.Store conn.new)
+        → OnErr result (IsAsBefore (state S.Store conn.old) (state S.Store conn.new)) }
     ensures survives { Survives (state S.Store conn.old) (state S.Store conn.new)
         (Leaves Had migrated (state S.Store conn.old)) }
 {
@@ -62,6 +64,8 @@ pub fn migrate<S: Alter>(alloc: Global, conn: &mut Connection<S>) -> Result<(), 
     ensures carries { HasCleanDisk (state S.Store conn.new) → (o : Opening) (l : List Arrival)
         → TellsBefore (state S.Store conn.old) o l
         → Carries (state S.Store conn.old) (state S.Store conn.new) o l result }
+    ensures before { HasCleanDisk (state S.Store conn.new)
+        → OnErr result (IsAsBefore (state S.Store conn.old) (state S.Store conn.new)) }
 
     // A crash in its midst leaves the tables as they were, or as they are when it is done.
     ensures survives { Survives (state S.Store conn.old) (state S.Store conn.new)

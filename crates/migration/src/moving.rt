@@ -3,6 +3,7 @@
 ghost use Rattle.std.specs.Prelude.{IfErr};
 ghost use Rattle.sqlite.specs.Held.{state};
 ghost use Rattle.sqlite.specs.State.{HasCleanDisk, Survives};
+ghost use Rattle.tables.specs.Calls.{Stays};
 ghost use Rattle.tables.specs.Changes.{with_ca, with_schema};
 ghost use Rattle.tables.specs.Contents.{Contents, Means};
 ghost use Rattle.tables.specs.Refusals.{HasCauseOr};
@@ -26,6 +27,8 @@ fn put<S: Alter>(conn: &mut Connection<S>, ca: &CaRow) -> Result<(), Fault>
     ensures fault { HasCleanDisk (state S.Store conn.new) → IfErr result (λ f. (c : Contents)
         → Means (state S.Store conn.old).now c
         → HasCauseOr (IsRefused ca.now c) (state S.Store conn.old) (state S.Store conn.new) f) }
+    ensures stays { HasCleanDisk (state S.Store conn.new)
+        → Stays (state S.Store conn.old) (state S.Store conn.new) result }
     ensures survives { Survives (state S.Store conn.old) (state S.Store conn.new) (Waits Has (state S.Store conn.old)) }
 {
     match insert_ca(conn, ca) {
@@ -40,6 +43,8 @@ fn fill<S: Alter>(alloc: Global, conn: &mut Connection<S>) -> Result<(), StoreFa
         Makes HasNoCa migrated (state S.Store conn.old) (state S.Store conn.new) (done result) }
     ensures judges { HasCleanDisk (state S.Store conn.new) → (c : Contents) → HasNoCa c (state S.Store conn.old).now
         → Judges c (HasStopped c (state S.Store conn.old) (state S.Store conn.new)) result }
+    ensures stays { HasCleanDisk (state S.Store conn.new)
+        → Stays (state S.Store conn.old) (state S.Store conn.new) (done result) }
     ensures survives { Survives (state S.Store conn.old) (state S.Store conn.new)
         (Waits HasNoCa (state S.Store conn.old)) }
 {
@@ -61,6 +66,8 @@ pub(crate) fn move_tables<S: Alter>(
         Makes Had migrated (state S.Store conn.old) (state S.Store conn.new) (done result) }
     ensures judges { HasCleanDisk (state S.Store conn.new) → (c : Contents) → Had c (state S.Store conn.old).now
         → Judges c (HasStopped c (state S.Store conn.old) (state S.Store conn.new)) result }
+    ensures stays { HasCleanDisk (state S.Store conn.new)
+        → Stays (state S.Store conn.old) (state S.Store conn.new) (done result) }
     ensures survives { Survives (state S.Store conn.old) (state S.Store conn.new)
         (Waits Had (state S.Store conn.old)) }
 {

@@ -21,15 +21,19 @@ use text::Text;
 ///
 /// Each call's clauses are asked of an honest register alone, as the call leaves it: honesty only falls. What a call
 /// answers was asked of an open register, and the register is open after the answer. A register that a failed disk has
-/// shut stays shut, and answers faults alone. A reading call leaves what the register means as it is. `Device` is
-/// answered only where the database failed, or refused what was to be kept of an arrival, and a register that means a
-/// history answers no other fault but want of memory.
+/// shut stays shut, and answers faults alone. A reading call leaves what the register means as it is, and so does a fault;
+/// while the register is open, all that is kept is as before then, even where it means no history, as in damaged tables.
+/// `Device` is answered only where the database failed, or refused what was to be kept of an arrival, and a register that
+/// means a history answers no other fault but want of memory.
 pub trait Registry {
     /// So far every answer of the disk was true.
     ghost is_honest: { Self → Type 0 };
 
     /// No failed disk has shut it.
     ghost is_open: { Self → Type 0 };
+
+    /// What is kept is the same in both, whatever it means.
+    ghost is_as_before: { Self → Self → Type 0 };
 
     /// Between the two the database failed, or it was shut before.
     ghost fails: { Self → Self → Type 0 };
@@ -49,6 +53,7 @@ pub trait Registry {
         ensures due { is_honest self.new → IfOk result (λ outcome. (o : Opening) (l : List Arrival) → means self.old o l → outcome ≡ due o l arrival) }
         ensures next { is_honest self.new → OnOk result ((o : Opening) (l : List Arrival) → means self.old o l → means self.new o (l ++ arrival ∷ [])) }
         ensures fault { is_honest self.new → OnErr result ((o : Opening) (l : List Arrival) → means self.old o l → means self.new o l) }
+        ensures before { is_honest self.new → is_open self.new → OnErr result (is_as_before self.old self.new) }
         ensures cause { IfErr result (λ e. HasCause e (stops self.old self.new arrival)) }
         ensures only { is_honest self.new → IfErr result (λ e. (o : Opening) (l : List Arrival) → means self.old o l → IsOfARegister e) };
 
@@ -59,6 +64,7 @@ pub trait Registry {
         ensures stays_open { is_honest self.new → OnOk result (is_open self.new) }
         ensures row { is_honest self.new → IfOk result (λ cas. (o : Opening) (l : List Arrival) → means self.old o l → cas.items ≡ (state o l).cas) }
         ensures same { is_honest self.new → (o : Opening) (l : List Arrival) → means self.old o l → means self.new o l }
+        ensures before { is_honest self.new → is_open self.new → is_as_before self.old self.new }
         ensures cause { IfErr result (λ e. HasCause e (fails self.old self.new)) }
         ensures only { is_honest self.new → IfErr result (λ e. (o : Opening) (l : List Arrival) → means self.old o l → IsOfARegister e) };
 
@@ -69,6 +75,7 @@ pub trait Registry {
         ensures stays_open { is_honest self.new → OnOk result (is_open self.new) }
         ensures row { is_honest self.new → IfOk result (λ rows. (o : Opening) (l : List Arrival) → means self.old o l → rows.items ≡ pending_of (state o l)) }
         ensures same { is_honest self.new → (o : Opening) (l : List Arrival) → means self.old o l → means self.new o l }
+        ensures before { is_honest self.new → is_open self.new → is_as_before self.old self.new }
         ensures cause { IfErr result (λ e. HasCause e (fails self.old self.new)) }
         ensures only { is_honest self.new → IfErr result (λ e. (o : Opening) (l : List Arrival) → means self.old o l → IsOfARegister e) };
 
@@ -79,6 +86,7 @@ pub trait Registry {
         ensures stays_open { is_honest self.new → OnOk result (is_open self.new) }
         ensures row { is_honest self.new → IfOk result (λ body. (o : Opening) (l : List Arrival) → means self.old o l → body ≡ body_of (state o l) serial) }
         ensures same { is_honest self.new → (o : Opening) (l : List Arrival) → means self.old o l → means self.new o l }
+        ensures before { is_honest self.new → is_open self.new → is_as_before self.old self.new }
         ensures cause { IfErr result (λ e. HasCause e (fails self.old self.new)) }
         ensures only { is_honest self.new → IfErr result (λ e. (o : Opening) (l : List Arrival) → means self.old o l → IsOfARegister e) };
 
@@ -89,6 +97,7 @@ pub trait Registry {
         ensures stays_open { is_honest self.new → OnOk result (is_open self.new) }
         ensures row { is_honest self.new → IfOk result (λ issued. (o : Opening) (l : List Arrival) → means self.old o l → issued ≡ issued_of (state o l) serial) }
         ensures same { is_honest self.new → (o : Opening) (l : List Arrival) → means self.old o l → means self.new o l }
+        ensures before { is_honest self.new → is_open self.new → is_as_before self.old self.new }
         ensures cause { IfErr result (λ e. HasCause e (fails self.old self.new)) }
         ensures only { is_honest self.new → IfErr result (λ e. (o : Opening) (l : List Arrival) → means self.old o l → IsOfARegister e) };
 
@@ -99,6 +108,7 @@ pub trait Registry {
         ensures stays_open { is_honest self.new → OnOk result (is_open self.new) }
         ensures row { is_honest self.new → IfOk result (λ revoked. (o : Opening) (l : List Arrival) → means self.old o l → AreRevoked revoked (state o l)) }
         ensures same { is_honest self.new → (o : Opening) (l : List Arrival) → means self.old o l → means self.new o l }
+        ensures before { is_honest self.new → is_open self.new → is_as_before self.old self.new }
         ensures cause { IfErr result (λ e. HasCause e (fails self.old self.new)) }
         ensures only { is_honest self.new → IfErr result (λ e. (o : Opening) (l : List Arrival) → means self.old o l → IsOfARegister e) };
 
@@ -109,6 +119,7 @@ pub trait Registry {
         ensures stays_open { is_honest self.new → OnOk result (is_open self.new) }
         ensures row { is_honest self.new → IfOk result (λ rows. (o : Opening) (l : List Arrival) → means self.old o l → rows.items ≡ departments_of (state o l)) }
         ensures same { is_honest self.new → (o : Opening) (l : List Arrival) → means self.old o l → means self.new o l }
+        ensures before { is_honest self.new → is_open self.new → is_as_before self.old self.new }
         ensures cause { IfErr result (λ e. HasCause e (fails self.old self.new)) }
         ensures only { is_honest self.new → IfErr result (λ e. (o : Opening) (l : List Arrival) → means self.old o l → IsOfARegister e) };
 
@@ -119,6 +130,7 @@ pub trait Registry {
         ensures stays_open { is_honest self.new → OnOk result (is_open self.new) }
         ensures row { is_honest self.new → IfOk result (λ rows. (o : Opening) (l : List Arrival) → means self.old o l → rows.items ≡ entries_of (state o l)) }
         ensures same { is_honest self.new → (o : Opening) (l : List Arrival) → means self.old o l → means self.new o l }
+        ensures before { is_honest self.new → is_open self.new → is_as_before self.old self.new }
         ensures cause { IfErr result (λ e. HasCause e (fails self.old self.new)) }
         ensures only { is_honest self.new → IfErr result (λ e. (o : Opening) (l : List Arrival) → means self.old o l → IsOfARegister e) };
 

@@ -19,6 +19,8 @@ impl Registry for PlainStore {
 
     ghost is_open = { λ _. Unit {0} };
 
+    ghost is_as_before = { λ old new. new ≡ old };
+
     ghost fails = { λ _ _. ⊥ };
 
     ghost stops = { λ _ _ _. ⊥ };

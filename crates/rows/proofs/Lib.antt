@@ -8,3 +8,4 @@ pub mod Same
 pub mod Steps
 pub mod Causes
 pub mod RunsApart
+pub mod Before

@@ -101,6 +101,16 @@ abbrev pub StopsFor : {A : Type 0} → (A → Database → Type 0) → (A → Ty
 StopsFor {A} Before Refused old new f =
     (a : A) → (IsTrue old.is_open → Rests (Before a) old) → HasCauseOr (Refused a) old new f
 
+-- no transaction is open, and what the connection shows is committed
+abbrev pub IsAtRest : State → Type 0
+IsAtRest s = (s.in_transaction ≡ false) × (s.now ≡ s.committed)
+
+-- A database at rest is the same, whatever its tables mean, unless a failed disk has shut the connection.
+pub record IsAsBefore (old new : State) : Type 0 where
+  pub was_open : IsTrue new.is_open → IsTrue old.is_open
+  pub rest : IsTrue new.is_open → IsAtRest old → IsAtRest new
+  pub same : IsTrue new.is_open → IsAtRest old → new.now ≡ old.now
+
 -- what a crash in the midst of it may leave, beside what was there before: all that comes after it
 abbrev pub Leaves : {A : Type 0} → (A → Database → Type 0) → (A → Contents) → State → Trees → Type 0
 Leaves {A} Before after old trees = (a : A) → Rests (Before a) old → Kept trees (after a)

@@ -1,6 +1,6 @@
 -- What a reading call answers of tables that tell a history.
 use Rattle.std.proofs.Common.{◌≡◌, inl, inr, Bool, true, false, List, Ok, Err, Result, IsTrue, refl, subst, sym, ◌∙◌}
-use Rattle.std.specs.Prelude.{IfOk, IfErr, OnOk}
+use Rattle.std.specs.Prelude.{IfOk, IfErr, OnErr, OnOk}
 use Rattle.sqlite.specs.State.{State as Connection, HasCleanDisk}
 use Rattle.tables.specs.Calls.{WasOpen}
 use Rattle.tables.specs.declared.fault.Fault.{Fault}
@@ -102,3 +102,11 @@ module _ {X : Type 0} (Shown : State → List Kept → X → Type 0) (old new : 
         go : (r : Result X Fault) → WasOpen old new r → ShowsOffice Shown old new r → IfErr (told r) IsOnly
         go (Ok x) was shows = tt
         go (Err f) was shows = λ o l tells. of_a_register f o l tells was shows
+
+-- what holds on a fault holds as it is told
+pub fault_as_told : {X : Type 0} (P : Type 0) (r : Result X Fault) (q : Result X StoreFault) → q ≡ told r → OnErr r P → OnErr q P
+fault_as_told {X} P r q is h = subst (λ z. OnErr z P) (sym is) (go r h)
+  where
+    go : (r : Result X Fault) → OnErr r P → OnErr (told r) P
+    go (Ok x) h = tt
+    go (Err f) h = h

@@ -1,5 +1,5 @@
 -- What a call leaves of what the tables tell.
-use Rattle.std.proofs.Common.{◌≡◌, inl, inr, ℕ, true, false, IsTrue, Option, None, sym, ap, subst, ◌∙◌}
+use Rattle.std.proofs.Common.{◌≡◌, inl, inr, ℕ, true, false, IsTrue, Option, None, Result, Ok, Err, sym, ap, subst, ◌∙◌}
 use Rattle.std.specs.Prelude.{List, is_some}
 use Rattle.sqlite.specs.State.{State}
 use Rattle.tables.specs.Contents.{Contents, Means}
@@ -7,9 +7,11 @@ use Rattle.tables.specs.Calls.{Fails}
 use Rattle.tables.specs.Faults.{HasFailed}
 use Rattle.office.specs.declared.opening.Opening.{Opening}
 use Rattle.office.specs.declared.arrival.Arrival.{Arrival}
-use Rattle.rows.specs.Transactions.{Rests, Has}
+use Rattle.rows.specs.Transactions.{Has, IsAsBefore, Rests}
+use Rattle.rows.proofs.Before.{fails_before}
+use Rattle.office.specs.declared.fault.StoreFault.{StoreFault}
 use Rattle.rows.specs.Rows.{office_contents}
-use Rattle.store.specs.Meaning.{DiskFailed, Tells}
+use Rattle.store.specs.Meaning.{DiskFailed, LooksOn, Tells}
 
 -- where no query has a limit on its steps, only a disk fails
 pub disk_failed : (old new : State) → old.step_limit ≡ None → HasFailed old new → DiskFailed old new
@@ -45,4 +47,13 @@ tells_still old new limit was fails o l tells = record {
   unlimited = limit ∙ tells.unlimited;
   rows = λ still.
       let r = tells.rows (was still) in rests_still old new (office_contents o l) (fails (office_contents o l) r.now) still r;
+}
+
+-- a look leaves the database as it was
+pub looks_before : (old new : State) (r : Result (Unit {0}) StoreFault) → LooksOn old new r → IsAsBefore old new
+looks_before old new (Ok x) same = fails_before old new (inl same)
+looks_before old new (Err e) fails = record {
+  was_open = λ still. (fails_before old new (fails still)).was_open still;
+  rest = λ still. (fails_before old new (fails still)).rest still;
+  same = λ still. (fails_before old new (fails still)).same still;
 }

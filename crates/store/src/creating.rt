@@ -1,17 +1,17 @@
 //! The tables of an office in which nothing has happened yet.
 
-ghost use Rattle.std.specs.Prelude.{◌≡◌, ◌∷◌, [], ◌<◌, ◌^◌, IfOk, IfErr, false};
+ghost use Rattle.std.specs.Prelude.{◌≡◌, ◌∷◌, [], ◌<◌, ◌^◌, IfOk, IfErr, false, OnErr};
 ghost use Rattle.sqlite.specs.Held.{state};
 ghost use Rattle.sqlite.specs.State.{HasCleanDisk, Survives};
 ghost use Rattle.tables.specs.Schema.{no_schema};
 ghost use Rattle.tables.specs.Contents.{no_contents};
-ghost use Rattle.tables.specs.Calls.{IsBare};
+ghost use Rattle.tables.specs.Calls.{IsBare, Stays};
 ghost use Rattle.tables.specs.Changes.{with_ca, with_office};
 ghost use Rattle.tables.specs.Refusals.{HasCauseOr};
 ghost use Rattle.office.specs.Openings.{IsOpening};
 ghost use Rattle.office.specs.State.{first_ca, opened};
 ghost use Rattle.rows.specs.Rows.{ca_row, office_contents, office_row};
-ghost use Rattle.rows.specs.Transactions.{Ends, FailsFor, Has, Leaves, Makes, Rests, Waits};
+ghost use Rattle.rows.specs.Transactions.{Ends, FailsFor, Has, IsAsBefore, Leaves, Makes, Rests, Waits};
 ghost use Rattle.store.specs.Creating.{RefusesFirst, RefusesOpening};
 
 use lines::key_blob_of;
@@ -59,6 +59,8 @@ fn fill<S: Alter>(conn: &mut Connection<S>, office: &OfficeRow, ca: &CaRow) -> R
         (state S.Store conn.old) (state S.Store conn.new) result }
     ensures fails { HasCleanDisk (state S.Store conn.new) → FailsFor Has (RefusesFirst office.now ca.now)
         (state S.Store conn.old) (state S.Store conn.new) result }
+    ensures stays { HasCleanDisk (state S.Store conn.new)
+        → Stays (state S.Store conn.old) (state S.Store conn.new) result }
     ensures survives { Survives (state S.Store conn.old) (state S.Store conn.new) (Waits Has (state S.Store conn.old)) }
 {
     match insert_office(conn, office) {
@@ -74,6 +76,8 @@ fn make<S: Alter>(conn: &mut Connection<S>, office: &OfficeRow, ca: &CaRow) -> R
     ensures fails { HasCleanDisk (state S.Store conn.new) →
         FailsFor (λ (_ : Unit {0}). IsBare no_schema) (λ _. RefusesFirst office.now ca.now no_contents)
         (state S.Store conn.old) (state S.Store conn.new) result }
+    ensures stays { HasCleanDisk (state S.Store conn.new)
+        → Stays (state S.Store conn.old) (state S.Store conn.new) result }
     ensures survives { Survives (state S.Store conn.old) (state S.Store conn.new)
         (Waits (λ (_ : Unit {0}). IsBare no_schema) (state S.Store conn.old)) }
 {
@@ -94,6 +98,8 @@ fn make_whole<S: Alter>(
         (state S.Store conn.old) (state S.Store conn.new) result }
     ensures cause { HasCleanDisk (state S.Store conn.new) → Rests (IsBare no_schema) (state S.Store conn.old)
         → IfErr result (HasCauseOr (RefusesFirst office.now ca.now no_contents) (state S.Store conn.old) (state S.Store conn.new)) }
+    ensures before { HasCleanDisk (state S.Store conn.new)
+        → OnErr result (IsAsBefore (state S.Store conn.old) (state S.Store conn.new)) }
     ensures survives { Survives (state S.Store conn.old) (state S.Store conn.new)
         (Leaves (λ _. IsBare no_schema) (λ (_ : Unit {0}). with_ca ca.now (with_office office.now no_contents))
         (state S.Store conn.old)) }
@@ -119,6 +125,8 @@ pub(crate) fn create<S: Alter>(
         (state S.Store conn.old) (state S.Store conn.new) result }
     ensures cause { HasCleanDisk (state S.Store conn.new) → Rests (IsBare no_schema) (state S.Store conn.old)
         → IfErr result (HasCauseOr (RefusesOpening opening.now) (state S.Store conn.old) (state S.Store conn.new)) }
+    ensures before { HasCleanDisk (state S.Store conn.new)
+        → OnErr result (IsAsBefore (state S.Store conn.old) (state S.Store conn.new)) }
     ensures survives { Survives (state S.Store conn.old) (state S.Store conn.new)
         (Leaves (λ _. IsBare no_schema) (λ (_ : Unit {0}). office_contents opening.now [])
         (state S.Store conn.old)) }

@@ -1,6 +1,6 @@
 //! The register, from its connection and back.
 
-ghost use Rattle.std.specs.Prelude.{◌≡◌, false, [], List, Err, IfErr, IfOk, IsTrue, None, Ok, true};
+ghost use Rattle.std.specs.Prelude.{◌≡◌, false, [], List, Err, IfErr, IfOk, IsOk, IsTrue, None, Ok, true};
 ghost use Rattle.std.specs.List.{list_any};
 ghost use Rattle.sqlite.specs.Held.{state};
 ghost use Rattle.sqlite.specs.State.{HasCleanDisk, Survives};
@@ -8,10 +8,10 @@ ghost use Rattle.tables.specs.Schema.{no_schema};
 ghost use Rattle.tables.specs.Calls.{IsBare};
 ghost use Rattle.tables.specs.Contents.{Contents, Means};
 ghost use Rattle.rows.specs.Rows.{office_contents};
-ghost use Rattle.rows.specs.Transactions.{Leaves};
+ghost use Rattle.rows.specs.Transactions.{Has, IsAsBefore, Leaves, Rests};
 ghost use Rattle.tables.specs.Look.{is_ca_name, is_office_name, is_office_table};
-ghost use Rattle.migration.specs.Former.{TellsBefore};
-ghost use Rattle.migration.specs.Migrating.{IsExcused};
+ghost use Rattle.migration.specs.Former.{Had, TellsBefore, ca_of, migrated};
+ghost use Rattle.migration.specs.Migrating.{HasStopped, IsExcused, Judges};
 ghost use Rattle.office.specs.declared.opening.Opening.{Opening};
 ghost use Rattle.office.specs.declared.arrival.Arrival.{Arrival};
 ghost use Rattle.office.specs.Openings.{IsOpening};
@@ -51,6 +51,8 @@ impl<S: Alter> Store<S> {
             → IsTrue (state S.Store s.conn).is_open) }
         ensures already { IsTrue (list_any is_office_name (state S.Store conn).now.schema.tables)
             → result ≡ Err (record { 0 = StoreFault.AlreadyAnOffice; 1 = conn }) }
+        ensures before { IfErr result (λ e. HasCleanDisk (state S.Store e.1)
+            → IsAsBefore (state S.Store conn) (state S.Store e.1)) }
         ensures blank { IfErr result (λ e. HasCleanDisk (state S.Store e.1) → IsBlank (state S.Store conn)
             → IsTrue (state S.Store e.1).is_open → IsBlank (state S.Store e.1)) }
 
@@ -84,6 +86,8 @@ impl<S: Alter> Store<S> {
             → Means (state S.Store conn).now c → opened_by c.offices ≡ Ok tt) }
         ensures stays_open { IfOk result (λ s. HasCleanDisk (state S.Store s.conn)
             → IsTrue (state S.Store s.conn).is_open) }
+        ensures before { IfErr result (λ e. HasCleanDisk (state S.Store e.1)
+            → IsAsBefore (state S.Store conn) (state S.Store e.1)) }
         ensures refused { IfErr result (λ e. HasCleanDisk (state S.Store e.1) → (c : Contents)
             → Means (state S.Store conn).now c
             → Looks c (DiskFailed (state S.Store conn) (state S.Store e.1)) (Err e.0)) }
@@ -94,6 +98,8 @@ impl<S: Alter> Store<S> {
         ensures only { IfErr result (λ e. HasCleanDisk (state S.Store e.1) → IsTrue (state S.Store conn).is_open
             → (o : Opening) (l : List Arrival) → Tells (state S.Store conn) o l
             → IsExcused (DiskFailed (state S.Store conn) (state S.Store e.1)) e.0) }
+        ensures untouched { IfOk result (λ s. HasCleanDisk (state S.Store s.conn)
+            → IsAsBefore (state S.Store conn) (state S.Store s.conn)) }
         ensures none { list_any is_office_table (state S.Store conn).now.schema.tables ≡ false
             → result ≡ Err (record { 0 = StoreFault.NotAnOffice; 1 = conn }) }
     {
@@ -119,11 +125,28 @@ impl<S: Alter> Store<S> {
             → IsHistory o l → TellsBefore (state S.Store conn) o l → Tells (state S.Store s.conn) o l) }
         ensures stays_open { IfOk result (λ s. HasCleanDisk (state S.Store s.conn)
             → IsTrue (state S.Store s.conn).is_open) }
+        ensures before { IfErr result (λ e. HasCleanDisk (state S.Store e.1)
+            → IsAsBefore (state S.Store conn) (state S.Store e.1)) }
         ensures back { IfErr result (λ e. HasCleanDisk (state S.Store e.1) → (o : Opening) (l : List Arrival)
             → TellsBefore (state S.Store conn) o l → TellsBefore (state S.Store e.1) o l) }
         ensures only { IfErr result (λ e. HasCleanDisk (state S.Store e.1) → IsTrue (state S.Store conn).is_open
             → (o : Opening) (l : List Arrival) → IsHistory o l → TellsBefore (state S.Store conn) o l
             → IsExcused (DiskFailed (state S.Store conn) (state S.Store e.1)) e.0) }
+
+        // Row by row: it is done where the one row of the office is of schema 1, and each fault has its cause.
+        ensures moved { IfOk result (λ s. HasCleanDisk (state S.Store s.conn) → (c : Contents)
+            → Rests (Had c) (state S.Store conn) → Rests (Has (migrated c)) (state S.Store s.conn)) }
+        ensures judged { IfOk result (λ s. HasCleanDisk (state S.Store s.conn) → (c : Contents)
+            → Rests (Had c) (state S.Store conn) → IsOk (ca_of c.offices)) }
+        ensures judged_back { IfErr result (λ e. HasCleanDisk (state S.Store e.1) → (c : Contents)
+            → Rests (Had c) (state S.Store conn)
+            → Judges c (HasStopped c (state S.Store conn) (state S.Store e.1)) (Err e.0)) }
+
+        // A crash in its midst leaves the tables as they were, or as they are when it is done.
+        ensures crash { IfOk result (λ s. Survives (state S.Store conn) (state S.Store s.conn)
+            (Leaves Had migrated (state S.Store conn))) }
+        ensures crash_back { IfErr result (λ e. Survives (state S.Store conn) (state S.Store e.1)
+            (Leaves Had migrated (state S.Store conn))) }
         ensures none { list_any is_office_table (state S.Store conn).now.schema.tables ≡ false
             → result ≡ Err (record { 0 = StoreFault.NotAnOffice; 1 = conn }) }
         ensures already { list_any is_office_table (state S.Store conn).now.schema.tables ≡ true

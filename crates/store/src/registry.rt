@@ -5,6 +5,7 @@ ghost use Rattle.sqlite.specs.Held.{state};
 ghost use Rattle.sqlite.specs.State.{HasCleanDisk};
 ghost use Rattle.office.specs.declared.opening.Opening.{Opening};
 ghost use Rattle.office.specs.declared.arrival.Arrival.{Arrival};
+ghost use Rattle.rows.specs.Transactions.{IsAsBefore};
 ghost use Rattle.store.specs.Meaning.{HasFailed, Tells};
 ghost use Rattle.store.specs.Arriving.{IsStopped};
 
@@ -24,6 +25,8 @@ impl<S: Alter> Registry for Store<S> {
     ghost is_honest = { λ s. HasCleanDisk (state S.Store s.conn) };
 
     ghost is_open = { λ s. IsTrue (state S.Store s.conn).is_open };
+
+    ghost is_as_before = { λ old new. IsAsBefore (state S.Store old.conn) (state S.Store new.conn) };
 
     ghost fails = { λ old new. HasFailed (state S.Store old.conn) (state S.Store new.conn) };
 

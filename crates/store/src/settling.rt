@@ -3,6 +3,7 @@
 ghost use Rattle.std.specs.Prelude.{◌≡◌, IsTrue, length};
 ghost use Rattle.sqlite.specs.Held.{state};
 ghost use Rattle.sqlite.specs.State.{HasCleanDisk, Survives};
+ghost use Rattle.tables.specs.Calls.{Stays};
 ghost use Rattle.message.specs.Values.{is_message};
 ghost use Rattle.office.specs.Decided.{IsLawfulChange};
 ghost use Rattle.rows.specs.Transactions.{Waits};
@@ -37,6 +38,8 @@ fn accept<S: Alter>(
     ensures fails { HasCleanDisk (state S.Store conn.new)
         → FailsAt arrival.now (IsAccepted arrival.now decision.now cas.now)
         (state S.Store conn.old) (state S.Store conn.new) result }
+    ensures stays { HasCleanDisk (state S.Store conn.new)
+        → Stays (state S.Store conn.old) (state S.Store conn.new) result }
     ensures survives { Survives (state S.Store conn.old) (state S.Store conn.new)
         (Waits (IsAfter (IsAccepted arrival.now decision.now cas.now)) (state S.Store conn.old)) }
 {
@@ -75,6 +78,8 @@ fn weigh<S: Alter>(
     ensures fails { HasCleanDisk (state S.Store conn.new)
         → FailsAt arrival.now (IsWeighed arrival.now message.now rows.now)
         (state S.Store conn.old) (state S.Store conn.new) result }
+    ensures stays { HasCleanDisk (state S.Store conn.new)
+        → Stays (state S.Store conn.old) (state S.Store conn.new) result }
     ensures survives { Survives (state S.Store conn.old) (state S.Store conn.new)
         (Waits (IsAfter (IsWeighed arrival.now message.now rows.now)) (state S.Store conn.old)) }
 {
@@ -110,6 +115,8 @@ fn consider<S: Alter>(
     ensures fails { HasCleanDisk (state S.Store conn.new)
         → FailsAt arrival.now (IsNew arrival.now message.now)
         (state S.Store conn.old) (state S.Store conn.new) result }
+    ensures stays { HasCleanDisk (state S.Store conn.new)
+        → Stays (state S.Store conn.old) (state S.Store conn.new) result }
     ensures survives { Survives (state S.Store conn.old) (state S.Store conn.new)
         (Waits (IsAfter (IsNew arrival.now message.now)) (state S.Store conn.old)) }
 {
@@ -133,6 +140,8 @@ fn judge<S: Alter>(
     ensures fails { HasCleanDisk (state S.Store conn.new)
         → FailsAt arrival.now (IsAsked arrival.now is_known)
         (state S.Store conn.old) (state S.Store conn.new) result }
+    ensures stays { HasCleanDisk (state S.Store conn.new)
+        → Stays (state S.Store conn.old) (state S.Store conn.new) result }
     ensures survives { Survives (state S.Store conn.old) (state S.Store conn.new)
         (Waits (IsAfter (IsAsked arrival.now is_known)) (state S.Store conn.old)) }
 {
@@ -164,6 +173,8 @@ fn settle_beside<S: Alter>(
     ensures fails { HasCleanDisk (state S.Store conn.new)
         → FailsAt arrival.now (IsFound arrival.now found)
         (state S.Store conn.old) (state S.Store conn.new) result }
+    ensures stays { HasCleanDisk (state S.Store conn.new)
+        → Stays (state S.Store conn.old) (state S.Store conn.new) result }
     ensures survives { Survives (state S.Store conn.old) (state S.Store conn.new)
         (Waits (IsAfter (IsFound arrival.now found)) (state S.Store conn.old)) }
 {
@@ -188,6 +199,8 @@ pub(crate) fn settle<S: Alter>(
     ensures fails { HasCleanDisk (state S.Store conn.new)
         → FailsAt arrival.now IsAny
         (state S.Store conn.old) (state S.Store conn.new) result }
+    ensures stays { HasCleanDisk (state S.Store conn.new)
+        → Stays (state S.Store conn.old) (state S.Store conn.new) result }
     ensures survives { Survives (state S.Store conn.old) (state S.Store conn.new)
         (Waits (IsAfter IsAny) (state S.Store conn.old)) }
 {

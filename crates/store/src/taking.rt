@@ -1,9 +1,9 @@
 //! One arrival, in one transaction.
 
-ghost use Rattle.std.specs.Prelude.{◌≡◌, IfErr, length};
+ghost use Rattle.std.specs.Prelude.{◌≡◌, IfErr, length, OnErr};
 ghost use Rattle.sqlite.specs.Held.{state};
 ghost use Rattle.sqlite.specs.State.{HasCleanDisk, Survives};
-ghost use Rattle.rows.specs.Transactions.{Ends, Leaves};
+ghost use Rattle.rows.specs.Transactions.{Ends, IsAsBefore, Leaves};
 ghost use Rattle.store.specs.Arriving.{IsAfter, IsAnswered, IsAny, IsCaused, contents_with, of_statement};
 
 use crate::settling::settle;
@@ -35,6 +35,8 @@ pub(crate) fn take<S: Alter>(
         (state S.Store conn.old) (state S.Store conn.new) result }
     ensures cause { HasCleanDisk (state S.Store conn.new) →
         IfErr result (IsCaused arrival.now (state S.Store conn.old) (state S.Store conn.new)) }
+    ensures before { HasCleanDisk (state S.Store conn.new)
+        → OnErr result (IsAsBefore (state S.Store conn.old) (state S.Store conn.new)) }
 
     // A crash in its midst leaves the tables as they were, or with the arrival.
     ensures survives { Survives (state S.Store conn.old) (state S.Store conn.new)

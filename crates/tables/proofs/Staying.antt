@@ -8,7 +8,7 @@ use Rattle.sqlite_schema.specs.declared.command.Returning.{Returning}
 use Rattle.sqlite_resolve.specs.declared.compiled.Compiled.{Compiled}
 use Rattle.sqlite.specs.Listing.{understood}
 use Rattle.sqlite.specs.declared.error.Error.{Error}
-use Rattle.sqlite.specs.State.{State, Executes, ExecutesIn, IsUnchanged, Runs, Shows, Writes, shows_rows}
+use Rattle.sqlite.specs.State.{State, Executes, ExecutesIn, IsUnchanged, KeepsCommit, Runs, Shows, Writes, shows_rows}
 use Rattle.sqlite.proofs.Callers.{unchanged_then}
 use Rattle.tables.specs.declared.fault.Fault.{Fault}
 use Rattle.tables.specs.Done.{IsDone}
@@ -78,6 +78,9 @@ module _ (old new : State) (returning : Option Returning) (text : List ℕ) (par
   runs_go (Rows values width names) none h = unchanged_goes old new h.0
   runs_go Nothing none h = unchanged_goes old new h.0
 
+kept : (old new : State) → GoesOn old new → KeepsCommit old new × (new.in_transaction ≡ old.in_transaction)
+kept old new goes = (record { was_open = λ _. goes.was_open; committed = λ _. goes.committed_is }, goes.mode)
+
 module _ (sql : List ℕ) (params : Row) (old new : State)
     (none : (c : Compiled) → understood old.now.schema sql ≡ Ok c → closes c.command ≡ false) where
   executes_go : (count : ℕ) → Executes sql params old new (Ok count) → IsTrue old.in_transaction → GoesOn old new
@@ -89,7 +92,7 @@ module _ (sql : List ℕ) (params : Row) (old new : State)
 
   pub stays_done : {X : Type 0} (answer : Result ℕ Error) (r : Result X Fault) → IsDone answer r → Executes sql params old new answer
       → Stays old new r
-  stays_done (Ok count) (Ok x) done ran = executes_go count ran
+  stays_done (Ok count) (Ok x) done ran = λ inside. kept old new (executes_go count ran inside)
   stays_done (Ok count) (Err f) done ran = absurd done
   stays_done (Err e) (Ok x) done ran = absurd done
   stays_done (Err e) (Err f) done ran = λ inside. stops old new (stopped sql params old new e ran)
@@ -98,27 +101,21 @@ module _ (sql : List ℕ) (params : Row) (old new : State)
 
 -- a call that only reads
 pub reads_stay : {X : Type 0} (old new : State) (r : Result X Fault) → WasOpen old new r → Stays old new r
-reads_stay old new (Ok x) same = λ inside. unchanged_goes old new same
+reads_stay old new (Ok x) same = λ inside. kept old new (unchanged_goes old new same)
 reads_stay old new (Err f) fails = λ inside. stops old new fails.0
+
+keeps_then : (a b c : State) → KeepsCommit a b → KeepsCommit b c → KeepsCommit a c
+keeps_then a b c p q = record {
+  was_open = λ still. p.was_open (q.was_open still);
+  committed = λ still. q.committed still ∙ p.committed (q.was_open still);
+}
 
 pub stays_then : {X Y : Type 0} (a b c : State) (x : X) (r : Result Y Fault) → Stays a b (Ok x) → Stays b c r → Stays a c r
 stays_then a b c x (Ok y) one rest = λ inside.
     let p = one inside in
-    let q = rest (subst IsTrue (sym p.mode) inside) in record {
-      was_open = p.was_open;
-      is_open = q.is_open;
-      now_is = refl;
-      committed_is = q.committed_is ∙ p.committed_is;
-      mode = q.mode ∙ p.mode;
-    }
+    let q = rest (subst IsTrue (sym p.1) inside) in (keeps_then a b c p.0 q.0, q.1 ∙ p.1)
 stays_then a b c x (Err f) one rest = λ inside.
-    let p = one inside in
-    let q = rest (subst IsTrue (sym p.mode) inside) in
-    record { was_open = λ _. p.was_open; committed = λ still. q.committed still ∙ p.committed_is }
-
--- nothing was called
-pub stays_same : (X : Type 0) (old : State) (f : Fault) → Stays {X = X} old old (Err f)
-stays_same X old f = λ inside. record { was_open = λ still. still; committed = λ _. refl }
+    let p = one inside in keeps_then a b c p.0 (rest (subst IsTrue (sym p.1) inside))
 
 pub reads_then : {X Y : Type 0} (a b c : State) (x : X) (r : Result Y Fault) → WasOpen a b (Ok x)
     → (IsTrue b.is_open → WasOpen b c r) → WasOpen a c r

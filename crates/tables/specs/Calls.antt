@@ -57,9 +57,9 @@ abbrev pub WasOpen : {X : Type 0} → State → State → Result X Fault → Typ
 WasOpen old new (Ok x) = IsUnchanged old new
 WasOpen old new (Err f) = Fails old new × (f ≡ Damaged → IsUnchanged old new)
 
--- Of any tables, inside a transaction: it goes on, and what was committed stays; or, with a fault, what was committed stays.
+-- Of any tables, inside a transaction: what was committed stays, and after an answer the transaction goes on.
 abbrev pub Stays : {X : Type 0} → State → State → Result X Fault → Type 0
-Stays old new (Ok x) = IsTrue old.in_transaction → Shows old new new.now old.committed old.in_transaction
+Stays old new (Ok x) = IsTrue old.in_transaction → KeepsCommit old new × (new.in_transaction ≡ old.in_transaction)
 Stays old new (Err f) = IsTrue old.in_transaction → KeepsCommit old new
 
 -- what a call that a crash cuts off may have committed

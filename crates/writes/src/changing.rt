@@ -3,6 +3,7 @@
 ghost use Rattle.std.specs.Prelude.{◌≡◌, ◌∷◌, [], IsTrue};
 ghost use Rattle.sqlite.specs.Held.{state};
 ghost use Rattle.sqlite.specs.State.{HasCleanDisk, Survives};
+ghost use Rattle.tables.specs.Calls.{Stays};
 ghost use Rattle.message.specs.Values.{is_department};
 ghost use Rattle.office.specs.declared.view.Change.TheVariants as change;
 ghost use Rattle.office.specs.Certificates.{IsCertificate};
@@ -36,6 +37,8 @@ fn change_department<S: Alter>(
         (state S.Store conn.old) (state S.Store conn.new) result }
     ensures fault { HasCleanDisk (state S.Store conn.new) → FailsFor Has (RefusesDepartment (department_row department.now))
         (state S.Store conn.old) (state S.Store conn.new) result }
+    ensures stays { HasCleanDisk (state S.Store conn.new)
+        → Stays (state S.Store conn.old) (state S.Store conn.new) result }
     ensures survives { Survives (state S.Store conn.old) (state S.Store conn.new) (Waits Has (state S.Store conn.old)) }
 {
     let row = department_row(alloc, department)?;
@@ -52,6 +55,8 @@ fn add_certificate<S: Alter>(
         (state S.Store conn.old) (state S.Store conn.new) result }
     ensures fault { HasCleanDisk (state S.Store conn.new) → FailsFor Has (RefusesCert (cert_row certificate.now))
         (state S.Store conn.old) (state S.Store conn.new) result }
+    ensures stays { HasCleanDisk (state S.Store conn.new)
+        → Stays (state S.Store conn.old) (state S.Store conn.new) result }
     ensures survives { Survives (state S.Store conn.old) (state S.Store conn.new) (Waits Has (state S.Store conn.old)) }
 {
     let row = cert_row(alloc, certificate)?;
@@ -63,6 +68,8 @@ fn add_key_id<S: Alter>(alloc: Global, conn: &mut Connection<S>, key_id: &Text) 
         (state S.Store conn.old) (state S.Store conn.new) result }
     ensures fault { HasCleanDisk (state S.Store conn.new) → FailsFor Has (RefusesChange 0 0 (change.KeyId key_id.now))
         (state S.Store conn.old) (state S.Store conn.new) result }
+    ensures stays { HasCleanDisk (state S.Store conn.new)
+        → Stays (state S.Store conn.old) (state S.Store conn.new) result }
     ensures survives { Survives (state S.Store conn.old) (state S.Store conn.new) (Waits Has (state S.Store conn.old)) }
 {
     match find_revoked(alloc, conn, key_id.as_slice()) {
@@ -83,6 +90,8 @@ fn add_ca<S: Alter>(
         (state S.Store conn.old) (state S.Store conn.new) result }
     ensures fault { HasCleanDisk (state S.Store conn.new) → FailsFor Has (RefusesCa (ca_from number since ca.now))
         (state S.Store conn.old) (state S.Store conn.new) result }
+    ensures stays { HasCleanDisk (state S.Store conn.new)
+        → Stays (state S.Store conn.old) (state S.Store conn.new) result }
     ensures survives { Survives (state S.Store conn.old) (state S.Store conn.new) (Waits Has (state S.Store conn.old)) }
 {
     let row = ca_row(alloc, number, since, ca)?;
@@ -102,6 +111,8 @@ pub(crate) fn make<S: Alter>(
         Makes Has (with_change number since change.now) (state S.Store conn.old) (state S.Store conn.new) result }
     ensures fault { HasCleanDisk (state S.Store conn.new) → FailsFor Has (RefusesChange number since change.now)
         (state S.Store conn.old) (state S.Store conn.new) result }
+    ensures stays { HasCleanDisk (state S.Store conn.new)
+        → Stays (state S.Store conn.old) (state S.Store conn.new) result }
     ensures survives { Survives (state S.Store conn.old) (state S.Store conn.new) (Waits Has (state S.Store conn.old)) }
 {
     match change {

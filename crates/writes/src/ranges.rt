@@ -3,6 +3,7 @@
 ghost use Rattle.std.specs.Prelude.{◌≡◌, ◌<◌, ◌≤◌, ◌^◌, IsTrue};
 ghost use Rattle.sqlite.specs.Held.{state};
 ghost use Rattle.sqlite.specs.State.{HasCleanDisk, Survives};
+ghost use Rattle.tables.specs.Calls.{Stays};
 ghost use Rattle.message.specs.Values.{is_range};
 ghost use Rattle.rows.specs.Transactions.{FailsFor, Has, Makes, Waits};
 ghost use Rattle.writes.specs.Ranges.{joined_high, joined_low, run_from, with_joined, with_range};
@@ -47,6 +48,8 @@ fn replace<S: Alter>(conn: &mut Connection<S>, run: &RunRow) -> Result<(), Fault
         (state S.Store conn.old) (state S.Store conn.new) result }
     ensures fault { HasCleanDisk (state S.Store conn.new) → FailsFor Has (RefusesJoined run.now)
         (state S.Store conn.old) (state S.Store conn.new) result }
+    ensures stays { HasCleanDisk (state S.Store conn.new)
+        → Stays (state S.Store conn.old) (state S.Store conn.new) result }
     ensures survives { Survives (state S.Store conn.old) (state S.Store conn.new) (Waits Has (state S.Store conn.old)) }
 {
     delete_runs(conn, run)?;
@@ -65,6 +68,8 @@ fn put_from<S: Alter>(
         (state S.Store conn.old) (state S.Store conn.new) result }
     ensures fault { HasCleanDisk (state S.Store conn.new) → FailsFor Has (λ c. RefusesJoined (run_from lo range c) c)
         (state S.Store conn.old) (state S.Store conn.new) result }
+    ensures stays { HasCleanDisk (state S.Store conn.new)
+        → Stays (state S.Store conn.old) (state S.Store conn.new) result }
     ensures survives { Survives (state S.Store conn.old) (state S.Store conn.new) (Waits Has (state S.Store conn.old)) }
 {
     match last_run(alloc, conn, number(range.hi + 1)) {
@@ -88,6 +93,8 @@ pub(crate) fn put_range<S: Alter>(
         (state S.Store conn.old) (state S.Store conn.new) result }
     ensures fault { HasCleanDisk (state S.Store conn.new) → FailsFor Has (RefusesRange range)
         (state S.Store conn.old) (state S.Store conn.new) result }
+    ensures stays { HasCleanDisk (state S.Store conn.new)
+        → Stays (state S.Store conn.old) (state S.Store conn.new) result }
     ensures survives { Survives (state S.Store conn.old) (state S.Store conn.new) (Waits Has (state S.Store conn.old)) }
 {
     match last_run(alloc, conn, number(range.lo)) {

@@ -3,6 +3,7 @@
 ghost use Rattle.std.specs.Prelude.{◌≡◌};
 ghost use Rattle.sqlite.specs.Held.{state};
 ghost use Rattle.sqlite.specs.State.{HasCleanDisk, Survives};
+ghost use Rattle.tables.specs.Calls.{Stays};
 ghost use Rattle.office.specs.Decided.{IsLawfulChange};
 ghost use Rattle.tables.specs.Changes.{with_counters, with_request};
 ghost use Rattle.rows.specs.Rows.{contents_of};
@@ -29,6 +30,8 @@ fn record<S: Alter>(
         (state S.Store conn.old) (state S.Store conn.new) result }
     ensures fault { HasCleanDisk (state S.Store conn.new) → FailsFor Has (RefusesRecord counters.now request.now)
         (state S.Store conn.old) (state S.Store conn.new) result }
+    ensures stays { HasCleanDisk (state S.Store conn.new)
+        → Stays (state S.Store conn.old) (state S.Store conn.new) result }
     ensures survives { Survives (state S.Store conn.old) (state S.Store conn.new) (Waits Has (state S.Store conn.old)) }
 {
     match update_office(conn, counters) {
@@ -51,6 +54,8 @@ fn write_rows<S: Alter>(
         (state S.Store conn.old) (state S.Store conn.new) result }
     ensures fault { HasCleanDisk (state S.Store conn.new) → FailsFor Has (RefusesRows number change.now counters.now request.now)
         (state S.Store conn.old) (state S.Store conn.new) result }
+    ensures stays { HasCleanDisk (state S.Store conn.new)
+        → Stays (state S.Store conn.old) (state S.Store conn.new) result }
     ensures survives { Survives (state S.Store conn.old) (state S.Store conn.new) (Waits Has (state S.Store conn.old)) }
 {
     match record(conn, counters, request) {
@@ -80,6 +85,8 @@ pub fn write<S: Alter>(
     ensures fault { HasCleanDisk (state S.Store conn.new) → FailsFor (IsDue decision.now cas.now)
         (λ x. RefusesDecision decision.now arrival.now cas.now (contents_of x.0 x.1))
         (state S.Store conn.old) (state S.Store conn.new) result }
+    ensures stays { HasCleanDisk (state S.Store conn.new)
+        → Stays (state S.Store conn.old) (state S.Store conn.new) result }
 
     // A crash in its midst commits nothing.
     ensures survives { Survives (state S.Store conn.old) (state S.Store conn.new)

@@ -2,6 +2,7 @@ use Rattle.std.proofs.Common.{sym, ◌∙◌}
 use Rattle.office.specs.declared.fault.StoreFault.TheVariants.{NotAnOffice, WrongSchema}
 use Rattle.sqlite.specs.Held.{state}
 use Rattle.migration.proofs.Whole.{carries, cas_unseen, migrates, not_carried, office_seen}
+use Rattle.rows.proofs.Before.{same_before}
 use Rattle.migration.proofs.migrating.migrate.Goals as goal
 
 pub returns-clause-migrates : goal.returns-clause-migrates
@@ -36,3 +37,9 @@ pub returns-then-has_ca_table-clause-carries : goal.returns-then-has_ca_table-cl
 returns-then-has_ca_table-clause-carries g c clean =
     let old = state g.S.Store c.args.conn.now in
     not_carried old WrongSchema (λ con. cas_unseen old.now con (sym c.has_ca_table.ensures ∙ c.if-has_ca_table.true))
+
+pub returns-then-not-has_office-clause-before : goal.returns-then-not-has_office-clause-before
+returns-then-not-has_office-clause-before g c clean = same_before (state g.S.Store c.args.conn.now)
+
+pub returns-then-has_ca_table-clause-before : goal.returns-then-has_ca_table-clause-before
+returns-then-has_ca_table-clause-before g c clean = same_before (state g.S.Store c.args.conn.now)

@@ -1,4 +1,4 @@
-use Rattle.std.proofs.Common.{List, Err, arith, subst}
+use Rattle.std.proofs.Common.{List, Err, arith, subst, Ok}
 use Rattle.sqlite.specs.Held.{state}
 use Rattle.sqlite.specs.State.{HasCleanDisk}
 use Rattle.tables.specs.declared.offices.OfficeRow.{OfficeRow}
@@ -7,6 +7,9 @@ use Rattle.migration.specs.Former.{ca_of}
 use Rattle.migration.specs.Migrating.{IsCaDue}
 use Rattle.migration.proofs.Judging.{judged_filled, judged_rows}
 use Rattle.migration.proofs.Moves.{filled}
+use Rattle.tables.proofs.Staying.{reads_stay, stays_then}
+use Rattle.migration.specs.Migrating.{done}
+use Rattle.migration.proofs.Moves.{stays_told}
 use Rattle.migration.proofs.moving.fill.Goals as goal
 
 pub returns-in-Ok-ca_of-clause-makes : goal.returns-in-Ok-ca_of-clause-makes
@@ -35,3 +38,18 @@ returns-in-Ok-clause-judges g c clean con before =
     judged_rows con _ c.in-Ok.rows.items c.in-Err-ca_of.fault (c.in-Ok.ensures.finds clean con before.0).1
     (subst (λ (rows : List OfficeRow). IsCaDue (ca_of rows) (Err c.in-Err-ca_of.fault)) c.as_slice.ensures.value
     c.in-Err-ca_of.ensures)
+
+pub returns-in-Ok-ca_of-clause-stays : goal.returns-in-Ok-ca_of-clause-stays
+returns-in-Ok-ca_of-clause-stays g c clean =
+    let old = state g.S.Store c.args.conn.now in
+    let mid = state g.S.Store c.every_office.new.conn in
+    let new = state g.S.Store c.put.new.conn in
+    let still : HasCleanDisk mid = omega (arith, c.put.ensures.survives.clean) in
+    rw c.told.ensures (stays_then {Y = Unit {0}} old mid new c.in-Ok.rows _
+    (reads_stay old mid (Ok c.in-Ok.rows) (c.in-Ok.ensures.was_open still)) (stays_told mid new c.put.result (c.put.ensures.stays clean)))
+
+pub returns-in-Ok-clause-stays : goal.returns-in-Ok-clause-stays
+returns-in-Ok-clause-stays g c clean =
+    let old = state g.S.Store c.args.conn.now in
+    let new = state g.S.Store c.every_office.new.conn in
+    λ inside. (reads_stay old new (Ok c.in-Ok.rows) (c.in-Ok.ensures.was_open clean) inside).0

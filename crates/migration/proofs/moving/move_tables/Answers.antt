@@ -9,6 +9,7 @@ use Rattle.tables.specs.Calls.{Waits as WaitsAt}
 use Rattle.migration.proofs.Failing.{stopped_late}
 use Rattle.migration.proofs.Judging.{judged_fault, judged_for}
 use Rattle.migration.proofs.Moves.{made_leads, made_waits}
+use Rattle.tables.proofs.Staying.{stays_then}
 use Rattle.migration.proofs.moving.move_tables.Goals as goal
 
 pub returns-in-Ok-clause-makes : goal.returns-in-Ok-clause-makes
@@ -47,3 +48,12 @@ returns-in-Err-clause-judges g c clean con had =
     let old = state g.S.Store c.args.conn.now in
     let new = state g.S.Store c.create_ca.new.conn in
     rw c.fault_of.ensures (judged_fault old new con c.in-Err.fault (c.in-Err.ensures.fault clean had.schema))
+
+pub returns-in-Ok-clause-stays : goal.returns-in-Ok-clause-stays
+returns-in-Ok-clause-stays g c clean =
+    let old = state g.S.Store c.args.conn.now in
+    let mid = state g.S.Store c.create_ca.new.conn in
+    let new = state g.S.Store c.fill.new.conn in
+    let still : HasCleanDisk mid = omega (arith, c.fill.ensures.survives.clean) in
+    stays_then {X = Unit {0}} old mid new tt (done c.fill.result) (c.in-Ok.ensures.stays still)
+    (c.fill.ensures.stays clean)

@@ -7,6 +7,7 @@ use Rattle.tables.specs.Changes.{with_ca, with_schema}
 use Rattle.rows.specs.Transactions.{Has}
 use Rattle.rows.proofs.Steps.{leads, makes, makes_then, waits, waits_then}
 use Rattle.migration.proofs.Moves.{put_first, put_second}
+use Rattle.tables.proofs.Staying.{stays_then}
 use Rattle.migration.proofs.moving.put.Goals as goal
 
 pub returns-in-Ok-clause-makes : goal.returns-in-Ok-clause-makes
@@ -46,3 +47,12 @@ returns-in-Err-clause-fault g c clean =
     let new = state g.S.Store c.insert_ca.new.conn in
     put_first c.args.ca.now old new c.in-Err.fault
     (c.in-Err.ensures.fault clean)
+
+pub returns-in-Ok-clause-stays : goal.returns-in-Ok-clause-stays
+returns-in-Ok-clause-stays g c clean =
+    let old = state g.S.Store c.args.conn.now in
+    let mid = state g.S.Store c.insert_ca.new.conn in
+    let new = state g.S.Store c.update_schema.new.conn in
+    let still : HasCleanDisk mid = omega (arith, c.update_schema.ensures.survives.clean) in
+    stays_then {X = Unit {0}} old mid new tt c.update_schema.result (c.in-Ok.ensures.stays still)
+    (c.update_schema.ensures.stays clean)

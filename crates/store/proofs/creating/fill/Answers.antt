@@ -8,6 +8,7 @@ use Rattle.rows.specs.Transactions.{Has}
 use Rattle.rows.proofs.Causes.{fails_then, fails_weaker}
 use Rattle.rows.proofs.Steps.{leads, makes, makes_then, waits, waits_then}
 use Rattle.store.specs.Creating.{RefusesFirst}
+use Rattle.tables.proofs.Staying.{stays_then}
 use Rattle.store.proofs.creating.fill.Goals as goal
 
 pub returns-in-Ok-clause-makes : goal.returns-in-Ok-clause-makes
@@ -52,3 +53,12 @@ returns-in-Ok-clause-survives g c =
     (λ clean. leads (with_office c.args.office.now) old mid (c.in-Ok.ensures.changes clean))
     (waits (with_office c.args.office.now) old mid c.insert_office.ensures.survives)
     (waits (with_ca c.args.ca.now) mid new c.insert_ca.ensures.survives)
+
+pub returns-in-Ok-clause-stays : goal.returns-in-Ok-clause-stays
+returns-in-Ok-clause-stays g c clean =
+    let old = state g.S.Store c.args.conn.now in
+    let mid = state g.S.Store c.insert_office.new.conn in
+    let new = state g.S.Store c.insert_ca.new.conn in
+    let still : HasCleanDisk mid = omega (arith, c.insert_ca.ensures.survives.clean) in
+    stays_then {X = Unit {0}} old mid new tt c.insert_ca.result (c.in-Ok.ensures.stays still)
+    (c.insert_ca.ensures.stays clean)

@@ -10,6 +10,7 @@ use Rattle.rows.proofs.Causes.{cause_of, fails_then}
 use Rattle.rows.proofs.Steps.{answers_then, waits_then}
 use Rattle.store.specs.Creating.{RefusesFirst}
 use Rattle.store.proofs.Bare.{bare_leads, bare_waits}
+use Rattle.tables.proofs.Staying.{stays_then}
 use Rattle.store.proofs.creating.make.Goals as goal
 
 pub returns-in-Err-clause-survives : goal.returns-in-Err-clause-survives
@@ -54,3 +55,12 @@ returns-in-Ok-clause-survives g c =
     waits_then (λ (_ : Unit {0}). IsBare no_schema) Has (λ _. no_contents) old mid new
     (λ clean. bare_leads old mid (c.in-Ok.ensures.completes clean))
     (bare_waits old mid c.create_tables.ensures.survives) c.fill.ensures.survives
+
+pub returns-in-Ok-clause-stays : goal.returns-in-Ok-clause-stays
+returns-in-Ok-clause-stays g c clean =
+    let old = state g.S.Store c.args.conn.now in
+    let mid = state g.S.Store c.create_tables.new.conn in
+    let new = state g.S.Store c.fill.new.conn in
+    let still : HasCleanDisk mid = omega (arith, c.fill.ensures.survives.clean) in
+    stays_then {X = Unit {0}} old mid new tt c.fill.result (c.in-Ok.ensures.stays still)
+    (c.fill.ensures.stays clean)

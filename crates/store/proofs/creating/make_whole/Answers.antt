@@ -10,6 +10,7 @@ use Rattle.rows.specs.Transactions.{Waits}
 use Rattle.rows.proofs.Causes.{cause_of, stops_for}
 use Rattle.rows.proofs.Steps.{ends, left}
 use Rattle.store.specs.Creating.{RefusesFirst}
+use Rattle.rows.proofs.Before.{concludes_before, fails_before}
 use Rattle.store.proofs.creating.make_whole.Goals as goal
 
 pub returns-in-Ok-clause-ends : goal.returns-in-Ok-clause-ends
@@ -59,3 +60,18 @@ returns-in-Ok-clause-survives g c =
     (λ _. with_ca c.args.ca.now (with_office c.args.office.now no_contents)) old first last new c.make-made.result
     c.in-Ok.ensures.begins c.make-made.ensures.makes c.begin.ensures.survives c.make-made.ensures.survives
     c.conclude.ensures.survives
+
+pub returns-in-Ok-clause-before : goal.returns-in-Ok-clause-before
+returns-in-Ok-clause-before g c clean =
+    let old = state g.S.Store c.args.conn.now in
+    let first = state g.S.Store c.begin.new.conn in
+    let last = state g.S.Store c.make-made.new.conn in
+    let new = state g.S.Store c.conclude.new.conn in
+    let late : HasCleanDisk last = omega (arith, c.conclude.ensures.survives.clean) in
+    let early : HasCleanDisk first = omega (arith, c.conclude.ensures.survives.clean, c.make-made.ensures.survives.clean) in
+    concludes_before old first last new c.make-made.result c.conclude.result (c.in-Ok.ensures.begins early)
+    (c.make-made.ensures.stays late) (c.conclude.ensures.concludes clean)
+
+pub returns-in-Err-clause-before : goal.returns-in-Err-clause-before
+returns-in-Err-clause-before g c clean =
+    fails_before (state g.S.Store c.args.conn.now) (state g.S.Store c.begin.new.conn) (c.in-Err.ensures.begins clean)

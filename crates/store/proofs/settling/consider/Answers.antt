@@ -1,11 +1,13 @@
 use Rattle.std.proofs.Common.{Ok, Err, arith}
 use Rattle.sqlite.specs.Held.{state}
+use Rattle.office.specs.declared.arrival.Outcome.{Outcome}
 use Rattle.sqlite.specs.State.{HasCleanDisk}
 use Rattle.views.specs.Concerning.{AreConcerned}
 use Rattle.views.specs.Finding.{NeverOfOffice}
 use Rattle.store.specs.Arriving.{IsNew, IsWeighed}
 use Rattle.store.proofs.Histories.{shows_of_history}
 use Rattle.store.proofs.Settled.{fails_after, fails_read, settles_failed, settles_then, waits_office, waits_read}
+use Rattle.tables.proofs.Staying.{reads_stay, stays_then}
 use Rattle.store.proofs.settling.consider.Goals as goal
 
 pub returns-in-Ok-clause-settles : goal.returns-in-Ok-clause-settles
@@ -67,3 +69,17 @@ pub returns-in-Err-clause-survives : goal.returns-in-Err-clause-survives
 returns-in-Err-clause-survives g c =
     waits_office (IsNew c.args.arrival.now c.args.message.now) (state g.S.Store c.args.conn.now)
     (state g.S.Store c.concerned_rows.new.conn) c.concerned_rows.ensures.survives
+
+pub returns-in-Ok-clause-stays : goal.returns-in-Ok-clause-stays
+returns-in-Ok-clause-stays g c clean =
+    let old = state g.S.Store c.args.conn.now in
+    let mid = state g.S.Store c.concerned_rows.new.conn in
+    let new = state g.S.Store c.weigh.new.conn in
+    let still : HasCleanDisk mid = omega (arith, c.weigh.ensures.survives.clean) in
+    stays_then old mid new c.in-Ok.rows c.weigh.result (reads_stay old mid (Ok c.in-Ok.rows) (c.in-Ok.ensures.was_open still))
+    (c.weigh.ensures.stays clean)
+
+pub returns-in-Err-clause-stays : goal.returns-in-Err-clause-stays
+returns-in-Err-clause-stays g c clean =
+    reads_stay {X = Outcome} (state g.S.Store c.args.conn.now) (state g.S.Store c.concerned_rows.new.conn) (Err c.in-Err.fault)
+    (c.in-Err.ensures.was_open clean)

@@ -1,12 +1,14 @@
 use Rattle.std.proofs.Common.{◌≡◌, Ok, Err, arith}
 use Rattle.std.specs.Prelude.{find}
 use Rattle.sqlite.specs.Held.{state}
+use Rattle.office.specs.declared.arrival.Outcome.{Outcome}
 use Rattle.sqlite.specs.State.{HasCleanDisk}
 use Rattle.tables.specs.Calls.{Never}
 use Rattle.views.specs.Histories.{is_for}
 use Rattle.store.specs.Arriving.{IsAny, IsFound}
 use Rattle.store.proofs.Histories.{shows_of_history}
 use Rattle.store.proofs.Settled.{fails_after, fails_read, settles_failed, settles_then, waits_never, waits_read}
+use Rattle.tables.proofs.Staying.{reads_stay, stays_then}
 use Rattle.store.proofs.settling.settle.Goals as goal
 
 pub returns-in-Ok-clause-settles : goal.returns-in-Ok-clause-settles
@@ -67,3 +69,17 @@ returns-in-Err-clause-fails g c clean =
 pub returns-in-Err-clause-survives : goal.returns-in-Err-clause-survives
 returns-in-Err-clause-survives g c =
     waits_never IsAny (state g.S.Store c.args.conn.now) (state g.S.Store c.kept_for.new.conn) c.kept_for.ensures.survives
+
+pub returns-in-Ok-clause-stays : goal.returns-in-Ok-clause-stays
+returns-in-Ok-clause-stays g c clean =
+    let old = state g.S.Store c.args.conn.now in
+    let mid = state g.S.Store c.kept_for.new.conn in
+    let new = state g.S.Store c.settle_beside.new.conn in
+    let still : HasCleanDisk mid = omega (arith, c.settle_beside.ensures.survives.clean) in
+    stays_then old mid new c.in-Ok.found c.settle_beside.result (reads_stay old mid (Ok c.in-Ok.found) (c.in-Ok.ensures.was_open still))
+    (c.settle_beside.ensures.stays clean)
+
+pub returns-in-Err-clause-stays : goal.returns-in-Err-clause-stays
+returns-in-Err-clause-stays g c clean =
+    reads_stay {X = Outcome} (state g.S.Store c.args.conn.now) (state g.S.Store c.kept_for.new.conn) (Err c.in-Err.fault)
+    (c.in-Err.ensures.was_open clean)

@@ -1,4 +1,4 @@
-use Rattle.std.proofs.Common.{◌≡◌, inl, inr, arith, sym, ap, subst, Bool, cond, true, false, Some}
+use Rattle.std.proofs.Common.{◌≡◌, inl, inr, arith, sym, ap, subst, Bool, cond, true, false, Some, Ok}
 use Rattle.std.specs.List.{list_any}
 use Rattle.sqlite.specs.Held.{state}
 use Rattle.sqlite.specs.State.{HasCleanDisk}
@@ -13,6 +13,7 @@ use Rattle.rows.specs.Transactions.{Goes, Has}
 use Rattle.writes.specs.Changing.{with_key_id}
 use Rattle.writes.proofs.Once.{none_found, not_there, one_found}
 use Rattle.writes.proofs.Parts.{found_leads, found_then}
+use Rattle.tables.proofs.Staying.{reads_stay, stays_then}
 use Rattle.writes.proofs.changing.add_key_id.Goals as goal
 
 pub returns-in-Ok-None-clause-makes : goal.returns-in-Ok-None-clause-makes
@@ -61,3 +62,17 @@ returns-in-Ok-None-clause-fault g c clean =
     ])
     c.find_revoked.ensures.survives still c.insert_revoked.ensures.survives.counts
     (rw c.as_slice-in-Ok-None.ensures at c.insert_revoked.ensures.fault clean)
+
+pub returns-in-Ok-None-clause-stays : goal.returns-in-Ok-None-clause-stays
+returns-in-Ok-None-clause-stays g c clean =
+    let old = state g.S.Store c.args.conn.now in
+    let mid = state g.S.Store c.find_revoked.new.conn in
+    let new = state g.S.Store c.insert_revoked.new.conn in
+    let still : HasCleanDisk mid = omega (arith, c.insert_revoked.ensures.survives.clean) in
+    stays_then{Y = Unit {0}} old mid new c.in-Ok-None.field-0 c.insert_revoked.result (reads_stay old mid (Ok c.in-Ok-None.field-0) (c.in-Ok-None.ensures.was_open still))
+    (c.insert_revoked.ensures.stays clean)
+
+pub returns-in-Ok-Some-clause-stays : goal.returns-in-Ok-Some-clause-stays
+returns-in-Ok-Some-clause-stays g c clean =
+    reads_stay {X = Unit {0}} (state g.S.Store c.args.conn.now) (state g.S.Store c.find_revoked.new.conn) (Ok tt)
+    (c.in-Ok-Some.ensures.was_open clean)

@@ -1,4 +1,4 @@
-use Rattle.std.proofs.Common.{◌≡◌, ℕ, ap, subst, ◌∙◌, arith}
+use Rattle.std.proofs.Common.{◌≡◌, ℕ, ap, subst, ◌∙◌, arith, Ok, Err}
 use Rattle.sqlite.specs.Held.{state}
 use Rattle.sqlite.specs.State.{HasCleanDisk}
 use Rattle.tables.specs.Calls.{Never}
@@ -8,6 +8,7 @@ use Rattle.rows.proofs.Causes.{fails_then}
 use Rattle.writes.specs.Ranges.{joined_low, run_from, with_joined, with_range}
 use Rattle.writes.specs.Refused.{RefusesJoined, RefusesRange}
 use Rattle.writes.proofs.Parts.{found_leads, found_then}
+use Rattle.tables.proofs.Staying.{reads_stay, stays_then}
 use Rattle.writes.proofs.ranges.put_range.Goals as goal
 
 pub returns-in-Ok-clause-makes : goal.returns-in-Ok-clause-makes
@@ -40,3 +41,17 @@ returns-in-Ok-clause-fault g c clean =
     c.joined_low.ensures ∙ ap (joined_low range.lo) (found.1 ∙ ap (λ (n : ℕ). last_run n d) c.number.ensures) in
     subst (λ (n : ℕ). RefusesJoined (run_from n range d) d) is why)
     c.last_run.ensures.survives still c.put_from.ensures.survives.counts (c.put_from.ensures.fault clean)
+
+pub returns-in-Ok-clause-stays : goal.returns-in-Ok-clause-stays
+returns-in-Ok-clause-stays g c clean =
+    let old = state g.S.Store c.args.conn.now in
+    let mid = state g.S.Store c.last_run.new.conn in
+    let new = state g.S.Store c.put_from.new.conn in
+    let still : HasCleanDisk mid = omega (arith, c.put_from.ensures.survives.clean) in
+    stays_then old mid new c.in-Ok.found c.put_from.result (reads_stay old mid (Ok c.in-Ok.found) (c.in-Ok.ensures.was_open still))
+    (c.put_from.ensures.stays clean)
+
+pub returns-in-Err-clause-stays : goal.returns-in-Err-clause-stays
+returns-in-Err-clause-stays g c clean =
+    reads_stay {X = Unit {0}} (state g.S.Store c.args.conn.now) (state g.S.Store c.last_run.new.conn) (Err c.in-Err.fault)
+    (c.in-Err.ensures.was_open clean)

@@ -8,6 +8,7 @@ use Rattle.tables.specs.Calls.{Leaves}
 use Rattle.tables.specs.Refusals.{RefusesRun}
 use Rattle.rows.proofs.Causes.{fails_then}
 use Rattle.rows.proofs.Steps.{leads, makes, makes_then, waits, waits_then}
+use Rattle.tables.proofs.Staying.{stays_then}
 use Rattle.writes.proofs.ranges.replace.Goals as goal
 
 pub returns-clause-makes : goal.returns-clause-makes
@@ -42,3 +43,12 @@ returns-clause-survives g c =
     (λ clean. leads (without_runs c.args.run.now) old mid (c.in_ok-delete_runs.ensures.changes clean))
     (waits (without_runs c.args.run.now) old mid c.delete_runs.ensures.survives)
     (waits (with_run c.args.run.now) mid new c.insert_run.ensures.survives)
+
+pub returns-clause-stays : goal.returns-clause-stays
+returns-clause-stays g c clean =
+    let old = state g.S.Store c.args.conn.now in
+    let mid = state g.S.Store c.delete_runs.new.conn in
+    let new = state g.S.Store c.insert_run.new.conn in
+    let still : HasCleanDisk mid = omega (arith, c.insert_run.ensures.survives.clean) in
+    stays_then {X = Unit {0}} old mid new tt c.insert_run.result (c.in_ok-delete_runs.ensures.stays still)
+    (c.insert_run.ensures.stays clean)

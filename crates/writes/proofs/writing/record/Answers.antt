@@ -8,6 +8,7 @@ use Rattle.tables.specs.Refusals.{RefusesCounters, RefusesRequest}
 use Rattle.writes.specs.Refused.{RefusesRecord}
 use Rattle.rows.proofs.Causes.{fails_then, fails_weaker}
 use Rattle.rows.proofs.Steps.{leads, makes, makes_then, waits, waits_then}
+use Rattle.tables.proofs.Staying.{stays_then}
 use Rattle.writes.proofs.writing.record.Goals as goal
 
 pub returns-in-Ok-clause-makes : goal.returns-in-Ok-clause-makes
@@ -51,3 +52,12 @@ returns-in-Err-clause-fault g c clean =
     fails_weaker {X = Unit {0}} Has Has (RefusesCounters k) (RefusesRecord k row) (λ d. d) old new (Err c.in-Err.fault)
     (λ d means. means) (λ d means why. inl why)
     (c.in-Err.ensures.fault clean)
+
+pub returns-in-Ok-clause-stays : goal.returns-in-Ok-clause-stays
+returns-in-Ok-clause-stays g c clean =
+    let old = state g.S.Store c.args.conn.now in
+    let mid = state g.S.Store c.update_office.new.conn in
+    let new = state g.S.Store c.insert_request.new.conn in
+    let still : HasCleanDisk mid = omega (arith, c.insert_request.ensures.survives.clean) in
+    stays_then {X = Unit {0}} old mid new tt c.insert_request.result (c.in-Ok.ensures.stays still)
+    (c.insert_request.ensures.stays clean)

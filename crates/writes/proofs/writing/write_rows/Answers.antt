@@ -9,6 +9,7 @@ use Rattle.writes.specs.Refused.{RefusesChange, RefusesRecord, RefusesRows}
 use Rattle.rows.proofs.Steps.{waits_then}
 use Rattle.writes.specs.Changing.{with_change}
 use Rattle.writes.proofs.Parts.{leads_on, made_then}
+use Rattle.tables.proofs.Staying.{stays_then}
 use Rattle.writes.proofs.writing.write_rows.Goals as goal
 
 pub returns-in-Ok-clause-makes : goal.returns-in-Ok-clause-makes
@@ -51,3 +52,12 @@ returns-in-Err-clause-fault g c clean =
     let row = c.args.request.now in
     fails_weaker {X = Unit {0}} Has Has (RefusesRecord k row) (RefusesRows c.args.number c.args.change.now k row) (λ d. d) old new
     (Err c.in-Err.fault) (λ d means. means) (λ d means why. inl why) (c.in-Err.ensures.fault clean)
+
+pub returns-in-Ok-clause-stays : goal.returns-in-Ok-clause-stays
+returns-in-Ok-clause-stays g c clean =
+    let old = state g.S.Store c.args.conn.now in
+    let mid = state g.S.Store c.record.new.conn in
+    let new = state g.S.Store c.make.new.conn in
+    let still : HasCleanDisk mid = omega (arith, c.make.ensures.survives.clean) in
+    stays_then {X = Unit {0}} old mid new tt c.make.result (c.in-Ok.ensures.stays still)
+    (c.make.ensures.stays clean)

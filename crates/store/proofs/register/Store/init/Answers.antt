@@ -12,6 +12,7 @@ use Rattle.views.proofs.Showing.{survives_still}
 use Rattle.store.specs.Creating.{RefusesOpening}
 use Rattle.store.proofs.Limits.{opening_fits}
 use Rattle.store.proofs.OfficeRows.{excused_unless}
+use Rattle.rows.proofs.Before.{same_before}
 use Rattle.store.proofs.register.Store.init.Goals as goal
 
 pub returns-in-Ok-clause-made : goal.returns-in-Ok-clause-made
@@ -50,3 +51,9 @@ returns-in-Err-clause-only g c clean blank =
 
 pub returns-in-Ok-clause-stays_open : goal.returns-in-Ok-clause-stays_open
 returns-in-Ok-clause-stays_open g c clean = (c.in-Ok.ensures.ends clean).1
+
+pub returns-then-has_any_table-clause-before : goal.returns-then-has_any_table-clause-before
+returns-then-has_any_table-clause-before g c clean = same_before (state g.S.Store c.args.conn)
+
+pub returns-in-Err-clause-before : goal.returns-in-Err-clause-before
+returns-in-Err-clause-before g c clean = c.in-Err.ensures.before clean

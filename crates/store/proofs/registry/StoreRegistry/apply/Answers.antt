@@ -1,5 +1,7 @@
 use Rattle.sqlite.specs.Held.{state}
 use Rattle.store.proofs.Taken.{cause_of_take, due_told, fault_told, next_told, only_of_take, open_told, stays_told}
+use Rattle.rows.specs.Transactions.{IsAsBefore}
+use Rattle.store.proofs.Answering.{fault_as_told}
 use Rattle.store.proofs.registry.StoreRegistry.apply.Goals as goal
 
 pub returns-clause-due : goal.returns-clause-due
@@ -36,3 +38,8 @@ pub returns-clause-stays_open : goal.returns-clause-stays_open
 returns-clause-stays_open g c clean =
     stays_told c.args.arrival (state g.S.Store c.args.self.now.conn) (state g.S.Store c.take.new.conn) c.take.result c.told.result
     c.told.ensures (c.take.ensures.ends clean)
+
+pub returns-clause-before : goal.returns-clause-before
+returns-clause-before g c clean still =
+    fault_as_told (IsAsBefore (state g.S.Store c.args.self.now.conn) (state g.S.Store c.take.new.conn)) c.take.result c.told.result
+    c.told.ensures (c.take.ensures.before clean)

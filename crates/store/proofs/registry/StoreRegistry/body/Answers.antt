@@ -2,6 +2,7 @@ use Rattle.std.specs.Prelude.{◌≡◌}
 use Rattle.sqlite.specs.Held.{state}
 use Rattle.office.specs.State.{body_of}
 use Rattle.store.proofs.Answering.{cause_told, only_told, open_told, row_told, same_told, stays_told}
+use Rattle.rows.proofs.Before.{reads_before}
 use Rattle.store.proofs.registry.StoreRegistry.body.Goals as goal
 
 pub returns-clause-row : goal.returns-clause-row
@@ -45,3 +46,8 @@ returns-clause-stays_open g c clean =
     let new = state g.S.Store c.read_body_of.new.conn in
     stays_told (λ s kept body. body ≡ body_of s c.args.serial) old new c.read_body_of.result c.told.result c.told.ensures
     c.read_body_of.ensures.was_open c.read_body_of.ensures.shows clean
+
+pub returns-clause-before : goal.returns-clause-before
+returns-clause-before g c clean still =
+    reads_before (state g.S.Store c.args.self.now.conn) (state g.S.Store c.read_body_of.new.conn) c.read_body_of.result
+    (c.read_body_of.ensures.was_open clean)

@@ -2,6 +2,7 @@ use Rattle.std.specs.Prelude.{◌≡◌}
 use Rattle.sqlite.specs.Held.{state}
 use Rattle.store.proofs.Answering.{cause_told, only_told, open_told, row_told, same_told, stays_told}
 use Rattle.store.proofs.Reading.{shows_office}
+use Rattle.rows.proofs.Before.{reads_before}
 use Rattle.store.proofs.registry.StoreRegistry.cas.Goals as goal
 
 pub returns-clause-row : goal.returns-clause-row
@@ -45,3 +46,8 @@ returns-clause-stays_open g c clean =
     let new = state g.S.Store c.read_cas.new.conn in
     stays_told (λ s kept cas. cas.items ≡ s.cas) old new c.read_cas.result c.told.result c.told.ensures
     c.read_cas.ensures.was_open (λ clean. shows_office (λ s kept cas. cas.items ≡ s.cas) old new c.read_cas.result (c.read_cas.ensures.shows clean)) clean
+
+pub returns-clause-before : goal.returns-clause-before
+returns-clause-before g c clean still =
+    reads_before (state g.S.Store c.args.self.now.conn) (state g.S.Store c.read_cas.new.conn) c.read_cas.result
+    (c.read_cas.ensures.was_open clean)

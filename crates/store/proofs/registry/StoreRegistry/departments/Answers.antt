@@ -3,6 +3,7 @@ use Rattle.sqlite.specs.Held.{state}
 use Rattle.office.specs.Publication.{departments_of}
 use Rattle.store.proofs.Answering.{cause_told, only_told, open_told, row_told, same_told, stays_told}
 use Rattle.store.proofs.Reading.{shows_office}
+use Rattle.rows.proofs.Before.{reads_before}
 use Rattle.store.proofs.registry.StoreRegistry.departments.Goals as goal
 
 pub returns-clause-row : goal.returns-clause-row
@@ -46,3 +47,8 @@ returns-clause-stays_open g c clean =
     let new = state g.S.Store c.read_departments.new.conn in
     stays_told (λ s kept rows. rows.items ≡ departments_of s) old new c.read_departments.result c.told.result c.told.ensures
     c.read_departments.ensures.was_open (λ clean. shows_office (λ s kept rows. rows.items ≡ departments_of s) old new c.read_departments.result (c.read_departments.ensures.shows clean)) clean
+
+pub returns-clause-before : goal.returns-clause-before
+returns-clause-before g c clean still =
+    reads_before (state g.S.Store c.args.self.now.conn) (state g.S.Store c.read_departments.new.conn) c.read_departments.result
+    (c.read_departments.ensures.was_open clean)

@@ -2,6 +2,7 @@ use Rattle.std.specs.Prelude.{◌≡◌}
 use Rattle.sqlite.specs.Held.{state}
 use Rattle.office.specs.Publication.{pending_of}
 use Rattle.store.proofs.Answering.{cause_told, only_told, open_told, row_told, same_told, stays_told}
+use Rattle.rows.proofs.Before.{reads_before}
 use Rattle.store.proofs.registry.StoreRegistry.pending.Goals as goal
 
 pub returns-clause-row : goal.returns-clause-row
@@ -45,3 +46,8 @@ returns-clause-stays_open g c clean =
     let new = state g.S.Store c.read_pending.new.conn in
     stays_told (λ s kept rows. rows.items ≡ pending_of s) old new c.read_pending.result c.told.result c.told.ensures
     c.read_pending.ensures.was_open c.read_pending.ensures.shows clean
+
+pub returns-clause-before : goal.returns-clause-before
+returns-clause-before g c clean still =
+    reads_before (state g.S.Store c.args.self.now.conn) (state g.S.Store c.read_pending.new.conn) c.read_pending.result
+    (c.read_pending.ensures.was_open clean)

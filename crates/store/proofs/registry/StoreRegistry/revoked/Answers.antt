@@ -1,6 +1,7 @@
 use Rattle.sqlite.specs.Held.{state}
 use Rattle.office.specs.Publication.{AreRevoked}
 use Rattle.store.proofs.Answering.{cause_told, only_told, open_told, row_told, same_told, stays_told}
+use Rattle.rows.proofs.Before.{reads_before}
 use Rattle.store.proofs.registry.StoreRegistry.revoked.Goals as goal
 
 pub returns-clause-row : goal.returns-clause-row
@@ -44,3 +45,8 @@ returns-clause-stays_open g c clean =
     let new = state g.S.Store c.read_revoked.new.conn in
     stays_told (λ s kept revoked. AreRevoked revoked s) old new c.read_revoked.result c.told.result c.told.ensures
     c.read_revoked.ensures.was_open c.read_revoked.ensures.shows clean
+
+pub returns-clause-before : goal.returns-clause-before
+returns-clause-before g c clean still =
+    reads_before (state g.S.Store c.args.self.now.conn) (state g.S.Store c.read_revoked.new.conn) c.read_revoked.result
+    (c.read_revoked.ensures.was_open clean)
