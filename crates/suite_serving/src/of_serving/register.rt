@@ -23,6 +23,10 @@ impl Register {
 impl Registry for Register {
     ghost is_honest = { λ _. Unit {0} };
 
+    ghost is_open = { λ _. Unit {0} };
+
+    ghost is_as_before = { λ _ _. Unit {0} };
+
     ghost fails = { λ _ _. ⊥ };
 
     ghost stops = { λ _ _ _. ⊥ };
