@@ -1,5 +1,5 @@
 -- Readings that go one way where a line is of one kind, and another way otherwise.
-use Rattle.std.proofs.Common.{◌≡◌, ℕ, suc, ◌+◌, ◌-◌, ◌<◌, List, [], ◌∷◌, ◌++◌, length, drop, ◌⊎◌, Option, Some, None, Result, Ok, Err, refl, sym, ap, subst, ◌∙◌, arith, inl, inr, length-drop}
+use Rattle.std.proofs.Common.{◌≡◌, ℕ, suc, ◌-◌, ◌<◌, List, [], ◌∷◌, ◌++◌, length, drop, ◌⊎◌, Option, Some, None, Result, Ok, Err, refl, sym, ap, subst, ◌∙◌, arith, inl, inr, length-drop}
 use Rattle.std.specs.List.{AllByRecursion}
 use Rattle.std.proofs.lemmas.Option.{same_Some}
 use Rattle.message.specs.Reading.{line_of}
@@ -13,6 +13,8 @@ use Rattle.message.proofs.Readings.{
   more_than_none,
   line_read,
   line_read_is_ended,
+  not_some,
+  one_further,
 }
 
 module _ {M X : Type 0} (k : ℕ) (read : List ℕ → Option X) (text : X → List ℕ) (IsLawful : X → Type 0)
@@ -81,10 +83,7 @@ module _ {M X : Type 0} (k : ℕ) (read : List ℕ → Option X) (text : X → L
         let all = subst (λ (ls : List (List ℕ)). Shares (suc j) (line_of (suc k) ps ∷ drop (suc k) ps) (ls ++ [] ∷ []))
         (more_is x m lawful going).1 both in
         let same = (shares_less j (line_of (suc k) ps) (text x) (drop (suc k) ps) (more_lines x m ++ [] ∷ []) all).0 in
-        none_some x (sym is ∙ ap read same ∙ field.again x lawful)
-      where
-        none_some : (x : X) → None ≡ Some x → ⊥
-        none_some x e = cc
+        not_some x (sym is ∙ ap read same ∙ field.again x lawful)
 
     -- where the first line goes on, what another text shares
     goes_on : (ps : List (List ℕ)) (j : ℕ) (m : M) (x : X) → AreBytes ps → read (line_of (suc k) ps) ≡ Some x
@@ -100,7 +99,7 @@ module _ {M X : Type 0} (k : ℕ) (read : List ℕ → Option X) (text : X → L
               let all = subst (λ (ls : List (List ℕ)). Shares (suc (suc j)) (text x ∷ drop (suc k) ps) (ls ++ [] ∷ []))
               ((stop_is m stopped).1 ∙ first.1.1.0) both in
               let same = (shares_less (suc j) (text x) first.0 (drop (suc k) ps) (first.1.0 ++ [] ∷ []) all).0 in
-              none_some x (sym first.1.1.1 ∙ ap read (sym same) ∙ read_here)
+              not_some x (sym first.1.1.1 ∙ ap read (sym same) ∙ read_here)
           | inr going ↦
               let all = subst (λ (ls : List (List ℕ)). Shares (suc (suc j)) (text x ∷ drop (suc k) ps) (ls ++ [] ∷ []))
               (more_is going.0 m going.1.0 going.1.1).1 both in
@@ -111,9 +110,6 @@ module _ {M X : Type 0} (k : ℕ) (read : List ℕ → Option X) (text : X → L
               none m (subst (λ (y : X). IsMore y m) same going.1.1)
               (subst (λ (y : X). Shares (suc j) (drop (suc k) ps) (more_lines y m ++ [] ∷ [])) same parts.1)
         ]
-      where
-        none_some : (x : X) → None ≡ Some x → ⊥
-        none_some x e = cc
 
     fault_step : (ps : List (List ℕ)) (i : ℕ) (o : Option X) → AreBytes ps → k < length ps → read (line_of (suc k) ps)
         ≡ o → step ps o ≡ Err i
@@ -151,7 +147,7 @@ module _ {M X : Type 0} (k : ℕ) (read : List ℕ → Option X) (text : X → L
         let there = line_read k read text IsLawful field ps x fits is in (
           suc j,
           (
-            further j i first.1.0,
+            one_further k i j first.1.0,
             (
               m,
               (
@@ -165,9 +161,6 @@ module _ {M X : Type 0} (k : ℕ) (read : List ℕ → Option X) (text : X → L
             λ n of shared. goes_on ps j n x fits is first.1.2 of shared,
           ),
         )
-      where
-        further : (j i : ℕ) → i ≡ suc (suc k + j) → i ≡ suc (k + suc j)
-        further j i e = omega arith
 
     lines_all : (m : M) → Is m → AllByRecursion IsLine (lines m)
     lines_all m is = elim (cases m is) [

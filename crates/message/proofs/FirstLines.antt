@@ -1,31 +1,6 @@
 -- A line, and then the rest.
-use Rattle.std.proofs.Common.{
-  ◌≡◌,
-  ℕ,
-  suc,
-  ◌+◌,
-  ◌-◌,
-  ◌<◌,
-  List,
-  [],
-  ◌∷◌,
-  ◌++◌,
-  length,
-  drop,
-  Option,
-  Some,
-  None,
-  Result,
-  Ok,
-  Err,
-  refl,
-  sym,
-  ap,
-  subst,
-  ◌∙◌,
-  arith,
-  length-drop,
-}
+use Rattle.std.proofs.Common.{◌≡◌, ℕ, suc, ◌-◌, ◌<◌, List, [], ◌∷◌, ◌++◌, length, drop, Option, Some, None, Result, Ok, Err, refl, sym, ap, subst, ◌∙◌, arith, length-drop}
+use Rattle.std.proofs.lemmas.Option.{same_Some}
 use Rattle.message.specs.Reading.{◌>>=◌, or_bad, line_of}
 use Rattle.message.proofs.Lines.{line_there, line_is, Shares, shares_more, shares_less, shares_none}
 use Rattle.message.proofs.Readings.{
@@ -37,6 +12,8 @@ use Rattle.message.proofs.Readings.{
   error_at,
   line_read,
   line_read_is_ended,
+  not_some,
+  one_further,
 }
 
 module _ {M X : Type 0} (k : ℕ) (read : List ℕ → Option X) (text : X → List ℕ) (IsLawful : X → Type 0)
@@ -105,10 +82,7 @@ module _ {M X : Type 0} (k : ℕ) (read : List ℕ → Option X) (text : X → L
           let ended : suc k < length ps = omega (arith, shared.0) in
           let same = (shares_less 0 _ (text (get m)) _ (lines m ++ [] ∷ [])
           (subst (λ (xs : List (List ℕ)). Shares 1 xs (all_lines m ++ [] ∷ [])) (line_there k ps ended) shared)).0 in
-          none_some (get m) (sym is ∙ ap read same ∙ field.again (get m) w.0)
-        where
-          none_some : (x : X) → None ≡ Some x → ⊥
-          none_some x e = cc
+          not_some (get m) (sym is ∙ ap read same ∙ field.again (get m) w.0)
   fault_step ps i (Some x) fits inside is e =
       let lawful = (field.found _ x (fits (suc k)) is).0 in
       let deeper = (after x lawful).fault ps i fits (line_read_is_ended k read text IsLawful field ps x is) e in
@@ -117,7 +91,7 @@ module _ {M X : Type 0} (k : ℕ) (read : List ℕ → Option X) (text : X → L
       let same_get = gets x some.0 some.1.0 in (
         suc j,
         (
-          further j i deeper.1.0,
+          one_further k i j deeper.1.0,
           (
             some.0,
             (
@@ -131,9 +105,6 @@ module _ {M X : Type 0} (k : ℕ) (read : List ℕ → Option X) (text : X → L
         ),
       )
     where
-      further : (j i : ℕ) → i ≡ suc (suc k + j) → i ≡ suc (k + suc j)
-      further j i e = omega arith
-
       no_other : (ps : List (List ℕ)) (i : ℕ) (x : X) → AreBytes ps → read (line_of (suc k) ps) ≡ Some x → (j : ℕ)
           → ((m : M) → Is x m → Shares (suc j) (drop (suc k) ps) (lines m ++ [] ∷ []) → ⊥)
           → (m : M) → Whole m → Shares (suc (suc j)) (drop k ps) (all_lines m ++ [] ∷ []) → ⊥
@@ -142,12 +113,9 @@ module _ {M X : Type 0} (k : ℕ) (read : List ℕ → Option X) (text : X → L
           (subst (λ (xs : List (List ℕ)). Shares (suc (suc j)) xs (all_lines m ++ [] ∷ []))
           (line_read k read text IsLawful field ps x fits is) shared) in
           let same : x ≡ get m =
-          some_is x (get m) (sym (field.again x (field.found _ x (fits (suc k)) is).0) ∙ ap read both.0
+          same_Some x (get m) (sym (field.again x (field.found _ x (fits (suc k)) is).0) ∙ ap read both.0
           ∙ field.again (get m) w.0) in
           none m (subst (λ (y : X). Is y m) (sym same) w.1) both.1
-        where
-          some_is : (x y : X) → Some x ≡ Some y → x ≡ y
-          some_is x y e = cc
 
   pub line_then : IsReading k reads Whole all_lines
   line_then = record {

@@ -1,5 +1,5 @@
 -- Key lines in lines: none has a line feed, and each is read from its text alone.
-use Rattle.std.proofs.Common.{◌≡◌, ℕ, ◌+◌, ◌*◌, ◌/◌, ◌%◌, List, [], ◌∷◌, ◌++◌, length, replicate, slice_index, true, false, eqb, Option, Some, None, Result, Ok, Err, refl, ap}
+use Rattle.std.proofs.Common.{◌≡◌, ℕ, ◌+◌, ◌*◌, ◌/◌, ◌%◌, List, [], ◌∷◌, ◌++◌, length, replicate, slice_index, true, false, eqb, Option, Some, None, Ok, refl, ap}
 use Rattle.std.specs.Result.{result_ok}
 use Rattle.std.proofs.lemmas.Bool.{and_parts}
 use Rattle.std.proofs.lemmas.List.Elements.{All-append, All-cons, All-nil, All-replicate}
@@ -18,11 +18,10 @@ use Rattle.lines.specs.KeyLines.{
 }
 use Rattle.lines.specs.Reading.{key_line_at}
 use Rattle.lines.specs.declared.key_line.KeyLine.{KeyLine}
-use Rattle.lines.specs.declared.key_line.LineFault.{LineFault}
 use Rattle.lines.proofs.Base64.{free_at}
 use Rattle.lines.proofs.KeyLineLaws.{found_from, key_line_again}
 use Rattle.message.specs.Reading.{after, key_line_after}
-use Rattle.message.proofs.Readings.{IsField, IsLine}
+use Rattle.message.proofs.Readings.{IsField, IsLine, ok_of}
 use Rattle.message.proofs.Fields.{lacks_by, value_after}
 
 no_bytes : IsLine []
@@ -78,16 +77,12 @@ key_is_line k is =
     (All-append (λ x. eqb x 10 ≡ false) (encode_of standard (key_blob k.key)) (comment_text k.comment)
     (base64_line (key_blob k.key)) (comment_line k.comment (and_parts _ _ is).1))
 
-read_ok : (r : Result KeyLine LineFault) (k : KeyLine) → result_ok r ≡ Some k → r ≡ Ok k
-read_ok (Ok x) k e = cc
-read_ok (Err e) k is = absurd cc
-
 -- a key line behind a word
 pub key_field : (head : List ℕ) → IsLine head → after head [] ≡ None
     → IsField (key_line_after head) (λ k. head ++ key_line_text k) (λ k. is_key_line k ≡ true)
 key_field head line empty =
     value_after head (λ t. result_ok (key_line_at t)) key_line_text (λ k. is_key_line k ≡ true) line empty (record {
-      found = λ t k fits e. found_from t (Ok k) fits (read_ok (key_line_at t) k e);
+      found = λ t k fits e. found_from t (Ok k) fits (ok_of (key_line_at t) k e);
       again = λ k is. ap result_ok (key_line_again k is);
       is_line = key_is_line;
     })

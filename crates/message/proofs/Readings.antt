@@ -1,6 +1,7 @@
 -- Readings of the lines of a text from some line on: what is read, what is read again, and the first fault.
 use Rattle.std.proofs.Common.{◌≡◌, ℕ, suc, ◌+◌, ◌<◌, List, [], ◌∷◌, ◌++◌, length, drop, false, eqb, Option, Some, None, Result, Ok, Err, sym, ap, ◌∙◌, arith, length-append}
 use Rattle.std.specs.List.{All, AllByRecursion}
+use Rattle.std.specs.Result.{result_ok}
 use Rattle.base64.specs.GeneralPurpose.{IsBytes}
 use Rattle.message.specs.Reading.{line_of}
 use Rattle.message.proofs.Lines.{line_there, line_is_ended, Shares}
@@ -39,6 +40,19 @@ pub record IsReading {M : Type 0} (k : ℕ) (read : List (List ℕ) → Result M
 pub more_than_none : (ls : List (List ℕ)) → 0 < length (ls ++ [] ∷ [])
 more_than_none ls = rw (length-append ls ([] ∷ [])) (omega arith)
 
+-- a result whose value is there
+pub ok_of : {T E : Type 0} (r : Result T E) (x : T) → result_ok r ≡ Some x → r ≡ Ok x
+ok_of (Ok y) x e = cc
+ok_of (Err y) x e = absurd cc
+
+-- what was not read is nothing
+pub not_some : {X : Type 0} (x : X) → None ≡ Some x → ⊥
+not_some x e = cc
+
+-- the number of a line behind another one
+pub one_further : (k i j : ℕ) → i ≡ suc (suc k + j) → i ≡ suc (k + suc j)
+one_further k i j e = omega arith
+
 -- a fault's number
 pub error_at : {M : Type 0} (k i : ℕ) → ◌≡◌ {A = Result M ℕ} (Err (suc k)) (Err i) → i ≡ suc (k + 0)
 error_at k i e = let same : suc k ≡ i = cc in omega arith
@@ -48,10 +62,7 @@ pub line_read_is_ended : {X : Type 0} (k : ℕ) (read : List ℕ → Option X) (
     → IsField read text IsLawful
     → (ps : List (List ℕ)) (x : X) → read (line_of (suc k) ps) ≡ Some x → suc k < length ps
 line_read_is_ended {X} k read text IsLawful field ps x e =
-    line_is_ended k ps (λ none. some_none x (sym e ∙ ap read none ∙ field.empty))
-  where
-    some_none : (x : X) → Some x ≡ None → ⊥
-    some_none x e = cc
+    line_is_ended k ps (λ none. not_some x (sym field.empty ∙ ap read (sym none) ∙ e))
 
 -- the pieces from a line on that is read
 pub line_read : {X : Type 0} (k : ℕ) (read : List ℕ → Option X) (text : X → List ℕ) (IsLawful : X → Type 0)

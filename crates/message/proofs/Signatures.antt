@@ -1,5 +1,5 @@
 -- Signatures in lines.
-use Rattle.std.proofs.Common.{◌≡◌, ℕ, List, [], ◌++◌, length, take, drop, replicate, true, ◌&&◌, eqb, Option, Some, None, Result, Ok, Err, refl, sym, ap, subst, ◌∙◌, arith, inl, inr}
+use Rattle.std.proofs.Common.{◌≡◌, ℕ, List, [], ◌++◌, length, take, drop, replicate, true, ◌&&◌, eqb, Option, Some, None, refl, sym, ap, subst, ◌∙◌, arith, inl, inr}
 use Rattle.std.specs.Option.{option_and_then, option_map}
 use Rattle.std.specs.Result.{result_ok}
 use Rattle.std.specs.Str.{bytes_eq}
@@ -9,7 +9,6 @@ use Rattle.std.proofs.lemmas.Option.{option_and_then_some, same_Some}
 use Rattle.std.proofs.lemmas.Slice.Eq.{bytes_eq-Decides}
 use Rattle.base64.specs.Engines.{standard}
 use Rattle.base64.specs.GeneralPurpose.{IsBytes, decode_of, encode_of}
-use Rattle.base64.specs.declared.decode.DecodeError.{DecodeError}
 use Rattle.lines.specs.Keys.{signature_blob, signature_of}
 use Rattle.lines.specs.declared.signature.Signature.{Signature}
 use Rattle.lines.proofs.Base64.{
@@ -24,7 +23,7 @@ use Rattle.lines.proofs.Blobs.{IsBytes_from, all_bytes}
 use Rattle.message.specs.Values.{is_signature}
 use Rattle.message.specs.Texts.{signature_text}
 use Rattle.message.specs.Reading.{after, signature_after, signature_at}
-use Rattle.message.proofs.Readings.{IsField, IsLine}
+use Rattle.message.proofs.Readings.{IsField, IsLine, ok_of}
 use Rattle.message.proofs.Fields.{value_after}
 use Rattle.message.proofs.Keys.{base64_line}
 
@@ -67,10 +66,6 @@ of bytes = record { bytes = bytes }
 abbrev bytes_in : List ℕ → Option (List ℕ)
 bytes_in t = option_and_then signature_of (result_ok (decode_of standard t))
 
-ok_is : (r : Result (List ℕ) DecodeError) (b : List ℕ) → result_ok r ≡ Some b → r ≡ Ok b
-ok_is (Ok x) b e = cc
-ok_is (Err x) b e = absurd cc
-
 mapped : (o : Option (List ℕ)) (s : Signature) → option_map of o ≡ Some s → o ≡ Some s.bytes
 mapped None s e = absurd cc
 mapped (Some b) s e = ap (λ (s : Signature). Some s.bytes) (same_Some (of b) s e)
@@ -81,10 +76,10 @@ whole t s fits e =
     option_and_then_some signature_of (result_ok (decode_of standard t)) s.bytes e
     (λ blob decoded read.
     let is = blob_found blob s.bytes read in
-    let blob_fits : IsBytes blob = IsBytes-decode_of standard t blob fits (ok_is _ blob decoded) in
+    let blob_fits : IsBytes blob = IsBytes-decode_of standard t blob fits (ok_of _ blob decoded) in
     let bytes_fit : IsBytes s.bytes = subst IsBytes (sym is.2) (IsBytes-drop 19 blob blob_fits) in (
       and_from _ _ (eq-eqb _ _ is.1) (all_bytes s.bytes bytes_fit),
-      base64_found t blob fits (ok_is _ blob decoded) ∙ ap (encode_of standard) is.0,
+      base64_found t blob fits (ok_of _ blob decoded) ∙ ap (encode_of standard) is.0,
     ))
 
 -- a signature is read from its text alone

@@ -14,7 +14,7 @@ use Rattle.message.specs.Texts.{lines_text, message_lines, message_text}
 use Rattle.message.specs.Belonging.{BelongsTo}
 use Rattle.message.specs.Reading.{Gives, pieces, message_in, message_at, message_of}
 use Rattle.message.specs.Faults.{SharesLines, IsFirstBad}
-use Rattle.message.proofs.Readings.{IsLine, AreBytes, IsReading}
+use Rattle.message.proofs.Readings.{IsLine, AreBytes, IsReading, ok_of}
 use Rattle.message.proofs.Messages.{messages_read}
 
 -- ---- lines and texts
@@ -91,14 +91,10 @@ message_found bytes m fits e =
 pub message_again : (m : Message) → is_message m ≡ true → message_at (message_text m) ≡ Ok m
 message_again m is = reads.again (pieces (message_text m)) m is (pieces_of_message m is)
 
-was_ok : (r : Result Message ℕ) (m : Message) → result_ok r ≡ Some m → r ≡ Ok m
-was_ok (Ok x) m e = cc
-was_ok (Err n) m e = absurd cc
-
 -- a message is found exactly where the bytes are its text
 pub found_exactly : (bytes : List ℕ) (m : Message) → IsBytes bytes → (message_of bytes ≡ Some m) ↔ BelongsTo bytes m
 found_exactly bytes m fits = (
-  λ e. message_found bytes m fits (was_ok (message_at bytes) m e),
+  λ e. message_found bytes m fits (ok_of (message_at bytes) m e),
   λ belongs. ap message_of belongs.1 ∙ ap result_ok (message_again m belongs.0),
 )
 
