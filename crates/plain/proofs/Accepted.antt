@@ -11,21 +11,20 @@ use Rattle.office.specs.Machine.{State}
 use Rattle.office.specs.Decided.{written}
 use Rattle.office.specs.History.{First, judged, change, kept_row, reply_kept, due}
 use Rattle.office.specs.Shows.{Shows}
-use Rattle.office.proofs.Growth.{after_grows}
 use Rattle.office.proofs.Steps.{shows_accepted}
 use Rattle.plain.specs.Contents.{Contents, state_of, row_of, Writes}
 
 -- what was decided and written is what is due
 pub accepted : (t new : Contents) (o : Opening) (l : List Arrival) (a : Arrival) (d : Decision) (j : Result First Refusal)
     → reply_kept t.kept a ≡ None → judged (state_of t) t.kept a ≡ j
-    → t.version < 9223372036854775806
+    → d.version < 9223372036854775807
     → IsOkAnd j (λ f. (f.arrival ≡ a) × (f.reply ≡ d.reply) × (written d (state_of t) ≡ change (state_of t) f))
     → Writes t a d new → Shows (state_of t) t.kept o l
     → (outcome.Accepted d.reply ≡ due o l a) × Shows (state_of new) new.kept o (l ++ a ∷ [])
 accepted t new o l a d (Err x) first e small found w m = absurd found
 accepted t new o l a d (Ok f) first e small found w m =
-    let grown : (change (state_of t) f).version ≤ t.version + 1 = (after_grows (state_of t) f.message f.arrival.moment f.arrival.nonce).by_one in
-    let r = shows_accepted (state_of t) t.kept o l a f first e (omega (arith, small, grown)) m in
+    let version : d.version ≡ (change (state_of t) f).version = ap (λ (s : State). s.version) found.2 in
+    let r = shows_accepted (state_of t) t.kept o l a f first e (omega (arith, small, version)) m in
     let row : kept_row f ≡ row_of a d.reply =
     ap (λ (x : Arrival). row_of x f.reply) found.0 ∙ ap (λ (x : List ℕ). row_of a x) found.1 in
     let kept : t.kept ++ kept_row f ∷ [] ≡ new.kept = ap (λ (k : Kept). t.kept ++ k ∷ []) row ∙ sym w.kept in

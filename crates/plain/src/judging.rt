@@ -1,6 +1,6 @@
 //! What an arrival is answered.
 
-ghost use Rattle.std.specs.Prelude.{◌≡◌, ◌<◌, IfOk, IsTrue, OnOk};
+ghost use Rattle.std.specs.Prelude.{◌≡◌, ◌≤◌, IfOk, IsTrue};
 ghost use Rattle.std.specs.List.{list_any};
 ghost use Rattle.std.specs.Option.{option_copied};
 ghost use Rattle.message.specs.Values.{is_message};
@@ -52,7 +52,7 @@ impl PlainStore {
         ensures judges { Judges result self.now arrival.now }
         ensures room { IfOk result (λ d. HasRoom d.change (state_of self.now)) }
         ensures change { IfOk result (λ d. IsLawfulChange d.change) }
-        ensures version { OnOk result (self.now.version < LAST_VERSION) }
+        ensures version { IfOk result (λ d. d.version ≤ LAST_VERSION) }
     {
         let message = match read_message(alloc, arrival.bytes.as_slice()) {
             Ok(message) => message,
@@ -74,20 +74,24 @@ impl PlainStore {
         ensures decided { Decided result (state_of self.now) arrival.now.caller message.now arrival.now.moment arrival.now.nonce }
         ensures room { IfOk result (λ d. HasRoom d.change (state_of self.now)) }
         ensures change { IfOk result (λ d. IsLawfulChange d.change) }
-        ensures version { OnOk result (self.now.version < LAST_VERSION) }
+        ensures version { IfOk result (λ d. d.version ≤ LAST_VERSION) }
     {
-        // A version that can't grow any more counts as a refused growth.
-        if LAST_VERSION <= self.version {
+        // A version past the last counts as a refused growth.
+        if LAST_VERSION < self.version {
             return Err(Stop::NoMemory);
         }
         let view = self.view(message);
-        decide(
+        let decision = decide(
             alloc,
             &view,
             arrival.caller.as_slice(),
             message,
             arrival.moment,
             &arrival.nonce,
-        )
+        )?;
+        if LAST_VERSION < decision.version {
+            return Err(Stop::NoMemory);
+        }
+        Ok(decision)
     }
 }

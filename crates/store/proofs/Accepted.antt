@@ -21,7 +21,7 @@ use Rattle.office.specs.Machine.{Stepped, after, first_holding, refusals, reply_
 use Rattle.office.specs.State.{State, next_serial}
 use Rattle.office.specs.History.{First, change, due, judged, kept_row, reply_kept, state}
 use Rattle.office.specs.Shows.{Shows}
-use Rattle.office.proofs.Growth.{after_grows, holds_in_range, opening_stays}
+use Rattle.office.proofs.Growth.{holds_in_range, opening_stays}
 use Rattle.office.proofs.Ranges.{revoked_is_issued}
 use Rattle.office.proofs.Steps.{shows_accepted}
 use Rattle.rows.specs.Transactions.{Goes, Makes, Waits}
@@ -38,7 +38,7 @@ use Rattle.office.proofs.Sizes.{last_of}
 
 pub decided_accepted : (p : Past) (a : Arrival) (m : Message) (d : Decision) (v : View) → IsNew a m p
     → Decided (Ok d) (state_at p) a.caller m a.moment a.nonce → HasRoom d.change (state_at p) → Agrees v (state_at p) m
-    → v.version < 9223372036854775806 → IsAccepted a d v.cas.now p
+    → d.version < 9223372036854775807 → IsAccepted a d v.cas.now p
 decided_accepted p a m d v is decided room agrees small =
     let s = state_at p in
     let stepped : Stepped = record { state = after s m a.moment a.nonce; reply = reply_to s m a.moment a.nonce } in
@@ -52,7 +52,7 @@ decided_accepted p a m d v is decided room agrees small =
       room = room;
       next = decided.1;
       cas = agrees.cas;
-      version = subst (λ (n : ℕ). n < 9223372036854775806) agrees.version small;
+      version = small;
     }
 
 -- ---- what is written
@@ -60,7 +60,7 @@ decided_accepted p a m d v is decided room agrees small =
 shows_written : (p : Past) (a : Arrival) (d : Decision) (j : Result First Refusal) → IsHistory p.0 p.1
     → reply_kept (kept_at p) a ≡ None → judged (state_at p) (kept_at p) a ≡ j
     → IsOkAnd j (λ f. (f.arrival ≡ a) × (f.reply ≡ d.reply) × (written d (state_at p) ≡ change (state_at p) f))
-    → (state_at p).version < 9223372036854775806
+    → d.version < 9223372036854775807
     → (outcome.Accepted d.reply ≡ due p.0 p.1 a)
     × Shows (written d (state_at p)) (kept_at p ++ kept_of a d.reply ∷ []) p.0 (p.1 ++ a ∷ [])
 shows_written p a d (Err x) h new e found small = absurd found
@@ -68,8 +68,8 @@ shows_written p a d (Ok f) h new e found small =
     let s = state_at p in
     let kept = kept_at p in
     let l = p.1 ++ a ∷ [] in
-    let grown : (change s f).version ≤ s.version + 1 = (after_grows s f.message f.arrival.moment f.arrival.nonce).by_one in
-    let r = shows_accepted s kept p.0 p.1 a f new e (omega (arith, small, grown)) (shown_at p h) in
+    let version : d.version ≡ (change s f).version = ap (λ (t : State). t.version) found.2 in
+    let r = shows_accepted s kept p.0 p.1 a f new e (omega (arith, small, version)) (shown_at p h) in
     let row : kept_row f ≡ kept_of a d.reply =
     ap (λ (x : Arrival). kept_of x f.reply) found.0 ∙ ap (λ (x : List ℕ). kept_of a x) found.1 in
     let rows : kept ++ kept_row f ∷ [] ≡ kept ++ kept_of a d.reply ∷ [] = ap (λ (k : Kept). kept ++ k ∷ []) row in

@@ -112,7 +112,7 @@ pub record IsAccepted (a : Arrival) (d : Decision) (serving : List Ca) (p : Past
   pub room : HasRoom d.change (state_at p)
   pub next : d.next ≡ next_serial (written d (state_at p))
   pub cas : serving ≡ (state_at p).cas
-  pub version : (state_at p).version < 9223372036854775806
+  pub version : d.version < 9223372036854775807
 
 -- ---- why it fails
 

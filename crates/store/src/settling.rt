@@ -61,7 +61,7 @@ fn stopped(stop: Stop) -> Result<Outcome, Fault>
     }
 }
 
-/// Decides on the rows that a message concerns. A version that can't grow any more counts as a refused growth.
+/// Decides on the rows that a message concerns. A version past the last counts as a refused growth.
 fn weigh<S: Alter>(
     alloc: Global,
     conn: &mut Connection<S>,
@@ -84,7 +84,7 @@ fn weigh<S: Alter>(
         (Waits (IsAfter (IsWeighed arrival.now message.now rows.now)) (state S.Store conn.old)) }
 {
     let view = rows.view();
-    if LAST_VERSION <= view.version {
+    if LAST_VERSION < view.version {
         return Err(Fault::NoMemory);
     }
     match decide(
@@ -95,7 +95,12 @@ fn weigh<S: Alter>(
         arrival.moment,
         &arrival.nonce,
     ) {
-        Ok(decision) => accept(alloc, conn, arrival, &decision, view.cas),
+        Ok(decision) => {
+            if LAST_VERSION < decision.version {
+                return Err(Fault::NoMemory);
+            }
+            accept(alloc, conn, arrival, &decision, view.cas)
+        }
         Err(stop) => stopped(stop),
     }
 }

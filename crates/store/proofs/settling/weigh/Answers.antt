@@ -7,8 +7,8 @@ use Rattle.store.proofs.Accepted.{decided_accepted}
 use Rattle.store.proofs.Settled.{fails_less, settles_weaker, stopped_fails, stopped_settles, waits_weaker}
 use Rattle.store.proofs.settling.weigh.Goals as goal
 
-pub returns-in-Ok-clause-settles : goal.returns-in-Ok-clause-settles
-returns-in-Ok-clause-settles g c clean is_open =
+pub returns-else-decision-gt-LAST_VERSION-clause-settles : goal.returns-else-decision-gt-LAST_VERSION-clause-settles
+returns-else-decision-gt-LAST_VERSION-clause-settles g c clean is_open =
     let a = c.args.arrival.now in
     let m = c.args.message.now in
     let rows = c.args.rows.now in
@@ -19,12 +19,12 @@ returns-in-Ok-clause-settles g c clean is_open =
     decided_accepted p a m c.in-Ok.decision v is.new
     (subst (λ (x : List ℕ). Decided (Ok c.in-Ok.decision) (state_at p) x m a.moment a.nonce) c.as_slice.ensures
     (c.in-Ok.ensures.decided (state_at p) agrees))
-    (c.in-Ok.ensures.room (state_at p) agrees) agrees (omega (arith, c.if-view-ge-LAST_VERSION.false)) in
+    (c.in-Ok.ensures.room (state_at p) agrees) agrees (omega (arith, c.if-decision-gt-LAST_VERSION.false)) in
     settles_weaker a (IsWeighed a m rows) (IsAccepted a c.in-Ok.decision v.cas.now) (state g.S.Store c.args.conn.now)
     (state g.S.Store c.accept.new.conn) c.accept.result less (c.accept.ensures.settles clean)
 
-pub returns-in-Ok-clause-fails : goal.returns-in-Ok-clause-fails
-returns-in-Ok-clause-fails g c clean =
+pub returns-else-decision-gt-LAST_VERSION-clause-fails : goal.returns-else-decision-gt-LAST_VERSION-clause-fails
+returns-else-decision-gt-LAST_VERSION-clause-fails g c clean =
     let a = c.args.arrival.now in
     let m = c.args.message.now in
     let rows = c.args.rows.now in
@@ -35,12 +35,12 @@ returns-in-Ok-clause-fails g c clean =
     decided_accepted p a m c.in-Ok.decision v is.new
     (subst (λ (x : List ℕ). Decided (Ok c.in-Ok.decision) (state_at p) x m a.moment a.nonce) c.as_slice.ensures
     (c.in-Ok.ensures.decided (state_at p) agrees))
-    (c.in-Ok.ensures.room (state_at p) agrees) agrees (omega (arith, c.if-view-ge-LAST_VERSION.false)) in
+    (c.in-Ok.ensures.room (state_at p) agrees) agrees (omega (arith, c.if-decision-gt-LAST_VERSION.false)) in
     fails_less a (IsWeighed a m rows) (IsAccepted a c.in-Ok.decision v.cas.now) (state g.S.Store c.args.conn.now)
     (state g.S.Store c.accept.new.conn) c.accept.result less (c.accept.ensures.fails clean)
 
-pub returns-in-Ok-clause-survives : goal.returns-in-Ok-clause-survives
-returns-in-Ok-clause-survives g c =
+pub returns-else-decision-gt-LAST_VERSION-clause-survives : goal.returns-else-decision-gt-LAST_VERSION-clause-survives
+returns-else-decision-gt-LAST_VERSION-clause-survives g c =
     let a = c.args.arrival.now in
     let m = c.args.message.now in
     let rows = c.args.rows.now in
@@ -51,7 +51,7 @@ returns-in-Ok-clause-survives g c =
     decided_accepted p a m c.in-Ok.decision v is.new
     (subst (λ (x : List ℕ). Decided (Ok c.in-Ok.decision) (state_at p) x m a.moment a.nonce) c.as_slice.ensures
     (c.in-Ok.ensures.decided (state_at p) agrees))
-    (c.in-Ok.ensures.room (state_at p) agrees) agrees (omega (arith, c.if-view-ge-LAST_VERSION.false)) in
+    (c.in-Ok.ensures.room (state_at p) agrees) agrees (omega (arith, c.if-decision-gt-LAST_VERSION.false)) in
     waits_weaker (IsWeighed a m rows) (IsAccepted a c.in-Ok.decision v.cas.now) (state g.S.Store c.args.conn.now)
     (state g.S.Store c.accept.new.conn) less c.accept.ensures.survives
 

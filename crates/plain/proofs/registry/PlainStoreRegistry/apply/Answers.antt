@@ -1,4 +1,4 @@
-use Rattle.std.proofs.Common.{◌≡◌, List, Some, None, refl, sym, ap, ◌∙◌}
+use Rattle.std.proofs.Common.{◌≡◌, List, Some, None, refl, sym, ap, ◌∙◌, arith}
 use Rattle.std.specs.Prelude.{option_copied}
 use Rattle.office.specs.declared.arrival.Kept.{Kept}
 use Rattle.office.specs.History.{reply_kept}
@@ -22,7 +22,7 @@ returns-in-Ok-clause-due c honest o l m =
     let a = c.args.arrival in
     let kept : t.kept ≡ c.as_slice.result.now = sym (c.as_slice.ensures.value ∙ ap (λ (x : Contents). x.kept) c.self.view_is) in
     let first : reply_kept t.kept a ≡ None = ap (λ (ks : List Kept). reply_kept ks a) kept ∙ sym c.kept_reply.ensures ∙ ap option_copied c.in_default.is in
-    rw c.in_ok-reply-in-Ok.ensures (accepted t c.write.new.self o l a c.in-Ok.decision _ first refl c.in-Ok.ensures.version c.in-Ok.ensures.judges c.in_ok-write-in-Ok.ensures.ok m).0
+    rw c.in_ok-reply-in-Ok.ensures (accepted t c.write.new.self o l a c.in-Ok.decision _ first refl (omega (arith, c.in-Ok.ensures.version)) c.in-Ok.ensures.judges c.in_ok-write-in-Ok.ensures.ok m).0
 
 pub returns-in-Ok-clause-next : goal.returns-in-Ok-clause-next
 returns-in-Ok-clause-next c honest o l m =
@@ -30,4 +30,4 @@ returns-in-Ok-clause-next c honest o l m =
     let a = c.args.arrival in
     let kept : t.kept ≡ c.as_slice.result.now = sym (c.as_slice.ensures.value ∙ ap (λ (x : Contents). x.kept) c.self.view_is) in
     let first : reply_kept t.kept a ≡ None = ap (λ (ks : List Kept). reply_kept ks a) kept ∙ sym c.kept_reply.ensures ∙ ap option_copied c.in_default.is in
-    (accepted t c.write.new.self o l a c.in-Ok.decision _ first refl c.in-Ok.ensures.version c.in-Ok.ensures.judges c.in_ok-write-in-Ok.ensures.ok m).1
+    (accepted t c.write.new.self o l a c.in-Ok.decision _ first refl (omega (arith, c.in-Ok.ensures.version)) c.in-Ok.ensures.judges c.in_ok-write-in-Ok.ensures.ok m).1
