@@ -29,14 +29,15 @@ use Rattle.migration.specs.Migrating.{RefusesFirstCa}
 use Rattle.tables.specs.declared.cas.CaRow.{CaRow}
 use Rattle.tables.specs.declared.runs.RunRow.{RunRow}
 use Rattle.tables.specs.Cells.{ca_cells, cert_cells, key_id_cells}
-use Rattle.tables.specs.Changes.{meets, with_counters, with_request, without_runs}
+use Rattle.tables.specs.Changes.{with_counters, with_request}
+use Rattle.tables.specs.Runs as runs
 use Rattle.tables.specs.Contents.{Contents}
-use Rattle.tables.specs.Refusals.{RefusesCa, RefusesCert, RefusesRun}
+use Rattle.tables.specs.Refusals.{RefusesCa, RefusesCert}
 use Rattle.rows.specs.Rows.{ca_rows, office_contents, revoked_runs, run_row}
 use Rattle.writes.specs.Changing.{ca_from}
 use Rattle.writes.specs.Due.{counters_of, kept_of}
-use Rattle.writes.specs.Ranges.{around, joined_run}
-use Rattle.writes.specs.Refused.{RefusesChange, RefusesDecision}
+use Rattle.writes.specs.Ranges.{joined_run}
+use Rattle.writes.specs.Refused.{RefusesChange, RefusesDecision, RefusesRange}
 use Rattle.writes.proofs.Joined.{rows_joined}
 use Rattle.office.specs.Openings.{IsOpening}
 use Rattle.store.specs.Creating.{RefusesOpening}
@@ -459,8 +460,7 @@ module _ (p : Past) (a : Arrival) (d : Decision) (serving : List Ca) (history : 
         | inr long ↦ (let blob = length-key_blob ca.key in omega (arith, long, blob, new.1))
       ]
 
-  range_free : (r : SerialRange) → d.change ≡ change.Range r → is_range r ≡ true
-      → RefusesRun (joined_run r rows) (without_runs (around r) rows) → ⊥
+  range_free : (r : SerialRange) → d.change ≡ change.Range r → is_range r ≡ true → RefusesRange r rows → ⊥
   range_free r e range why =
       let room : (s.opening.first ≤ r.lo) × (r.hi < next_serial s) = subst (λ ch. HasRoom ch s) e is.room in
       let in_range : next_serial s ≤ s.opening.last + 1 = holds_in_range p.0 p.1 history.office.opening in
@@ -468,7 +468,7 @@ module _ (p : Past) (a : Arrival) (d : Decision) (serving : List Ca) (history : 
       let top = last_of p.0 history.office.opening in
       let fits : next_serial s ≤ 2 ^ 64 = omega (arith, in_range, opening, top) in
       let t = with_range s r in
-      alone_there (joined_run r rows) (filter (λ q. not (meets (around r) q)) rows.runs) (revoked_runs t)
+      alone_there (joined_run r rows) (filter (λ q. not (runs.begins (joined_run r rows) q)) rows.runs) (revoked_runs t)
       (runs_in_runs t.revoked t.opening.first (length t.certificates) fits) (rows_joined s r range room.0 room.1 fits) why
 
   change_limited : (ch : Change) (since : ℕ) → d.change ≡ ch → IsLawfulChange ch
