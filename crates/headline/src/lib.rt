@@ -46,15 +46,16 @@ pub fn replay<S: Alter, W: Write>(
     out: &mut W,
 ) -> Result<(), RunFault>
     // Each exchange is given the response that the plain machine gives after the first acceptances among the arrivals
-    // before it that met no fault; to a GET of the list the response is the list, exact. The tables then tell the history
-    // with all arrivals. Where an exchange asked something of them, they are open and store that history.
+    // before it that met no fault; to a GET of the list the response is the list, exact. The tables then tell the
+    // history with all arrivals. Where an exchange asked something of them, they are open and store that history.
     ensures ok { HasCleanDisk (state S.Store store.new.conn) → OnOk result (OfficePrints (state S.Store store.old.conn)
         (state S.Store store.new.conn) exchanges.now (W.contents out.old) (W.contents out.new) false) }
 
-    // The same, but some are given a fault, and are no part of the history. The tables store it where they have answered
-    // since the last fault.
-    ensures fault { HasCleanDisk (state S.Store store.new.conn) → result ≡ Err RunFault.Fault → OfficePrints (state S.Store
-        store.old.conn) (state S.Store store.new.conn) exchanges.now (W.contents out.old) (W.contents out.new) true }
+    // The same, but some are given a fault, and are no part of the history. The tables store it where they have
+    // answered since the last fault.
+    ensures fault { HasCleanDisk (state S.Store store.new.conn) → result ≡ Err RunFault.Fault → OfficePrints
+        (state S.Store store.old.conn) (state S.Store store.new.conn) exchanges.now
+        (W.contents out.old) (W.contents out.new) true }
 
     // Where the output fails, all were run so, whatever of it was printed. For want of memory none was.
     ensures write { HasCleanDisk (state S.Store store.new.conn) → result ≡ Err RunFault.Write
@@ -88,8 +89,8 @@ pub fn respond<S: Alter>(
     moment: u64,
     nonce: &[u8; 32],
 ) -> Result<Vec<u8>, StoreFault>
-    // It is the one that is due, and the tables then tell the history with the request's arrival, where it has one. Where
-    // something was asked of them, they are open and store that history, so that no crash loses it.
+    // It is the one that is due, and the tables then tell the history with the request's arrival, where it has one.
+    // Where something was asked of them, they are open and store that history, so that no crash loses it.
     ensures answered { HasCleanDisk (state S.Store store.new.conn) → IfOk result (λ v. OfficeAnswers
         (state S.Store store.old.conn) (state S.Store store.new.conn) request.now moment nonce.now v.items) }
 
@@ -161,7 +162,8 @@ pub fn publish<S: Alter, W: Sink>(
     // While the connection is open, they store what they tell: no crash afterwards loses it.
     ensures crash { StoresWhereOpen (state S.Store store.new.conn) }
 
-    // After any other fault than that of the writer nothing is written. That fault is answered just where the writer failed.
+    // After any other fault than that of the writer nothing is written. That fault is answered just where the writer
+    // failed.
     ensures unwritten { IfErr result (λ e. e ≢ PublishFault.Write → sink.new ≡ sink.old) }
     ensures failed { W.failed sink.new ≡ (if is_write result then W.failed sink.old + 1 else W.failed sink.old) }
 

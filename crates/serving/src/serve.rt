@@ -40,8 +40,8 @@ pub fn serve_one<R: Source, W: Sink, S: Registry, N: Source>(
     ensures was_open { S.is_honest registry.new → S.is_open registry.new → S.is_open registry.old }
     ensures stays_open { S.is_honest registry.new → OnOk result (S.is_open registry.old → S.is_open registry.new) }
 
-    // One request and one nonce were taken, and the response that is due to them was written. Where something was asked of
-    // the register, it is open and so keeps the history.
+    // One request and one nonce were taken, and the response that is due to them was written. Where something was asked
+    // of the register, it is open and so keeps the history.
     ensures ok { OnOk result ((x : Served (R.remaining reader.old) (R.remaining reader.new) (N.remaining nonces.old)
         (N.remaining nonces.new) moment (S.is_honest registry.new) (S.means registry.old) (S.means registry.new)
         (Keeps S.means S.is_open registry.new)) × Appends (W.taken writer.old) (W.taken writer.new) x.response) }
@@ -49,7 +49,8 @@ pub fn serve_one<R: Source, W: Sink, S: Registry, N: Source>(
     // The same, but the writer failed after a beginning of the response.
     ensures write { result ≡ Err ServeFault.Write → (x : Served (R.remaining reader.old) (R.remaining reader.new)
         (N.remaining nonces.old) (N.remaining nonces.new) moment (S.is_honest registry.new) (S.means registry.old)
-        (S.means registry.new) (Keeps S.means S.is_open registry.new)) × AppendsBeginning (W.taken writer.old) (W.taken writer.new) x.response }
+        (S.means registry.new) (Keeps S.means S.is_open registry.new))
+        × AppendsBeginning (W.taken writer.old) (W.taken writer.new) x.response }
 
     // After any other fault nothing was written, and the register means what it meant.
     ensures unwritten { IfUnserved result (writer.new ≡ writer.old) }
@@ -83,8 +84,8 @@ pub fn serve_by<R: Source, W: Sink, S: Registry, N: Source>(
     ensures was_open { S.is_honest registry.new → S.is_open registry.new → S.is_open registry.old }
     ensures stays_open { S.is_honest registry.new → OnOk result (S.is_open registry.old → S.is_open registry.new) }
 
-    // One request and one nonce were taken, and the response that is due to them was written. Where something was asked of
-    // the register, it is open and so keeps the history.
+    // One request and one nonce were taken, and the response that is due to them was written. Where something was asked
+    // of the register, it is open and so keeps the history.
     ensures ok { OnOk result ((x : Served (R.remaining reader.old) (R.remaining reader.new) (N.remaining nonces.old)
         (N.remaining nonces.new) moment (S.is_honest registry.new) (S.means registry.old) (S.means registry.new)
         (Keeps S.means S.is_open registry.new)) × Appends (W.taken writer.old) (W.taken writer.new) x.response) }
@@ -92,7 +93,8 @@ pub fn serve_by<R: Source, W: Sink, S: Registry, N: Source>(
     // The same, but the writer failed after a beginning of the response.
     ensures write { result ≡ Err ServeFault.Write → (x : Served (R.remaining reader.old) (R.remaining reader.new)
         (N.remaining nonces.old) (N.remaining nonces.new) moment (S.is_honest registry.new) (S.means registry.old)
-        (S.means registry.new) (Keeps S.means S.is_open registry.new)) × AppendsBeginning (W.taken writer.old) (W.taken writer.new) x.response }
+        (S.means registry.new) (Keeps S.means S.is_open registry.new))
+        × AppendsBeginning (W.taken writer.old) (W.taken writer.new) x.response }
 
     // After any other fault nothing was written, and the register means what it meant.
     ensures unwritten { IfUnserved result (writer.new ≡ writer.old) }
