@@ -1,65 +1,95 @@
 -- Histories that grow connection by connection.
-use Rattle.std.proofs.Common.{◌≡◌, ◌≤◌, ◌+◌, ℕ, List, [], ◌∷◌, ◌++◌, length, Option, Result, Ok, Err, OnOk, refl, sym, subst, arith, append_assoc, length-append}
+use Rattle.std.proofs.Common.{◌≡◌, ◌≤◌, ℕ, List, [], ◌∷◌, ◌++◌, ◌∙◌, length, Option, Result, refl, sym, subst, ap, arith, append_assoc, length-append}
+use Rattle.std.specs.Prelude.{All}
 use Rattle.std.proofs.lemmas.List.{append-nil}
 use Rattle.std.proofs.lemmas.List.Elements.{All-append, All-cons, All-nil}
 use Rattle.office.specs.declared.opening.Opening.{Opening}
 use Rattle.office.specs.declared.arrival.Arrival.{Arrival}
 use Rattle.requests.specs.Asks.{Ask, refused, get, post}
 use Rattle.profile.specs.declared.limits.TheConstants.{LATEST_MOMENT}
-use Rattle.serving.specs.declared.fault.ServeFault.TheVariants.{Read, Nonces, Store, NoMemory, Write}
 use Rattle.web.specs.Answers.{arrival_by, with_ask}
 use Rattle.server.specs.declared.fault.Fault.{Fault}
-use Rattle.server.specs.declared.fault.Fault.TheVariants.{Socket, Clock, Serving}
-use Rattle.server.specs.Connections.{Extends, IfSilent, IsExtended, IsServed, IsTimely}
+use Rattle.server.specs.Books.{Book}
+use Rattle.server.specs.Connections.{Visit, answered, cut, closed, Adds, InTurn, Visits, Meets, Extends, IsExtended, IsTimely}
 
--- What is meant with no arrival more is extended.
-pub extended_by_none : (most : ℕ) (means : List Arrival → Type 0) (l : List Arrival) → means l → IsExtended most l means
-extended_by_none most means l m =
-    record { more = []; count = (omega arith); timely = All-nil IsTimely; history = subst means (sym (append-nil l)) m }
+-- a history with at most so many arrivals more
+record Grows (most : ℕ) (old new : List Arrival) : Type 0 where
+  more : List Arrival
+  count : length more ≤ most
+  timely : All IsTimely more
+  same : new ≡ old ++ more
 
--- What means the same is extended by nothing.
-pub extends_same : (before after : Opening → List Arrival → Type 0) → ((o : Opening) (l : List Arrival) → before o l → after o l) → Extends 1 before after
-extends_same before after same o l m = extended_by_none 1 (after o) l (same o l m)
+-- what stays grows by nothing
+grows_by_none : (most : ℕ) (old new : List Arrival) → new ≡ old → Grows most old new
+grows_by_none most old new same =
+    record { more = []; count = (omega arith); timely = All-nil IsTimely; same = same ∙ sym (append-nil old) }
 
--- One connection more adds one arrival at most.
-pub extends_more : (n : ℕ) (a b c : Opening → List Arrival → Type 0) → Extends n a b → Extends 1 b c → Extends (n + 1) a c
-extends_more n a b c first last o l m =
-    let x = first o l m in
-    let y = last o (l ++ x.more) x.history in
-    let count : length (x.more ++ y.more) ≤ n + 1 = omega (arith, length-append x.more y.more, x.count, y.count) in
-    record {
-      more = x.more ++ y.more;
-      count = count;
-      timely = All-append IsTimely x.more y.more x.timely y.timely;
-      history = subst (c o) (append_assoc l x.more y.more) y.history;
-    }
-
--- What was asked adds its arrival, or nothing.
-pub ask_extends : (means : List Arrival → Type 0) (l : List Arrival) (ask : Ask) (moment : ℕ) (nonce : List ℕ) → moment ≤ LATEST_MOMENT → length nonce ≡ 32 → means (with_ask l ask moment nonce) → IsExtended 1 l means
-ask_extends means l (refused refusal) moment nonce lawful size m = extended_by_none 1 means l m
-ask_extends means l (get resource) moment nonce lawful size m = extended_by_none 1 means l m
-ask_extends means l (post caller key message) moment nonce lawful size m =
+-- what was asked adds its arrival, or nothing
+grows_by_ask : (old new : List Arrival) (ask : Ask) (moment : ℕ) (nonce : List ℕ) → moment ≤ LATEST_MOMENT
+    → length nonce ≡ 32
+    → new ≡ with_ask old ask moment nonce → Grows 1 old new
+grows_by_ask old new (refused refusal) moment nonce lawful size same = grows_by_none 1 old new same
+grows_by_ask old new (get resource) moment nonce lawful size same = grows_by_none 1 old new same
+grows_by_ask old new (post caller key message) moment nonce lawful size same =
     let arrival = arrival_by caller key message moment nonce in
     record {
       more = arrival ∷ [];
       count = (omega arith);
       timely = All-cons IsTimely arrival [] (record { moment = lawful; nonce = size }) (All-nil IsTimely);
-      history = m;
+      same = same;
     }
 
--- A served request adds its arrival, or nothing.
-pub served_extends : (drawn left : Option (List ℕ)) (honest : Type 0) (before after keeps : Opening → List Arrival → Type 0) → IsServed drawn left honest before after keeps → honest → Extends 1 before after
-served_extends drawn left honest before after keeps s h o l m =
-    let answers = s.served.answered h o l m in
-    ask_extends (after o) l answers.ask s.moment s.served.nonce s.lawful s.served.nonce_size answers.history
+-- a visit adds its arrival, or nothing
+grows_by_visit : (o : Opening) (visit : Visit) (old new : List Arrival) → Adds o visit old new → Grows 1 old new
+grows_by_visit o (answered talk) old new due = grows_by_ask old new due.ask talk.moment talk.nonce talk.lawful
+    talk.size due.history
+grows_by_visit o (cut talk) old new due = grows_by_ask old new due.ask talk.moment talk.nonce talk.lawful talk.size
+    due.history
+grows_by_visit o (closed fault) old new same = grows_by_none 1 old new same
+
+-- visits add at most as many as they are
+grows_in_turn : (o : Opening) (visits : List Visit) (old new : List Arrival) → InTurn (Adds o) visits old new
+    → Grows (length visits) old new
+grows_in_turn o [] old new same = grows_by_none 0 old new same
+grows_in_turn o (visit ∷ visits) old new steps =
+    let mid = steps.0 in
+    let x = grows_by_visit o visit old mid steps.1 in
+    let y = grows_in_turn o visits mid new steps.2 in
+    record {
+      more = x.more ++ y.more;
+      count = (omega (arith, length-append x.more y.more, x.count, y.count));
+      timely = All-append IsTimely x.more y.more x.timely y.timely;
+      same = y.same ∙ ap (λ (l : List Arrival). l ++ y.more) x.same ∙ append_assoc old x.more y.more;
+    }
+
+-- a history that has grown is extended
+grown : (most : ℕ) (old new : List Arrival) (means : List Arrival → Type 0) → Grows most old new → means new
+    → IsExtended most old means
+grown most old new means x m = record {
+  more = x.more;
+  count = x.count;
+  timely = x.timely;
+  history = subst means
+      x.same m;
+}
+
+-- What means the same is extended by nothing.
+pub extends_same : (most : ℕ) (means : Opening → List Arrival → Type 0) → Extends most means means
+extends_same most means o l m = grown most l l (means o) (grows_by_none most l l refl) m
 
 -- A connection adds one arrival at most.
-pub connection_extends : {A : Type 0} (result : Result A Fault) (drawn left : Option (List ℕ)) (honest : Type 0) (before after keeps : Opening → List Arrival → Type 0) → honest → OnOk result (IsServed drawn left honest before after keeps) → (result ≡ Err (Serving Write) → IsServed drawn left honest before after keeps) → IfSilent result ((o : Opening) (l : List Arrival) → before o l → after o l) → Extends 1 before after
-connection_extends (Ok a) drawn left honest before after keeps h ok write same = served_extends drawn left honest before after keeps ok h
-connection_extends (Err Socket) drawn left honest before after keeps h ok write same = extends_same before after same
-connection_extends (Err Clock) drawn left honest before after keeps h ok write same = extends_same before after same
-connection_extends (Err (Serving Read)) drawn left honest before after keeps h ok write same = extends_same before after same
-connection_extends (Err (Serving Nonces)) drawn left honest before after keeps h ok write same = extends_same before after same
-connection_extends (Err (Serving Store)) drawn left honest before after keeps h ok write same = extends_same before after same
-connection_extends (Err (Serving NoMemory)) drawn left honest before after keeps h ok write same = extends_same before after same
-connection_extends (Err (Serving Write)) drawn left honest before after keeps h ok write same = served_extends drawn left honest before after keeps (write refl) h
+pub visit_extends : {T : Type 0} (result : Result T Fault) (book book' : Option Book) (source source' : Option (List
+    ℕ)) (honest : Type 0)
+    (before after : Opening → List Arrival → Type 0) → Visits result book book' source source' honest before after
+    → honest → Extends 1 before after
+visit_extends result book book' source source' honest before after x h o l m =
+    let s = x.served h o l m in
+    grown 1 l s.0 (after o) (grows_by_visit o x.visit l s.0 s.1) s.2
+
+-- So many connections add so many at most.
+pub meets_extends : (n : ℕ) (book book' : Option Book) (source source' : Option (List ℕ)) (honest : Type 0)
+    (before after : Opening → List Arrival → Type 0) → Meets n book book' source source' honest before after
+    → honest → Extends n before after
+meets_extends n book book' source source' honest before after x h o l m =
+    let s = x.served h o l m in
+    grown n l s.0 (after o) (subst (λ (most : ℕ). Grows most l s.0) x.all (grows_in_turn o x.visits l s.0 s.1)) s.2

@@ -1,17 +1,21 @@
 //! The loop of the loopback server: connections one after the other, one request on each.
 //!
-//! `listen` makes the listener, `serve_on` serves so many connections of it, and `selftest` does both with itself as the
-//! client. A connection's fault is printed, and the next is served. A peer that says nothing, or little at a time, doesn't
-//! hold the office: each read and each write waits ten seconds at most, and a connection a minute in all.
+//! `listen` makes the system's listener, and `serve_on` serves so many connections of a `Listener`: the system's as a
+//! `Loopback`, or one in memory as a `ScriptedListener`. `selftest` listens and serves with itself as the client. A
+//! connection's fault is printed, and the next is served. A peer that says nothing, or little at a time, doesn't hold
+//! the office: each read and each write waits ten seconds at most, and a connection a minute in all.
 #![tactic(auto)]
 
 mod closing;
 mod connection;
 mod fault;
+mod listener;
 mod listening;
+mod loopback;
 mod own_client;
 mod patience;
 mod report;
+mod scripted;
 mod serve;
 #[cfg(test)]
 mod tests;
@@ -19,7 +23,10 @@ mod timed;
 mod watch;
 
 pub use fault::{Fault, ListenFault, SelftestFault};
+pub use listener::{Connection, Listener};
 pub use listening::listen;
+pub use loopback::Loopback;
 pub use own_client::selftest;
 pub use patience::{CONNECTION_SECONDS, STEP_SECONDS};
+pub use scripted::{ScriptedConnection, ScriptedListener};
 pub use serve::serve_on;

@@ -6,7 +6,8 @@ ghost use Rattle.server.specs.Connections.{Extends};
 use crate::connection::serve_connection;
 use crate::fault::{Fault, SelftestFault};
 use crate::listening::bind;
-use crate::patience::{Patience, STEP_SECONDS};
+use crate::loopback::Loopback;
+use crate::patience::STEP_SECONDS;
 use office::Registry;
 use requests::Routes;
 use serving::ServeFault;
@@ -69,14 +70,8 @@ pub fn selftest<
         return Err(SelftestFault::Unserved(Fault::Socket));
     };
     let mut nonces = FromRead::new(NONCE);
-    match serve_connection(
-        &routes,
-        rt,
-        &listener,
-        store,
-        &mut nonces,
-        Patience::usual(),
-    ) {
+    let mut connections = Loopback::new(&listener, rt);
+    match serve_connection(&routes, rt, &mut connections, store, &mut nonces) {
         Ok(()) => {}
         Err(fault) => return Err(SelftestFault::Unserved(fault)),
     }

@@ -3,3 +3,4 @@
 mod clocks;
 mod exchanges;
 mod places;
+mod scripts;

@@ -4,6 +4,7 @@ ghost use Rattle.std.specs.Prelude.{◌≡◌, ◌+◌, ◌<◌};
 
 use crate::watch::Watch;
 use std::io::{ErrorKind, Read, Write};
+use std::net::OpenStream;
 use std::time::Clock;
 use wire::{Failed, Sink, Source};
 
@@ -12,15 +13,15 @@ use wire::{Failed, Sink, Source};
 /// A wait that lasts too long is a failure, and isn't begun again. A call that a signal interrupted took nothing; it is
 /// made again with the time that is left. A write that takes nothing of a piece that isn't empty is a failure.
 #[derive(Drop)]
-pub(crate) struct Timed<'a, S, C> {
-    stream: S,
-    watch: &'a Watch<'a, C>,
+pub struct Timed<'a, S, C> {
+    pub(crate) stream: S,
+    watch: Watch<'a, C>,
     failures: u64,
 }
 
 impl<'a, S, C> Timed<'a, S, C> {
-    /// The reader or writer of the watched stream, with no failure yet.
-    pub(crate) fn new(stream: S, watch: &'a Watch<'a, C>) -> Timed<'a, S, C>
+    /// The reader or writer of the stream, with no failure yet.
+    pub(crate) fn new(stream: S, watch: Watch<'a, C>) -> Timed<'a, S, C>
         ensures stream { result.stream ≡ stream }
         ensures failures { result.failures ≡ 0 }
     {
@@ -42,7 +43,7 @@ impl<'a, S, C> Timed<'a, S, C> {
     }
 }
 
-impl<'a, S: Read, C: Clock> Source for Timed<'a, S, C> {
+impl<'a, S: Read + OpenStream, C: Clock> Source for Timed<'a, S, C> {
     ghost remaining = { λ s. S.remaining s.stream };
 
     ghost failed = { λ s. s.failures };
@@ -53,7 +54,7 @@ impl<'a, S: Read, C: Clock> Source for Timed<'a, S, C> {
 
     fn read(&mut self, buf: &mut [u8]) -> Result<usize, Failed> {
         'tries: for _ in 0..u64::MAX {
-            if !self.watch.allow_read() {
+            if !self.watch.allow_read(&self.stream) {
                 break 'tries;
             }
             match self.stream.read(buf) {
@@ -69,7 +70,7 @@ impl<'a, S: Read, C: Clock> Source for Timed<'a, S, C> {
     }
 }
 
-impl<'a, S: Write, C: Clock> Sink for Timed<'a, S, C> {
+impl<'a, S: Write + OpenStream, C: Clock> Sink for Timed<'a, S, C> {
     ghost taken = { λ s. S.contents s.stream };
 
     ghost failed = { λ s. s.failures };
@@ -80,7 +81,7 @@ impl<'a, S: Write, C: Clock> Sink for Timed<'a, S, C> {
 
     fn write(&mut self, bytes: &[u8]) -> Result<usize, Failed> {
         'tries: for _ in 0..u64::MAX {
-            if !self.watch.allow_write() {
+            if !self.watch.allow_write(&self.stream) {
                 break 'tries;
             }
             match self.stream.write(bytes) {

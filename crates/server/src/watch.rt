@@ -5,13 +5,12 @@ ghost use Rattle.std.specs.Duration.{as_nanos};
 ghost use Rattle.std.specs.Time.{instant_nanos};
 
 use crate::patience::Patience;
-use std::net::TcpStream;
+use std::net::OpenStream;
 use std::time::{Clock, Duration, Instant};
 
 /// Sets how long the next read or write of a stream may wait.
 #[derive(Drop)]
-pub(crate) struct Watch<'a, C> {
-    stream: &'a TcpStream,
+pub struct Watch<'a, C> {
     clock: &'a C,
     step: Duration,
     end: Instant,
@@ -32,11 +31,7 @@ fn time_left(now: Instant, end: Instant, step: Duration) -> Option<Duration>
 
 impl<'a, C: Clock> Watch<'a, C> {
     /// A watch whose time begins now, or `None` where the clock fails.
-    pub(crate) fn new(
-        stream: &'a TcpStream,
-        clock: &'a C,
-        patience: Patience,
-    ) -> Option<Watch<'a, C>> {
+    pub(crate) fn new(clock: &'a C, patience: Patience) -> Option<Watch<'a, C>> {
         let Ok(start) = Instant::now(clock) else {
             return None;
         };
@@ -44,11 +39,19 @@ impl<'a, C: Clock> Watch<'a, C> {
             return None;
         };
         Some(Watch {
-            stream,
             clock,
             step: patience.step,
             end,
         })
+    }
+
+    /// Another watch with the same end.
+    pub(crate) fn same(&self) -> Watch<'a, C> {
+        Watch {
+            clock: self.clock,
+            step: self.step,
+            end: self.end,
+        }
     }
 
     // How long the next wait may last, if at all.
@@ -59,18 +62,18 @@ impl<'a, C: Clock> Watch<'a, C> {
         }
     }
 
-    /// Lets the next read wait for as long as it may. `false` where it may not.
-    pub(crate) fn allow_read(&self) -> bool {
+    /// Lets the stream's next read wait for as long as it may. `false` where it may not.
+    pub(crate) fn allow_read<S: OpenStream>(&self, stream: &S) -> bool {
         match self.left() {
-            Some(wait) => self.stream.set_read_timeout(Some(wait)).is_ok(),
+            Some(wait) => stream.set_read_timeout(Some(wait)).is_ok(),
             None => false,
         }
     }
 
-    /// Lets the next write wait for as long as it may. `false` where it may not.
-    pub(crate) fn allow_write(&self) -> bool {
+    /// Lets the stream's next write wait for as long as it may. `false` where it may not.
+    pub(crate) fn allow_write<S: OpenStream>(&self, stream: &S) -> bool {
         match self.left() {
-            Some(wait) => self.stream.set_write_timeout(Some(wait)).is_ok(),
+            Some(wait) => stream.set_write_timeout(Some(wait)).is_ok(),
             None => false,
         }
     }

@@ -5,7 +5,7 @@ ghost use Rattle.std.specs.Prelude.{◌≤◌, IfOk};
 use crate::database::{FileOffice, close_office, open_office};
 use crate::fault::JobFault;
 use crate::output::write_out;
-use server::{listen, selftest, serve_on};
+use server::{Loopback, listen, selftest, serve_on};
 use std::fs;
 use std::fs::File;
 use std::io::{ErrorKind, Write};
@@ -43,7 +43,7 @@ fn serve_office<O: Write, E: Write>(
     let mut nonces = FromRead::new(nonces);
     Ok(serve_on(
         rt,
-        &listener,
+        &mut Loopback::new(&listener, rt),
         office,
         &mut nonces,
         service.connections,

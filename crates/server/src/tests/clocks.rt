@@ -134,8 +134,8 @@ fn failed_after(rt: &HostRuntime, patience: Patience) -> Result<Option<Duration>
     let _peer = client(rt, &listener, b"")?;
     let (stream, _) = listener.accept()?;
     let start = Instant::now(rt)?;
-    let written = match Watch::new(&stream, rt, patience) {
-        Some(watch) => write_all(&mut Timed::new(&stream, &watch), &bytes),
+    let written = match Watch::new(rt, patience) {
+        Some(watch) => write_all(&mut Timed::new(stream, watch), &bytes),
         None => Ok(()),
     };
     match written {

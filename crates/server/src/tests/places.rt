@@ -1,8 +1,9 @@
 //! An office, clients, and what they are answered.
 
 use crate::listening::bind;
+use crate::loopback::Loopback;
 use crate::patience::Patience;
-use crate::serve::serve_within;
+use crate::serve_on;
 use office::Opening;
 use plain::PlainStore;
 use std::io;
@@ -97,9 +98,9 @@ pub(super) fn met_at(
     let mut printed = Vec::new(rt.alloc());
     let mut out = Vec::new(rt.alloc());
     let count = u64::from(connections);
-    let status = crate::serve_on(
+    let status = serve_on(
         rt,
-        listener,
+        &mut Loopback::new(listener, rt),
         office,
         &mut source,
         count,
@@ -126,13 +127,14 @@ pub(super) fn met_by<R: Clock + AllocGlobal>(
     let peers = clients(rt, &listener, &[request])?;
     let mut source = ScriptedNonces::new(0x33, 32, Ending::Ends);
     let mut printed = Vec::new(rt.alloc());
-    let status = serve_within(
+    let mut out = Vec::new(rt.alloc());
+    let status = serve_on(
         by,
-        &listener,
+        &mut Loopback::with_patience(&listener, by, patience),
         office,
         &mut source,
         1,
-        patience,
+        &mut out,
         &mut printed,
     );
     let answered = match answers(rt, peers) {

@@ -1,0 +1,32 @@
+use Rattle.std.proofs.Common.{◌≡◌, ◌≤◌, ◌+◌, ℕ, arith, subst}
+use Rattle.server.specs.Connections.{Extends}
+use Rattle.server.proofs.Extensions.{meets_extends}
+use Rattle.server.proofs.Visits.{meets_none, meets_more}
+use Rattle.server.proofs.serve.serve_on.Goals as goal
+
+pub loop-served-init : goal.loop-served-init
+loop-served-init g c = record {
+  honest = λ h. h;
+  meets = meets_none _ _ _ _;
+  failed = (omega arith);
+}
+
+pub loop-served-preserved : goal.loop-served-preserved
+loop-served-preserved g c =
+    let at = c.loop-served in
+    let step = c.serve_connection in
+    let failed : g.N.Source.failed step.new.nonces ≤ g.N.Source.failed c.args.nonces.now + (at.served + 1) = omega
+    (arith, at.invariant.failed, step.ensures.failed) in
+    record {
+      honest = λ h. at.invariant.honest (step.ensures.honest h);
+      meets = meets_more at.served step.result _ _ _ _ _ _ _ _ _ _ _ at.invariant.meets step.ensures.visit
+          step.ensures.honest;
+      failed = failed;
+    }
+
+pub returns-clause-served : goal.returns-clause-served
+returns-clause-served g c h =
+    let at = c.loop-served in
+    let all : at.served ≡ c.args.connections = omega (arith, c.loop-served-test.false, at.auto.served-end) in
+    subst (λ (n : ℕ). Extends n (g.S.Registry.means c.args.store.now) (g.S.Registry.means at.store)) all
+    (meets_extends at.served _ _ _ _ _ _ _ at.invariant.meets h)

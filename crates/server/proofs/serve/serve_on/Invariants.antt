@@ -1,0 +1,18 @@
+use Rattle.std.proofs.Common.{◌≤◌, ◌+◌}
+use Rattle.server.specs.Connections.{Meets}
+use Rattle.server.proofs.serve.serve_on.Given as goal
+
+-- so many connections were met so far, and each added one failure at most
+abbrev pub invariant-loop-served : goal.invariant-loop-served
+invariant-loop-served g l =
+    let book = g.L.Listener.book in
+    let remaining = g.N.Source.remaining in
+    let is_honest = g.S.Registry.is_honest in
+    let means = g.S.Registry.means in
+    record {
+      honest : is_honest l.store → is_honest l.initial.store;
+      meets : Meets l.served (book l.initial.listener) (book l.listener) (remaining l.initial.nonces) (remaining
+          l.nonces)
+          (is_honest l.store) (means l.initial.store) (means l.store);
+      failed : g.N.Source.failed l.nonces ≤ g.N.Source.failed l.initial.nonces + l.served;
+    }

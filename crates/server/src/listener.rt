@@ -1,0 +1,54 @@
+//! Where connections come from.
+
+ghost use Rattle.std.specs.Prelude.{◌≡◌, ◌≤◌, Option, None, IfOk, IfErr};
+ghost use Rattle.profile.specs.declared.limits.TheConstants.{LATEST_MOMENT};
+ghost use Rattle.server.specs.Books.{Book, WhereTold, IsAccepted, IsEnded};
+ghost use Rattle.server.specs.Connections.{Tells, closed, IsOfAccepting};
+
+use crate::fault::Fault;
+use wire::{Sink, Source};
+
+/// A connection that was accepted.
+pub struct Connection<R, W> {
+    /// What the peer sends.
+    pub reader: R,
+    /// What is written to the peer.
+    pub writer: W,
+    /// The clock's moment when the connection was accepted, in seconds since 1970-01-01 00:00:00 UTC.
+    pub moment: u64,
+}
+
+/// A listener, whose connections are accepted and ended one after the other.
+pub trait Listener {
+    /// What a connection sends.
+    type Reader: Source;
+
+    /// What is written on a connection.
+    type Writer: Sink;
+
+    /// What the listener tells of its connections, where it tells them.
+    ghost book: { Self → Option Book } = { λ _. None };
+
+    /// A connection was accepted and didn't end yet.
+    ghost is_open: { Self → Type 0 } = { λ _. Unit {0} };
+
+    /// Accepts the next connection.
+    ///
+    /// # Errors
+    ///
+    /// `Socket` where no connection could be accepted; a listener that tells its connections then has none to come.
+    /// `Clock` where the connection was closed, since the clock failed or its moment is over the latest one.
+    fn accept(&mut self) -> Result<Connection<Self::Reader, Self::Writer>, Fault>
+        ensures ok { IfOk result (λ c. WhereTold (IsAccepted (Self.Reader.remaining c.reader)
+            (Self.Writer.taken c.writer) c.moment) (book self.old) (book self.new)) }
+        ensures lawful { IfOk result (λ c. c.moment ≤ LATEST_MOMENT) }
+        ensures fresh { IfOk result (λ c. (Self.Reader.failed c.reader ≡ 0) × (Self.Writer.failed c.writer ≡ 0)) }
+        ensures err { IfErr result (λ fault. WhereTold (Tells (closed fault)) (book self.old) (book self.new)) }
+        ensures only { IfErr result IsOfAccepting }
+        ensures open { IfOk result (λ _. is_open self.new) };
+
+    /// Ends a connection that was accepted. `whole` says that the response was written whole.
+    fn end(&mut self, reader: Self::Reader, writer: Self::Writer, whole: bool)
+        requires { is_open self.old }
+        ensures { WhereTold (IsEnded (Self.Writer.taken writer)) (book self.old) (book self.new) };
+}

@@ -1,0 +1,92 @@
+//! The system's listener.
+
+ghost use Rattle.std.specs.Prelude.{◌≤◌, IfSome};
+ghost use Rattle.profile.specs.declared.limits.TheConstants.{LATEST_MOMENT};
+
+use crate::closing::end_response;
+use crate::fault::Fault;
+use crate::listener::{Connection, Listener};
+use crate::patience::Patience;
+use crate::timed::Timed;
+use crate::watch::Watch;
+use profile::LATEST_MOMENT;
+use std::net::{TcpListener, TcpStream};
+use std::time::{Clock, SystemTime, UNIX_EPOCH};
+
+/// A listener of TCP, whose connections are waited for with patience. Of its bytes nothing is told.
+#[derive(Drop)]
+pub struct Loopback<'a, C> {
+    listener: &'a TcpListener,
+    clock: &'a C,
+    patience: Patience,
+}
+
+impl<'a, C: Clock> Loopback<'a, C> {
+    /// The listener, where a read and a write wait `STEP_SECONDS` at most, and a connection takes `CONNECTION_SECONDS`
+    /// at most.
+    pub fn new(listener: &'a TcpListener, clock: &'a C) -> Loopback<'a, C> {
+        Loopback::with_patience(listener, clock, Patience::usual())
+    }
+
+    /// The listener with another patience.
+    pub(crate) fn with_patience(
+        listener: &'a TcpListener,
+        clock: &'a C,
+        patience: Patience,
+    ) -> Loopback<'a, C> {
+        Loopback {
+            listener,
+            clock,
+            patience,
+        }
+    }
+}
+
+/// The clock's moment, in seconds since 1970-01-01 00:00:00 UTC, or `None` where the clock fails or is past the latest.
+fn moment_of<C: Clock>(clock: &C) -> Option<u64>
+    ensures { IfSome result (λ moment. moment ≤ LATEST_MOMENT) }
+{
+    let Ok(now) = SystemTime::now(clock) else {
+        return None;
+    };
+    let Ok(since) = now.duration_since(UNIX_EPOCH) else {
+        return None;
+    };
+    let moment = since.as_secs();
+    if LATEST_MOMENT < moment {
+        return None;
+    }
+    Some(moment)
+}
+
+impl<'a, C: Clock> Listener for Loopback<'a, C> {
+    type Reader = Timed<'a, TcpStream, C>;
+
+    type Writer = Timed<'a, TcpStream, C>;
+
+    fn accept(&mut self) -> Result<Connection<Self::Reader, Self::Writer>, Fault> {
+        let Ok((stream, _)) = self.listener.accept() else {
+            return Err(Fault::Socket);
+        };
+        let Some(moment) = moment_of(self.clock) else {
+            return Err(Fault::Clock);
+        };
+        let Some(watch) = Watch::new(self.clock, self.patience) else {
+            return Err(Fault::Clock);
+        };
+        let Ok(twin) = stream.try_clone() else {
+            return Err(Fault::Socket);
+        };
+        Ok(Connection {
+            reader: Timed::new(stream, watch.same()),
+            writer: Timed::new(twin, watch),
+            moment,
+        })
+    }
+
+    fn end(&mut self, _reader: Self::Reader, writer: Self::Writer, whole: bool) {
+        if whole {
+            end_response(&writer.stream);
+        }
+    }
+}
