@@ -31,52 +31,52 @@ unchanged_goes old new same = record {
 }
 
 module _ (old new : State) (returning : Option Returning) (text : List ℕ) (params : Row) (count : ℕ) (inside : IsTrue old.in_transaction)
-    where
-  writes_go : (command : Command) → Writes old new returning command text params count → GoesOn old new
-  writes_go command w = record {
-    was_open = w.shown.was_open;
-    is_open = w.shown.is_open;
-    now_is = refl;
-    committed_is = inside_is old.in_transaction old.committed new.now new.committed inside w.shown.committed_is;
-    mode = w.shown.mode;
-  }
+  where
+    writes_go : (command : Command) → Writes old new returning command text params count → GoesOn old new
+    writes_go command w = record {
+      was_open = w.shown.was_open;
+      is_open = w.shown.is_open;
+      now_is = refl;
+      committed_is = inside_is old.in_transaction old.committed new.now new.committed inside w.shown.committed_is;
+      mode = w.shown.mode;
+    }
 
-  runs_go : (command : Command) → closes command ≡ false → Runs old new returning command text params count → GoesOn old new
-  runs_go (Select q names) none h = absurd h
-  runs_go (Insert at from) none h = writes_go (Insert at from) h
-  runs_go (InsertOr at how from clauses) none h = writes_go (InsertOr at how from clauses) h
-  runs_go (Update at q) none h = writes_go (Update at q) h
-  runs_go (Delete at q) none h = writes_go (Delete at q) h
-  runs_go CreateTable none h = writes_go CreateTable h
-  runs_go (CreateIndex at) none h = writes_go (CreateIndex at) h
-  runs_go (DropTable at) none h = writes_go (DropTable at) h
-  runs_go (DropIndex at) none h = writes_go (DropIndex at) h
-  runs_go CreateView none h = writes_go CreateView h
-  runs_go (DropView at) none h = writes_go (DropView at) h
-  runs_go Begin none h = absurd (let wrong : true ≡ false = sym inside ∙ h.0 in cc)
-  runs_go Commit none h = absurd (cc)
-  runs_go Rollback none h = absurd (cc)
-  runs_go (Release name) none h = absurd (cc)
-  runs_go (Savepoint name) none h = goes_inside h.0.0
-    where
-      goes_inside : Shows old new old.now old.committed true → GoesOn old new
-      goes_inside s = record {
-        was_open = s.was_open;
-        is_open = s.is_open;
-        now_is = refl;
-        committed_is = s.committed_is;
-        mode = s.mode ∙ sym inside;
-      }
-  runs_go (RollbackTo name) none h =
-      let s = h.2.2 in record {
-        was_open = s.was_open;
-        is_open = s.is_open;
-        now_is = refl;
-        committed_is = s.committed_is;
-        mode = s.mode ∙ sym inside;
-      }
-  runs_go (Rows values width names) none h = unchanged_goes old new h.0
-  runs_go Nothing none h = unchanged_goes old new h.0
+    runs_go : (command : Command) → closes command ≡ false → Runs old new returning command text params count → GoesOn old new
+    runs_go (Select q names) none h = absurd h
+    runs_go (Insert at from) none h = writes_go (Insert at from) h
+    runs_go (InsertOr at how from clauses) none h = writes_go (InsertOr at how from clauses) h
+    runs_go (Update at q) none h = writes_go (Update at q) h
+    runs_go (Delete at q) none h = writes_go (Delete at q) h
+    runs_go CreateTable none h = writes_go CreateTable h
+    runs_go (CreateIndex at) none h = writes_go (CreateIndex at) h
+    runs_go (DropTable at) none h = writes_go (DropTable at) h
+    runs_go (DropIndex at) none h = writes_go (DropIndex at) h
+    runs_go CreateView none h = writes_go CreateView h
+    runs_go (DropView at) none h = writes_go (DropView at) h
+    runs_go Begin none h = absurd (let wrong : true ≡ false = sym inside ∙ h.0 in cc)
+    runs_go Commit none h = absurd (cc)
+    runs_go Rollback none h = absurd (cc)
+    runs_go (Release name) none h = absurd (cc)
+    runs_go (Savepoint name) none h = goes_inside h.0.0
+      where
+        goes_inside : Shows old new old.now old.committed true → GoesOn old new
+        goes_inside s = record {
+          was_open = s.was_open;
+          is_open = s.is_open;
+          now_is = refl;
+          committed_is = s.committed_is;
+          mode = s.mode ∙ sym inside;
+        }
+    runs_go (RollbackTo name) none h =
+        let s = h.2.2 in record {
+          was_open = s.was_open;
+          is_open = s.is_open;
+          now_is = refl;
+          committed_is = s.committed_is;
+          mode = s.mode ∙ sym inside;
+        }
+    runs_go (Rows values width names) none h = unchanged_goes old new h.0
+    runs_go Nothing none h = unchanged_goes old new h.0
 
 kept : (old new : State) → GoesOn old new → KeepsCommit old new × (new.in_transaction ≡ old.in_transaction)
 kept old new goes = (record { was_open = λ _. goes.was_open; committed = λ _. goes.committed_is }, goes.mode)

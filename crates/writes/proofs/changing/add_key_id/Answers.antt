@@ -69,7 +69,7 @@ returns-in-Ok-None-clause-stays g c clean =
     let mid = state g.S.Store c.find_revoked.new.conn in
     let new = state g.S.Store c.insert_revoked.new.conn in
     let still : HasCleanDisk mid = omega (arith, c.insert_revoked.ensures.survives.clean) in
-    stays_then{Y = Unit {0}} old mid new c.in-Ok-None.field-0 c.insert_revoked.result (reads_stay old mid (Ok c.in-Ok-None.field-0) (c.in-Ok-None.ensures.was_open still))
+    stays_then {Y = Unit {0}} old mid new c.in-Ok-None.field-0 c.insert_revoked.result (reads_stay old mid (Ok c.in-Ok-None.field-0) (c.in-Ok-None.ensures.was_open still))
     (c.insert_revoked.ensures.stays clean)
 
 pub returns-in-Ok-Some-clause-stays : goal.returns-in-Ok-Some-clause-stays
