@@ -129,7 +129,7 @@ MISTAKES = {
         "Usage: sshoffice init --db <PATH> --ca <PATH> --root <NAME> --station <NAME> --first <N> --last <N>",
     "migrate --db": "error: a value is required for '--db <PATH>' but none was supplied",
     "frobnicate": "error: unrecognized subcommand 'frobnicate'\n\nUsage: sshoffice <COMMAND>",
-    "--verbose": "error: unexpected argument '--verbose' found\n\nUsage: sshoffice <COMMAND>",
+    "--frobnicate": "error: unexpected argument '--frobnicate' found\n\nUsage: sshoffice <COMMAND>",
     "krl --version": "error: unexpected argument '--version' found\n\nUsage: sshoffice krl --db <PATH>",
     "krl --db d --port 7": "error: unexpected argument '--port' found\n\nUsage: sshoffice krl --db <PATH>",
     "krl --db d --db e":
