@@ -2,10 +2,21 @@
 
 import copy
 import os
+import queue
 import re
 import sys
 import threading
 import time
+
+# The share of the free memory that proofs may take, and the share that a proof takes of what rt reckons with at most.
+MEMORY_TAKEN = 0.85
+SHARE_OF_NEED = 0.5
+
+# A crate of twice so many lines is proved by two processes: each reads the libraries below, which takes some seconds.
+LINES_OF_A_JOB = 400
+
+# How far the processes of a crate give way that isn't on the longest chain.
+LATER = 5
 
 
 class Progress:
@@ -68,27 +79,79 @@ def prove(crate, progress, jobs, logs):
     return status == 0
 
 
+class Lanes:
+    """Proves crates side by side: each as soon as those below it are proved and memory is free for it.
+
+    A large crate is proved by several processes. There may be more processes than processors, so that no processor is
+    idle. The system gives the most time to the crate with the longest chain of others behind it.
+    """
+
+    def __init__(self, rt, libraries, progress, logs):
+        self.rt, self.progress, self.logs = rt, progress, logs
+        self.processors, self.memory = rt.processors(), MEMORY_TAKEN * rt.free()
+        self.size = {it.name: it.count(rb"\n") for it in libraries}
+        self.behind = {}
+        for crate in reversed(libraries):
+            above = [it.name for it in libraries if crate in it.below()]
+            self.behind[crate.name] = self.size[crate.name] + max((self.behind[it] for it in above), default=0)
+        self.left = sorted(libraries, key=lambda it: -self.behind[it.name])
+        self.running, self.proved, self.ended = {}, {}, queue.Queue()
+
+    def jobs_of(self, crate):
+        """By how many processes a crate is proved."""
+        return max(1, min(self.processors, round(self.size[crate.name] / LINES_OF_A_JOB)))
+
+    def memory_of(self, crate, jobs):
+        """The memory that a proof takes, in bytes: each further process adds its own share."""
+        return SHARE_OF_NEED * self.rt.need(crate) * (1 + 0.6 * (jobs - 1))
+
+    def has_room_for(self, crate, jobs):
+        taken = sum(self.memory_of(*it) for it in self.running.values())
+        count = sum(it for _, it in self.running.values())
+        room = self.memory - taken
+        return not self.running or (count < 2 * self.processors and self.memory_of(crate, jobs) <= room)
+
+    def start_ready(self):
+        """Starts the crates that can be proved now, those with the longest chain first."""
+        for crate in [*self.left]:
+            jobs = self.jobs_of(crate)
+            if all(it.name in self.proved for it in crate.below()) and self.has_room_for(crate, jobs):
+                gives_way = any(self.behind[it] > self.behind[crate.name] for it in self.running)
+                self.left.remove(crate)
+                self.running[crate.name] = crate, jobs
+                threading.Thread(target=self.work, args=(crate, jobs, gives_way), daemon=True).start()
+
+    def work(self, crate, jobs, gives_way):
+        """Proves a crate in a thread of its own, from which its processes have their priority."""
+        is_proved = False
+        try:
+            if gives_way:
+                os.setpriority(os.PRIO_PROCESS, threading.get_native_id(), LATER)
+            if all(self.proved[it.name] for it in crate.below()):
+                is_proved = prove(crate, self.progress, jobs, self.logs)
+        finally:
+            self.ended.put((crate.name, is_proved))
+
+    def run(self):
+        """Proves all, and returns the name of the first that isn't proved, or None."""
+        while self.left or self.running:
+            self.start_ready()
+            name, is_proved = self.ended.get()
+            del self.running[name]
+            self.proved[name] = is_proved
+        return next((name for name, is_proved in self.proved.items() if not is_proved), None)
+
+
 def prove_side_by_side(rt, libraries, progress, logs):
-    """Proves the libraries, each as soon as those below it are proved. Returns the name of one that isn't, or None."""
-
-    def work(crate, given, jobs):
-        return all(given[it.name, "proof"] for it in crate.below()) and prove(crate, progress, jobs, logs)
-
-    tasks = {}
-    for crate in libraries:
-        waits = [(it.name, "proof") for it in crate.below()]
-        call = lambda given, jobs, it=crate: work(it, given, jobs)
-        tasks[crate.name, "proof"] = waits, crate.count(rb"\n"), rt.need(crate), call
+    """Proves the libraries, lowest first. Returns the name of one that isn't proved, or None."""
     for crate in libraries:
         os.makedirs(f"{crate.folder}/out", exist_ok=True)
     held = rt.rtlib.lock(libraries)
     try:
-        given = rt.in_lanes(tasks)
+        return Lanes(rt, libraries, progress, logs).run()
     finally:
         for it in held:
             os.close(it)
-    failed = [crate.name for crate in libraries if not given[crate.name, "proof"]]
-    return failed[0] if failed else None
 
 
 def end_of(file, count=40):
