@@ -1,5 +1,6 @@
 pub mod Booleans
 pub mod Maximal
+pub mod Covering
 pub mod Counting
 pub mod Joining
 pub mod Gathering

@@ -1,10 +1,10 @@
 //! Sets of serials as runs.
 
-ghost use Rattle.std.specs.Prelude.{All, ◌≡◌, ◌≢◌, ◌↔◌, IsTrue, nat_le, ◌&&◌, ◌||◌, ◌<◌, ◌≤◌, ◌-◌, ◌^◌, ℕ, ◌+◌, [], ◌∷◌, IsSome, IfSome, OnOk, OnErr, IfOk, vec_len, length, slice_get, slice_index_or};
+ghost use Rattle.std.specs.Prelude.{All, true, false, ◌≡◌, ◌≢◌, ◌↔◌, IsTrue, nat_le, ◌&&◌, ◌||◌, ◌<◌, ◌≤◌, ◌-◌, ◌^◌, ℕ, ◌+◌, [], ◌∷◌, IsSome, IfSome, OnOk, OnErr, IfOk, vec_len, length, slice_get, slice_index_or};
 ghost use Rattle.std.specs.Bool.{OnTrue, OnFalse};
 ghost use Rattle.std.specs.List.{list_any, filter_map};
 ghost use Rattle.std.specs.Option.{SomeIff};
-ghost use Rattle.std.specs.List.Sorted.{IsStrictlyIncreasing, IsNonDecreasing};
+ghost use Rattle.std.specs.List.Sorted.{IsStrictlyIncreasing, IsNonDecreasing, IsPartitionPoint};
 ghost use Rattle.krl.specs.Sets.{AreRuns, HasAll, contains, cut_run, is_among, is_before, is_last_reached, is_within};
 
 use crate::lengths::serials_len;
@@ -158,11 +158,22 @@ fn cut_runs(
         .collect(alloc)
 }
 
-// Whether one of the runs has the whole interval.
+// How many of the runs begin at or below the serial.
+fn count_begun(runs: &[Run], serial: u64) -> usize
+    requires { AreRuns runs.now }
+    ensures bound { result ≤ length runs.now }
+    ensures point { IsPartitionPoint (λ r. nat_le r.lo serial ≡ true) (λ r. nat_le r.lo serial ≡ false) runs.now result }
+{
+    runs.partition_point(|run| run.lo <= serial)
+}
+
+// Whether one of the runs has the whole interval: that is the last of those that begin at or below it.
 fn covers(runs: &[Run], lo: u64, hi: u64) -> bool
+    requires { AreRuns runs.now }
     ensures { result ≡ list_any (λ r. nat_le r.lo lo && nat_le hi r.hi) runs.now }
 {
-    runs.iter().any(|r| r.lo <= lo && hi <= r.hi)
+    let count = count_begun(runs, lo);
+    count > 0 && hi <= runs[count - 1].hi
 }
 
 fn are_runs(runs: &[Run]) -> bool
