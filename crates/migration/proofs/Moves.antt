@@ -35,8 +35,8 @@ filled a b d rows ca (Err e) found is put = λ c before.
     let g = goes_still a b c (found c before.0).0 before.0 in stops_then a b d c g (put c g.means)
 
 -- nothing is committed by a query
-pub still : (a b : State) → Survives a b (Never a) → Survives a b (Waits HasNoCa a)
-still a b one = survives_weaker a b (Never a) (Waits HasNoCa a) (λ clean trees h c before. absurd (h c before.0)) one
+pub still : (a b : State) → Survives a b Never → Survives a b (Waits HasNoCa a)
+still a b one = survives_weaker a b Never (Waits HasNoCa a) (λ clean trees h. absurd h) one
 
 pub found_leads : (a b : State) (rows : List OfficeRow)
     → ((c : Contents) → Means a.now c → IsUnchanged a b × IsPermutation c.offices rows)

@@ -2,7 +2,7 @@
 use Rattle.std.proofs.Common.{◌≡◌, inl, inr, true, IsTrue, refl, sym, ◌∙◌}
 use Rattle.std.specs.Prelude.{Result, Ok, Err, OnErr}
 use Rattle.sqlite.specs.State.{State}
-use Rattle.tables.specs.Calls.{Begins, Fails, Stays, WasOpen}
+use Rattle.tables.specs.Calls.{Begins, Fails, Stays, OnlyReads}
 use Rattle.tables.specs.declared.fault.Fault.{Fault}
 use Rattle.rows.specs.Transactions.{Concludes, HasEnded, IsAsBefore}
 
@@ -21,7 +21,7 @@ fails_before a b (inr back) = record {
 pub same_before : (a : State) → IsAsBefore a a
 same_before a = record { was_open = λ still. still; rest = λ still rests. rests; same = λ still rests. refl }
 
-pub reads_before : {X : Type 0} (a b : State) (r : Result X Fault) → WasOpen a b r → IsAsBefore a b
+pub reads_before : {X : Type 0} (a b : State) (r : Result X Fault) → OnlyReads a b r → IsAsBefore a b
 reads_before a b (Ok x) same = fails_before a b (inl same)
 reads_before a b (Err f) fails = fails_before a b fails.0
 

@@ -11,7 +11,7 @@ use Rattle.sqlite_keyed.proofs.SortLemmas.{sorted_unique}
 use Rattle.sqlite.specs.Tree.{IsAscending}
 use Rattle.sqlite.specs.State.{State as Connection, IsUnchanged}
 use Rattle.tables.specs.Contents.{Contents, Means}
-use Rattle.tables.specs.Calls.{FailsBy, Finds, Rises, WasOpen}
+use Rattle.tables.specs.Calls.{FailsBy, Finds, Rises, OnlyReads}
 use Rattle.tables.specs.Faults.{HasCause}
 use Rattle.tables.specs.declared.fault.Fault.{Fault}
 use Rattle.tables.specs.declared.fault.Fault.TheVariants.{Damaged, Device, NoMemory}
@@ -23,7 +23,7 @@ use Rattle.rows.specs.Rows.{contents_of}
 use Rattle.rows.specs.Showing.{Shows}
 
 -- what is made of an answer changes nothing either
-pub asked : {X : Type 0} (old new : Connection) → IsUnchanged old new → (r : Result X Fault) → WasOpen old new r
+pub asked : {X : Type 0} (old new : Connection) → IsUnchanged old new → (r : Result X Fault) → OnlyReads old new r
 asked old new same (Ok x) = same
 asked old new same (Err f) = (inl same, λ _. same)
 

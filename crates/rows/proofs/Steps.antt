@@ -168,15 +168,15 @@ module _ {A X : Type 0} (Before : A → Database → Type 0) (Due : A → X → 
       survives_then a b d (λ _. ⊥) (AfterAll Before after a) (AfterAll Before after a) (λ clean trees h. absurd h)
       (λ clean trees h. h) one
       (survives_then b c d (Waits Before b) (Commits r c) (AfterAll Before after a)
-      (λ clean trees h x rests.
+      (λ clean trees h.
       let start : HasCleanDisk b = omega (arith, two.clean, three.clean) in
       let was = begun start in
-      absurd (let e = sym was.1.mode ∙ h x (subst (Before x) (sym was.1.now_is) rests.now) in cc))
-      (λ clean trees h x rests.
+      (was.1.was_open, λ x rests. absurd (let e = sym was.1.mode ∙ h x (subst (Before x) (sym was.1.now_is) rests.now) in cc)))
+      (λ clean trees h.
       let start : HasCleanDisk b = omega (arith, two.clean, three.clean) in
       let mid : HasCleanDisk c = omega (arith, three.clean) in
       let was = begun start in
-      kept r trees h x (answers mid) (subst (Before x) (sym was.1.now_is) rests.now))
+      (was.1.was_open, λ x rests. kept r trees h x (answers mid) (subst (Before x) (sym was.1.now_is) rests.now)))
       two three)
     where
       kept : (r : Result X Fault) (trees : Trees) → Commits r c trees → (x : A) → Answers Before Due after b c r

@@ -111,6 +111,7 @@ pub record IsAsBefore (old new : State) : Type 0 where
   pub rest : IsTrue new.is_open → IsAtRest old → IsAtRest new
   pub same : IsTrue new.is_open → IsAtRest old → new.now ≡ old.now
 
--- what a crash in the midst of it may leave, beside what was there before: all that comes after it
+-- what a crash in the midst of it may leave, beside what was there before: all that comes after it, where the connection
+-- was open
 abbrev pub Leaves : {A : Type 0} → (A → Database → Type 0) → (A → Contents) → State → Trees → Type 0
-Leaves {A} Before after old trees = (a : A) → Rests (Before a) old → Kept trees (after a)
+Leaves {A} Before after old trees = IsTrue old.is_open × ((a : A) → Rests (Before a) old → Kept trees (after a))

@@ -3,7 +3,7 @@
 ghost use Rattle.std.specs.Prelude.{◌≡◌};
 ghost use Rattle.sqlite.specs.Held.{state};
 ghost use Rattle.sqlite.specs.State.{HasCleanDisk, Survives};
-ghost use Rattle.tables.specs.Calls.{Never, WasOpen};
+ghost use Rattle.tables.specs.Calls.{Never, OnlyReads};
 ghost use Rattle.rows.specs.Showing.{Shows};
 
 use crate::cert_rows::read_certificate;
@@ -30,9 +30,9 @@ pub fn read_certificates<S: Alter>(
 ) -> Result<Vec<Certificate>, Fault>
     ensures shows { HasCleanDisk (state S.Store conn.new) → Shows (λ s kept rows. rows.items ≡ s.certificates)
         (state S.Store conn.old) (state S.Store conn.new) result }
-    ensures was_open { HasCleanDisk (state S.Store conn.new)
-        → WasOpen (state S.Store conn.old) (state S.Store conn.new) result }
-    ensures survives { Survives (state S.Store conn.old) (state S.Store conn.new) (Never (state S.Store conn.old)) }
+    ensures reads { HasCleanDisk (state S.Store conn.new)
+        → OnlyReads (state S.Store conn.old) (state S.Store conn.new) result }
+    ensures survives { Survives (state S.Store conn.old) (state S.Store conn.new) Never }
 {
     match every_cert(alloc, conn) {
         Ok(rows) => read_each(alloc, rows.as_slice()),

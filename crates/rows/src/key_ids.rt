@@ -3,7 +3,7 @@
 ghost use Rattle.std.specs.Prelude.{◌≡◌};
 ghost use Rattle.sqlite.specs.Held.{state};
 ghost use Rattle.sqlite.specs.State.{HasCleanDisk, Survives};
-ghost use Rattle.tables.specs.Calls.{Never, WasOpen};
+ghost use Rattle.tables.specs.Calls.{Never, OnlyReads};
 ghost use Rattle.rows.specs.Showing.{Shows};
 
 use sqlite::{Alter, Connection};
@@ -15,9 +15,9 @@ use text::Text;
 pub fn read_key_ids<S: Alter>(alloc: Global, conn: &mut Connection<S>) -> Result<Vec<Text>, Fault>
     ensures shows { HasCleanDisk (state S.Store conn.new) → Shows (λ s kept ids. ids.items ≡ s.revoked_key_ids)
         (state S.Store conn.old) (state S.Store conn.new) result }
-    ensures was_open { HasCleanDisk (state S.Store conn.new)
-        → WasOpen (state S.Store conn.old) (state S.Store conn.new) result }
-    ensures survives { Survives (state S.Store conn.old) (state S.Store conn.new) (Never (state S.Store conn.old)) }
+    ensures reads { HasCleanDisk (state S.Store conn.new)
+        → OnlyReads (state S.Store conn.old) (state S.Store conn.new) result }
+    ensures survives { Survives (state S.Store conn.old) (state S.Store conn.new) Never }
 {
     every_revoked(alloc, conn)
 }

@@ -3,7 +3,7 @@
 ghost use Rattle.std.specs.Prelude.{◌≡◌, IsTrue, length};
 ghost use Rattle.sqlite.specs.Held.{state};
 ghost use Rattle.sqlite.specs.State.{HasCleanDisk, Survives};
-ghost use Rattle.tables.specs.Calls.{Never, WasOpen};
+ghost use Rattle.tables.specs.Calls.{Never, OnlyReads};
 ghost use Rattle.office.specs.Openings.{IsOpening};
 ghost use Rattle.rows.specs.Reading.{IsRead};
 ghost use Rattle.rows.specs.Offices.{IsOfficeOf, is_opening, office_in, only_office};
@@ -85,9 +85,9 @@ fn only_office(alloc: Global, rows: &[OfficeRow]) -> Result<Office, Fault>
 pub fn read_office<S: Alter>(alloc: Global, conn: &mut Connection<S>) -> Result<Office, Fault>
     ensures shows { HasCleanDisk (state S.Store conn.new) → Shows (λ s kept office. IsOfficeOf office s)
         (state S.Store conn.old) (state S.Store conn.new) result }
-    ensures was_open { HasCleanDisk (state S.Store conn.new)
-        → WasOpen (state S.Store conn.old) (state S.Store conn.new) result }
-    ensures survives { Survives (state S.Store conn.old) (state S.Store conn.new) (Never (state S.Store conn.old)) }
+    ensures reads { HasCleanDisk (state S.Store conn.new)
+        → OnlyReads (state S.Store conn.old) (state S.Store conn.new) result }
+    ensures survives { Survives (state S.Store conn.old) (state S.Store conn.new) Never }
 {
     match every_office(alloc, conn) {
         Ok(rows) => only_office(alloc, rows.as_slice()),

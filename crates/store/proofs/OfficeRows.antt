@@ -4,10 +4,10 @@ use Rattle.std.specs.Prelude.{◌==◌, if◌then◌else◌, None, Result, Ok, E
 use Rattle.std.specs.List.{list_any}
 use Rattle.std.proofs.lemmas.List.Sorted.{length_permutation, All-permutation}
 use Rattle.std.proofs.lemmas.List.Elements.{All-cons, All-nil}
-use Rattle.sqlite.specs.Schema.{Schema}
-use Rattle.tables.specs.Schema.{whole}
-use Rattle.tables.specs.Look.{is_office_table, whole_is_office}
-use Rattle.tables.specs.Contents.{Contents}
+use Rattle.sqlite.specs.Effect.{Database}
+use Rattle.tables.specs.Look.{is_office_table}
+use Rattle.tables.proofs.FirstTable.{first_seen}
+use Rattle.tables.specs.Contents.{Contents, HasOffices}
 use Rattle.tables.specs.declared.offices.OfficeRow.{OfficeRow}
 use Rattle.office.specs.declared.fault.StoreFault.{StoreFault}
 use Rattle.office.specs.declared.fault.StoreFault.TheVariants.{AlreadyAnOffice, NotAnOffice, WrongSchema, Damaged, Device, NoMemory}
@@ -20,11 +20,11 @@ use Rattle.migration.specs.Migrating.{HasStopped, IsExcused, RefusesFirstCa}
 use Rattle.store.specs.Meaning.{DiskFailed, Looks, LooksOn, opened_by}
 use Rattle.store.proofs.Telling.{disk_failed}
 
--- the office's tables are seen
-pub unseen : (b : Bool) (s : Schema) → b ≡ list_any is_office_table s.tables → b ≡ false → s ≡ whole → ⊥
-unseen b s is off same =
-    let seen : list_any is_office_table s.tables ≡ true = rw same whole_is_office in
-    let found : true ≡ false = sym (is ∙ seen) ∙ off in
+-- the table of the office is seen
+pub unseen : (b : Bool) (rows : List OfficeRow) (db : Database) → b ≡ list_any is_office_table db.schema.tables → b ≡ false
+    → HasOffices rows db → ⊥
+unseen b rows db is off has =
+    let found : true ≡ false = sym (is ∙ first_seen db.schema.tables has.first) ∙ off in
     cc
 
 -- the order of the rows is nothing
@@ -54,38 +54,38 @@ never_device (row ∷ []) e = not_device (row.schema == 2) e
 never_device (row ∷ other ∷ rows) e = cc
 
 -- what the rows say
-pub looked : (c : Contents) (failed : Type 0) (rows : List OfficeRow) (r : Result (Unit {0}) StoreFault)
-    → IsPermutation c.offices rows → r ≡ opened_by rows → Looks c failed r
-looked c failed rows r p is = go r (opened_same c.offices rows p ∙ sym is)
+pub looked : (xs : List OfficeRow) (failed : Type 0) (rows : List OfficeRow) (r : Result (Unit {0}) StoreFault)
+    → IsPermutation xs rows → r ≡ opened_by rows → Looks xs failed r
+looked xs failed rows r p is = go r (opened_same xs rows p ∙ sym is)
   where
-    go : (r : Result (Unit {0}) StoreFault) → opened_by c.offices ≡ r → Looks c failed r
+    go : (r : Result (Unit {0}) StoreFault) → opened_by xs ≡ r → Looks xs failed r
     go (Ok x) e = e
     go (Err NoMemory) e = tt
-    go (Err Device) e = absurd (never_device c.offices e)
+    go (Err Device) e = absurd (never_device xs e)
     go (Err NotAnOffice) e = e
     go (Err WrongSchema) e = e
     go (Err Damaged) e = e
     go (Err AlreadyAnOffice) e = e
 
 -- a failure that is told in other words
-pub looks_weaker : (c : Contents) (P Q : Type 0) (r : Result (Unit {0}) StoreFault) → (P → Q) → Looks c P r → Looks c Q r
-looks_weaker c P Q (Ok x) so h = h
-looks_weaker c P Q (Err NoMemory) so h = h
-looks_weaker c P Q (Err Device) so h = so h
-looks_weaker c P Q (Err NotAnOffice) so h = h
-looks_weaker c P Q (Err WrongSchema) so h = h
-looks_weaker c P Q (Err Damaged) so h = h
-looks_weaker c P Q (Err AlreadyAnOffice) so h = h
+pub looks_weaker : (rows : List OfficeRow) (P Q : Type 0) (r : Result (Unit {0}) StoreFault) → (P → Q) → Looks rows P r → Looks rows Q r
+looks_weaker rows P Q (Ok x) so h = h
+looks_weaker rows P Q (Err NoMemory) so h = h
+looks_weaker rows P Q (Err Device) so h = so h
+looks_weaker rows P Q (Err NotAnOffice) so h = h
+looks_weaker rows P Q (Err WrongSchema) so h = h
+looks_weaker rows P Q (Err Damaged) so h = h
+looks_weaker rows P Q (Err AlreadyAnOffice) so h = h
 
 -- an office is not missed
-pub not_missed : (c : Contents) (failed : Type 0) (e : StoreFault) → opened_by c.offices ≡ Ok tt → Looks c failed (Err e)
+pub not_missed : (rows : List OfficeRow) (failed : Type 0) (e : StoreFault) → opened_by rows ≡ Ok tt → Looks rows failed (Err e)
     → IsExcused failed e
-not_missed c failed NoMemory is h = tt
-not_missed c failed Device is h = h
-not_missed c failed NotAnOffice is h = absurd cc
-not_missed c failed WrongSchema is h = absurd cc
-not_missed c failed Damaged is h = absurd cc
-not_missed c failed AlreadyAnOffice is h = absurd cc
+not_missed rows failed NoMemory is h = tt
+not_missed rows failed Device is h = h
+not_missed rows failed NotAnOffice is h = absurd cc
+not_missed rows failed WrongSchema is h = absurd cc
+not_missed rows failed Damaged is h = absurd cc
+not_missed rows failed AlreadyAnOffice is h = absurd cc
 
 -- a fault that has its cause is excused by it
 pub excused_unless : (old new : State) (refused : Type 0) (f : Fault) → old.step_limit ≡ None → (refused → ⊥)

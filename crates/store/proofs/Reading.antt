@@ -1,13 +1,11 @@
 -- Reading calls over the tables of an office, one after the other.
-use Rattle.std.proofs.Common.{◌≡◌, inl, List, Ok, Err, Result, sym, subst, arith}
+use Rattle.std.proofs.Common.{◌≡◌, inl, List, Ok, Err, Result, sym, subst}
 use Rattle.std.specs.Prelude.{IfOk}
 use Rattle.sqlite.specs.Effect.{Database}
 use Rattle.sqlite.specs.Tree.{Trees}
-use Rattle.sqlite.specs.State.{State as Connection, HasCleanDisk, Survives, IsUnchanged}
-use Rattle.sqlite.proofs.StateLemmas.{survives_then, survives_weaker}
+use Rattle.sqlite.specs.State.{State as Connection, Survives, IsUnchanged}
 use Rattle.text.specs.declared.memory.NoMemory.{NoMemory as Refusal}
 use Rattle.tables.specs.Contents.{Means}
-use Rattle.tables.specs.Calls as table
 use Rattle.tables.specs.declared.fault.Fault.{Fault}
 use Rattle.sqlite.proofs.Callers.{unchanged_then}
 use Rattle.tables.proofs.Later.{cause_then, stops_then}
@@ -19,7 +17,7 @@ use Rattle.office.specs.History.{first_accepted, kept_by, state}
 use Rattle.rows.specs.Rows.{office_contents}
 use Rattle.rows.specs.Showing.{Shows}
 use Rattle.store.specs.Meaning.{IsHistory, made}
-use Rattle.store.specs.Showing.{Never, ShowsOffice}
+use Rattle.store.specs.Showing.{ShowsOffice}
 use Rattle.store.proofs.Lawful.{lawful_after}
 
 -- what is shown of each lawful state is shown of each office
@@ -29,9 +27,6 @@ shows_office P old new (Ok x) shows = λ o l history means.
     shows (state o l) (kept_by (first_accepted o l)) (lawful_after o l history) means
 shows_office P old new (Err f) shows = λ o l history means.
     shows (state o l) (kept_by (first_accepted o l)) (lawful_after o l history) means
-
-pub never : (a b : Connection) → Survives a b (table.Never a) → Survives a b (Never a)
-never a b one = survives_weaker a b (table.Never a) (Never a) (λ clean trees h o l history. h (office_contents o l)) one
 
 -- an answer that is made of an answer
 pub shows_of : {X Y : Type 0} (P : State → List Kept → X → Type 0) (Q : State → List Kept → Y → Type 0) (old new : Connection)
@@ -74,13 +69,3 @@ shows_made {X} {Y} First Made Whole a b x m r is holds both first =
     go : (m : Result Y Refusal) → IfOk m Made → ShowsOffice Whole a b (made m)
     go (Ok y) holds = λ o l history means. let p = first o l history means in (both o l y history p.0 holds, p.1)
     go (Err e) holds = λ o l history means. (inl (first o l history means).1, tt)
-
--- two calls, of which neither commits anything
-pub reads_then : {X : Type 0} (First : State → List Kept → X → Type 0) (a b c : Connection) (x : X)
-    → (HasCleanDisk b → ShowsOffice First a b (Ok x)) → Survives a b (Never a) → Survives b c (Never b)
-    → Survives a c (Never a)
-reads_then First a b c x first one two =
-    survives_then a b c (Never a) (Never b) (Never a) (λ clean trees h. h)
-    (λ clean trees h o l history means.
-    let p = first (omega (arith, two.clean)) o l history means in
-    h o l history (still_means a b o l p.1 means)) one two

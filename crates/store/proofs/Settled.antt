@@ -36,12 +36,10 @@ use Rattle.rows.specs.Rows.{contents_of, office_contents}
 use Rattle.rows.specs.Transactions.{Answers, Waits}
 use Rattle.rows.proofs.Causes.{cause_of, fails_then, fails_weaker}
 use Rattle.rows.proofs.Steps.{Leads, answers_then, goes_still, waits_then}
-use Rattle.views.specs.Finding.{NeverOfOffice}
 use Rattle.store.specs.Meaning.{IsHistory}
 use Rattle.store.specs.Showing.{ShowsOffice}
 use Rattle.store.specs.Arriving.{FailsAt, IsAfter, IsAnswered, IsNew, Past, ExceedsTables, Settles, contents_with, kept_at, state_at, stopped}
 use Rattle.krl.proofs.Items.{all_more}
-use Rattle.store.proofs.Lawful.{lawful_after}
 use Rattle.store.proofs.Reading.{still_means}
 use Rattle.office.proofs.Texts.{bad_is}
 
@@ -232,14 +230,7 @@ module _ {X : Type 0} (First : State → List Kept → X → Type 0) (Known : Pa
 
 -- ---- crashes
 
-pub waits_never : (Known : Past → Type 0) (a b : Connection) → Survives a b (table.Never a)
+pub waits_never : (Known : Past → Type 0) (a b : Connection) → Survives a b table.Never
     → Survives a b (Waits (IsAfter Known) a)
 waits_never Known a b one =
-    survives_weaker a b (table.Never a) (Waits (IsAfter Known) a)
-    (λ clean trees h p after. absurd (h (office_contents p.0 p.1) after.means)) one
-
-pub waits_office : (Known : Past → Type 0) (a b : Connection) → Survives a b (NeverOfOffice a)
-    → Survives a b (Waits (IsAfter Known) a)
-waits_office Known a b one =
-    survives_weaker a b (NeverOfOffice a) (Waits (IsAfter Known) a)
-    (λ clean trees h p after. absurd (h (state_at p) (kept_at p) (lawful_after p.0 p.1 after.history) after.means)) one
+    survives_weaker a b table.Never (Waits (IsAfter Known) a) (λ clean trees h. absurd h) one

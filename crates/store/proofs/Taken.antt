@@ -1,7 +1,8 @@
 -- What an arrival leaves of what the tables tell.
 use Rattle.std.proofs.Common.{◌≡◌, inl, inr, Bool, false, List, [], ◌∷◌, ◌++◌, true, Ok, Err, Result, IsTrue, refl, sym, subst, ◌∙◌}
 use Rattle.std.specs.Prelude.{IfErr, IfOk, OnErr, OnOk}
-use Rattle.sqlite.specs.State.{State as Connection, HasCleanDisk}
+use Rattle.sqlite.specs.Tree.{Trees}
+use Rattle.sqlite.specs.State.{State as Connection, HasCleanDisk, Survives}
 use Rattle.tables.specs.Faults as table
 use Rattle.tables.specs.Refusals.{HasCauseOr}
 use Rattle.tables.specs.declared.fault.Fault.{Fault}
@@ -13,11 +14,11 @@ use Rattle.office.specs.declared.fault.StoreFault.{StoreFault}
 use Rattle.office.specs.Faults.{HasCause, IsOfARegister}
 use Rattle.office.specs.History.{due}
 use Rattle.rows.specs.Rows.{office_contents}
-use Rattle.rows.specs.Transactions.{Ends, Has, Rests}
+use Rattle.rows.specs.Transactions.{Ends, Has, Leaves, Rests}
 use Rattle.rows.specs.Faults.{told}
 use Rattle.store.specs.Meaning.{Tells}
 use Rattle.store.specs.Arriving.{IsAfter, IsAnswered, IsAny, IsCaused, IsStopped, ExceedsTables, contents_with, of_statement}
-use Rattle.store.proofs.Telling.{disk_failed}
+use Rattle.store.proofs.Telling.{disk_failed, left_committed}
 
 -- ---- why it fails
 
@@ -83,29 +84,39 @@ module _ (a : Arrival) (old new : Connection) (r : Result Outcome Fault) (q : Re
   GoesOn = (o : Opening) (l : List Arrival) → Tells old o l → Tells new o (l ++ a ∷ [])
 
   -- the tables tell the history with the arrival
-  pub next_told : new.step_limit ≡ old.step_limit → OnOk q GoesOn
-  next_told limit = subst (λ z. OnOk z GoesOn) (sym is) (go r ends)
+  pub next_told : new.step_limit ≡ old.step_limit
+      → ((trees : Trees) → IsTrue new.is_open → new.may_leave trees → trees ≡ new.committed.trees) → OnOk q GoesOn
+  next_told limit settled = subst (λ z. OnOk z GoesOn) (sym is) (go r ends)
     where
       go : (r : Result Outcome Fault) → Ends (IsAfter IsAny) (IsAnswered a) (contents_with a) old new r → OnOk (told r) GoesOn
       go (Ok x) ends = λ o l tells.
           let q = ends.2 (o, l) (rests_of old o l tells ends.0) in
-          record { history = q.0.history; unlimited = limit ∙ tells.unlimited; rows = λ still. q.1 }
+          record {
+            history = q.0.history;
+            unlimited = limit ∙ tells.unlimited;
+            rows = λ still. q.1;
+            left = left_committed new o (l ++ a ∷ []) (λ trees may. settled trees ends.1 may) q.1;
+          }
       go (Err f) ends = tt
 
   abbrev StaysAs : Type 0
   StaysAs = (o : Opening) (l : List Arrival) → Tells old o l → Tells new o l
 
   -- or the history as before
-  pub fault_told : new.step_limit ≡ old.step_limit → OnErr q StaysAs
-  fault_told limit = subst (λ z. OnErr z StaysAs) (sym is) (go r ends)
+  pub fault_told : Survives old new (Leaves (IsAfter IsAny) (contents_with a) old) → HasCleanDisk new → OnErr q StaysAs
+  fault_told survives clean = subst (λ z. OnErr z StaysAs) (sym is) (go r ends)
     where
       go : (r : Result Outcome Fault) → Ends (IsAfter IsAny) (IsAnswered a) (contents_with a) old new r → OnErr (told r) StaysAs
       go (Ok x) ends = tt
       go (Err f) ends = λ o l tells. record {
         history = tells.history;
-        unlimited = limit ∙ tells.unlimited;
+        unlimited = survives.limit ∙ tells.unlimited;
         rows = λ still.
             let was = ends still in has_of new o l (was.1 (o, l) (rests_of old o l tells was.0));
+        left = λ trees may. elim (survives.crash clean trees may) [
+          | inl before ↦ tells.left trees before
+          | inr more ↦ inr (a, more.1 (o, l) (rests_of old o l tells more.0))
+        ];
       }
 
 module _ (a : Arrival) (old new : Connection) (r : Result Outcome Fault) (q : Result Outcome StoreFault) (is : q ≡ told r)

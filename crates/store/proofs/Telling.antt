@@ -1,9 +1,10 @@
 -- What a call leaves of what the tables tell.
 use Rattle.std.proofs.Common.{◌≡◌, inl, inr, ℕ, true, false, IsTrue, Option, None, Result, Ok, Err, sym, ap, subst, ◌∙◌}
 use Rattle.std.specs.Prelude.{List, is_some}
-use Rattle.sqlite.specs.State.{State}
-use Rattle.tables.specs.Contents.{Contents, Means}
-use Rattle.tables.specs.Calls.{Fails}
+use Rattle.sqlite.specs.Tree.{Trees}
+use Rattle.sqlite.specs.State.{State, HasCleanDisk, Survives}
+use Rattle.tables.specs.Contents.{Contents, Kept, Means}
+use Rattle.tables.specs.Calls.{Fails, Never}
 use Rattle.tables.specs.Faults.{HasFailed}
 use Rattle.office.specs.declared.opening.Opening.{Opening}
 use Rattle.office.specs.declared.arrival.Arrival.{Arrival}
@@ -11,7 +12,7 @@ use Rattle.rows.specs.Transactions.{Has, IsAsBefore, Rests}
 use Rattle.rows.proofs.Before.{fails_before}
 use Rattle.office.specs.declared.fault.StoreFault.{StoreFault}
 use Rattle.rows.specs.Rows.{office_contents}
-use Rattle.store.specs.Meaning.{DiskFailed, LooksOn, Tells}
+use Rattle.store.specs.Meaning.{DiskFailed, IsLeft, LooksOn, Tells}
 
 -- where no query has a limit on its steps, only a disk fails
 pub disk_failed : (old new : State) → old.step_limit ≡ None → HasFailed old new → DiskFailed old new
@@ -39,15 +40,23 @@ rests_still old new c (inr back) still r = record {
 }
 
 -- a call that was asked of an open connection, and leaves tables with contents as they are
-pub tells_still : (old new : State) → new.step_limit ≡ old.step_limit → (IsTrue new.is_open → IsTrue old.is_open)
+pub tells_still : (old new : State) → Survives old new Never → HasCleanDisk new → (IsTrue new.is_open → IsTrue old.is_open)
     → ((c : Contents) → Means old.now c → Fails old new)
     → (o : Opening) (l : List Arrival) → Tells old o l → Tells new o l
-tells_still old new limit was fails o l tells = record {
+tells_still old new survives clean was fails o l tells = record {
   history = tells.history;
-  unlimited = limit ∙ tells.unlimited;
+  unlimited = survives.limit ∙ tells.unlimited;
   rows = λ still.
       let r = tells.rows (was still) in rests_still old new (office_contents o l) (fails (office_contents o l) r.now) still r;
+  left = λ trees may. elim (survives.crash clean trees may) [ inl before ↦ tells.left trees before | inr none ↦ absurd none ];
 }
+
+-- what is open leaves what is committed
+pub left_committed : (s : State) (o : Opening) (l : List Arrival)
+    → ((trees : Trees) → s.may_leave trees → trees ≡ s.committed.trees) → Rests (Has (office_contents o l)) s → (trees : Trees)
+    → s.may_leave trees → IsLeft o l trees
+left_committed s o l settled rests trees may =
+    inl (subst (λ (t : Trees). Kept t (office_contents o l)) (sym (settled trees may)) rests.committed.kept)
 
 -- a look leaves the database as it was
 pub looks_before : (old new : State) (r : Result (Unit {0}) StoreFault) → LooksOn old new r → IsAsBefore old new

@@ -1,5 +1,5 @@
 -- What the tables mean.
-use Rattle.std.specs.Prelude.{◌≡◌, ◌⊎◌, false, List, [], ◌∷◌, length, ◌==◌, if◌then◌else◌, IsTrue, None, Result, Ok, Err}
+use Rattle.std.specs.Prelude.{◌≡◌, ◌⊎◌, false, List, [], ◌∷◌, ◌++◌, length, ◌==◌, if◌then◌else◌, IsTrue, None, Result, Ok, Err}
 use Rattle.std.specs.List.{AllByRecursion}
 use Rattle.sqlite_disk.specs.Disk.{MoreFaults}
 use Rattle.sqlite.specs.Tree.{Trees}
@@ -10,7 +10,7 @@ use Rattle.office.specs.declared.fault.StoreFault.{StoreFault}
 use Rattle.office.specs.declared.fault.StoreFault.TheVariants.{Device, NoMemory, NotAnOffice, WrongSchema}
 use Rattle.office.specs.Shows.{IsOffice}
 use Rattle.tables.specs.declared.offices.OfficeRow.{OfficeRow}
-use Rattle.tables.specs.Contents.{Contents, Kept}
+use Rattle.tables.specs.Contents.{Kept}
 use Rattle.tables.specs.declared.fault.Fault.{Fault}
 use Rattle.tables.specs.declared.fault.Fault.TheVariants as table_fault
 use Rattle.text.specs.declared.memory.NoMemory as text
@@ -28,12 +28,18 @@ pub record IsHistory (o : Opening) (l : List Arrival) : Type 0 where
   pub office : IsOffice o l
   pub nonces : AllByRecursion (λ a. length a.nonce ≡ 32) l
 
--- No transaction is open, no query has a limit on its steps, and the tables hold the rows of the office of this opening
--- after this history. Of what is in the tables of a connection that a failed disk has shut nothing is said.
+-- the trees hold the rows of the office of this opening after this history, or after it and one arrival more
+abbrev pub IsLeft : Opening → List Arrival → Trees → Type 0
+IsLeft o l trees = Kept trees (office_contents o l) ⊎ ((a : Arrival) × Kept trees (office_contents o (l ++ a ∷ [])))
+
+-- No query has a limit on its steps, no transaction is open, and the tables hold the rows of the office of this opening
+-- after this history. Of the tables of a connection that a failed disk has shut that isn't said; but what a crash leaves
+-- are these rows, or those after the one arrival more whose commit failed.
 pub record Tells (s : State) (o : Opening) (l : List Arrival) : Type 0 where
   pub history : IsHistory o l
   pub unlimited : s.step_limit ≡ None
   pub rows : IsTrue s.is_open → Rests (Has (office_contents o l)) s
+  pub left : (trees : Trees) → s.may_leave trees → IsLeft o l trees
 
 -- the disk failed during the call, or an earlier failure has shut the connection
 abbrev pub DiskFailed : State → State → Type 0
@@ -69,12 +75,12 @@ opened_by [] = Err NotAnOffice
 opened_by (row ∷ []) = if row.schema == 2 then Ok tt else Err WrongSchema
 opened_by (row ∷ other ∷ rows) = Err NotAnOffice
 
--- of tables with these contents a look finds what their office's row says, or memory is refused or the database failed
-abbrev pub Looks : Contents → Type 0 → Result (Unit {0}) StoreFault → Type 0
-Looks c failed (Ok x) = opened_by c.offices ≡ Ok x
-Looks c failed (Err NoMemory) = Unit {0}
-Looks c failed (Err Device) = failed
-Looks c failed (Err e) = opened_by c.offices ≡ Err e
+-- of a table of the office with these rows a look finds what they say, or memory is refused or the database failed
+abbrev pub Looks : List OfficeRow → Type 0 → Result (Unit {0}) StoreFault → Type 0
+Looks rows failed (Ok x) = opened_by rows ≡ Ok x
+Looks rows failed (Err NoMemory) = Unit {0}
+Looks rows failed (Err Device) = failed
+Looks rows failed (Err e) = opened_by rows ≡ Err e
 
 -- what is made where memory allows, as an answer of the tables
 abbrev pub made : {X : Type 0} → Result X text.NoMemory → Result X Fault

@@ -1,7 +1,6 @@
 -- What a reading call shows of the tables of an office after a history.
 use Rattle.std.specs.Prelude.{List, Result, Ok, Err}
 use Rattle.sqlite.specs.State.{State as Connection, IsUnchanged}
-use Rattle.sqlite.specs.Tree.{Trees}
 use Rattle.tables.specs.Contents.{Means}
 use Rattle.tables.specs.Calls.{Fails}
 use Rattle.tables.specs.Faults.{HasCause}
@@ -24,7 +23,3 @@ ShowsOffice Shown old new (Ok x) =
 ShowsOffice Shown old new (Err f) =
     (o : Opening) (l : List Arrival) → IsHistory o l → Means old.now (office_contents o l)
     → Fails old new × HasCause old new f
-
--- nothing is committed of tables with the rows of an office after a history
-abbrev pub Never : Connection → Trees → Type 0
-Never old trees = (o : Opening) (l : List Arrival) → IsHistory o l → ¬ Means old.now (office_contents o l)

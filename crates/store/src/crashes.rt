@@ -6,8 +6,8 @@ ghost use Rattle.store.specs.Meaning.{OutlastsCrashes, StoresWhereOpen};
 use crate::register::Store;
 use sqlite::Alter;
 
-/// A crash between two calls leaves the tables of the history that they tell, and nothing else, while the connection is
-/// open. So no crash after an arrival was answered loses it.
+/// While the connection is open, a crash between two calls leaves the tables of the history that they tell, and nothing
+/// else. A connection whose disk has told a lie is not open.
 pub fn a_crash_leaves_the_history<S: Alter>(store: &Store<S>)
     ensures { OutlastsCrashes (state S.Store store.now.conn) }
 {

@@ -3,10 +3,10 @@
 ghost use Rattle.std.specs.Prelude.{◌≡◌, filter, map};
 ghost use Rattle.sqlite.specs.Held.{state};
 ghost use Rattle.sqlite.specs.State.{HasCleanDisk, Survives};
-ghost use Rattle.tables.specs.Calls.{WasOpen};
+ghost use Rattle.tables.specs.Calls.{Never, OnlyReads};
 ghost use Rattle.office.specs.Publication.{entries_of, entry_of, is_pending, pending_of, pending_row};
 ghost use Rattle.store.specs.Revocations.{AreRevokedOf, state_with};
-ghost use Rattle.store.specs.Showing.{Never, ShowsOffice};
+ghost use Rattle.store.specs.Showing.{ShowsOffice};
 
 use crate::answer::made;
 use crate::revocations::Revocations;
@@ -26,9 +26,9 @@ fn with_key_ids<S: Alter>(
     ensures shows { HasCleanDisk (state S.Store conn.new)
         → ShowsOffice (λ s kept r. (r.serials ≡ serials) × (r.key_ids.items ≡ s.revoked_key_ids))
         (state S.Store conn.old) (state S.Store conn.new) result }
-    ensures was_open { HasCleanDisk (state S.Store conn.new)
-        → WasOpen (state S.Store conn.old) (state S.Store conn.new) result }
-    ensures survives { Survives (state S.Store conn.old) (state S.Store conn.new) (Never (state S.Store conn.old)) }
+    ensures reads { HasCleanDisk (state S.Store conn.new)
+        → OnlyReads (state S.Store conn.old) (state S.Store conn.new) result }
+    ensures survives { Survives (state S.Store conn.old) (state S.Store conn.new) Never }
 {
     match read_key_ids(alloc, conn) {
         Ok(key_ids) => Ok(Revocations { serials, key_ids }),
@@ -43,9 +43,9 @@ pub(crate) fn read_revocations<S: Alter>(
 ) -> Result<Revocations, Fault>
     ensures shows { HasCleanDisk (state S.Store conn.new) → ShowsOffice (λ s kept r. AreRevokedOf r s)
         (state S.Store conn.old) (state S.Store conn.new) result }
-    ensures was_open { HasCleanDisk (state S.Store conn.new)
-        → WasOpen (state S.Store conn.old) (state S.Store conn.new) result }
-    ensures survives { Survives (state S.Store conn.old) (state S.Store conn.new) (Never (state S.Store conn.old)) }
+    ensures reads { HasCleanDisk (state S.Store conn.new)
+        → OnlyReads (state S.Store conn.old) (state S.Store conn.new) result }
+    ensures survives { Survives (state S.Store conn.old) (state S.Store conn.new) Never }
 {
     match revoked_runs(alloc, conn) {
         Ok(serials) => with_key_ids(alloc, conn, serials),
@@ -61,9 +61,9 @@ fn pending_beside<S: Alter>(
     ensures shows { HasCleanDisk (state S.Store conn.new)
         → ShowsOffice (λ s kept rows. rows.items ≡ map pending_row (filter (is_pending (state_with revocations.now)) s.certificates))
         (state S.Store conn.old) (state S.Store conn.new) result }
-    ensures was_open { HasCleanDisk (state S.Store conn.new)
-        → WasOpen (state S.Store conn.old) (state S.Store conn.new) result }
-    ensures survives { Survives (state S.Store conn.old) (state S.Store conn.new) (Never (state S.Store conn.old)) }
+    ensures reads { HasCleanDisk (state S.Store conn.new)
+        → OnlyReads (state S.Store conn.old) (state S.Store conn.new) result }
+    ensures survives { Survives (state S.Store conn.old) (state S.Store conn.new) Never }
 {
     match read_certificates(alloc, conn) {
         Ok(certificates) => made(revocations.pending_among(alloc, certificates.as_slice())),
@@ -78,9 +78,9 @@ pub(crate) fn read_pending<S: Alter>(
 ) -> Result<Vec<Pending>, Fault>
     ensures shows { HasCleanDisk (state S.Store conn.new) → ShowsOffice (λ s kept rows. rows.items ≡ pending_of s)
         (state S.Store conn.old) (state S.Store conn.new) result }
-    ensures was_open { HasCleanDisk (state S.Store conn.new)
-        → WasOpen (state S.Store conn.old) (state S.Store conn.new) result }
-    ensures survives { Survives (state S.Store conn.old) (state S.Store conn.new) (Never (state S.Store conn.old)) }
+    ensures reads { HasCleanDisk (state S.Store conn.new)
+        → OnlyReads (state S.Store conn.old) (state S.Store conn.new) result }
+    ensures survives { Survives (state S.Store conn.old) (state S.Store conn.new) Never }
 {
     match read_revocations(alloc, conn) {
         Ok(revocations) => pending_beside(alloc, conn, &revocations),
@@ -96,9 +96,9 @@ fn entries_beside<S: Alter>(
     ensures shows { HasCleanDisk (state S.Store conn.new)
         → ShowsOffice (λ s kept rows. rows.items ≡ map (entry_of (state_with revocations.now)) s.certificates)
         (state S.Store conn.old) (state S.Store conn.new) result }
-    ensures was_open { HasCleanDisk (state S.Store conn.new)
-        → WasOpen (state S.Store conn.old) (state S.Store conn.new) result }
-    ensures survives { Survives (state S.Store conn.old) (state S.Store conn.new) (Never (state S.Store conn.old)) }
+    ensures reads { HasCleanDisk (state S.Store conn.new)
+        → OnlyReads (state S.Store conn.old) (state S.Store conn.new) result }
+    ensures survives { Survives (state S.Store conn.old) (state S.Store conn.new) Never }
 {
     match read_certificates(alloc, conn) {
         Ok(certificates) => made(revocations.entries_of(alloc, certificates.as_slice())),
@@ -113,9 +113,9 @@ pub(crate) fn read_entries<S: Alter>(
 ) -> Result<Vec<Entry>, Fault>
     ensures shows { HasCleanDisk (state S.Store conn.new) → ShowsOffice (λ s kept rows. rows.items ≡ entries_of s)
         (state S.Store conn.old) (state S.Store conn.new) result }
-    ensures was_open { HasCleanDisk (state S.Store conn.new)
-        → WasOpen (state S.Store conn.old) (state S.Store conn.new) result }
-    ensures survives { Survives (state S.Store conn.old) (state S.Store conn.new) (Never (state S.Store conn.old)) }
+    ensures reads { HasCleanDisk (state S.Store conn.new)
+        → OnlyReads (state S.Store conn.old) (state S.Store conn.new) result }
+    ensures survives { Survives (state S.Store conn.old) (state S.Store conn.new) Never }
 {
     match read_revocations(alloc, conn) {
         Ok(revocations) => entries_beside(alloc, conn, &revocations),

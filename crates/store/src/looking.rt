@@ -6,7 +6,8 @@ ghost use Rattle.sqlite.specs.Held.{state};
 ghost use Rattle.sqlite.specs.State.{HasCleanDisk, Survives};
 ghost use Rattle.tables.specs.Calls.{Never};
 ghost use Rattle.tables.specs.Look.{is_office_table};
-ghost use Rattle.tables.specs.Contents.{Contents, Means};
+ghost use Rattle.tables.specs.Contents.{HasOffices};
+ghost use Rattle.tables.specs.declared.offices.OfficeRow.{OfficeRow};
 ghost use Rattle.tables.specs.Faults.{HasFailed};
 ghost use Rattle.office.specs.declared.opening.Opening.{Opening};
 ghost use Rattle.office.specs.declared.arrival.Arrival.{Arrival};
@@ -36,15 +37,16 @@ fn opened_by(rows: &[OfficeRow]) -> Result<(), StoreFault>
 
 /// Whether the database has an office of this version.
 pub(crate) fn look<S: Alter>(alloc: Global, conn: &mut Connection<S>) -> Result<(), StoreFault>
-    ensures looks { HasCleanDisk (state S.Store conn.new) → (c : Contents) → Means (state S.Store conn.old).now c
-        → Looks c (HasFailed (state S.Store conn.old) (state S.Store conn.new)) result }
+    ensures looks { HasCleanDisk (state S.Store conn.new) → (rows : List OfficeRow)
+        → HasOffices rows (state S.Store conn.old).now
+        → Looks rows (HasFailed (state S.Store conn.old) (state S.Store conn.new)) result }
     ensures same { HasCleanDisk (state S.Store conn.new) → (o : Opening) (l : List Arrival)
         → Tells (state S.Store conn.old) o l → Tells (state S.Store conn.new) o l }
     ensures none { list_any is_office_table (state S.Store conn.old).now.schema.tables ≡ false
         → (result ≡ Err StoreFault.NotAnOffice) × (conn.new ≡ conn.old) }
     ensures still { HasCleanDisk (state S.Store conn.new)
         → LooksOn (state S.Store conn.old) (state S.Store conn.new) result }
-    ensures clean { HasCleanDisk (state S.Store conn.new) → HasCleanDisk (state S.Store conn.old) }
+    ensures survives { Survives (state S.Store conn.old) (state S.Store conn.new) Never }
 {
     if !has_office(conn) {
         return Err(StoreFault::NotAnOffice);

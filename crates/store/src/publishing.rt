@@ -4,11 +4,11 @@ ghost use Rattle.std.specs.Prelude.{◌≡◌, IfOk};
 ghost use Rattle.std.specs.List.Sorted.{IsNonDecreasing};
 ghost use Rattle.sqlite.specs.Held.{state};
 ghost use Rattle.sqlite.specs.State.{HasCleanDisk, Survives};
-ghost use Rattle.tables.specs.Calls.{WasOpen};
+ghost use Rattle.tables.specs.Calls.{Never, OnlyReads};
 ghost use Rattle.office.specs.Publication.{AreRevoked};
 ghost use Rattle.office.specs.Parts.{numbers};
 ghost use Rattle.store.specs.Parts.{AreOrdered, AreShown, IsMadeOf, are_ordered};
-ghost use Rattle.store.specs.Showing.{Never, ShowsOffice};
+ghost use Rattle.store.specs.Showing.{ShowsOffice};
 
 use crate::answer::made;
 use crate::listing::read_revocations;
@@ -50,9 +50,9 @@ fn read_serving_cas<S: Alter>(alloc: Global, conn: &mut Connection<S>) -> Result
         → ShowsOffice (λ s kept cas. cas.items ≡ s.cas)
         (state S.Store conn.old) (state S.Store conn.new) result }
     ensures ordered { IfOk result (λ cas. IsNonDecreasing (numbers cas.items)) }
-    ensures was_open { HasCleanDisk (state S.Store conn.new)
-        → WasOpen (state S.Store conn.old) (state S.Store conn.new) result }
-    ensures survives { Survives (state S.Store conn.old) (state S.Store conn.new) (Never (state S.Store conn.old)) }
+    ensures reads { HasCleanDisk (state S.Store conn.new)
+        → OnlyReads (state S.Store conn.old) (state S.Store conn.new) result }
+    ensures survives { Survives (state S.Store conn.old) (state S.Store conn.new) Never }
 {
     match read_cas(alloc, conn) {
         Ok(cas) => ordered(cas),
@@ -87,9 +87,9 @@ fn revoked_under<S: Alter>(
     ensures shows { HasCleanDisk (state S.Store conn.new)
         → ShowsOffice (λ s kept revoked. AreShown revoked head cas.now s)
         (state S.Store conn.old) (state S.Store conn.new) result }
-    ensures was_open { HasCleanDisk (state S.Store conn.new)
-        → WasOpen (state S.Store conn.old) (state S.Store conn.new) result }
-    ensures survives { Survives (state S.Store conn.old) (state S.Store conn.new) (Never (state S.Store conn.old)) }
+    ensures reads { HasCleanDisk (state S.Store conn.new)
+        → OnlyReads (state S.Store conn.old) (state S.Store conn.new) result }
+    ensures survives { Survives (state S.Store conn.old) (state S.Store conn.new) Never }
 {
     match read_revocations(alloc, conn) {
         Ok(revocations) => made(revoked_of(alloc, head, cas, revocations)),
@@ -105,9 +105,9 @@ fn revoked_with<S: Alter>(
     ensures shows { HasCleanDisk (state S.Store conn.new)
         → ShowsOffice (λ s kept revoked. AreShown revoked head s.cas s)
         (state S.Store conn.old) (state S.Store conn.new) result }
-    ensures was_open { HasCleanDisk (state S.Store conn.new)
-        → WasOpen (state S.Store conn.old) (state S.Store conn.new) result }
-    ensures survives { Survives (state S.Store conn.old) (state S.Store conn.new) (Never (state S.Store conn.old)) }
+    ensures reads { HasCleanDisk (state S.Store conn.new)
+        → OnlyReads (state S.Store conn.old) (state S.Store conn.new) result }
+    ensures survives { Survives (state S.Store conn.old) (state S.Store conn.new) Never }
 {
     match read_serving_cas(alloc, conn) {
         Ok(cas) => revoked_under(alloc, conn, head, cas.as_slice()),
@@ -122,9 +122,9 @@ pub(crate) fn read_revoked<S: Alter>(
 ) -> Result<Revoked, Fault>
     ensures shows { HasCleanDisk (state S.Store conn.new) → ShowsOffice (λ s kept revoked. AreRevoked revoked s)
         (state S.Store conn.old) (state S.Store conn.new) result }
-    ensures was_open { HasCleanDisk (state S.Store conn.new)
-        → WasOpen (state S.Store conn.old) (state S.Store conn.new) result }
-    ensures survives { Survives (state S.Store conn.old) (state S.Store conn.new) (Never (state S.Store conn.old)) }
+    ensures reads { HasCleanDisk (state S.Store conn.new)
+        → OnlyReads (state S.Store conn.old) (state S.Store conn.new) result }
+    ensures survives { Survives (state S.Store conn.old) (state S.Store conn.new) Never }
 {
     match read_office(alloc, conn) {
         Ok(office) => revoked_with(

@@ -6,7 +6,8 @@ ghost use Rattle.sqlite.specs.Held.{state};
 ghost use Rattle.sqlite.specs.State.{HasCleanDisk, Survives};
 ghost use Rattle.tables.specs.Schema.{no_schema};
 ghost use Rattle.tables.specs.Calls.{IsBare};
-ghost use Rattle.tables.specs.Contents.{Contents, Means};
+ghost use Rattle.tables.specs.Contents.{Contents, HasOffices};
+ghost use Rattle.tables.specs.declared.offices.OfficeRow.{OfficeRow};
 ghost use Rattle.rows.specs.Rows.{office_contents};
 ghost use Rattle.rows.specs.Transactions.{Has, IsAsBefore, Leaves, Rests};
 ghost use Rattle.tables.specs.Look.{is_ca_name, is_office_name, is_office_table};
@@ -82,15 +83,16 @@ impl<S: Alter> Store<S> {
     pub fn open(alloc: Global, conn: Connection<S>) -> Result<Store<S>, (StoreFault, Connection<S>)>
         requires outside { (state S.Store conn).in_transaction ≡ false }
         requires unlimited { (state S.Store conn).step_limit ≡ None }
-        ensures opened { IfOk result (λ s. HasCleanDisk (state S.Store s.conn) → (c : Contents)
-            → Means (state S.Store conn).now c → opened_by c.offices ≡ Ok tt) }
+        // What the rows of the table of the office say, where that is the first table: so it is in schema 1 and in schema 2.
+        ensures opened { IfOk result (λ s. HasCleanDisk (state S.Store s.conn) → (rows : List OfficeRow)
+            → HasOffices rows (state S.Store conn).now → opened_by rows ≡ Ok tt) }
         ensures stays_open { IfOk result (λ s. HasCleanDisk (state S.Store s.conn)
             → IsTrue (state S.Store s.conn).is_open) }
         ensures before { IfErr result (λ e. HasCleanDisk (state S.Store e.1)
             → IsAsBefore (state S.Store conn) (state S.Store e.1)) }
-        ensures refused { IfErr result (λ e. HasCleanDisk (state S.Store e.1) → (c : Contents)
-            → Means (state S.Store conn).now c
-            → Looks c (DiskFailed (state S.Store conn) (state S.Store e.1)) (Err e.0)) }
+        ensures refused { IfErr result (λ e. HasCleanDisk (state S.Store e.1) → (rows : List OfficeRow)
+            → HasOffices rows (state S.Store conn).now
+            → Looks rows (DiskFailed (state S.Store conn) (state S.Store e.1)) (Err e.0)) }
         ensures same { IfOk result (λ s. HasCleanDisk (state S.Store s.conn) → (o : Opening) (l : List Arrival)
             → Tells (state S.Store conn) o l → Tells (state S.Store s.conn) o l) }
         ensures back { IfErr result (λ e. HasCleanDisk (state S.Store e.1) → (o : Opening) (l : List Arrival)

@@ -4,10 +4,10 @@ ghost use Rattle.std.specs.Prelude.{◌≡◌, IfOk};
 ghost use Rattle.std.specs.Option.{option_map};
 ghost use Rattle.sqlite.specs.Held.{state};
 ghost use Rattle.sqlite.specs.State.{HasCleanDisk, Survives};
-ghost use Rattle.tables.specs.Calls.{WasOpen};
+ghost use Rattle.tables.specs.Calls.{Never, OnlyReads};
 ghost use Rattle.office.specs.State.{body_of};
 ghost use Rattle.office.specs.Publication.{issued_of, issued_row};
-ghost use Rattle.store.specs.Showing.{Never, ShowsOffice};
+ghost use Rattle.store.specs.Showing.{ShowsOffice};
 
 use crate::answer::made;
 use office::{Certificate, Issued};
@@ -34,9 +34,9 @@ pub(crate) fn read_body_of<S: Alter>(
 ) -> Result<Option<Text>, Fault>
     ensures shows { HasCleanDisk (state S.Store conn.new) → ShowsOffice (λ s kept body. body ≡ body_of s serial)
         (state S.Store conn.old) (state S.Store conn.new) result }
-    ensures was_open { HasCleanDisk (state S.Store conn.new)
-        → WasOpen (state S.Store conn.old) (state S.Store conn.new) result }
-    ensures survives { Survives (state S.Store conn.old) (state S.Store conn.new) (Never (state S.Store conn.old)) }
+    ensures reads { HasCleanDisk (state S.Store conn.new)
+        → OnlyReads (state S.Store conn.old) (state S.Store conn.new) result }
+    ensures survives { Survives (state S.Store conn.old) (state S.Store conn.new) Never }
 {
     match find_certificate(alloc, conn, serial) {
         Ok(found) => Ok(body_in(found)),
@@ -61,9 +61,9 @@ pub(crate) fn read_issued<S: Alter>(
 ) -> Result<Option<Issued>, Fault>
     ensures shows { HasCleanDisk (state S.Store conn.new) → ShowsOffice (λ s kept issued. issued ≡ issued_of s serial)
         (state S.Store conn.old) (state S.Store conn.new) result }
-    ensures was_open { HasCleanDisk (state S.Store conn.new)
-        → WasOpen (state S.Store conn.old) (state S.Store conn.new) result }
-    ensures survives { Survives (state S.Store conn.old) (state S.Store conn.new) (Never (state S.Store conn.old)) }
+    ensures reads { HasCleanDisk (state S.Store conn.new)
+        → OnlyReads (state S.Store conn.old) (state S.Store conn.new) result }
+    ensures survives { Survives (state S.Store conn.old) (state S.Store conn.new) Never }
 {
     match find_certificate(alloc, conn, serial) {
         Ok(found) => made(issued_in(alloc, found)),

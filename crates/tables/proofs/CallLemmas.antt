@@ -14,6 +14,7 @@ use Rattle.sqlite_sql.specs.Program.{ProgramOverflows}
 use Rattle.sqlite_typing.specs.Types.{accepts_program}
 use Rattle.sqlite.specs.Does.{Tally, Does}
 use Rattle.sqlite.specs.Effect.{Database, is_query}
+use Rattle.sqlite.specs.Schema.{Schema}
 use Rattle.sqlite.specs.Calls.{IsWrite}
 use Rattle.sqlite.specs.Listing.{is_select, understood, reads_listing}
 use Rattle.sqlite_resolve.specs.declared.compiled.Compiled.{Compiled}
@@ -23,14 +24,14 @@ use Rattle.sqlite.proofs.Callers.{IsPlain, command_of, statement_of}
 use Rattle.tables.specs.declared.fault.Fault.{Fault}
 use Rattle.tables.specs.Schema.{whole}
 use Rattle.tables.specs.Contents.{Contents, Holds, Means}
-use Rattle.tables.specs.Calls.{Changes, Finds, FindsOne, FailsBy, Leaves, Never, WasOpen, Stays}
+use Rattle.tables.specs.Calls.{Changes, FailsBy, FailsIn, Finds, FindsIn, FindsOne, Leaves, Never, OnlyReads, Stays}
 use Rattle.tables.specs.Done.{IsDone, IsRead, IsFirstRead}
 use Rattle.tables.specs.Faults.{fault_of, HasCause}
 use Rattle.tables.proofs.Statements.{mode, survives_as}
 use Rattle.tables.proofs.Forms.{closes, ends_nowhere, is_compiled, query_everywhere}
 use Rattle.tables.proofs.Staying.{stays_done}
-use Rattle.tables.proofs.Queries.{answers_still}
-use Rattle.tables.proofs.Texts.{Shows, changes, leaves, finds, never}
+use Rattle.tables.proofs.Queries.{answers_still, shown_never}
+use Rattle.tables.proofs.Texts.{Shows, changes, leaves, finds}
 use Rattle.tables.proofs.FaultLemmas.{HasWriteCause, IsWhole, faults, write_faults}
 use Rattle.tables.proofs.DoneLemmas.{changes_done, fault_done}
 use Rattle.tables.proofs.FoundLemmas.{finds_read, finds_first, causes_read, causes_first, read_only, first_only}
@@ -127,56 +128,86 @@ write_survives {sql} {params} {after} w old new = survives_as old new _ _
 
 -- ---- queries
 
--- a text that finds these structs
-pub record Find {X : Type 0} (sql : List ℕ) (params : Row) (cells : X → Row) (of : Contents → List X) : Type 0 where
+-- a text that finds these structs in a database of this schema, whose trees hold something
+pub record FindIn {A X : Type 0} (schema : Schema) (Held : Trees → A → Type 0) (sql : List ℕ) (params : Row) (cells : X → Row)
+    (of : A → List X) : Type 0 where
   pub query : Query
   pub names : List (List ℕ)
-  pub is : command_of (understood whole sql) ≡ Select (record { lets = []; body = query }) names
-  pub unlisted : reads_listing whole sql ≡ false
-  pub plain : IsPlain (understood whole sql)
-  pub one : IsWhole sql (length params) (understood whole sql)
-  pub typed : accepts_program whole [] query params ≡ true
+  pub is : command_of (understood schema sql) ≡ Select (record { lets = []; body = query }) names
+  pub unlisted : reads_listing schema sql ≡ false
+  pub plain : IsPlain (understood schema sql)
+  pub one : IsWhole sql (length params) (understood schema sql)
+  pub typed : accepts_program schema [] query params ≡ true
   pub sure : (trees : Trees) → ProgramOverflows trees params [] [] query → ⊥
   pub apart : (x y : X) → cells x ≡ cells y → x ≡ y
-  pub answers : (trees : Trees) (rows : List Row) (c : Contents) → Holds trees c
-      → IsAnswer query (overlay trees []) params rows → IsPermutation (map cells (of c)) rows
+  pub answers : (trees : Trees) (rows : List Row) (a : A) → Held trees a
+      → IsAnswer query (overlay trees []) params rows → IsPermutation (map cells (of a)) rows
+
+-- the same of the office's tables
+abbrev pub Find : {X : Type 0} → List ℕ → Row → (X → Row) → (Contents → List X) → Type 0
+Find sql params cells of = FindIn whole Holds sql params cells of
+
+module _ {A X : Type 0} {schema : Schema} {Held : Trees → A → Type 0} {sql : List ℕ} {params : Row} {cells : X → Row}
+    {of : A → List X} (f : FindIn schema Held sql params cells of) (Has : A → Database → Type 0)
+    (known : (a : A) (db : Database) → Has a db → (db.schema ≡ schema) × Held db.trees a) (old new : State)
+    (answer : Result (Vec Row Global) Error) (ok : IfOk answer (λ rows. Shown sql params old new rows.items))
+    (err : IfErr answer (FailsToQuery sql params old new)) where
+  pub shown : Shows Has cells of old new answer
+  shown = finds schema Has Held known sql params f.query f.names f.is f.plain f.unlisted cells of f.answers old new answer ok err
+
+  pub causes : IfErr answer (λ e. (a : A) → Has a old.now → HasCause old new (fault_of e))
+  causes = faults schema Has (λ a db has. (known a db has).0) sql params f.query f.names f.is f.plain f.unlisted f.one f.typed
+      f.sure old new answer err
+
+  pub found_all : (r : Result (Vec X Global) Fault) → IsRead cells answer r → FindsIn Has of old new r
+  found_all r read = finds_read Has cells of f.apart old new answer r read shown
+
+  pub found_fails : (r : Result (Vec X Global) Fault) → IsRead cells answer r → FailsIn Has HasCause old new r
+  found_fails r read = causes_read Has cells of f.apart old new answer r read shown causes
+
+in_tables : (c : Contents) (db : Database) → Means db c → (db.schema ≡ whole) × Holds db.trees c
+in_tables c db means = (means.schema, means.kept.holds)
+
+-- such a text shows no rows of a write, whatever the tables are
+silent : {X : Type 0} {sql : List ℕ} {params : Row} {cells : X → Row} {of : Contents → List X} (f : Find sql params cells of)
+    (s : State) (c : Compiled) → understood s.now.schema sql ≡ Ok c → c.returning ≡ None
+silent {sql = sql} f s c is =
+    let known = is_compiled (understood whole sql) f.plain in
+    query_everywhere whole s.now.schema sql known.0 c known.1 is (ap is_select (sym (ap command_of known.1) ∙ f.is))
 
 module _ {X : Type 0} {sql : List ℕ} {params : Row} {cells : X → Row} {of : Contents → List X}
     (f : Find sql params cells of) (old new : State) (answer : Result (Vec Row Global) Error)
     (ok : IfOk answer (λ rows. Shown sql params old new rows.items))
     (err : IfErr answer (FailsToQuery sql params old new)) where
-  shown : Shows cells of old new answer
-  shown = finds sql params f.query f.names f.is f.plain f.unlisted cells of f.answers old new answer ok err
+  abbrev Has : Contents → Database → Type 0
+  Has c db = Means db c
 
-  causes : IfErr answer (λ e. (c : Contents) → Means old.now c → HasCause old new (fault_of e))
-  causes = faults sql params f.query f.names f.is f.plain f.unlisted f.one f.typed f.sure old new answer err
+  rows_shown : Shows Has cells of old new answer
+  rows_shown = shown f Has in_tables old new answer ok err
 
   pub find_all : (r : Result (Vec X Global) Fault) → IsRead cells answer r → Finds of old new r
-  find_all r read = finds_read cells of f.apart old new answer r read shown
+  find_all r read = found_all f Has in_tables old new answer ok err r read
 
   pub find_all_fails : (r : Result (Vec X Global) Fault) → IsRead cells answer r → FailsBy HasCause old new r
-  find_all_fails r read = causes_read cells of f.apart old new answer r read shown causes
+  find_all_fails r read = found_fails f Has in_tables old new answer ok err r read
 
-  silent : (c : Compiled) → understood old.now.schema sql ≡ Ok c → c.returning ≡ None
-  silent c is =
-      let known = is_compiled (understood whole sql) f.plain in
-      query_everywhere whole old.now.schema sql known.0 c known.1 is
-      (ap is_select (sym (ap command_of known.1) ∙ f.is))
-
-  pub find_all_open : (r : Result (Vec X Global) Fault) → IsRead cells answer r → WasOpen old new r
-  find_all_open r read = read_only cells of old new answer r read (answers_still sql params old new answer silent ok) shown
-
-  pub find_one_open : (r : Result (Option X) Fault) → IsFirstRead cells answer r → WasOpen old new r
-  find_one_open r read = first_only cells of old new answer r read (answers_still sql params old new answer silent ok) shown
+  pub find_all_reads : (r : Result (Vec X Global) Fault) → IsRead cells answer r → OnlyReads old new r
+  find_all_reads r read =
+      read_only Has cells of old new answer r read (answers_still sql params old new answer (silent f old) ok) rows_shown
 
   pub find_one : (r : Result (Option X) Fault) → IsFirstRead cells answer r → FindsOne of old new r
-  find_one r read = finds_first cells of f.apart old new answer r read shown
+  find_one r read = finds_first cells of f.apart old new answer r read rows_shown
 
   pub find_one_fails : (r : Result (Option X) Fault) → IsFirstRead cells answer r → FailsBy HasCause old new r
-  find_one_fails r read = causes_first cells of f.apart old new answer r read shown causes
+  find_one_fails r read =
+      causes_first Has cells of f.apart old new answer r read rows_shown (causes f Has in_tables old new answer ok err)
+
+  pub find_one_reads : (r : Result (Option X) Fault) → IsFirstRead cells answer r → OnlyReads old new r
+  find_one_reads r read =
+      first_only Has cells of old new answer r read (answers_still sql params old new answer (silent f old) ok) rows_shown
 
 pub find_survives : {X : Type 0} {sql : List ℕ} {params : Row} {cells : X → Row} {of : Contents → List X}
     (f : Find sql params cells of) (old new : State)
-    → Survives old new (CommitsShowing sql params old) → Survives old new (Never old)
-find_survives {sql = sql} {params = params} {cells = cells} {of = of} f old new = survives_as old new _ _
-    (never sql params f.query f.names f.is f.plain f.unlisted cells of f.answers old)
+    → Survives old new (CommitsShowing sql params old) → Survives old new Never
+find_survives {sql = sql} {params = params} f old new =
+    survives_as old new _ _ (shown_never sql params old (silent f old))

@@ -14,7 +14,8 @@ use Rattle.sqlite_resolve.specs.declared.compiled.Compiled.{Compiled}
 use Rattle.sqlite_resolve.specs.declared.error.CompileError.{CompileError}
 use Rattle.sqlite.specs.Listing.{understood, reads_listing, IsSourceOf}
 use Rattle.sqlite.specs.declared.error.Error.{Error}
-use Rattle.sqlite.specs.Effect.{RefusesToRead, is_query}
+use Rattle.sqlite.specs.Effect.{Database, RefusesToRead, is_query}
+use Rattle.sqlite.specs.Schema.{Schema}
 use Rattle.sqlite.specs.State.{State, FailsToQuery, IsNotRun, Fails, Executes, ExecutesIn, IsMisplaced, mode_of, text_of, is_pragma}
 use Rattle.sqlite.proofs.Callers.{IsPlain, command_of}
 use Rattle.tables.specs.Schema.{whole}
@@ -76,29 +77,31 @@ not_run sql params old new plain one e (inl (inr found, same)) =
 pub none_overflows : (rows : List Row) → Any (λ r. ⊥) rows → ⊥
 none_overflows rows h = h.4
 
-module _ (sql : List ℕ) (params : Row) (query : Query) (names : List (List ℕ))
-    (is : command_of (understood whole sql) ≡ Select (record { lets = []; body = query }) names)
-    (plain : IsPlain (understood whole sql)) (unlisted : reads_listing whole sql ≡ false)
-    (one : IsWhole sql (length params) (understood whole sql))
-    (typed : accepts_program whole [] query params ≡ true)
+module _ {A : Type 0} (schema : Schema) (Has : A → Database → Type 0)
+    (same : (a : A) (db : Database) → Has a db → db.schema ≡ schema) (sql : List ℕ) (params : Row) (query : Query)
+    (names : List (List ℕ))
+    (is : command_of (understood schema sql) ≡ Select (record { lets = []; body = query }) names)
+    (plain : IsPlain (understood schema sql)) (unlisted : reads_listing schema sql ≡ false)
+    (one : IsWhole sql (length params) (understood schema sql))
+    (typed : accepts_program schema [] query params ≡ true)
     (sure : (trees : Trees) → ProgramOverflows trees params [] [] query → ⊥) where
-  query_fault : (old new : State) (e : Error) (c : Contents) → Means old.now c → FailsToQuery sql params old new e
+  query_fault : (old new : State) (e : Error) (a : A) → Has a old.now → FailsToQuery sql params old new e
       → HasCause old new (fault_of e)
   unfolding FailsToQuery
-  query_fault old new e c means (inl h) =
-      let known = sym (ap (λ s. understood s sql) means.schema) in
+  query_fault old new e a has (inl h) =
+      let known = sym (ap (λ s. understood s sql) (same a old.now has)) in
       not_run sql params old new (subst IsPlain known plain) (subst (IsWhole sql (length params)) known one) e h
-  query_fault old new e c means (inr h) =
-      let known = sym (ap (λ s. understood s sql) means.schema) ∙ h.1.is in
+  query_fault old new e a has (inr h) =
+      let known = sym (ap (λ s. understood s sql) (same a old.now has)) ∙ h.1.is in
       let bare = subst IsPlain known plain in
       let shown = rw (bare.0, bare.1, append-nil params) at h.2 in
       let db : shown.0 ≡ old.now = subst (λ b. IsSourceOf b old.now shown.0)
-      (ap (λ s. reads_listing s sql) means.schema ∙ unlisted) shown.1 in
+      (ap (λ s. reads_listing s sql) (same a old.now has) ∙ unlisted) shown.1 in
       let refused = subst₂ (λ k d. RefusesToRead old.step_limit k d params e) (ap command_of (sym known) ∙ is) db
       shown.2 in
       elim refused [
         | inl mismatch ↦ absurd (let wrong : true ≡ false = sym typed
-            ∙ ap (λ s. accepts_program s [] query params) (sym means.schema) ∙ mismatch.1 in cc)
+            ∙ ap (λ s. accepts_program s [] query params) (sym (same a old.now has)) ∙ mismatch.1 in cc)
         | inr other ↦ elim other [
           | inl over ↦ absurd (sure old.now.trees over.1)
           | inr interrupted ↦ rw interrupted.0
@@ -108,9 +111,9 @@ module _ (sql : List ℕ) (params : Row) (query : Query) (names : List (List ℕ
 
   -- each failure of the query has its cause
   pub faults : (old new : State) (r : Result (Vec Row Global) Error) → IfErr r (FailsToQuery sql params old new)
-      → IfErr r (λ e. (c : Contents) → Means old.now c → HasCause old new (fault_of e))
+      → IfErr r (λ e. (a : A) → Has a old.now → HasCause old new (fault_of e))
   faults old new (Ok rows) err = tt
-  faults old new (Err e) err = λ c means. query_fault old new e c means err
+  faults old new (Err e) err = λ a has. query_fault old new e a has err
 
 -- a cause of any call is one of a write
 write_cause : (sql : List ℕ) (params : Row) (old new : State) (f : Fault) → HasCause old new f

@@ -6,13 +6,14 @@ use Rattle.std.specs.List.Sorted.{IsPermutation}
 use Rattle.std.proofs.lemmas.List.Sorted.{length_permutation}
 use Rattle.sqlite.specs.Order.{Row}
 use Rattle.sqlite.specs.declared.error.Error.{Error}
+use Rattle.sqlite.specs.Effect.{Database}
 use Rattle.sqlite.specs.State.{State, IsUnchanged}
 use Rattle.tables.specs.declared.fault.Fault.{Fault}
 use Rattle.tables.specs.declared.fault.Fault.TheVariants.{Device, Damaged, NoMemory}
 use Rattle.tables.specs.Faults.{fault_of, is_out_of_memory, HasCause, Misread}
 use Rattle.tables.specs.Done.{IsFirst, IsRead, IsFirstRead}
 use Rattle.tables.specs.Contents.{Contents, Means}
-use Rattle.tables.specs.Calls.{Fails, Finds, FindsOne, IsOneOf, WasOpen}
+use Rattle.tables.specs.Calls.{Fails, FindsIn, FindsOne, IsOneOf, OnlyReads}
 use Rattle.tables.proofs.Texts.{Shows}
 use Rattle.tables.proofs.Unmapped.{unmapped}
 
@@ -23,8 +24,7 @@ not_misread cells xs rows same NoMemory h old new = tt
 not_misread cells xs rows same Damaged h old new = let all = unmapped cells xs rows same in h all.0 all.2
 not_misread cells xs rows same Device h old new = absurd h
 
-module _ {X : Type 0} (cells : X → Row) (of : Contents → List X) (apart : (x y : X) → cells x ≡ cells y → x ≡ y)
-    (old new : State) where
+module _ {X : Type 0} (cells : X → Row) (apart : (x y : X) → cells x ≡ cells y → x ≡ y) where
   -- structs with the same rows are the same
   same_structs : (xs ys : List X) → map cells xs ≡ map cells ys → xs ≡ ys
   same_structs [] [] e = refl
@@ -36,16 +36,6 @@ module _ {X : Type 0} (cells : X → Row) (of : Contents → List X) (apart : (x
       let one = apart x y head in
       let others = same_structs xs ys rest in
       cc
-
-  pub finds_read : (answer : Result (Vec Row Global) Error) (r : Result (Vec X Global) Fault) → IsRead cells answer r
-      → Shows cells of old new answer → Finds of old new r
-  finds_read (Ok rows) (Ok xs) read shows = λ c means.
-      let it = shows c means in
-      let all = unmapped cells (of c) rows.items it.1 in
-      (it.0, subst (IsPermutation (of c)) (same_structs all.0 xs.items (sym all.2 ∙ read)) all.1)
-  finds_read (Ok rows) (Err f) read shows = λ c means. inl (shows c means).0
-  finds_read (Err e) (Ok xs) read shows = absurd read
-  finds_read (Err e) (Err f) read shows = λ c means. shows
 
   one_of : (xs : List X) (rows : List Row) (found : Option X) → IsPermutation (map cells xs) rows
       → IsFirst cells rows found → IsOneOf xs found
@@ -63,33 +53,46 @@ module _ {X : Type 0} (cells : X → Row) (of : Contents → List X) (apart : (x
       first_of [] e = absurd cc
       first_of (y ∷ ys) e = (ys, let head : cells y ≡ cells x = cc in ap (λ z. z ∷ ys) (apart y x head))
 
-  pub finds_first : (answer : Result (Vec Row Global) Error) (r : Result (Option X) Fault)
-      → IsFirstRead cells answer r → Shows cells of old new answer → FindsOne of old new r
-  finds_first (Ok rows) (Ok found) read shows = λ c means. let it = shows c means
-      in (it.0, one_of (of c) rows.items found it.1 read)
-  finds_first (Ok rows) (Err f) read shows = λ c means. inl (shows c means).0
-  finds_first (Err e) (Ok found) read shows = absurd read
-  finds_first (Err e) (Err f) read shows = λ c means. shows
+module _ {A X : Type 0} (Has : A → Database → Type 0) (cells : X → Row) (of : A → List X)
+    (apart : (x y : X) → cells x ≡ cells y → x ≡ y) (old new : State) where
+  pub finds_read : (answer : Result (Vec Row Global) Error) (r : Result (Vec X Global) Fault) → IsRead cells answer r
+      → Shows Has cells of old new answer → FindsIn Has of old new r
+  finds_read (Ok rows) (Ok xs) read shows = λ a has.
+      let it = shows a has in
+      let all = unmapped cells (of a) rows.items it.1 in
+      (it.0, subst (IsPermutation (of a)) (same_structs cells apart all.0 xs.items (sym all.2 ∙ read)) all.1)
+  finds_read (Ok rows) (Err f) read shows = λ a has. inl (shows a has).0
+  finds_read (Err e) (Ok xs) read shows = absurd read
+  finds_read (Err e) (Err f) read shows = λ a has. shows
 
   pub causes_read : (answer : Result (Vec Row Global) Error) (r : Result (Vec X Global) Fault) → IsRead cells answer r
-      → Shows cells of old new answer
-      → IfErr answer (λ e. (c : Contents) → Means old.now c → HasCause old new (fault_of e))
-      → IfErr r (λ f. (c : Contents) → Means old.now c → HasCause old new f)
+      → Shows Has cells of old new answer
+      → IfErr answer (λ e. (a : A) → Has a old.now → HasCause old new (fault_of e))
+      → IfErr r (λ f. (a : A) → Has a old.now → HasCause old new f)
   causes_read (Ok rows) (Ok xs) read shows causes = tt
-  causes_read (Ok rows) (Err f) read shows causes = λ c means. not_misread cells (of c) rows.items (shows c means).1 f
+  causes_read (Ok rows) (Err f) read shows causes = λ a has. not_misread cells (of a) rows.items (shows a has).1 f
       read old new
   causes_read (Err e) (Ok xs) read shows causes = absurd read
-  causes_read (Err e) (Err f) read shows causes = λ c means. subst (HasCause old new) (sym read) (causes c means)
+  causes_read (Err e) (Err f) read shows causes = λ a has. subst (HasCause old new) (sym read) (causes a has)
 
   pub causes_first : (answer : Result (Vec Row Global) Error) (r : Result (Option X) Fault)
-      → IsFirstRead cells answer r → Shows cells of old new answer
-      → IfErr answer (λ e. (c : Contents) → Means old.now c → HasCause old new (fault_of e))
-      → IfErr r (λ f. (c : Contents) → Means old.now c → HasCause old new f)
+      → IsFirstRead cells answer r → Shows Has cells of old new answer
+      → IfErr answer (λ e. (a : A) → Has a old.now → HasCause old new (fault_of e))
+      → IfErr r (λ f. (a : A) → Has a old.now → HasCause old new f)
   causes_first (Ok rows) (Ok xs) read shows causes = tt
-  causes_first (Ok rows) (Err f) read shows causes = λ c means. not_misread cells (of c) rows.items (shows c means).1
+  causes_first (Ok rows) (Err f) read shows causes = λ a has. not_misread cells (of a) rows.items (shows a has).1
       f read old new
   causes_first (Err e) (Ok xs) read shows causes = absurd read
-  causes_first (Err e) (Err f) read shows causes = λ c means. subst (HasCause old new) (sym read) (causes c means)
+  causes_first (Err e) (Err f) read shows causes = λ a has. subst (HasCause old new) (sym read) (causes a has)
+
+pub finds_first : {X : Type 0} (cells : X → Row) (of : Contents → List X) (apart : (x y : X) → cells x ≡ cells y → x ≡ y)
+    (old new : State) (answer : Result (Vec Row Global) Error) (r : Result (Option X) Fault) → IsFirstRead cells answer r
+    → Shows (λ c db. Means db c) cells of old new answer → FindsOne of old new r
+finds_first cells of apart old new (Ok rows) (Ok found) read shows = λ c means.
+    let it = shows c means in (it.0, one_of cells apart (of c) rows.items found it.1 read)
+finds_first cells of apart old new (Ok rows) (Err f) read shows = λ c means. inl (shows c means).0
+finds_first cells of apart old new (Err e) (Ok found) read shows = absurd read
+finds_first cells of apart old new (Err e) (Err f) read shows = λ c means. shows
 
 -- no error of the database is told as damage
 undamaged : (e : Error) → fault_of e ≡ Damaged → ⊥
@@ -97,20 +100,20 @@ undamaged e is = elim (is_out_of_memory e) as (λ b. (if b then NoMemory else De
     [ true ↦ λ h. cc | false ↦ λ h. cc ] is
 
 -- an answer that was had changed nothing
-pub read_only : {X : Type 0} (cells : X → Row) (of : Contents → List X) (old new : State)
+pub read_only : {A X : Type 0} (Has : A → Database → Type 0) (cells : X → Row) (of : A → List X) (old new : State)
     (answer : Result (Vec Row Global) Error) (r : Result (Vec X Global) Fault) → IsRead cells answer r
-    → OnOk answer (IsUnchanged old new) → Shows cells of old new answer → WasOpen old new r
-read_only cells of old new (Ok rows) (Ok xs) read same shows = same
-read_only cells of old new (Ok rows) (Err f) read same shows = (inl same, λ _. same)
-read_only cells of old new (Err e) (Ok xs) read same shows = absurd read
-read_only cells of old new (Err e) (Err f) read same shows =
+    → OnOk answer (IsUnchanged old new) → Shows Has cells of old new answer → OnlyReads old new r
+read_only Has cells of old new (Ok rows) (Ok xs) read same shows = same
+read_only Has cells of old new (Ok rows) (Err f) read same shows = (inl same, λ _. same)
+read_only Has cells of old new (Err e) (Ok xs) read same shows = absurd read
+read_only Has cells of old new (Err e) (Err f) read same shows =
     (shows, λ damaged. absurd (undamaged e (sym read ∙ damaged)))
 
-pub first_only : {X : Type 0} (cells : X → Row) (of : Contents → List X) (old new : State)
+pub first_only : {A X : Type 0} (Has : A → Database → Type 0) (cells : X → Row) (of : A → List X) (old new : State)
     (answer : Result (Vec Row Global) Error) (r : Result (Option X) Fault) → IsFirstRead cells answer r
-    → OnOk answer (IsUnchanged old new) → Shows cells of old new answer → WasOpen old new r
-first_only cells of old new (Ok rows) (Ok xs) read same shows = same
-first_only cells of old new (Ok rows) (Err f) read same shows = (inl same, λ _. same)
-first_only cells of old new (Err e) (Ok xs) read same shows = absurd read
-first_only cells of old new (Err e) (Err f) read same shows =
+    → OnOk answer (IsUnchanged old new) → Shows Has cells of old new answer → OnlyReads old new r
+first_only Has cells of old new (Ok rows) (Ok xs) read same shows = same
+first_only Has cells of old new (Ok rows) (Err f) read same shows = (inl same, λ _. same)
+first_only Has cells of old new (Err e) (Ok xs) read same shows = absurd read
+first_only Has cells of old new (Err e) (Err f) read same shows =
     (shows, λ damaged. absurd (undamaged e (sym read ∙ damaged)))

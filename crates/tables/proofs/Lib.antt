@@ -12,6 +12,7 @@ pub mod Edits
 pub mod Elsewhere
 pub mod Ends
 pub mod FaultLemmas
+pub mod FirstTable
 pub mod Forms
 pub mod FoundLemmas
 pub mod Growth

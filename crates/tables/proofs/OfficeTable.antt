@@ -1,6 +1,7 @@
 -- The statements on the table of the office.
-use Rattle.std.proofs.Common.{◌≡◌, ℕ, pos, List, [], ◌∷◌, codes, map, true, false, Option, None, Ok, refl, ap, subst, ◌∙◌, inl, inr}
-use Rattle.std.specs.Prelude.{◌&&◌}
+use Rattle.std.proofs.Common.{◌≡◌, ℕ, pos, List, [], ◌∷◌, codes, drop, map, true, false, Option, None, Ok, Err, Result, IfOk, IfErr, refl, ap, subst, ◌∙◌, inl, inr}
+use Rattle.std.specs.Prelude.{◌&&◌, Vec}
+use Rattle.std.specs.declared.alloc.Global.{Global}
 use Rattle.std.specs.List.Sorted.{IsPermutation}
 use Rattle.std.proofs.Math.Bool.{and-true}
 use Rattle.sqlite.specs.Order.{Row, column}
@@ -23,21 +24,30 @@ use Rattle.sqlite.specs.Cast.{cast_row}
 use Rattle.sqlite_rules.specs.Calls.{ids_of}
 use Rattle.sqlite.specs.Does.{Tally, Does}
 use Rattle.sqlite.specs.Effect.{Database}
+use Rattle.sqlite.specs.Schema.{Schema}
+use Rattle.sqlite.specs.Table.{Table}
+use Rattle.sqlite.specs.State.{State, FailsToQuery, Shown}
+use Rattle.sqlite.specs.declared.error.Error.{Error}
 use Rattle.sqlite_tied.specs.Compute.{everything}
 use Rattle.sqlite.specs.Listing.{understood, reads_listing}
 use Rattle.sqlite.proofs.Callers.{IsPlain, command_of, statement_of}
 use Rattle.tables.specs.Schema.{whole, office_at}
 use Rattle.tables.specs.Cells.{office_cells}
-use Rattle.tables.specs.Contents.{Contents, Holds, Means, at_places, office_places}
+use Rattle.tables.specs.Contents.{Contents, HasOffices, Holds, Lists, Means, at_places, office_places}
+use Rattle.tables.specs.Calls.{FailsIn, FindsIn}
+use Rattle.tables.specs.Done.{IsRead}
+use Rattle.tables.specs.Faults.{HasCause}
+use Rattle.tables.specs.declared.fault.Fault.{Fault}
 use Rattle.tables.specs.Changes.{is_first, counted, renumbered, with_office, with_counters, with_schema}
 use Rattle.tables.specs.declared.sql.TheConstants.{INSERT_OFFICE, EVERY_OFFICE, COUNT_OFFICE, NUMBER_OFFICE}
 use Rattle.tables.specs.declared.offices.OfficeRow.{OfficeRow}
 use Rattle.tables.specs.declared.offices.Counters.{Counters}
 use Rattle.tables.proofs.Apart.{office_apart}
-use Rattle.tables.proofs.CallLemmas.{Write, Find}
+use Rattle.tables.proofs.CallLemmas.{Find, FindIn, Write, found_all, found_fails}
 use Rattle.tables.proofs.Edits.{keep_all}
 use Rattle.tables.proofs.Elsewhere.{spares, in_office}
 use Rattle.tables.proofs.FaultLemmas.{IsWhole, none_overflows}
+use Rattle.tables.proofs.FirstTable.{first_is}
 use Rattle.tables.proofs.Inserts.{no_works}
 use Rattle.tables.proofs.Inserts as insert
 use Rattle.tables.proofs.Queries.{on_table, in_order, selected, chosen, int_test}
@@ -79,33 +89,93 @@ abbrev every_query : Query
 every_query = on_table 0 [] (col 1 0 ∷ col 1 2 ∷ col 1 3 ∷ col 1 4 ∷ col 1 5 ∷ col 1 6 ∷ col 1 7 ∷ col 1 8 ∷ col 1 9
     ∷ col 1 10 ∷ []) ((col 1 0, ascending Binary) ∷ [])
 
-every_is : (command_of (understood whole every_sql) ≡ Select (record { lets = []; body = every_query }) (codes "id" ∷ codes "schema" ∷ codes "ca" ∷ codes "root" ∷ codes "station" ∷ codes "first" ∷ codes "last" ∷ codes "next" ∷ codes "version" ∷ codes "date" ∷ [])) × (reads_listing whole every_sql ≡ false)
-    × IsPlain (understood whole every_sql) × IsWhole every_sql 0 (understood whole every_sql)
-unfolding understood everything
-every_is = (refl, refl, (refl, refl), (refl, refl))
+abbrev pub every_names : List (List ℕ)
+every_names = codes "id" ∷ codes "schema" ∷ codes "ca" ∷ codes "root" ∷ codes "station" ∷ codes "first" ∷ codes "last"
+    ∷ codes "next" ∷ codes "version" ∷ codes "date" ∷ []
 
-every_answers : (trees : Trees) (rows : List Row) (c : Contents) → Holds trees c
-    → IsAnswer every_query (overlay trees []) ([]) rows → IsPermutation (map office_cells c.offices) rows
-every_answers trees rows c h answer =
-    subst (λ xs. IsPermutation (map office_cells xs) rows) (keep_all c.offices)
+-- a schema with that table first, and these others
+abbrev beginning : Schema → List Table → Schema
+beginning s others = record s { tables = office_at ∷ others }
+
+every_is : (s : Schema) (others : List Table)
+    → (command_of (understood (beginning s others) every_sql) ≡ Select (record { lets = []; body = every_query }) every_names)
+    × (reads_listing (beginning s others) every_sql ≡ false) × IsPlain (understood (beginning s others) every_sql)
+    × IsWhole every_sql 0 (understood (beginning s others) every_sql)
+unfolding understood everything
+every_is s others = (refl, refl, (refl, refl), (refl, refl))
+
+abbrev HoldsOffices : Trees → List OfficeRow → Type 0
+HoldsOffices trees xs = Lists office_cells office_places (trees 0) xs
+
+every_answers : (trees : Trees) (rows : List Row) (xs : List OfficeRow) → HoldsOffices trees xs
+    → IsAnswer every_query (overlay trees []) ([]) rows → IsPermutation (map office_cells xs) rows
+every_answers trees rows xs h answer =
+    subst (λ xs. IsPermutation (map office_cells xs) rows) (keep_all xs)
     (chosen office_cells office_cells (λ x. true) office_places (λ v. true)
     (λ v. column v 0 ∷ column v 1 ∷ column v 2 ∷ column v 3 ∷ column v 4 ∷ column v 5 ∷ column v 6 ∷ column v 7
-    ∷ column v 8 ∷ column v 9 ∷ []) (λ x. refl) (λ x. refl) (trees 0) rows c.offices h.offices
+    ∷ column v 8 ∷ column v 9 ∷ []) (λ x. refl) (λ x. refl) (trees 0) rows xs h
     (selected 0 _ _ _ trees [] rows refl answer))
 
-pub every : Find every_sql ([]) office_cells (λ c. c.offices)
-every = record {
+every_beside : (s : Schema) (others : List Table)
+    → FindIn (beginning s others) HoldsOffices every_sql ([]) office_cells (λ xs. xs)
+every_beside s others = record {
   query = every_query;
-  names = codes "id" ∷ codes "schema" ∷ codes "ca" ∷ codes "root" ∷ codes "station" ∷ codes "first" ∷ codes "last" ∷ codes "next" ∷ codes "version" ∷ codes "date" ∷ [];
-  is = every_is.0;
-  unlisted = every_is.1;
-  plain = every_is.2;
-  one = every_is.3;
+  names = every_names;
+  is = (every_is s others).0;
+  unlisted = (every_is s others).1;
+  plain = (every_is s others).2;
+  one = (every_is s others).3;
   typed = refl;
   sure = λ trees h. elim h [ inl over ↦ over | inr fold ↦ none_overflows _ fold ];
   apart = office_apart;
   answers = every_answers;
 }
+
+abbrev the_others : List Table
+the_others = drop 1 whole.tables
+
+pub every : Find every_sql ([]) office_cells (λ c. c.offices)
+every = record {
+  query = every_query;
+  names = every_names;
+  is = (every_is whole the_others).0;
+  unlisted = (every_is whole the_others).1;
+  plain = (every_is whole the_others).2;
+  one = (every_is whole the_others).3;
+  typed = refl;
+  sure = λ trees h. elim h [ inl over ↦ over | inr fold ↦ none_overflows _ fold ];
+  apart = office_apart;
+  answers = λ trees rows c h. every_answers trees rows c.offices h.offices;
+}
+
+-- the rows of that table, whatever the others are
+module _ (old new : State) (answer : Result (Vec Row Global) Error)
+    (ok : IfOk answer (λ rows. Shown every_sql [] old new rows.items))
+    (err : IfErr answer (FailsToQuery every_sql [] old new)) where
+  abbrev IsBeside : List Table → List OfficeRow → Database → Type 0
+  IsBeside others xs db = (db.schema ≡ beginning old.now.schema others) × HoldsOffices db.trees xs
+
+  -- in the schema that the database has
+  beside : (xs : List OfficeRow) → HasOffices xs old.now → (others : List Table) × IsBeside others xs old.now
+  beside xs has =
+      let it = first_is old.now.schema.tables has.first in
+      (it.0, (ap (λ (ts : List Table). record old.now.schema { tables = ts }) it.1, has.holds))
+
+  pub offices_found : (r : Result (Vec OfficeRow Global) Fault) → IsRead office_cells answer r
+      → FindsIn HasOffices (λ xs. xs) old new r
+  offices_found (Ok found) read = λ xs has.
+      let it = beside xs has in
+      found_all (every_beside old.now.schema it.0) (IsBeside it.0) (λ xs db is. is) old new answer ok err (Ok found) read xs it.1
+  offices_found (Err f) read = λ xs has.
+      let it = beside xs has in
+      found_all (every_beside old.now.schema it.0) (IsBeside it.0) (λ xs db is. is) old new answer ok err (Err f) read xs it.1
+
+  pub offices_fail : (r : Result (Vec OfficeRow Global) Fault) → IsRead office_cells answer r
+      → FailsIn HasOffices HasCause old new r
+  offices_fail (Ok found) read = tt
+  offices_fail (Err f) read = λ xs has.
+      let it = beside xs has in
+      found_fails (every_beside old.now.schema it.0) (IsBeside it.0) (λ xs db is. is) old new answer ok err (Err f) read xs it.1
 
 -- ---- UPDATE of the counters
 

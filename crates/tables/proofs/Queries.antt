@@ -4,7 +4,7 @@ use Rattle.std.proofs.lemmas.Simd.{map-map}
 use Rattle.std.specs.Prelude.{filter, flat_map}
 use Rattle.std.specs.List.{list_all, AllByRecursion}
 use Rattle.std.proofs.Common.{ap₂, IsTrue, Result, IfOk}
-use Rattle.std.specs.Prelude.{OnOk, Vec}
+use Rattle.std.specs.Prelude.{OnOk, Vec, is_some}
 use Rattle.std.specs.declared.alloc.Global.{Global}
 use Rattle.std.specs.Prelude.{IsSorted}
 use Rattle.sqlite.specs.Query.{key_cmp, output_cmp}
@@ -21,7 +21,7 @@ use Rattle.sqlite.specs.Query.{Query, inner, end, IsAnswer, Output, output}
 use Rattle.sqlite.specs.Program.{overlay}
 use Rattle.sqlite.specs.Tree.{Trees}
 use Rattle.sqlite.specs.declared.error.Error.{Error}
-use Rattle.sqlite.specs.State.{State, FailsToQuery, FailsToShow, IsNotRun, IsUnchanged, IsRolledBack, Shown, ShowsRows}
+use Rattle.sqlite.specs.State.{State, CommitsShowing, FailsToQuery, FailsToShow, IsNotRun, IsUnchanged, IsRolledBack, Shown, ShowsRows}
 use Rattle.sqlite_resolve.specs.declared.compiled.Compiled.{Compiled}
 use Rattle.sqlite_schema.specs.declared.command.Returning.{Returning}
 use Rattle.sqlite.specs.Clock.{timed}
@@ -37,6 +37,7 @@ use Rattle.std.specs.Prelude.{bytes_eq}
 use Rattle.std.proofs.lemmas.Map.Text.{is_eq-slice_cmp}
 use Rattle.sqlite_value.proofs.OrderLemmas.{value_cmp-Blob, value_cmp-Text, value_cmp-Int}
 use Rattle.tables.specs.Contents.{Lists, at_places}
+use Rattle.tables.specs.Calls.{Never}
 
 picked : {A B : Type 0} (p : A → Bool) (f : A → B) (xs : List A)
     → flat_map (λ x. cond (p x) (f x ∷ []) []) xs ≡ map f (filter p xs)
@@ -207,3 +208,11 @@ pub answers_still : (sql : List ℕ) (params : Row) (old new : State) (r : Resul
     → IfOk r (λ rows. Shown sql params old new rows.items) → OnOk r (IsUnchanged old new)
 answers_still sql params old new (Ok rows) silent h = shown_still sql params old new rows.items silent h
 answers_still sql params old new (Err e) silent h = tt
+
+-- nor does it commit anything
+pub shown_never : (sql : List ℕ) (params : Row) (s : State)
+    → ((c : Compiled) → understood s.now.schema sql ≡ Ok c → c.returning ≡ None) → (trees : Trees)
+    → CommitsShowing sql params s trees → Never trees
+unfolding CommitsShowing
+shown_never sql params s silent trees h =
+    let wrong : true ≡ false = sym h.2 ∙ ap (λ (r : Option Returning). is_some r) (silent h.0 h.1.is) in cc

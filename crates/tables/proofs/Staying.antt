@@ -8,11 +8,12 @@ use Rattle.sqlite_schema.specs.declared.command.Returning.{Returning}
 use Rattle.sqlite_resolve.specs.declared.compiled.Compiled.{Compiled}
 use Rattle.sqlite.specs.Listing.{understood}
 use Rattle.sqlite.specs.declared.error.Error.{Error}
-use Rattle.sqlite.specs.State.{State, Executes, ExecutesIn, IsUnchanged, KeepsCommit, Runs, Shows, Writes, shows_rows}
+use Rattle.sqlite.specs.State.{State, Executes, ExecutesIn, IsUnchanged, KeepsCommit, Runs, Shows, Survives, Writes, shows_rows}
 use Rattle.sqlite.proofs.Callers.{unchanged_then}
+use Rattle.sqlite.proofs.StateLemmas.{survives_then}
 use Rattle.tables.specs.declared.fault.Fault.{Fault}
 use Rattle.tables.specs.Done.{IsDone}
-use Rattle.tables.specs.Calls.{WasOpen, Stays}
+use Rattle.tables.specs.Calls.{Never, OnlyReads, Stays}
 use Rattle.tables.proofs.Forms.{closes}
 use Rattle.tables.proofs.Later.{inside_is, stops, stops_then as later_fails}
 use Rattle.tables.proofs.Statements.{stopped}
@@ -100,7 +101,7 @@ module _ (sql : List ℕ) (params : Row) (old new : State)
 -- ---- one call after another
 
 -- a call that only reads
-pub reads_stay : {X : Type 0} (old new : State) (r : Result X Fault) → WasOpen old new r → Stays old new r
+pub reads_stay : {X : Type 0} (old new : State) (r : Result X Fault) → OnlyReads old new r → Stays old new r
 reads_stay old new (Ok x) same = λ inside. kept old new (unchanged_goes old new same)
 reads_stay old new (Err f) fails = λ inside. stops old new fails.0
 
@@ -117,14 +118,18 @@ stays_then a b c x (Ok y) one rest = λ inside.
 stays_then a b c x (Err f) one rest = λ inside.
     let p = one inside in keeps_then a b c p.0 (rest (subst IsTrue (sym p.1) inside))
 
-pub reads_then : {X Y : Type 0} (a b c : State) (x : X) (r : Result Y Fault) → WasOpen a b (Ok x)
-    → (IsTrue b.is_open → WasOpen b c r) → WasOpen a c r
+pub reads_then : {X Y : Type 0} (a b c : State) (x : X) (r : Result Y Fault) → OnlyReads a b (Ok x)
+    → (IsTrue b.is_open → OnlyReads b c r) → OnlyReads a c r
 reads_then a b c x (Ok y) one rest = unchanged_then a b c one (rest one.0.is_open)
 reads_then a b c x (Err f) one rest =
     let q = rest one.0.is_open in (later_fails a b c one q.0, λ damaged. unchanged_then a b c one (q.1 damaged))
 
+-- which commit nothing
+pub never_then : (a b c : State) → Survives a b Never → Survives b c Never → Survives a c Never
+never_then a b c one two = survives_then a b c Never Never Never (λ clean trees h. h) (λ clean trees h. h) one two
+
 -- nothing was asked
-pub reads_none : {X : Type 0} (s : State) (x : X) → IsTrue s.is_open → WasOpen s s (Ok x)
+pub reads_none : {X : Type 0} (s : State) (x : X) → IsTrue s.is_open → OnlyReads s s (Ok x)
 reads_none s x is_open = (
   record { was_open = is_open; is_open = is_open; now_is = refl; committed_is = refl; mode = refl },
   record { changes = refl; last_rowid = refl },

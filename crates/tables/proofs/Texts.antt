@@ -15,21 +15,23 @@ use Rattle.sqlite.specs.Effect.{Database}
 use Rattle.sqlite.specs.Calls.{IsWrite}
 use Rattle.sqlite.specs.Listing.{understood, reads_listing}
 use Rattle.sqlite.specs.declared.error.Error.{Error}
-use Rattle.sqlite.specs.State.{State, IsUnchanged, Writes, Runs, Executes, CommitsBy, Shown, FailsToQuery, CommitsShowing}
-use Rattle.sqlite.proofs.Callers.{IsPlain, command_of, statement_of, runs_as, reads_as, never_commits}
+use Rattle.sqlite.specs.Schema.{Schema}
+use Rattle.sqlite.specs.State.{State, IsUnchanged, Writes, Runs, Executes, CommitsBy, Shown, FailsToQuery}
+use Rattle.sqlite.proofs.Callers.{IsPlain, command_of, statement_of, runs_as, reads_as}
 use Rattle.tables.specs.Schema.{whole}
 use Rattle.tables.specs.Contents.{Contents, Holds, Means, Kept}
-use Rattle.tables.specs.Calls.{Changes, Leaves, Fails, Never}
+use Rattle.tables.specs.Calls.{Changes, Leaves, Fails}
 use Rattle.sqlite_catalog.specs.Listing.{IsSound}
 use Rattle.tables.proofs.Statements.{mode, stopped, commits_as}
 use Rattle.tables.proofs.Queries.{query_stopped, shown_unchanged}
 
--- the rows are those of the structs, in some order, and nothing has changed; or the query fails
-abbrev pub Shows : {X : Type 0} → (X → Row) → (Contents → List X) → State → State → Result (Vec Row Global) Error
-    → Type 0
-Shows cells of old new (Ok rows) = (c : Contents) → Means old.now c → IsUnchanged old new
-    × IsPermutation (map cells (of c)) rows.items
-Shows cells of old new (Err e) = Fails old new
+-- of a database that is as one of these says: the rows are those of its structs, in some order, and nothing has changed; or
+-- the query fails
+abbrev pub Shows : {A X : Type 0} → (A → Database → Type 0) → (X → Row) → (A → List X) → State → State
+    → Result (Vec Row Global) Error → Type 0
+Shows {A} Has cells of old new (Ok rows) = (a : A) → Has a old.now → IsUnchanged old new
+    × IsPermutation (map cells (of a)) rows.items
+Shows {A} Has cells of old new (Err e) = Fails old new
 
 -- a text that is a write, by what its command does
 module _ (sql : List ℕ) (params : Row) (command : Command) (is : command_of (understood whole sql) ≡ command)
@@ -67,22 +69,21 @@ module _ (sql : List ℕ) (params : Row) (command : Command) (is : command_of (u
       )
 
 -- a text that is a query, by what answers it
-module _ {X : Type 0} (sql : List ℕ) (params : Row) (query : Query) (names : List (List ℕ))
-    (is : command_of (understood whole sql) ≡ Select (record { lets = []; body = query }) names)
-    (plain : IsPlain (understood whole sql)) (unlisted : reads_listing whole sql ≡ false) (cells : X → Row)
-    (of : Contents → List X)
-    (answers : (trees : Trees) (rows : List Row) (c : Contents) → Holds trees c
-    → IsAnswer query (overlay trees []) params rows → IsPermutation (map cells (of c)) rows) where
+module _ {A X : Type 0} (schema : Schema) (Has : A → Database → Type 0) (Held : Trees → A → Type 0)
+    (known : (a : A) (db : Database) → Has a db → (db.schema ≡ schema) × Held db.trees a) (sql : List ℕ) (params : Row)
+    (query : Query) (names : List (List ℕ))
+    (is : command_of (understood schema sql) ≡ Select (record { lets = []; body = query }) names)
+    (plain : IsPlain (understood schema sql)) (unlisted : reads_listing schema sql ≡ false) (cells : X → Row)
+    (of : A → List X)
+    (answers : (trees : Trees) (rows : List Row) (a : A) → Held trees a
+    → IsAnswer query (overlay trees []) params rows → IsPermutation (map cells (of a)) rows) where
   pub finds : (old new : State) (r : Result (Vec Row Global) Error)
       → IfOk r (λ rows. Shown sql params old new rows.items) → IfErr r (FailsToQuery sql params old new)
-      → Shows cells of old new r
+      → Shows Has cells of old new r
   finds old new (Err e) ok err = query_stopped sql params old new e err
-  finds old new (Ok rows) ok err = λ c means. (
-    shown_unchanged sql params old new rows.items (subst (λ s. IsPlain (understood s sql)) (sym means.schema) plain) ok,
-    answers old.now.trees rows.items c means.kept.holds
-        ((reads_as sql params old new whole means.schema _ is plain unlisted rows.items ok).answer Null),
-  )
-
-  pub never : (old : State) (trees : Trees) → CommitsShowing sql params old trees → Never old trees
-  never old trees h c means = never_commits sql params old trees
-      (subst (λ s. IsPlain (understood s sql)) (sym means.schema) plain) h
+  finds old new (Ok rows) ok err = λ a has.
+      let it = known a old.now has in (
+        shown_unchanged sql params old new rows.items (subst (λ s. IsPlain (understood s sql)) (sym it.0) plain) ok,
+        answers old.now.trees rows.items a it.1
+            ((reads_as sql params old new schema it.0 _ is plain unlisted rows.items ok).answer Null),
+      )

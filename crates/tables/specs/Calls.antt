@@ -31,10 +31,16 @@ abbrev pub Changes : {X E : Type 0} → (Contents → Contents) → State → St
 Changes after old new (Ok x) = (c : Contents) → Means old.now c → Steps old new (after c)
 Changes after old new (Err e) = Fails old new
 
--- what is found is in the contents, in some order, and nothing has changed; or the call fails
+-- of a database that is as one of these says: what is found is what that has, in some order, and nothing has changed; or the
+-- call fails
+abbrev pub FindsIn : {A X E : Type 0} → (A → Database → Type 0) → (A → List X) → State → State
+    → Result (Vec X Global) E → Type 0
+FindsIn {A} Has of old new (Ok found) = (a : A) → Has a old.now → IsUnchanged old new × IsPermutation (of a) found.items
+FindsIn {A} Has of old new (Err e) = (a : A) → Has a old.now → Fails old new
+
+-- so it is of tables with contents
 abbrev pub Finds : {X E : Type 0} → (Contents → List X) → State → State → Result (Vec X Global) E → Type 0
-Finds of old new (Ok found) = (c : Contents) → Means old.now c → IsUnchanged old new × IsPermutation (of c) found.items
-Finds of old new (Err e) = (c : Contents) → Means old.now c → Fails old new
+Finds of old new r = FindsIn (λ c db. Means db c) of old new r
 
 -- one of these, or none where there is none
 abbrev pub IsOneOf : {X : Type 0} → List X → Option X → Type 0
@@ -51,11 +57,11 @@ abbrev pub Rises : {X K E : Type 0} → (X → K) → (K → K → Ordering) →
 Rises key cmp old (Ok found) = (c : Contents) → Means old.now c → IsSortedByKey key cmp found.items
 Rises key cmp old (Err e) = Unit {0}
 
--- Of any tables: what is answered was asked of an open connection, and nothing has changed; or the call fails, and where it
--- tells damage nothing has changed either.
-abbrev pub WasOpen : {X : Type 0} → State → State → Result X Fault → Type 0
-WasOpen old new (Ok x) = IsUnchanged old new
-WasOpen old new (Err f) = Fails old new × (f ≡ Damaged → IsUnchanged old new)
+-- Of any tables: where something is answered the connection was open, and nothing has changed; or the call fails, and where
+-- it tells damage nothing has changed either.
+abbrev pub OnlyReads : {X : Type 0} → State → State → Result X Fault → Type 0
+OnlyReads old new (Ok x) = IsUnchanged old new
+OnlyReads old new (Err f) = Fails old new × (f ≡ Damaged → IsUnchanged old new)
 
 -- Of any tables, inside a transaction: what was committed stays, and after an answer the transaction goes on.
 abbrev pub Stays : {X : Type 0} → State → State → Result X Fault → Type 0
@@ -66,9 +72,9 @@ Stays old new (Err f) = IsTrue old.in_transaction → KeepsCommit old new
 abbrev pub Leaves : (Contents → Contents) → State → Trees → Type 0
 Leaves after old trees = (c : Contents) → Means old.now c → (old.in_transaction ≡ false) × Kept trees (after c)
 
--- nothing is committed
-abbrev pub Never : State → Trees → Type 0
-Never old trees = (c : Contents) → ¬ Means old.now c
+-- nothing is committed, whatever the tables are
+abbrev pub Never : Trees → Type 0
+Never trees = ⊥
 
 -- a transaction is begun
 abbrev pub Begins : {X E : Type 0} → State → State → Result X E → Type 0
@@ -80,9 +86,14 @@ abbrev pub Commits : {X E : Type 0} → State → State → Result X E → Type 
 Commits old new (Ok x) = Shows old new old.now old.now false
 Commits old new (Err e) = Fails old new
 
--- a fault of a call on tables that mean something has its cause
+-- of a database that is as one of these says, a fault has its cause
+abbrev pub FailsIn : {A X : Type 0} → (A → Database → Type 0) → (State → State → Fault → Type 0) → State → State
+    → Result X Fault → Type 0
+FailsIn {A} Has Cause old new r = IfErr r (λ f. (a : A) → Has a old.now → Cause old new f)
+
+-- so it has of a call on tables that mean something
 abbrev pub FailsBy : {X : Type 0} → (State → State → Fault → Type 0) → State → State → Result X Fault → Type 0
-FailsBy Cause old new r = IfErr r (λ f. (c : Contents) → Means old.now c → Cause old new f)
+FailsBy Cause old new r = FailsIn (λ c db. Means db c) Cause old new r
 
 -- ---- the tables themselves
 

@@ -1,5 +1,5 @@
 -- What the tables hold: the structs of each table's rows, in no order.
-use Rattle.std.specs.Prelude.{◌≡◌, ◌≤◌, ℕ, pos, List, [], ◌∷◌, length, map, IsPermutation}
+use Rattle.std.specs.Prelude.{◌≡◌, ◌≤◌, ℕ, pos, List, [], ◌∷◌, length, map, slice_get, IsPermutation, Some}
 use Rattle.std.specs.List.{AllByRecursion}
 use Rattle.sqlite.specs.Order.{Row, column}
 use Rattle.sqlite.specs.Tree.{Trees, IsTable, rowid, with_tree}
@@ -14,7 +14,7 @@ use Rattle.tables.specs.declared.requests.RequestRow.{RequestRow}
 use Rattle.tables.specs.declared.runs.RunRow.{RunRow}
 use Rattle.tables.specs.declared.cas.CaRow.{CaRow}
 use Rattle.tables.specs.Cells.{office_cells, department_cells, cert_cells, request_cells, run_cells, key_id_cells, ca_cells}
-use Rattle.tables.specs.Schema.{whole, without_ca}
+use Rattle.tables.specs.Schema.{office_at, whole, without_ca}
 
 -- the structs of all rows
 pub record Contents : Type 0 where
@@ -97,3 +97,8 @@ pub record MeansWithoutCa (db : Database) (c : Contents) : Type 0 where
   pub schema : db.schema ≡ without_ca
   pub sound : IsSound without_ca db.trees
   pub holds : Holds (with_tree db.trees 9 []) c
+
+-- The first table is that of the office, and it holds these rows, whatever other tables there are.
+pub record HasOffices (rows : List OfficeRow) (db : Database) : Type 0 where
+  pub first : slice_get db.schema.tables 0 ≡ Some office_at
+  pub holds : Lists office_cells office_places (db.trees 0) rows

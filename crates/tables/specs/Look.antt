@@ -3,7 +3,7 @@ use Rattle.std.specs.Prelude.{◌≡◌, refl, true, false, ℕ, Bool, ◌&&◌,
 use Rattle.std.specs.List.{list_all, list_any, zip}
 use Rattle.sqlite_schema.specs.Names.{same_name}
 use Rattle.sqlite.specs.Table.{Table}
-use Rattle.tables.specs.Schema.{whole, without_ca, no_schema}
+use Rattle.tables.specs.Schema.{office_at, whole, without_ca, no_schema}
 
 -- whether a table has the name of one of the office's, in any case
 abbrev pub is_office_name : Table → Bool
@@ -30,10 +30,10 @@ is_office_table t = same_name t.name (codes "office") && has_columns t
 abbrev pub is_ca_name : Table → Bool
 is_ca_name t = same_name t.name (codes "ca")
 
--- an office is seen
-pub whole_is_office : list_any is_office_table whole.tables ≡ true
+-- an office is seen where its table is the first
+pub first_is_office : (others : List Table) → list_any is_office_table (office_at ∷ others) ≡ true
 unfolding same_name
-whole_is_office = refl
+first_is_office others = refl
 
 pub whole_has_tables : list_any is_office_name whole.tables ≡ true
 unfolding same_name

@@ -7,7 +7,7 @@ ghost use Rattle.sqlite.specs.State.{HasCleanDisk, Survives};
 ghost use Rattle.sqlite.specs.declared.types.Value.TheVariants.{Int, Blob};
 ghost use Rattle.tables.specs.Cells.{cert_cells};
 ghost use Rattle.tables.specs.Changes.{certs_numbered, with_cert, with_signature};
-ghost use Rattle.tables.specs.Calls.{Changes, FailsBy, Finds, FindsOne, Leaves, Never, Rises, Stays, WasOpen};
+ghost use Rattle.tables.specs.Calls.{Changes, FailsBy, Finds, FindsOne, Leaves, Never, Rises, Stays, OnlyReads};
 ghost use Rattle.tables.specs.Faults.{HasCause};
 ghost use Rattle.tables.specs.Refusals.{RefusedFor, RefusesCert, RefusesSignature};
 
@@ -112,11 +112,11 @@ pub fn find_cert<S: Alter>(
 ) -> Result<Option<CertRow>, Fault>
     ensures finds { HasCleanDisk (state S.Store conn.new) →
         FindsOne (certs_numbered serial) (state S.Store conn.old) (state S.Store conn.new) result }
-    ensures was_open { HasCleanDisk (state S.Store conn.new)
-        → WasOpen (state S.Store conn.old) (state S.Store conn.new) result }
+    ensures reads { HasCleanDisk (state S.Store conn.new)
+        → OnlyReads (state S.Store conn.old) (state S.Store conn.new) result }
     ensures fault { HasCleanDisk (state S.Store conn.new) →
         FailsBy HasCause (state S.Store conn.old) (state S.Store conn.new) result }
-    ensures survives { Survives (state S.Store conn.old) (state S.Store conn.new) (Never (state S.Store conn.old)) }
+    ensures survives { Survives (state S.Store conn.old) (state S.Store conn.new) Never }
 {
     found_first(alloc, conn.query_all(FIND_CERT, &[serial.value()]))
 }
@@ -127,11 +127,11 @@ pub fn every_cert<S: Alter>(alloc: Global, conn: &mut Connection<S>) -> Result<V
         Finds (λ c. c.certs) (state S.Store conn.old) (state S.Store conn.new) result }
     ensures sorted { HasCleanDisk (state S.Store conn.new)
         → Rises (λ c. c.serial) (nat_cmp) (state S.Store conn.old) result }
-    ensures was_open { HasCleanDisk (state S.Store conn.new)
-        → WasOpen (state S.Store conn.old) (state S.Store conn.new) result }
+    ensures reads { HasCleanDisk (state S.Store conn.new)
+        → OnlyReads (state S.Store conn.old) (state S.Store conn.new) result }
     ensures fault { HasCleanDisk (state S.Store conn.new) →
         FailsBy HasCause (state S.Store conn.old) (state S.Store conn.new) result }
-    ensures survives { Survives (state S.Store conn.old) (state S.Store conn.new) (Never (state S.Store conn.old)) }
+    ensures survives { Survives (state S.Store conn.old) (state S.Store conn.new) Never }
 {
     found(alloc, conn.query_all(EVERY_CERT, &[]))
 }

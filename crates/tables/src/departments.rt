@@ -7,7 +7,7 @@ ghost use Rattle.sqlite.specs.Held.{state};
 ghost use Rattle.sqlite.specs.State.{HasCleanDisk, Survives};
 ghost use Rattle.tables.specs.Cells.{department_cells};
 ghost use Rattle.tables.specs.Changes.{departments_named, with_department};
-ghost use Rattle.tables.specs.Calls.{Changes, FailsBy, Finds, FindsOne, Leaves, Never, Rises, Stays, WasOpen};
+ghost use Rattle.tables.specs.Calls.{Changes, FailsBy, Finds, FindsOne, Leaves, Never, Rises, Stays, OnlyReads};
 ghost use Rattle.tables.specs.Faults.{HasCause};
 ghost use Rattle.tables.specs.Refusals.{RefusedFor, RefusesDepartment};
 
@@ -125,11 +125,11 @@ pub fn find_department<S: Alter>(
 ) -> Result<Option<DepartmentRow>, Fault>
     ensures finds { HasCleanDisk (state S.Store conn.new) →
         FindsOne (departments_named name.now) (state S.Store conn.old) (state S.Store conn.new) result }
-    ensures was_open { HasCleanDisk (state S.Store conn.new)
-        → WasOpen (state S.Store conn.old) (state S.Store conn.new) result }
+    ensures reads { HasCleanDisk (state S.Store conn.new)
+        → OnlyReads (state S.Store conn.old) (state S.Store conn.new) result }
     ensures fault { HasCleanDisk (state S.Store conn.new) →
         FailsBy HasCause (state S.Store conn.old) (state S.Store conn.new) result }
-    ensures survives { Survives (state S.Store conn.old) (state S.Store conn.new) (Never (state S.Store conn.old)) }
+    ensures survives { Survives (state S.Store conn.old) (state S.Store conn.new) Never }
 {
     found_first(
         alloc,
@@ -146,11 +146,11 @@ pub fn every_department<S: Alter>(
         Finds (λ c. c.departments) (state S.Store conn.old) (state S.Store conn.new) result }
     ensures sorted { HasCleanDisk (state S.Store conn.new)
         → Rises (λ d. d.name) (slice_cmp nat_cmp) (state S.Store conn.old) result }
-    ensures was_open { HasCleanDisk (state S.Store conn.new)
-        → WasOpen (state S.Store conn.old) (state S.Store conn.new) result }
+    ensures reads { HasCleanDisk (state S.Store conn.new)
+        → OnlyReads (state S.Store conn.old) (state S.Store conn.new) result }
     ensures fault { HasCleanDisk (state S.Store conn.new) →
         FailsBy HasCause (state S.Store conn.old) (state S.Store conn.new) result }
-    ensures survives { Survives (state S.Store conn.old) (state S.Store conn.new) (Never (state S.Store conn.old)) }
+    ensures survives { Survives (state S.Store conn.old) (state S.Store conn.new) Never }
 {
     found(alloc, conn.query_all(EVERY_DEPARTMENT, &[]))
 }

@@ -32,7 +32,10 @@ pub use departments::{DepartmentRow, every_department, find_department, put_depa
 pub use fault::Fault;
 pub use look::{has_any_table, has_ca_table, has_office};
 pub use number::Number;
-pub use offices::{Counters, OfficeRow, every_office, insert_office, update_office, update_schema};
+pub use offices::{
+    Counters, OfficeRow, every_office, insert_office, the_office_is_first, update_office,
+    update_schema,
+};
 pub use requests::{RequestRow, find_request, insert_request};
 pub use revoked::{every_revoked, find_revoked, insert_revoked};
 pub use runs::{RunRow, delete_runs, every_run, insert_run, last_run};

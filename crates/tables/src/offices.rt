@@ -2,12 +2,14 @@
 
 ghost use Rattle.std.specs.Prelude.{◌≡◌, ◌∷◌, [], pos};
 ghost use Rattle.std.specs.Ordering.{nat_cmp};
+ghost use Rattle.sqlite.specs.Effect.{Database};
 ghost use Rattle.sqlite.specs.Held.{state};
 ghost use Rattle.sqlite.specs.State.{HasCleanDisk, Survives};
 ghost use Rattle.sqlite.specs.declared.types.Value.TheVariants.{Int};
 ghost use Rattle.tables.specs.Cells.{office_cells, counter_cells};
 ghost use Rattle.tables.specs.Changes.{with_office, with_counters, with_schema};
-ghost use Rattle.tables.specs.Calls.{Changes, FailsBy, Finds, Leaves, Never, Rises, Stays, WasOpen};
+ghost use Rattle.tables.specs.Calls.{Changes, FailsIn, FindsIn, Leaves, Never, Rises, Stays, OnlyReads};
+ghost use Rattle.tables.specs.Contents.{Contents, HasOffices, Means, MeansWithoutCa};
 ghost use Rattle.tables.specs.Faults.{HasCause};
 ghost use Rattle.tables.specs.Refusals.{RefusedFor, RefusesCounters, RefusesNumber, RefusesOffice};
 
@@ -157,18 +159,25 @@ pub fn every_office<S: Alter>(
     alloc: Global,
     conn: &mut Connection<S>,
 ) -> Result<Vec<OfficeRow>, Fault>
+    // Of any tables, of which that of the office is the first.
     ensures finds { HasCleanDisk (state S.Store conn.new) →
-        Finds (λ c. c.offices) (state S.Store conn.old) (state S.Store conn.new) result }
+        FindsIn HasOffices (λ rows. rows) (state S.Store conn.old) (state S.Store conn.new) result }
     ensures sorted { HasCleanDisk (state S.Store conn.new)
         → Rises (λ o. o.id) (nat_cmp) (state S.Store conn.old) result }
-    ensures was_open { HasCleanDisk (state S.Store conn.new)
-        → WasOpen (state S.Store conn.old) (state S.Store conn.new) result }
+    ensures reads { HasCleanDisk (state S.Store conn.new)
+        → OnlyReads (state S.Store conn.old) (state S.Store conn.new) result }
     ensures fault { HasCleanDisk (state S.Store conn.new) →
-        FailsBy HasCause (state S.Store conn.old) (state S.Store conn.new) result }
-    ensures survives { Survives (state S.Store conn.old) (state S.Store conn.new) (Never (state S.Store conn.old)) }
+        FailsIn HasOffices HasCause (state S.Store conn.old) (state S.Store conn.new) result }
+    ensures survives { Survives (state S.Store conn.old) (state S.Store conn.new) Never }
 {
     found(alloc, conn.query_all(EVERY_OFFICE, &[]))
 }
+
+/// The table of the office is the first of the tables of schema 1, and of those of schema 2.
+pub fn the_office_is_first()
+    ensures former { (db : Database) (c : Contents) → MeansWithoutCa db c → HasOffices c.offices db }
+    ensures present { (db : Database) (c : Contents) → Means db c → HasOffices c.offices db }
+{}
 
 /// Moves the counters of the office, the row of id 1, if it is there. `Device` also where the row is then too long.
 pub fn update_office<S: Alter>(conn: &mut Connection<S>, counters: &Counters) -> Result<(), Fault>

@@ -5,7 +5,7 @@ ghost use Rattle.sqlite.specs.Held.{state};
 ghost use Rattle.sqlite.specs.State.{HasCleanDisk, Survives};
 ghost use Rattle.tables.specs.Cells.{request_cells};
 ghost use Rattle.tables.specs.Changes.{requests_for, with_request};
-ghost use Rattle.tables.specs.Calls.{Changes, FailsBy, FindsOne, Leaves, Never, Stays, WasOpen};
+ghost use Rattle.tables.specs.Calls.{Changes, FailsBy, FindsOne, Leaves, Never, Stays, OnlyReads};
 ghost use Rattle.tables.specs.Faults.{HasCause};
 ghost use Rattle.tables.specs.Refusals.{RefusedFor, RefusesRequest};
 
@@ -94,11 +94,11 @@ pub fn find_request<S: Alter>(
 ) -> Result<Option<RequestRow>, Fault>
     ensures finds { HasCleanDisk (state S.Store conn.new) →
         FindsOne (requests_for caller.now key.now) (state S.Store conn.old) (state S.Store conn.new) result }
-    ensures was_open { HasCleanDisk (state S.Store conn.new)
-        → WasOpen (state S.Store conn.old) (state S.Store conn.new) result }
+    ensures reads { HasCleanDisk (state S.Store conn.new)
+        → OnlyReads (state S.Store conn.old) (state S.Store conn.new) result }
     ensures fault { HasCleanDisk (state S.Store conn.new) →
         FailsBy HasCause (state S.Store conn.old) (state S.Store conn.new) result }
-    ensures survives { Survives (state S.Store conn.old) (state S.Store conn.new) (Never (state S.Store conn.old)) }
+    ensures survives { Survives (state S.Store conn.old) (state S.Store conn.new) Never }
 {
     found_first(
         alloc,

@@ -6,7 +6,7 @@ ghost use Rattle.sqlite.specs.Held.{state};
 ghost use Rattle.sqlite.specs.State.{HasCleanDisk, Survives};
 ghost use Rattle.tables.specs.Cells.{key_id_cells};
 ghost use Rattle.tables.specs.Changes.{revoked_as, with_revoked};
-ghost use Rattle.tables.specs.Calls.{Changes, FailsBy, Finds, FindsOne, Leaves, Never, Rises, Stays, WasOpen};
+ghost use Rattle.tables.specs.Calls.{Changes, FailsBy, Finds, FindsOne, Leaves, Never, Rises, Stays, OnlyReads};
 ghost use Rattle.tables.specs.Faults.{HasCause};
 ghost use Rattle.tables.specs.Refusals.{RefusedFor, RefusesKeyId};
 
@@ -63,11 +63,11 @@ pub fn find_revoked<S: Alter>(
 ) -> Result<Option<Text>, Fault>
     ensures finds { HasCleanDisk (state S.Store conn.new) →
         FindsOne (revoked_as key_id.now) (state S.Store conn.old) (state S.Store conn.new) result }
-    ensures was_open { HasCleanDisk (state S.Store conn.new)
-        → WasOpen (state S.Store conn.old) (state S.Store conn.new) result }
+    ensures reads { HasCleanDisk (state S.Store conn.new)
+        → OnlyReads (state S.Store conn.old) (state S.Store conn.new) result }
     ensures fault { HasCleanDisk (state S.Store conn.new) →
         FailsBy HasCause (state S.Store conn.old) (state S.Store conn.new) result }
-    ensures survives { Survives (state S.Store conn.old) (state S.Store conn.new) (Never (state S.Store conn.old)) }
+    ensures survives { Survives (state S.Store conn.old) (state S.Store conn.new) Never }
 {
     found_first(
         alloc,
@@ -81,11 +81,11 @@ pub fn every_revoked<S: Alter>(alloc: Global, conn: &mut Connection<S>) -> Resul
         Finds (λ c. c.revoked) (state S.Store conn.old) (state S.Store conn.new) result }
     ensures sorted { HasCleanDisk (state S.Store conn.new)
         → Rises (λ k. k) (slice_cmp nat_cmp) (state S.Store conn.old) result }
-    ensures was_open { HasCleanDisk (state S.Store conn.new)
-        → WasOpen (state S.Store conn.old) (state S.Store conn.new) result }
+    ensures reads { HasCleanDisk (state S.Store conn.new)
+        → OnlyReads (state S.Store conn.old) (state S.Store conn.new) result }
     ensures fault { HasCleanDisk (state S.Store conn.new) →
         FailsBy HasCause (state S.Store conn.old) (state S.Store conn.new) result }
-    ensures survives { Survives (state S.Store conn.old) (state S.Store conn.new) (Never (state S.Store conn.old)) }
+    ensures survives { Survives (state S.Store conn.old) (state S.Store conn.new) Never }
 {
     found(alloc, conn.query_all(EVERY_REVOKED, &[]))
 }

@@ -2,10 +2,9 @@
 use Rattle.std.proofs.Common.{inl, List, Ok, Err, Result, IsTrue, refl, sym, subst, arith}
 use Rattle.sqlite.specs.Effect.{Database}
 use Rattle.sqlite.specs.Tree.{Trees}
-use Rattle.sqlite.specs.State.{State as Connection, HasCleanDisk, Survives, IsUnchanged}
-use Rattle.sqlite.proofs.StateLemmas.{survives_then, survives_weaker, unchanged}
+use Rattle.sqlite.specs.State.{State as Connection, Survives, IsUnchanged}
+use Rattle.sqlite.proofs.StateLemmas.{unchanged}
 use Rattle.tables.specs.Contents.{Means}
-use Rattle.tables.specs.Calls.{Never}
 use Rattle.tables.specs.declared.fault.Fault.{Fault}
 use Rattle.sqlite.proofs.Callers.{unchanged_then}
 use Rattle.tables.proofs.Later.{cause_then, stops_then}
@@ -14,7 +13,6 @@ use Rattle.office.specs.State.{State}
 use Rattle.rows.specs.Lawful.{IsLawful}
 use Rattle.rows.specs.Rows.{contents_of}
 use Rattle.rows.specs.Showing.{Shows}
-use Rattle.views.specs.Finding.{NeverOfOffice, NeverWhereOpen}
 
 -- what is shown says less
 pub shows_weaker : {X : Type 0} (P Q : State → List Kept → X → Type 0) (old new : Connection) (r : Result X Fault)
@@ -83,36 +81,3 @@ survives_still a P = record {
   closes = λ clean is_open. inl is_open;
   crash = λ clean trees h. inl h;
 }
-
-pub never_of_office : (a b : Connection) → Survives a b (Never a) → Survives a b (NeverOfOffice a)
-never_of_office a b one =
-    survives_weaker a b (Never a) (NeverOfOffice a) (λ clean trees h s kept lawful. h (contents_of s kept)) one
-
-pub never_where_open : (a b : Connection) → Survives a b (Never a) → Survives a b (NeverWhereOpen a)
-never_where_open a b one =
-    survives_weaker a b (Never a) (NeverWhereOpen a) (λ clean trees h is_open s kept lawful. h (contents_of s kept)) one
-
--- a call, and then one on what is open, which commit nothing
-pub reads_then : {X : Type 0} (First : State → List Kept → X → Type 0) (a b c : Connection) (x : X)
-    → (HasCleanDisk b → Shows First a b (Ok x)) → Survives a b (Never a) → Survives b c (NeverWhereOpen b)
-    → Survives a c (NeverOfOffice a)
-reads_then First a b c x first one two =
-    survives_then a b c (Never a) (NeverWhereOpen b) (NeverOfOffice a)
-    (λ clean trees h s kept lawful. h (contents_of s kept))
-    (λ clean trees h s kept lawful means.
-    let p = first (omega (arith, two.clean)) s kept lawful means in
-    h p.1.0.is_open s kept lawful (still_means a b s kept p.1 means)) one two
-
--- the same where the first call is on what is open too
-pub reads_then_where_open : {X : Type 0} (First : State → List Kept → X → Type 0) (a b c : Connection) (x : X)
-    → (HasCleanDisk b → IsTrue a.is_open → Shows First a b (Ok x)) → Survives a b (NeverWhereOpen a)
-    → Survives b c (NeverWhereOpen b) → Survives a c (NeverWhereOpen a)
-reads_then_where_open First a b c x first one two =
-    survives_then a b c (NeverWhereOpen a) (NeverWhereOpen b) (NeverWhereOpen a) (λ clean trees h. h)
-    (λ clean trees h is_open s kept lawful means.
-    let p = first (omega (arith, two.clean)) is_open s kept lawful means in
-    h p.1.0.is_open s kept lawful (still_means a b s kept p.1 means)) one two
-
-pub where_open : (a b : Connection) → Survives a b (NeverOfOffice a) → Survives a b (NeverWhereOpen a)
-where_open a b one =
-    survives_weaker a b (NeverOfOffice a) (NeverWhereOpen a) (λ clean trees h is_open. h) one

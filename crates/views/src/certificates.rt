@@ -3,7 +3,7 @@
 ghost use Rattle.std.specs.Prelude.{◌≡◌, IfOk, IfSome};
 ghost use Rattle.sqlite.specs.Held.{state};
 ghost use Rattle.sqlite.specs.State.{HasCleanDisk, Survives};
-ghost use Rattle.tables.specs.Calls.{Never, WasOpen};
+ghost use Rattle.tables.specs.Calls.{Never, OnlyReads};
 ghost use Rattle.office.specs.Certificates.{IsCertificate};
 ghost use Rattle.office.specs.State.{certificate_of};
 ghost use Rattle.rows.specs.Certificates.{certificate_in};
@@ -49,9 +49,9 @@ fn find_numbered<S: Alter>(
     ensures shows { HasCleanDisk (state S.Store conn.new) → Shows (λ s kept found. found ≡ certificate_of s serial)
         (state S.Store conn.old) (state S.Store conn.new) result }
     ensures lawful { IfOk result (λ found. IfSome found IsCertificate) }
-    ensures was_open { HasCleanDisk (state S.Store conn.new)
-        → WasOpen (state S.Store conn.old) (state S.Store conn.new) result }
-    ensures survives { Survives (state S.Store conn.old) (state S.Store conn.new) (Never (state S.Store conn.old)) }
+    ensures reads { HasCleanDisk (state S.Store conn.new)
+        → OnlyReads (state S.Store conn.old) (state S.Store conn.new) result }
+    ensures survives { Survives (state S.Store conn.old) (state S.Store conn.new) Never }
 {
     match find_cert(alloc, conn, serial) {
         Ok(found) => read_found(alloc, found),
@@ -69,9 +69,9 @@ pub fn find_certificate<S: Alter>(
         → Shows (λ s kept found. IsOfHistory s kept → found ≡ certificate_of s serial)
         (state S.Store conn.old) (state S.Store conn.new) result }
     ensures lawful { IfOk result (λ found. IfSome found IsCertificate) }
-    ensures was_open { HasCleanDisk (state S.Store conn.new)
-        → WasOpen (state S.Store conn.old) (state S.Store conn.new) result }
-    ensures survives { Survives (state S.Store conn.old) (state S.Store conn.new) (Never (state S.Store conn.old)) }
+    ensures reads { HasCleanDisk (state S.Store conn.new)
+        → OnlyReads (state S.Store conn.old) (state S.Store conn.new) result }
+    ensures survives { Survives (state S.Store conn.old) (state S.Store conn.new) Never }
 {
     find_numbered(alloc, conn, asked_serial(serial))
 }

@@ -9,12 +9,11 @@ ghost use Rattle.office.specs.Decided.{Agrees};
 ghost use Rattle.office.specs.Openings.{IsOpening};
 ghost use Rattle.office.specs.State.{State};
 ghost use Rattle.office.specs.Views.{IsView};
-ghost use Rattle.tables.specs.Calls.{Never, WasOpen};
+ghost use Rattle.tables.specs.Calls.{Never, OnlyReads};
 ghost use Rattle.rows.specs.Offices.{IsOfficeOf, if_office};
 ghost use Rattle.rows.specs.Reading.{IsRead};
 ghost use Rattle.rows.specs.Showing.{Shows};
 ghost use Rattle.views.specs.Concerning.{AreConcerned, AreLawful, IsLawfulOffice, IsLawfulSubject, IsSubject};
-ghost use Rattle.views.specs.Finding.{NeverOfOffice, NeverWhereOpen};
 ghost use Rattle.views.specs.Histories.{IsOfHistory};
 
 use crate::marks::{Marks, marks_of};
@@ -71,9 +70,9 @@ fn lawful_office<S: Alter>(alloc: Global, conn: &mut Connection<S>) -> Result<Of
     ensures shows { HasCleanDisk (state S.Store conn.new) → Shows (λ s kept office. IsOfficeOf office s)
         (state S.Store conn.old) (state S.Store conn.new) result }
     ensures lawful { IfOk result IsLawfulOffice }
-    ensures was_open { HasCleanDisk (state S.Store conn.new)
-        → WasOpen (state S.Store conn.old) (state S.Store conn.new) result }
-    ensures survives { Survives (state S.Store conn.old) (state S.Store conn.new) (Never (state S.Store conn.old)) }
+    ensures reads { HasCleanDisk (state S.Store conn.new)
+        → OnlyReads (state S.Store conn.old) (state S.Store conn.new) result }
+    ensures survives { Survives (state S.Store conn.old) (state S.Store conn.new) Never }
 {
     match read_office(alloc, conn) {
         Ok(office) => if_lawful(office),
@@ -97,10 +96,9 @@ fn with_subject<S: Alter>(
         → IsSubject subject s message.now → AreConcerned rows s message.now)
         (state S.Store conn.old) (state S.Store conn.new) result }
     ensures lawful { IfOk result AreLawful }
-    ensures was_open { HasCleanDisk (state S.Store conn.new) → IsTrue (state S.Store conn.old).is_open
-        → WasOpen (state S.Store conn.old) (state S.Store conn.new) result }
-    ensures survives { Survives (state S.Store conn.old) (state S.Store conn.new)
-        (NeverWhereOpen (state S.Store conn.old)) }
+    ensures reads { HasCleanDisk (state S.Store conn.new) → IsTrue (state S.Store conn.old).is_open
+        → OnlyReads (state S.Store conn.old) (state S.Store conn.new) result }
+    ensures survives { Survives (state S.Store conn.old) (state S.Store conn.new) Never }
 {
     match marks_of(alloc, conn, message, subject.certificate.as_ref()) {
         Ok(marks) => Ok(Concerned {
@@ -126,10 +124,9 @@ fn with_cas<S: Alter>(
         → Shows (λ s kept rows. IsOfHistory s kept → IsOfficeOf office s → cas.items ≡ s.cas
         → AreConcerned rows s message.now) (state S.Store conn.old) (state S.Store conn.new) result }
     ensures lawful { IfOk result AreLawful }
-    ensures was_open { HasCleanDisk (state S.Store conn.new) → IsTrue (state S.Store conn.old).is_open
-        → WasOpen (state S.Store conn.old) (state S.Store conn.new) result }
-    ensures survives { Survives (state S.Store conn.old) (state S.Store conn.new)
-        (NeverWhereOpen (state S.Store conn.old)) }
+    ensures reads { HasCleanDisk (state S.Store conn.new) → IsTrue (state S.Store conn.old).is_open
+        → OnlyReads (state S.Store conn.old) (state S.Store conn.new) result }
+    ensures survives { Survives (state S.Store conn.old) (state S.Store conn.new) Never }
 {
     match subject_of(alloc, conn, message) {
         Ok(subject) => with_subject(alloc, conn, message, office, cas, subject),
@@ -149,10 +146,9 @@ fn with_office<S: Alter>(
         → Shows (λ s kept rows. IsOfHistory s kept → IsOfficeOf office s → AreConcerned rows s message.now)
         (state S.Store conn.old) (state S.Store conn.new) result }
     ensures lawful { IfOk result AreLawful }
-    ensures was_open { HasCleanDisk (state S.Store conn.new)
-        → WasOpen (state S.Store conn.old) (state S.Store conn.new) result }
-    ensures survives { Survives (state S.Store conn.old) (state S.Store conn.new)
-        (NeverOfOffice (state S.Store conn.old)) }
+    ensures reads { HasCleanDisk (state S.Store conn.new)
+        → OnlyReads (state S.Store conn.old) (state S.Store conn.new) result }
+    ensures survives { Survives (state S.Store conn.old) (state S.Store conn.new) Never }
 {
     match read_cas(alloc, conn) {
         Ok(cas) => with_cas(alloc, conn, message, office, cas),
@@ -172,10 +168,9 @@ pub fn concerned_rows<S: Alter>(
         → Shows (λ s kept rows. IsOfHistory s kept → AreConcerned rows s message.now)
         (state S.Store conn.old) (state S.Store conn.new) result }
     ensures lawful { IfOk result AreLawful }
-    ensures was_open { HasCleanDisk (state S.Store conn.new)
-        → WasOpen (state S.Store conn.old) (state S.Store conn.new) result }
-    ensures survives { Survives (state S.Store conn.old) (state S.Store conn.new)
-        (NeverOfOffice (state S.Store conn.old)) }
+    ensures reads { HasCleanDisk (state S.Store conn.new)
+        → OnlyReads (state S.Store conn.old) (state S.Store conn.new) result }
+    ensures survives { Survives (state S.Store conn.old) (state S.Store conn.new) Never }
 {
     match lawful_office(alloc, conn) {
         Ok(office) => with_office(alloc, conn, message, office),

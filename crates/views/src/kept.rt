@@ -4,7 +4,7 @@ ghost use Rattle.std.specs.Prelude.{◌≡◌, find};
 ghost use Rattle.std.specs.Option.{option_map};
 ghost use Rattle.sqlite.specs.Held.{state};
 ghost use Rattle.sqlite.specs.State.{HasCleanDisk, Survives};
-ghost use Rattle.tables.specs.Calls.{Never, WasOpen};
+ghost use Rattle.tables.specs.Calls.{Never, OnlyReads};
 ghost use Rattle.rows.specs.Showing.{Shows};
 ghost use Rattle.views.specs.Finding.{kept_in};
 ghost use Rattle.views.specs.Histories.{IsOfHistory, is_for};
@@ -38,9 +38,9 @@ pub fn kept_for<S: Alter>(
     ensures shows { HasCleanDisk (state S.Store conn.new)
         → Shows (λ s kept found. IsOfHistory s kept → found ≡ find (is_for caller.now key.now) kept)
         (state S.Store conn.old) (state S.Store conn.new) result }
-    ensures was_open { HasCleanDisk (state S.Store conn.new)
-        → WasOpen (state S.Store conn.old) (state S.Store conn.new) result }
-    ensures survives { Survives (state S.Store conn.old) (state S.Store conn.new) (Never (state S.Store conn.old)) }
+    ensures reads { HasCleanDisk (state S.Store conn.new)
+        → OnlyReads (state S.Store conn.old) (state S.Store conn.new) result }
+    ensures survives { Survives (state S.Store conn.old) (state S.Store conn.new) Never }
 {
     match find_request(alloc, conn, caller, key) {
         Ok(found) => Ok(kept_of(found)),

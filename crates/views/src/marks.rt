@@ -5,10 +5,9 @@ ghost use Rattle.sqlite.specs.Held.{state};
 ghost use Rattle.sqlite.specs.State.{HasCleanDisk, Survives};
 ghost use Rattle.message.specs.Values.{is_message};
 ghost use Rattle.office.specs.Decided.{SaysAnyKeyIdRevoked, SaysKeyIdRevoked, SaysRevoked, certificate_concerned};
-ghost use Rattle.tables.specs.Calls.{Never, WasOpen};
+ghost use Rattle.tables.specs.Calls.{Never, OnlyReads};
 ghost use Rattle.rows.specs.Showing.{Shows};
 ghost use Rattle.views.specs.Concerning.{AreMarks};
-ghost use Rattle.views.specs.Finding.{NeverWhereOpen};
 ghost use Rattle.views.specs.Histories.{IsOfHistory};
 
 use crate::key_ids::{has_revoked_key_ids, is_key_id_revoked};
@@ -39,9 +38,9 @@ fn is_revoked<S: Alter>(
     ensures shows { HasCleanDisk (state S.Store conn.new) → IsTrue (state S.Store conn.old).is_open
         → Shows (λ s kept is. IsOfHistory s kept → SaysRevoked is s message.now)
         (state S.Store conn.old) (state S.Store conn.new) result }
-    ensures was_open { HasCleanDisk (state S.Store conn.new) → IsTrue (state S.Store conn.old).is_open
-        → WasOpen (state S.Store conn.old) (state S.Store conn.new) result }
-    ensures survives { Survives (state S.Store conn.old) (state S.Store conn.new) (Never (state S.Store conn.old)) }
+    ensures reads { HasCleanDisk (state S.Store conn.new) → IsTrue (state S.Store conn.old).is_open
+        → OnlyReads (state S.Store conn.old) (state S.Store conn.new) result }
+    ensures survives { Survives (state S.Store conn.old) (state S.Store conn.new) Never }
 {
     let concern = concerned(message);
     match (concern.serial, concern.range) {
@@ -60,9 +59,9 @@ fn is_concerned_key_id_revoked<S: Alter>(
     ensures shows { HasCleanDisk (state S.Store conn.new) → IsTrue (state S.Store conn.old).is_open
         → Shows (λ s kept is. option_copied certificate.entry ≡ certificate_concerned s message.now
         → SaysKeyIdRevoked is s message.now) (state S.Store conn.old) (state S.Store conn.new) result }
-    ensures was_open { HasCleanDisk (state S.Store conn.new) → IsTrue (state S.Store conn.old).is_open
-        → WasOpen (state S.Store conn.old) (state S.Store conn.new) result }
-    ensures survives { Survives (state S.Store conn.old) (state S.Store conn.new) (Never (state S.Store conn.old)) }
+    ensures reads { HasCleanDisk (state S.Store conn.new) → IsTrue (state S.Store conn.old).is_open
+        → OnlyReads (state S.Store conn.old) (state S.Store conn.new) result }
+    ensures survives { Survives (state S.Store conn.old) (state S.Store conn.new) Never }
 {
     match (certificate, concerned(message).key_id) {
         (Some(certificate), _) => {
@@ -81,9 +80,9 @@ fn is_any_key_id_revoked<S: Alter>(
     ensures shows { HasCleanDisk (state S.Store conn.new) → IsTrue (state S.Store conn.old).is_open
         → Shows (λ s kept is. SaysAnyKeyIdRevoked is s message.now)
         (state S.Store conn.old) (state S.Store conn.new) result }
-    ensures was_open { HasCleanDisk (state S.Store conn.new) → IsTrue (state S.Store conn.old).is_open
-        → WasOpen (state S.Store conn.old) (state S.Store conn.new) result }
-    ensures survives { Survives (state S.Store conn.old) (state S.Store conn.new) (Never (state S.Store conn.old)) }
+    ensures reads { HasCleanDisk (state S.Store conn.new) → IsTrue (state S.Store conn.old).is_open
+        → OnlyReads (state S.Store conn.old) (state S.Store conn.new) result }
+    ensures survives { Survives (state S.Store conn.old) (state S.Store conn.new) Never }
 {
     match message {
         Message::Rollover(_) => has_revoked_key_ids(alloc, conn),
@@ -101,9 +100,9 @@ fn with_any_key_id<S: Alter>(
     ensures shows { HasCleanDisk (state S.Store conn.new) → IsTrue (state S.Store conn.old).is_open
         → Shows (λ s kept marks. SaysRevoked is_revoked s message.now → SaysKeyIdRevoked is_key_id_revoked s message.now
         → AreMarks marks s message.now) (state S.Store conn.old) (state S.Store conn.new) result }
-    ensures was_open { HasCleanDisk (state S.Store conn.new) → IsTrue (state S.Store conn.old).is_open
-        → WasOpen (state S.Store conn.old) (state S.Store conn.new) result }
-    ensures survives { Survives (state S.Store conn.old) (state S.Store conn.new) (Never (state S.Store conn.old)) }
+    ensures reads { HasCleanDisk (state S.Store conn.new) → IsTrue (state S.Store conn.old).is_open
+        → OnlyReads (state S.Store conn.old) (state S.Store conn.new) result }
+    ensures survives { Survives (state S.Store conn.old) (state S.Store conn.new) Never }
 {
     match is_any_key_id_revoked(alloc, conn, message) {
         Ok(has_revoked_key_ids) => Ok(Marks {
@@ -126,10 +125,9 @@ fn with_key_ids<S: Alter>(
         → Shows (λ s kept marks. option_copied certificate.entry ≡ certificate_concerned s message.now
         → SaysRevoked is_revoked s message.now → AreMarks marks s message.now)
         (state S.Store conn.old) (state S.Store conn.new) result }
-    ensures was_open { HasCleanDisk (state S.Store conn.new) → IsTrue (state S.Store conn.old).is_open
-        → WasOpen (state S.Store conn.old) (state S.Store conn.new) result }
-    ensures survives { Survives (state S.Store conn.old) (state S.Store conn.new)
-        (NeverWhereOpen (state S.Store conn.old)) }
+    ensures reads { HasCleanDisk (state S.Store conn.new) → IsTrue (state S.Store conn.old).is_open
+        → OnlyReads (state S.Store conn.old) (state S.Store conn.new) result }
+    ensures survives { Survives (state S.Store conn.old) (state S.Store conn.new) Never }
 {
     match is_concerned_key_id_revoked(alloc, conn, message, certificate) {
         Ok(is_key_id_revoked) => with_any_key_id(
@@ -154,10 +152,9 @@ pub(crate) fn marks_of<S: Alter>(
     ensures shows { HasCleanDisk (state S.Store conn.new) → IsTrue (state S.Store conn.old).is_open
         → Shows (λ s kept marks. IsOfHistory s kept → option_copied certificate.entry ≡ certificate_concerned s message.now
         → AreMarks marks s message.now) (state S.Store conn.old) (state S.Store conn.new) result }
-    ensures was_open { HasCleanDisk (state S.Store conn.new) → IsTrue (state S.Store conn.old).is_open
-        → WasOpen (state S.Store conn.old) (state S.Store conn.new) result }
-    ensures survives { Survives (state S.Store conn.old) (state S.Store conn.new)
-        (NeverWhereOpen (state S.Store conn.old)) }
+    ensures reads { HasCleanDisk (state S.Store conn.new) → IsTrue (state S.Store conn.old).is_open
+        → OnlyReads (state S.Store conn.old) (state S.Store conn.new) result }
+    ensures survives { Survives (state S.Store conn.old) (state S.Store conn.new) Never }
 {
     match is_revoked(alloc, conn, message) {
         Ok(is_revoked) => with_key_ids(alloc, conn, message, certificate, is_revoked),

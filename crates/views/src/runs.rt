@@ -4,7 +4,7 @@ ghost use Rattle.std.specs.Prelude.{◌≡◌, ◌↔◌, ◌<◌, ◌≤◌, �
 ghost use Rattle.sqlite.specs.Held.{state};
 ghost use Rattle.sqlite.specs.State.{HasCleanDisk, Survives};
 ghost use Rattle.krl.specs.Sets.{HasAll};
-ghost use Rattle.tables.specs.Calls.{Never, WasOpen};
+ghost use Rattle.tables.specs.Calls.{Never, OnlyReads};
 ghost use Rattle.rows.specs.Rows.{revoked_runs};
 ghost use Rattle.rows.specs.Showing.{Shows};
 ghost use Rattle.views.specs.Histories.{IsOfHistory};
@@ -53,9 +53,9 @@ fn read_runs(alloc: Global, rows: &[RunRow]) -> Result<Runs, Fault>
 fn every_revoked_run<S: Alter>(alloc: Global, conn: &mut Connection<S>) -> Result<Runs, Fault>
     ensures shows { HasCleanDisk (state S.Store conn.new) → Shows (λ s kept runs. runs ≡ revoked_runs s)
         (state S.Store conn.old) (state S.Store conn.new) result }
-    ensures was_open { HasCleanDisk (state S.Store conn.new)
-        → WasOpen (state S.Store conn.old) (state S.Store conn.new) result }
-    ensures survives { Survives (state S.Store conn.old) (state S.Store conn.new) (Never (state S.Store conn.old)) }
+    ensures reads { HasCleanDisk (state S.Store conn.new)
+        → OnlyReads (state S.Store conn.old) (state S.Store conn.new) result }
+    ensures survives { Survives (state S.Store conn.old) (state S.Store conn.new) Never }
 {
     match every_run(alloc, conn) {
         Ok(rows) => read_runs(alloc, rows.as_slice()),
@@ -67,9 +67,9 @@ fn every_revoked_run<S: Alter>(alloc: Global, conn: &mut Connection<S>) -> Resul
 pub fn revoked_runs<S: Alter>(alloc: Global, conn: &mut Connection<S>) -> Result<Runs, Fault>
     ensures shows { HasCleanDisk (state S.Store conn.new) → Shows (λ s kept runs. AreRevokedRuns runs s kept)
         (state S.Store conn.old) (state S.Store conn.new) result }
-    ensures was_open { HasCleanDisk (state S.Store conn.new)
-        → WasOpen (state S.Store conn.old) (state S.Store conn.new) result }
-    ensures survives { Survives (state S.Store conn.old) (state S.Store conn.new) (Never (state S.Store conn.old)) }
+    ensures reads { HasCleanDisk (state S.Store conn.new)
+        → OnlyReads (state S.Store conn.old) (state S.Store conn.new) result }
+    ensures survives { Survives (state S.Store conn.old) (state S.Store conn.new) Never }
 {
     every_revoked_run(alloc, conn)
 }
@@ -96,9 +96,9 @@ pub fn are_revoked<S: Alter>(
     ensures shows { HasCleanDisk (state S.Store conn.new)
         → Shows (λ s kept are. IsOfHistory s kept → (IsTrue are ↔ HasAll s.revoked lo hi))
         (state S.Store conn.old) (state S.Store conn.new) result }
-    ensures was_open { HasCleanDisk (state S.Store conn.new)
-        → WasOpen (state S.Store conn.old) (state S.Store conn.new) result }
-    ensures survives { Survives (state S.Store conn.old) (state S.Store conn.new) (Never (state S.Store conn.old)) }
+    ensures reads { HasCleanDisk (state S.Store conn.new)
+        → OnlyReads (state S.Store conn.old) (state S.Store conn.new) result }
+    ensures survives { Survives (state S.Store conn.old) (state S.Store conn.new) Never }
 {
     match last_run(alloc, conn, number(lo)) {
         Ok(found) => Ok(reaches(found, hi)),

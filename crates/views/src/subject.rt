@@ -6,10 +6,9 @@ ghost use Rattle.sqlite.specs.State.{HasCleanDisk, Survives};
 ghost use Rattle.message.specs.Values.{is_department};
 ghost use Rattle.office.specs.Certificates.{IsCertificate};
 ghost use Rattle.office.specs.Decided.{certificate_concerned, department_concerned};
-ghost use Rattle.tables.specs.Calls.{Never, WasOpen};
+ghost use Rattle.tables.specs.Calls.{Never, OnlyReads};
 ghost use Rattle.rows.specs.Showing.{Shows};
 ghost use Rattle.views.specs.Concerning.{IsLawfulSubject, IsSubject};
-ghost use Rattle.views.specs.Finding.{NeverWhereOpen};
 ghost use Rattle.views.specs.Histories.{IsOfHistory};
 
 use crate::certificates::find_certificate;
@@ -36,9 +35,9 @@ fn certificate_of<S: Alter>(
         → Shows (λ s kept found. IsOfHistory s kept → found ≡ certificate_concerned s message.now)
         (state S.Store conn.old) (state S.Store conn.new) result }
     ensures lawful { IfOk result (λ found. IfSome found IsCertificate) }
-    ensures was_open { HasCleanDisk (state S.Store conn.new) → IsTrue (state S.Store conn.old).is_open
-        → WasOpen (state S.Store conn.old) (state S.Store conn.new) result }
-    ensures survives { Survives (state S.Store conn.old) (state S.Store conn.new) (Never (state S.Store conn.old)) }
+    ensures reads { HasCleanDisk (state S.Store conn.new) → IsTrue (state S.Store conn.old).is_open
+        → OnlyReads (state S.Store conn.old) (state S.Store conn.new) result }
+    ensures survives { Survives (state S.Store conn.old) (state S.Store conn.new) Never }
 {
     match concerned(message).serial {
         Some(serial) => find_certificate(alloc, conn, serial),
@@ -57,9 +56,9 @@ fn department_of<S: Alter>(
         → Shows (λ s kept found. option_copied certificate.entry ≡ certificate_concerned s message.now
         → found ≡ department_concerned s message.now) (state S.Store conn.old) (state S.Store conn.new) result }
     ensures lawful { IfOk result (λ found. IfSome found (λ d. IsTrue (is_department d))) }
-    ensures was_open { HasCleanDisk (state S.Store conn.new) → IsTrue (state S.Store conn.old).is_open
-        → WasOpen (state S.Store conn.old) (state S.Store conn.new) result }
-    ensures survives { Survives (state S.Store conn.old) (state S.Store conn.new) (Never (state S.Store conn.old)) }
+    ensures reads { HasCleanDisk (state S.Store conn.new) → IsTrue (state S.Store conn.old).is_open
+        → OnlyReads (state S.Store conn.old) (state S.Store conn.new) result }
+    ensures survives { Survives (state S.Store conn.old) (state S.Store conn.new) Never }
 {
     match (certificate, concerned(message).department) {
         (Some(certificate), _) => {
@@ -81,9 +80,9 @@ fn with_department<S: Alter>(
         → Shows (λ s kept subject. certificate ≡ certificate_concerned s message.now → IsSubject subject s message.now)
         (state S.Store conn.old) (state S.Store conn.new) result }
     ensures lawful { IfOk result IsLawfulSubject }
-    ensures was_open { HasCleanDisk (state S.Store conn.new) → IsTrue (state S.Store conn.old).is_open
-        → WasOpen (state S.Store conn.old) (state S.Store conn.new) result }
-    ensures survives { Survives (state S.Store conn.old) (state S.Store conn.new) (Never (state S.Store conn.old)) }
+    ensures reads { HasCleanDisk (state S.Store conn.new) → IsTrue (state S.Store conn.old).is_open
+        → OnlyReads (state S.Store conn.old) (state S.Store conn.new) result }
+    ensures survives { Survives (state S.Store conn.old) (state S.Store conn.new) Never }
 {
     match department_of(alloc, conn, message, certificate.as_ref()) {
         Ok(department) => Ok(Subject {
@@ -104,10 +103,9 @@ pub(crate) fn subject_of<S: Alter>(
         → Shows (λ s kept subject. IsOfHistory s kept → IsSubject subject s message.now)
         (state S.Store conn.old) (state S.Store conn.new) result }
     ensures lawful { IfOk result IsLawfulSubject }
-    ensures was_open { HasCleanDisk (state S.Store conn.new) → IsTrue (state S.Store conn.old).is_open
-        → WasOpen (state S.Store conn.old) (state S.Store conn.new) result }
-    ensures survives { Survives (state S.Store conn.old) (state S.Store conn.new)
-        (NeverWhereOpen (state S.Store conn.old)) }
+    ensures reads { HasCleanDisk (state S.Store conn.new) → IsTrue (state S.Store conn.old).is_open
+        → OnlyReads (state S.Store conn.old) (state S.Store conn.new) result }
+    ensures survives { Survives (state S.Store conn.old) (state S.Store conn.new) Never }
 {
     match certificate_of(alloc, conn, message) {
         Ok(certificate) => with_department(alloc, conn, message, certificate),

@@ -25,10 +25,10 @@ returns-in-Ok-clause-shows g c clean =
     c.read_each.result (c.in-Ok.ensures.finds clean) (c.in-Ok.ensures.sorted clean)
     (rw c.as_slice.ensures.value at c.read_each.ensures)
 
-pub returns-in-Ok-clause-was_open : goal.returns-in-Ok-clause-was_open
-returns-in-Ok-clause-was_open g c clean =
+pub returns-in-Ok-clause-reads : goal.returns-in-Ok-clause-reads
+returns-in-Ok-clause-reads g c clean =
     asked (state g.S.Store c.args.conn.now) (state g.S.Store c.every_department.new.conn)
-    (c.in-Ok.ensures.was_open clean) c.read_each.result
+    (c.in-Ok.ensures.reads clean) c.read_each.result
 
 pub returns-in-Err-clause-shows : goal.returns-in-Err-clause-shows
 returns-in-Err-clause-shows g c clean s kept lawful means =

@@ -1,4 +1,5 @@
 use Rattle.sqlite.specs.Held.{state}
+use Rattle.tables.proofs.FirstTable.{means_offices}
 use Rattle.rows.specs.Rows.{contents_of}
 use Rattle.rows.proofs.OneOffice.{shows_office}
 use Rattle.rows.proofs.Sorting.{asked}
@@ -7,14 +8,17 @@ use Rattle.rows.proofs.office_rows.read_office.Goals as goal
 pub returns-in-Ok-clause-shows : goal.returns-in-Ok-clause-shows
 returns-in-Ok-clause-shows g c clean =
     shows_office (state g.S.Store c.args.conn.now) (state g.S.Store c.every_office.new.conn)
-    c.in-Ok.rows.items c.only_office.result (c.in-Ok.ensures.finds clean)
+    c.in-Ok.rows.items c.only_office.result
+    (λ con means. c.in-Ok.ensures.finds clean con.offices (means_offices (state g.S.Store c.args.conn.now).now con means))
     (rw c.as_slice.ensures.value at c.only_office.ensures)
 
-pub returns-in-Ok-clause-was_open : goal.returns-in-Ok-clause-was_open
-returns-in-Ok-clause-was_open g c clean =
+pub returns-in-Ok-clause-reads : goal.returns-in-Ok-clause-reads
+returns-in-Ok-clause-reads g c clean =
     asked (state g.S.Store c.args.conn.now) (state g.S.Store c.every_office.new.conn)
-    (c.in-Ok.ensures.was_open clean) c.only_office.result
+    (c.in-Ok.ensures.reads clean) c.only_office.result
 
 pub returns-in-Err-clause-shows : goal.returns-in-Err-clause-shows
 returns-in-Err-clause-shows g c clean s kept lawful means =
-    (c.in-Err.ensures.finds clean (contents_of s kept) means, c.in-Err.ensures.fault clean (contents_of s kept) means)
+    let con = contents_of s kept in
+    let has = means_offices (state g.S.Store c.args.conn.now).now con means in
+    (c.in-Err.ensures.finds clean con.offices has, c.in-Err.ensures.fault clean con.offices has)

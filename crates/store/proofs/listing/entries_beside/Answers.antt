@@ -6,7 +6,7 @@ use Rattle.rows.proofs.Sorting.{asked}
 use Rattle.office.specs.Publication.{entry_of}
 use Rattle.office.specs.declared.certificate.Certificate.{Certificate}
 use Rattle.store.specs.Revocations.{state_with}
-use Rattle.store.proofs.Reading.{never, shows_made, shows_office}
+use Rattle.store.proofs.Reading.{shows_made, shows_office}
 use Rattle.store.proofs.listing.entries_beside.Goals as goal
 
 pub returns-in-Ok-clause-shows : goal.returns-in-Ok-clause-shows
@@ -19,17 +19,11 @@ returns-in-Ok-clause-shows g c clean =
     (λ o l rows history same is. is ∙ ap (λ (cs : List Certificate). map (entry_of (state_with c.args.revocations.now)) cs) same)
     (shows_office (λ s kept (rows : Vec Certificate Global). rows.items ≡ s.certificates) old new (Ok c.in-Ok.certificates) (c.in-Ok.ensures.shows clean))
 
-pub returns-in-Ok-clause-was_open : goal.returns-in-Ok-clause-was_open
-returns-in-Ok-clause-was_open g c clean =
-    asked (state g.S.Store c.args.conn.now) (state g.S.Store c.read_certificates.new.conn) (c.in-Ok.ensures.was_open clean) c.made.result
-
-pub returns-in-Ok-clause-survives : goal.returns-in-Ok-clause-survives
-returns-in-Ok-clause-survives g c = never (state g.S.Store c.args.conn.now) (state g.S.Store c.read_certificates.new.conn) c.read_certificates.ensures.survives
+pub returns-in-Ok-clause-reads : goal.returns-in-Ok-clause-reads
+returns-in-Ok-clause-reads g c clean =
+    asked (state g.S.Store c.args.conn.now) (state g.S.Store c.read_certificates.new.conn) (c.in-Ok.ensures.reads clean) c.made.result
 
 pub returns-in-Err-clause-shows : goal.returns-in-Err-clause-shows
 returns-in-Err-clause-shows g c clean =
     shows_office (λ s kept (rows : Vec Certificate Global). rows.items ≡ s.certificates) (state g.S.Store c.args.conn.now) (state g.S.Store c.read_certificates.new.conn) (Err c.in-Err.fault)
     (c.in-Err.ensures.shows clean)
-
-pub returns-in-Err-clause-survives : goal.returns-in-Err-clause-survives
-returns-in-Err-clause-survives g c = never (state g.S.Store c.args.conn.now) (state g.S.Store c.read_certificates.new.conn) c.read_certificates.ensures.survives

@@ -1,14 +1,14 @@
 use Rattle.std.proofs.Common.{◌≡◌, map, ◌∙◌, arith}
 use Rattle.sqlite.specs.Held.{state}
 use Rattle.sqlite.specs.State.{HasCleanDisk}
-use Rattle.tables.proofs.Staying.{reads_then as open_then}
-use Rattle.store.specs.Showing.{Never}
+use Rattle.tables.proofs.Staying.{never_then, reads_then}
+use Rattle.tables.specs.Calls.{Never}
 use Rattle.office.specs.Publication.{entries_of, entry_of}
 use Rattle.office.specs.History.{state as after}
 use Rattle.store.specs.Revocations.{AreRevokedOf, state_with}
 use Rattle.krl.specs.Sets.{contains}
 use Rattle.office.proofs.Listed.{entries_shown}
-use Rattle.store.proofs.Reading.{reads_then, shows_then}
+use Rattle.store.proofs.Reading.{shows_then}
 use Rattle.store.proofs.listing.read_entries.Goals as goal
 
 pub returns-in-Ok-clause-shows : goal.returns-in-Ok-clause-shows
@@ -19,24 +19,20 @@ returns-in-Ok-clause-shows g c clean =
     let still : HasCleanDisk mid = omega (arith, c.entries_beside.ensures.survives.clean) in
     shows_then (λ s kept r. AreRevokedOf r s)
     (λ s kept rows. rows.items ≡ map (entry_of (state_with c.in-Ok.revocations)) s.certificates)
-    (λ s kept rows. rows.items ≡ entries_of s) old mid new c.in-Ok.revocations c.entries_beside.result (Never old)
+    (λ s kept rows. rows.items ≡ entries_of s) old mid new c.in-Ok.revocations c.entries_beside.result Never
     c.read_revocations.ensures.survives
     (λ o l rows history of is. is ∙ entries_shown (contains c.in-Ok.revocations.serials) c.in-Ok.revocations.key_ids.items (after o l) of.serials of.key_ids)
     (c.in-Ok.ensures.shows still)
     (c.entries_beside.ensures.shows clean)
 
-pub returns-in-Ok-clause-was_open : goal.returns-in-Ok-clause-was_open
-returns-in-Ok-clause-was_open g c clean =
+pub returns-in-Ok-clause-reads : goal.returns-in-Ok-clause-reads
+returns-in-Ok-clause-reads g c clean =
     let mid = state g.S.Store c.read_revocations.new.conn in
     let still : HasCleanDisk mid = omega (arith, c.entries_beside.ensures.survives.clean) in
-    open_then (state g.S.Store c.args.conn.now) mid (state g.S.Store c.entries_beside.new.conn) c.in-Ok.revocations c.entries_beside.result
-    (c.in-Ok.ensures.was_open still) (λ _. c.entries_beside.ensures.was_open clean)
+    reads_then (state g.S.Store c.args.conn.now) mid (state g.S.Store c.entries_beside.new.conn) c.in-Ok.revocations c.entries_beside.result
+    (c.in-Ok.ensures.reads still) (λ _. c.entries_beside.ensures.reads clean)
 
 pub returns-in-Ok-clause-survives : goal.returns-in-Ok-clause-survives
 returns-in-Ok-clause-survives g c =
-    let old = state g.S.Store c.args.conn.now in
-    let mid = state g.S.Store c.read_revocations.new.conn in
-    let new = state g.S.Store c.entries_beside.new.conn in
-    reads_then (λ s kept r. AreRevokedOf r s) old mid new c.in-Ok.revocations
-    (λ clean. (c.in-Ok.ensures.shows clean))
+    never_then (state g.S.Store c.args.conn.now) (state g.S.Store c.read_revocations.new.conn) (state g.S.Store c.entries_beside.new.conn)
     c.read_revocations.ensures.survives c.entries_beside.ensures.survives

@@ -1,13 +1,13 @@
 use Rattle.std.proofs.Common.{◌≡◌, ℕ, List, Ok, Err, ap, ◌∙◌, arith}
 use Rattle.sqlite.specs.Held.{state}
 use Rattle.sqlite.specs.State.{HasCleanDisk}
-use Rattle.tables.proofs.Staying.{reads_then as open_then}
-use Rattle.store.specs.Showing.{Never}
+use Rattle.tables.proofs.Staying.{never_then, reads_then}
+use Rattle.tables.specs.Calls.{Never}
 use Rattle.krl.specs.declared.run.Run.{Run}
 use Rattle.krl.specs.Sets.{contains}
 use Rattle.store.specs.Revocations.{AreRevokedOf}
 use Rattle.store.proofs.Histories.{shows_serials}
-use Rattle.store.proofs.Reading.{never, reads_then, shows_then}
+use Rattle.store.proofs.Reading.{shows_then}
 use Rattle.store.proofs.listing.read_revocations.Goals as goal
 
 pub returns-in-Ok-clause-shows : goal.returns-in-Ok-clause-shows
@@ -18,32 +18,25 @@ returns-in-Ok-clause-shows g c clean =
     let still : HasCleanDisk mid = omega (arith, c.with_key_ids.ensures.survives.clean) in
     shows_then (λ s kept runs. (n : ℕ) → contains runs n ≡ s.revoked n)
     (λ s kept r. (r.serials ≡ c.in-Ok.serials) × (r.key_ids.items ≡ s.revoked_key_ids))
-    (λ s kept r. AreRevokedOf r s) old mid new c.in-Ok.serials c.with_key_ids.result (Never old)
-    (never old mid c.revoked_runs.ensures.survives)
+    (λ s kept r. AreRevokedOf r s) old mid new c.in-Ok.serials c.with_key_ids.result Never
+    c.revoked_runs.ensures.survives
     (λ o l r history first rest. record { serials = λ n. ap (λ (rs : List Run). contains rs n) rest.0 ∙ first n; key_ids = rest.1 })
     (shows_serials old mid (Ok c.in-Ok.serials) (c.in-Ok.ensures.shows still))
     (c.with_key_ids.ensures.shows clean)
 
-pub returns-in-Ok-clause-was_open : goal.returns-in-Ok-clause-was_open
-returns-in-Ok-clause-was_open g c clean =
+pub returns-in-Ok-clause-reads : goal.returns-in-Ok-clause-reads
+returns-in-Ok-clause-reads g c clean =
     let mid = state g.S.Store c.revoked_runs.new.conn in
     let still : HasCleanDisk mid = omega (arith, c.with_key_ids.ensures.survives.clean) in
-    open_then (state g.S.Store c.args.conn.now) mid (state g.S.Store c.with_key_ids.new.conn) c.in-Ok.serials c.with_key_ids.result
-    (c.in-Ok.ensures.was_open still) (λ _. c.with_key_ids.ensures.was_open clean)
+    reads_then (state g.S.Store c.args.conn.now) mid (state g.S.Store c.with_key_ids.new.conn) c.in-Ok.serials c.with_key_ids.result
+    (c.in-Ok.ensures.reads still) (λ _. c.with_key_ids.ensures.reads clean)
 
 pub returns-in-Ok-clause-survives : goal.returns-in-Ok-clause-survives
 returns-in-Ok-clause-survives g c =
-    let old = state g.S.Store c.args.conn.now in
-    let mid = state g.S.Store c.revoked_runs.new.conn in
-    let new = state g.S.Store c.with_key_ids.new.conn in
-    reads_then (λ s kept runs. (n : ℕ) → contains runs n ≡ s.revoked n) old mid new c.in-Ok.serials
-    (λ clean. (shows_serials old mid (Ok c.in-Ok.serials) (c.in-Ok.ensures.shows clean)))
-    (never old mid c.revoked_runs.ensures.survives) c.with_key_ids.ensures.survives
+    never_then (state g.S.Store c.args.conn.now) (state g.S.Store c.revoked_runs.new.conn) (state g.S.Store c.with_key_ids.new.conn)
+    c.revoked_runs.ensures.survives c.with_key_ids.ensures.survives
 
 pub returns-in-Err-clause-shows : goal.returns-in-Err-clause-shows
 returns-in-Err-clause-shows g c clean =
     shows_serials (state g.S.Store c.args.conn.now) (state g.S.Store c.revoked_runs.new.conn) (Err c.in-Err.fault)
     (c.in-Err.ensures.shows clean)
-
-pub returns-in-Err-clause-survives : goal.returns-in-Err-clause-survives
-returns-in-Err-clause-survives g c = never (state g.S.Store c.args.conn.now) (state g.S.Store c.revoked_runs.new.conn) c.revoked_runs.ensures.survives

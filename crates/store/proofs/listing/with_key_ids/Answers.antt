@@ -3,7 +3,7 @@ use Rattle.std.specs.Prelude.{Vec}
 use Rattle.std.specs.declared.alloc.Global.{Global}
 use Rattle.sqlite.specs.Held.{state}
 use Rattle.store.specs.declared.revocations.Revocations.{Revocations}
-use Rattle.store.proofs.Reading.{never, shows_of, shows_office}
+use Rattle.store.proofs.Reading.{shows_of, shows_office}
 use Rattle.store.proofs.listing.with_key_ids.Goals as goal
 
 pub returns-in-Ok-clause-shows : goal.returns-in-Ok-clause-shows
@@ -15,13 +15,7 @@ returns-in-Ok-clause-shows g c clean =
     (λ o l history same. (refl, same))
     (shows_office (λ s kept (ids : Vec (List ℕ) Global). ids.items ≡ s.revoked_key_ids) old new (Ok c.in-Ok.key_ids) (c.in-Ok.ensures.shows clean))
 
-pub returns-in-Ok-clause-survives : goal.returns-in-Ok-clause-survives
-returns-in-Ok-clause-survives g c = never (state g.S.Store c.args.conn.now) (state g.S.Store c.read_key_ids.new.conn) c.read_key_ids.ensures.survives
-
 pub returns-in-Err-clause-shows : goal.returns-in-Err-clause-shows
 returns-in-Err-clause-shows g c clean =
     shows_office (λ s kept (ids : Vec (List ℕ) Global). ids.items ≡ s.revoked_key_ids) (state g.S.Store c.args.conn.now)
     (state g.S.Store c.read_key_ids.new.conn) (Err c.in-Err.fault) (c.in-Err.ensures.shows clean)
-
-pub returns-in-Err-clause-survives : goal.returns-in-Err-clause-survives
-returns-in-Err-clause-survives g c = never (state g.S.Store c.args.conn.now) (state g.S.Store c.read_key_ids.new.conn) c.read_key_ids.ensures.survives

@@ -4,7 +4,7 @@ use Rattle.std.specs.declared.alloc.Global.{Global}
 use Rattle.sqlite.specs.Held.{state}
 use Rattle.office.specs.declared.ca.Ca.{Ca}
 use Rattle.rows.proofs.Sorting.{asked}
-use Rattle.store.proofs.Reading.{never, shows_office}
+use Rattle.store.proofs.Reading.{shows_office}
 use Rattle.store.proofs.Serving.{ordered_is, shows_ordered}
 use Rattle.store.proofs.publishing.read_serving_cas.Goals as goal
 
@@ -15,20 +15,14 @@ returns-in-Ok-clause-shows g c clean =
     shows_ordered old new c.in-Ok.cas c.ordered.result c.ordered.ensures
     (shows_office (λ s kept (cas : Vec Ca Global). cas.items ≡ s.cas) old new (Ok c.in-Ok.cas) (c.in-Ok.ensures.shows clean))
 
-pub returns-in-Ok-clause-was_open : goal.returns-in-Ok-clause-was_open
-returns-in-Ok-clause-was_open g c clean =
-    asked (state g.S.Store c.args.conn.now) (state g.S.Store c.read_cas.new.conn) (c.in-Ok.ensures.was_open clean) c.ordered.result
-
-pub returns-in-Ok-clause-survives : goal.returns-in-Ok-clause-survives
-returns-in-Ok-clause-survives g c = never (state g.S.Store c.args.conn.now) (state g.S.Store c.read_cas.new.conn) c.read_cas.ensures.survives
+pub returns-in-Ok-clause-reads : goal.returns-in-Ok-clause-reads
+returns-in-Ok-clause-reads g c clean =
+    asked (state g.S.Store c.args.conn.now) (state g.S.Store c.read_cas.new.conn) (c.in-Ok.ensures.reads clean) c.ordered.result
 
 pub returns-in-Err-clause-shows : goal.returns-in-Err-clause-shows
 returns-in-Err-clause-shows g c clean =
     shows_office (λ s kept (cas : Vec Ca Global). cas.items ≡ s.cas) (state g.S.Store c.args.conn.now) (state g.S.Store c.read_cas.new.conn)
     (Err c.in-Err.fault) (c.in-Err.ensures.shows clean)
-
-pub returns-in-Err-clause-survives : goal.returns-in-Err-clause-survives
-returns-in-Err-clause-survives g c = never (state g.S.Store c.args.conn.now) (state g.S.Store c.read_cas.new.conn) c.read_cas.ensures.survives
 
 pub returns-in-Ok-clause-ordered : goal.returns-in-Ok-clause-ordered
 returns-in-Ok-clause-ordered g c = ordered_is c.in-Ok.cas c.ordered.result c.ordered.ensures

@@ -19,7 +19,7 @@ returns-in-Ok-clause-shows g c clean =
     (λ o l revoked history of is. made_shown revoked c.args.head cas c.in-Ok.revocations (after o l) is of (revoked_is_issued o l))
     (c.in-Ok.ensures.shows clean)
 
-pub returns-in-Ok-clause-was_open : goal.returns-in-Ok-clause-was_open
-returns-in-Ok-clause-was_open g c clean =
-    asked (state g.S.Store c.args.conn.now) (state g.S.Store c.read_revocations.new.conn) (c.in-Ok.ensures.was_open clean)
+pub returns-in-Ok-clause-reads : goal.returns-in-Ok-clause-reads
+returns-in-Ok-clause-reads g c clean =
+    asked (state g.S.Store c.args.conn.now) (state g.S.Store c.read_revocations.new.conn) (c.in-Ok.ensures.reads clean)
     c.made.result

@@ -5,7 +5,7 @@ use Rattle.sqlite.specs.Held.{state}
 use Rattle.office.specs.declared.certificate.Certificate.{Certificate}
 use Rattle.office.specs.State.{body_of, certificate_of}
 use Rattle.store.proofs.Histories.{shows_of_history}
-use Rattle.store.proofs.Reading.{never, shows_of}
+use Rattle.store.proofs.Reading.{shows_of}
 use Rattle.store.proofs.serials.read_body_of.Goals as goal
 
 pub returns-in-Ok-clause-shows : goal.returns-in-Ok-clause-shows
@@ -17,13 +17,7 @@ returns-in-Ok-clause-shows g c clean =
     (λ o l history same. c.body_in.ensures ∙ ap (λ (x : Option Certificate). option_map (λ d. d.body) x) same)
     (shows_of_history (λ s kept found. found ≡ certificate_of s c.args.serial) old new (Ok c.in-Ok.found) (c.in-Ok.ensures.shows clean))
 
-pub returns-in-Ok-clause-survives : goal.returns-in-Ok-clause-survives
-returns-in-Ok-clause-survives g c = never (state g.S.Store c.args.conn.now) (state g.S.Store c.find_certificate.new.conn) c.find_certificate.ensures.survives
-
 pub returns-in-Err-clause-shows : goal.returns-in-Err-clause-shows
 returns-in-Err-clause-shows g c clean =
     shows_of_history (λ s kept found. found ≡ certificate_of s c.args.serial) (state g.S.Store c.args.conn.now)
     (state g.S.Store c.find_certificate.new.conn) (Err c.in-Err.fault) (c.in-Err.ensures.shows clean)
-
-pub returns-in-Err-clause-survives : goal.returns-in-Err-clause-survives
-returns-in-Err-clause-survives g c = never (state g.S.Store c.args.conn.now) (state g.S.Store c.find_certificate.new.conn) c.find_certificate.ensures.survives

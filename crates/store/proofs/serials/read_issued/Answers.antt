@@ -7,7 +7,7 @@ use Rattle.std.specs.Prelude.{Option}
 use Rattle.office.specs.State.{certificate_of}
 use Rattle.office.specs.Publication.{issued_of, issued_row}
 use Rattle.store.proofs.Histories.{shows_of_history}
-use Rattle.store.proofs.Reading.{never, shows_made}
+use Rattle.store.proofs.Reading.{shows_made}
 use Rattle.store.proofs.serials.read_issued.Goals as goal
 
 pub returns-in-Ok-clause-shows : goal.returns-in-Ok-clause-shows
@@ -20,17 +20,11 @@ returns-in-Ok-clause-shows g c clean =
     (λ o l issued history same is. is ∙ ap (λ (x : Option Certificate). option_map issued_row x) same)
     (shows_of_history (λ s kept found. found ≡ certificate_of s c.args.serial) old new (Ok c.in-Ok.found) (c.in-Ok.ensures.shows clean))
 
-pub returns-in-Ok-clause-was_open : goal.returns-in-Ok-clause-was_open
-returns-in-Ok-clause-was_open g c clean =
-    asked (state g.S.Store c.args.conn.now) (state g.S.Store c.find_certificate.new.conn) (c.in-Ok.ensures.was_open clean) c.made.result
-
-pub returns-in-Ok-clause-survives : goal.returns-in-Ok-clause-survives
-returns-in-Ok-clause-survives g c = never (state g.S.Store c.args.conn.now) (state g.S.Store c.find_certificate.new.conn) c.find_certificate.ensures.survives
+pub returns-in-Ok-clause-reads : goal.returns-in-Ok-clause-reads
+returns-in-Ok-clause-reads g c clean =
+    asked (state g.S.Store c.args.conn.now) (state g.S.Store c.find_certificate.new.conn) (c.in-Ok.ensures.reads clean) c.made.result
 
 pub returns-in-Err-clause-shows : goal.returns-in-Err-clause-shows
 returns-in-Err-clause-shows g c clean =
     shows_of_history (λ s kept found. found ≡ certificate_of s c.args.serial) (state g.S.Store c.args.conn.now) (state g.S.Store c.find_certificate.new.conn) (Err c.in-Err.fault)
     (c.in-Err.ensures.shows clean)
-
-pub returns-in-Err-clause-survives : goal.returns-in-Err-clause-survives
-returns-in-Err-clause-survives g c = never (state g.S.Store c.args.conn.now) (state g.S.Store c.find_certificate.new.conn) c.find_certificate.ensures.survives

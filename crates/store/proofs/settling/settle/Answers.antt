@@ -31,7 +31,7 @@ returns-in-Ok-clause-fails g c clean =
     let new = state g.S.Store c.settle_beside.new.conn in
     let still : HasCleanDisk mid = omega (arith, c.settle_beside.ensures.survives.clean) in
     fails_after (λ s kept found. found ≡ find (is_for a.caller a.key) kept) IsAny (IsFound a c.in-Ok.found) c.in-Ok.found
-    (λ p history any is. is) old mid a new (Never old) c.settle_beside.result
+    (λ p history any is. is) old mid a new Never c.settle_beside.result
     (shows_of_history (λ s kept found. found ≡ find (is_for a.caller a.key) kept) old mid (Ok c.in-Ok.found)
     (rw (c.as_slice.ensures, c.as_slice-2.ensures) at c.in-Ok.ensures.shows still))
     c.kept_for.ensures.survives still c.settle_beside.ensures.survives.counts (c.settle_beside.ensures.fails clean)
@@ -76,10 +76,10 @@ returns-in-Ok-clause-stays g c clean =
     let mid = state g.S.Store c.kept_for.new.conn in
     let new = state g.S.Store c.settle_beside.new.conn in
     let still : HasCleanDisk mid = omega (arith, c.settle_beside.ensures.survives.clean) in
-    stays_then old mid new c.in-Ok.found c.settle_beside.result (reads_stay old mid (Ok c.in-Ok.found) (c.in-Ok.ensures.was_open still))
+    stays_then old mid new c.in-Ok.found c.settle_beside.result (reads_stay old mid (Ok c.in-Ok.found) (c.in-Ok.ensures.reads still))
     (c.settle_beside.ensures.stays clean)
 
 pub returns-in-Err-clause-stays : goal.returns-in-Err-clause-stays
 returns-in-Err-clause-stays g c clean =
     reads_stay {X = Outcome} (state g.S.Store c.args.conn.now) (state g.S.Store c.kept_for.new.conn) (Err c.in-Err.fault)
-    (c.in-Err.ensures.was_open clean)
+    (c.in-Err.ensures.reads clean)

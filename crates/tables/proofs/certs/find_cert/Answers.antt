@@ -1,5 +1,5 @@
 use Rattle.sqlite.specs.Held.{state}
-use Rattle.tables.proofs.CallLemmas.{find_one, find_one_fails, find_one_open, find_survives}
+use Rattle.tables.proofs.CallLemmas.{find_one, find_one_fails, find_one_reads, find_survives}
 use Rattle.tables.proofs.CertTable.{find}
 use Rattle.tables.proofs.certs.find_cert.Goals as goal
 
@@ -12,7 +12,7 @@ returns g c =
     record {
       finds = λ clean. find_one query old new c.query_all.result (rw c.value.ensures.is at (q.ok clean))
           (rw c.value.ensures.is at (q.err clean)) c.found_first.result c.found_first.ensures;
-      was_open = λ clean. find_one_open query old new c.query_all.result (rw c.value.ensures.is at (q.ok clean))
+      reads = λ clean. find_one_reads query old new c.query_all.result (rw c.value.ensures.is at (q.ok clean))
           (rw c.value.ensures.is at (q.err clean)) c.found_first.result c.found_first.ensures;
       fault = λ clean. find_one_fails query old new c.query_all.result (rw c.value.ensures.is at (q.ok clean))
           (rw c.value.ensures.is at (q.err clean)) c.found_first.result c.found_first.ensures;

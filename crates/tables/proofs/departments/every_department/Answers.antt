@@ -2,7 +2,7 @@ use Rattle.std.proofs.Common.{nat_cmp}
 use Rattle.std.specs.Cmp.Lexicographic.{slice_cmp}
 use Rattle.tables.specs.declared.departments.DepartmentRow.{DepartmentRow}
 use Rattle.sqlite.specs.Held.{state}
-use Rattle.tables.proofs.CallLemmas.{find_all, find_all_fails, find_all_open, find_survives}
+use Rattle.tables.proofs.CallLemmas.{find_all, find_all_fails, find_all_reads, find_survives}
 use Rattle.tables.proofs.Rising.{find_sorted, text_cmp}
 use Rattle.tables.proofs.DepartmentTable.{every, every_rises}
 use Rattle.tables.proofs.departments.every_department.Goals as goal
@@ -18,7 +18,7 @@ returns g c =
           c.found.ensures;
       sorted = λ clean. find_sorted query 0 (λ (d : DepartmentRow). d.name) (slice_cmp nat_cmp) every_rises
           (λ x y. text_cmp x.name y.name) old new c.query_all.result (q.ok clean) c.found.result c.found.ensures;
-      was_open = λ clean. find_all_open query old new c.query_all.result (q.ok clean) (q.err clean) c.found.result
+      reads = λ clean. find_all_reads query old new c.query_all.result (q.ok clean) (q.err clean) c.found.result
           c.found.ensures;
       fault = λ clean. find_all_fails query old new c.query_all.result (q.ok clean) (q.err clean) c.found.result
           c.found.ensures;

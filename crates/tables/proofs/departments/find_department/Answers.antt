@@ -1,5 +1,5 @@
 use Rattle.sqlite.specs.Held.{state}
-use Rattle.tables.proofs.CallLemmas.{find_one, find_one_fails, find_one_open, find_survives}
+use Rattle.tables.proofs.CallLemmas.{find_one, find_one_fails, find_one_reads, find_survives}
 use Rattle.tables.proofs.DepartmentTable.{find}
 use Rattle.tables.proofs.departments.find_department.Goals as goal
 
@@ -12,7 +12,7 @@ returns g c =
     record {
       finds = λ clean. find_one query old new c.query_all.result (q.ok clean) (q.err clean) c.found_first.result
           c.found_first.ensures;
-      was_open = λ clean. find_one_open query old new c.query_all.result (q.ok clean) (q.err clean) c.found_first.result
+      reads = λ clean. find_one_reads query old new c.query_all.result (q.ok clean) (q.err clean) c.found_first.result
           c.found_first.ensures;
       fault = λ clean. find_one_fails query old new c.query_all.result (q.ok clean) (q.err clean) c.found_first.result
           c.found_first.ensures;

@@ -1,9 +1,9 @@
 use Rattle.std.proofs.Common.{nat_cmp}
 use Rattle.tables.specs.declared.offices.OfficeRow.{OfficeRow}
 use Rattle.sqlite.specs.Held.{state}
-use Rattle.tables.proofs.CallLemmas.{find_all, find_all_fails, find_all_open, find_survives}
+use Rattle.tables.proofs.CallLemmas.{find_all_reads, find_survives}
 use Rattle.tables.proofs.Rising.{find_sorted, number_cmp}
-use Rattle.tables.proofs.OfficeTable.{every, every_rises}
+use Rattle.tables.proofs.OfficeTable.{every, every_rises, offices_fail, offices_found}
 use Rattle.tables.proofs.offices.every_office.Goals as goal
 
 pub returns : goal.returns
@@ -13,13 +13,13 @@ returns g c =
     let query = every in
     let q = c.query_all.ensures in
     record {
-      finds = λ clean. find_all query old new c.query_all.result (q.ok clean) (q.err clean) c.found.result
+      finds = λ clean. offices_found old new c.query_all.result (q.ok clean) (q.err clean) c.found.result
           c.found.ensures;
       sorted = λ clean. find_sorted query 0 (λ (o : OfficeRow). o.id) (nat_cmp) every_rises
           (λ x y. number_cmp x.id y.id) old new c.query_all.result (q.ok clean) c.found.result c.found.ensures;
-      was_open = λ clean. find_all_open query old new c.query_all.result (q.ok clean) (q.err clean) c.found.result
+      reads = λ clean. find_all_reads query old new c.query_all.result (q.ok clean) (q.err clean) c.found.result
           c.found.ensures;
-      fault = λ clean. find_all_fails query old new c.query_all.result (q.ok clean) (q.err clean) c.found.result
+      fault = λ clean. offices_fail old new c.query_all.result (q.ok clean) (q.err clean) c.found.result
           c.found.ensures;
       survives = find_survives query old new (q.survives);
     }

@@ -1,7 +1,7 @@
 use Rattle.std.proofs.Common.{nat_cmp, List, ℕ}
 use Rattle.std.specs.Cmp.Lexicographic.{slice_cmp}
 use Rattle.sqlite.specs.Held.{state}
-use Rattle.tables.proofs.CallLemmas.{find_all, find_all_fails, find_all_open, find_survives}
+use Rattle.tables.proofs.CallLemmas.{find_all, find_all_fails, find_all_reads, find_survives}
 use Rattle.tables.proofs.Rising.{find_sorted, text_cmp}
 use Rattle.tables.proofs.RevokedTable.{every, every_rises}
 use Rattle.tables.proofs.revoked.every_revoked.Goals as goal
@@ -17,7 +17,7 @@ returns g c =
           c.found.ensures;
       sorted = λ clean. find_sorted query 0 (λ (k : List ℕ). k) (slice_cmp nat_cmp) every_rises (λ x y. text_cmp x y)
           old new c.query_all.result (q.ok clean) c.found.result c.found.ensures;
-      was_open = λ clean. find_all_open query old new c.query_all.result (q.ok clean) (q.err clean) c.found.result
+      reads = λ clean. find_all_reads query old new c.query_all.result (q.ok clean) (q.err clean) c.found.result
           c.found.ensures;
       fault = λ clean. find_all_fails query old new c.query_all.result (q.ok clean) (q.err clean) c.found.result
           c.found.ensures;

@@ -1,7 +1,7 @@
 use Rattle.std.proofs.Common.{nat_cmp}
 use Rattle.tables.specs.declared.runs.RunRow.{RunRow}
 use Rattle.sqlite.specs.Held.{state}
-use Rattle.tables.proofs.CallLemmas.{find_all, find_all_fails, find_all_open, find_survives}
+use Rattle.tables.proofs.CallLemmas.{find_all, find_all_fails, find_all_reads, find_survives}
 use Rattle.tables.proofs.Rising.{find_sorted, number_cmp}
 use Rattle.tables.proofs.RunTable.{every, every_rises}
 use Rattle.tables.proofs.runs.every_run.Goals as goal
@@ -17,7 +17,7 @@ returns g c =
           c.found.ensures;
       sorted = λ clean. find_sorted query 0 (λ (r : RunRow). r.lo) (nat_cmp) every_rises (λ x y. number_cmp x.lo y.lo)
           old new c.query_all.result (q.ok clean) c.found.result c.found.ensures;
-      was_open = λ clean. find_all_open query old new c.query_all.result (q.ok clean) (q.err clean) c.found.result
+      reads = λ clean. find_all_reads query old new c.query_all.result (q.ok clean) (q.err clean) c.found.result
           c.found.ensures;
       fault = λ clean. find_all_fails query old new c.query_all.result (q.ok clean) (q.err clean) c.found.result
           c.found.ensures;

@@ -1,6 +1,6 @@
 use Rattle.sqlite.specs.Held.{state}
 use Rattle.tables.specs.Runs.{last_run}
-use Rattle.tables.proofs.CallLemmas.{find_one, find_one_fails, find_one_open, find_survives}
+use Rattle.tables.proofs.CallLemmas.{find_one, find_one_fails, find_one_reads, find_survives}
 use Rattle.tables.proofs.LastRun.{its_one}
 use Rattle.tables.proofs.RunTable.{last}
 use Rattle.tables.proofs.runs.last_run.Goals as goal
@@ -15,7 +15,7 @@ returns g c =
       finds = λ clean. its_one (last_run c.args.serial) old new c.found_first.result (find_one query old new
           c.query_all.result (rw c.value.ensures.is at (q.ok clean)) (rw c.value.ensures.is at (q.err clean))
           c.found_first.result c.found_first.ensures);
-      was_open = λ clean. find_one_open query old new c.query_all.result (rw c.value.ensures.is at (q.ok clean))
+      reads = λ clean. find_one_reads query old new c.query_all.result (rw c.value.ensures.is at (q.ok clean))
           (rw c.value.ensures.is at (q.err clean)) c.found_first.result c.found_first.ensures;
       fault = λ clean. find_one_fails query old new c.query_all.result (rw c.value.ensures.is at (q.ok clean))
           (rw c.value.ensures.is at (q.err clean)) c.found_first.result c.found_first.ensures;

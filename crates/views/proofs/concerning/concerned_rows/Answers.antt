@@ -5,8 +5,8 @@ use Rattle.tables.specs.Calls.{Never}
 use Rattle.rows.specs.Offices.{IsOfficeOf}
 use Rattle.views.specs.Concerning.{AreConcerned}
 use Rattle.views.specs.Histories.{IsOfHistory}
-use Rattle.views.proofs.Showing.{never_of_office, reads_then, shows_then, where_open}
-use Rattle.tables.proofs.Staying.{reads_then as asked_then}
+use Rattle.views.proofs.Showing.{shows_then}
+use Rattle.tables.proofs.Staying.{never_then, reads_then}
 use Rattle.views.proofs.concerning.concerned_rows.Goals as goal
 
 pub returns-in-Ok-clause-shows : goal.returns-in-Ok-clause-shows
@@ -19,24 +19,17 @@ returns-in-Ok-clause-shows g c clean =
     shows_then (λ s kept office. IsOfficeOf office s)
     (λ s kept rows. IsOfHistory s kept → IsOfficeOf c.in-Ok.office s → AreConcerned rows s m)
     (λ s kept rows. IsOfHistory s kept → AreConcerned rows s m) old mid new c.in-Ok.office c.with_office.result
-    (Never old) c.lawful_office.ensures.survives (λ s kept y lawful first rest history. rest history first)
+    Never c.lawful_office.ensures.survives (λ s kept y lawful first rest history. rest history first)
     (c.in-Ok.ensures.shows still) (λ is_open. c.with_office.ensures.shows clean)
 
 pub returns-in-Ok-clause-survives : goal.returns-in-Ok-clause-survives
 returns-in-Ok-clause-survives g c =
-    let mid = state g.S.Store c.lawful_office.new.conn in
-    let new = state g.S.Store c.with_office.new.conn in
-    reads_then (λ s kept office. IsOfficeOf office s) (state g.S.Store c.args.conn.now) mid new c.in-Ok.office
-    c.in-Ok.ensures.shows c.lawful_office.ensures.survives (where_open mid new c.with_office.ensures.survives)
+    never_then (state g.S.Store c.args.conn.now) (state g.S.Store c.lawful_office.new.conn) (state g.S.Store c.with_office.new.conn)
+    c.lawful_office.ensures.survives c.with_office.ensures.survives
 
-pub returns-in-Err-clause-survives : goal.returns-in-Err-clause-survives
-returns-in-Err-clause-survives g c =
-    never_of_office (state g.S.Store c.args.conn.now) (state g.S.Store c.lawful_office.new.conn)
-    c.lawful_office.ensures.survives
-
-pub returns-in-Ok-clause-was_open : goal.returns-in-Ok-clause-was_open
-returns-in-Ok-clause-was_open g c clean =
+pub returns-in-Ok-clause-reads : goal.returns-in-Ok-clause-reads
+returns-in-Ok-clause-reads g c clean =
     let mid = state g.S.Store c.lawful_office.new.conn in
     let still : HasCleanDisk mid = omega (arith, c.with_office.ensures.survives.clean) in
-    asked_then (state g.S.Store c.args.conn.now) mid (state g.S.Store c.with_office.new.conn) c.in-Ok.office c.with_office.result
-    (c.in-Ok.ensures.was_open still) (λ _. c.with_office.ensures.was_open clean)
+    reads_then (state g.S.Store c.args.conn.now) mid (state g.S.Store c.with_office.new.conn) c.in-Ok.office c.with_office.result
+    (c.in-Ok.ensures.reads still) (λ _. c.with_office.ensures.reads clean)

@@ -3,10 +3,10 @@ use Rattle.sqlite.specs.Held.{state}
 use Rattle.sqlite.specs.State.{HasCleanDisk}
 use Rattle.rows.specs.Offices.{IsOfficeOf}
 use Rattle.views.specs.Concerning.{AreConcerned, IsSubject}
-use Rattle.views.specs.Finding.{NeverWhereOpen}
+use Rattle.tables.specs.Calls.{Never}
 use Rattle.views.specs.Histories.{IsOfHistory}
-use Rattle.views.proofs.Showing.{reads_then_where_open, shows_then}
-use Rattle.tables.proofs.Staying.{reads_then}
+use Rattle.views.proofs.Showing.{shows_then}
+use Rattle.tables.proofs.Staying.{never_then, reads_then}
 use Rattle.views.proofs.concerning.with_cas.Goals as goal
 
 pub returns-in-Ok-clause-shows : goal.returns-in-Ok-clause-shows
@@ -20,20 +20,18 @@ returns-in-Ok-clause-shows g c clean is_open =
     (λ s kept rows. IsOfHistory s kept → IsOfficeOf c.args.office s → c.args.cas.items ≡ s.cas
     → IsSubject c.in-Ok.subject s m → AreConcerned rows s m)
     (λ s kept rows. IsOfHistory s kept → IsOfficeOf c.args.office s → c.args.cas.items ≡ s.cas → AreConcerned rows s m)
-    old mid new c.in-Ok.subject c.with_subject.result (NeverWhereOpen old) c.subject_of.ensures.survives
+    old mid new c.in-Ok.subject c.with_subject.result Never c.subject_of.ensures.survives
     (λ s kept y lawful first rest history office cas. rest history office cas (first history))
     (c.in-Ok.ensures.shows still is_open) (c.with_subject.ensures.shows clean)
 
 pub returns-in-Ok-clause-survives : goal.returns-in-Ok-clause-survives
 returns-in-Ok-clause-survives g c =
-    let m = c.args.message.now in
-    reads_then_where_open (λ s kept subject. IsOfHistory s kept → IsSubject subject s m)
-    (state g.S.Store c.args.conn.now) (state g.S.Store c.subject_of.new.conn) (state g.S.Store c.with_subject.new.conn)
-    c.in-Ok.subject c.in-Ok.ensures.shows c.subject_of.ensures.survives c.with_subject.ensures.survives
+    never_then (state g.S.Store c.args.conn.now) (state g.S.Store c.subject_of.new.conn) (state g.S.Store c.with_subject.new.conn)
+    c.subject_of.ensures.survives c.with_subject.ensures.survives
 
-pub returns-in-Ok-clause-was_open : goal.returns-in-Ok-clause-was_open
-returns-in-Ok-clause-was_open g c clean is_open =
+pub returns-in-Ok-clause-reads : goal.returns-in-Ok-clause-reads
+returns-in-Ok-clause-reads g c clean is_open =
     let mid = state g.S.Store c.subject_of.new.conn in
     let still : HasCleanDisk mid = omega (arith, c.with_subject.ensures.survives.clean) in
     reads_then (state g.S.Store c.args.conn.now) mid (state g.S.Store c.with_subject.new.conn) c.in-Ok.subject c.with_subject.result
-    (c.in-Ok.ensures.was_open still is_open) (c.with_subject.ensures.was_open clean)
+    (c.in-Ok.ensures.reads still is_open) (c.with_subject.ensures.reads clean)

@@ -15,10 +15,10 @@ returns-in-Ok-clause-shows g c clean =
     (state g.S.Store c.args.conn.now) (state g.S.Store c.find_department.new.conn) c.in-Ok.found c.read_found.result
     (c.in-Ok.ensures.finds clean) c.read_found.ensures.exact
 
-pub returns-in-Ok-clause-was_open : goal.returns-in-Ok-clause-was_open
-returns-in-Ok-clause-was_open g c clean =
+pub returns-in-Ok-clause-reads : goal.returns-in-Ok-clause-reads
+returns-in-Ok-clause-reads g c clean =
     asked (state g.S.Store c.args.conn.now) (state g.S.Store c.find_department.new.conn)
-    (c.in-Ok.ensures.was_open clean) c.read_found.result
+    (c.in-Ok.ensures.reads clean) c.read_found.result
 
 pub returns-in-Err-clause-shows : goal.returns-in-Err-clause-shows
 returns-in-Err-clause-shows g c clean s kept lawful means =

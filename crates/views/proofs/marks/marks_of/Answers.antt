@@ -6,8 +6,8 @@ use Rattle.tables.specs.Calls.{Never}
 use Rattle.office.specs.Decided.{SaysRevoked, certificate_concerned}
 use Rattle.views.specs.Concerning.{AreMarks}
 use Rattle.views.specs.Histories.{IsOfHistory}
-use Rattle.views.proofs.Showing.{never_where_open, reads_then_where_open, shows_then}
-use Rattle.tables.proofs.Staying.{reads_then}
+use Rattle.views.proofs.Showing.{shows_then}
+use Rattle.tables.proofs.Staying.{never_then, reads_then}
 use Rattle.views.proofs.marks.marks_of.Goals as goal
 
 pub returns-in-Ok-clause-shows : goal.returns-in-Ok-clause-shows
@@ -21,27 +21,18 @@ returns-in-Ok-clause-shows g c clean is_open =
     (λ s kept marks. option_copied c.args.certificate ≡ certificate_concerned s m → SaysRevoked c.in-Ok.is_revoked s m
     → AreMarks marks s m)
     (λ s kept marks. IsOfHistory s kept → option_copied c.args.certificate ≡ certificate_concerned s m
-    → AreMarks marks s m) old mid new c.in-Ok.is_revoked c.with_key_ids.result (Never old)
+    → AreMarks marks s m) old mid new c.in-Ok.is_revoked c.with_key_ids.result Never
     c.is_revoked.ensures.survives (λ s kept y lawful first rest history same. rest same (first history))
     (c.in-Ok.ensures.shows still is_open) (c.with_key_ids.ensures.shows clean)
 
 pub returns-in-Ok-clause-survives : goal.returns-in-Ok-clause-survives
 returns-in-Ok-clause-survives g c =
-    let m = c.args.message.now in
-    let old = state g.S.Store c.args.conn.now in
-    let mid = state g.S.Store c.is_revoked.new.conn in
-    let new = state g.S.Store c.with_key_ids.new.conn in
-    reads_then_where_open (λ s kept is. IsOfHistory s kept → SaysRevoked is s m) old mid new c.in-Ok.is_revoked
-    c.in-Ok.ensures.shows (never_where_open old mid c.is_revoked.ensures.survives) c.with_key_ids.ensures.survives
+    never_then (state g.S.Store c.args.conn.now) (state g.S.Store c.is_revoked.new.conn) (state g.S.Store c.with_key_ids.new.conn)
+    c.is_revoked.ensures.survives c.with_key_ids.ensures.survives
 
-pub returns-in-Err-clause-survives : goal.returns-in-Err-clause-survives
-returns-in-Err-clause-survives g c =
-    never_where_open (state g.S.Store c.args.conn.now) (state g.S.Store c.is_revoked.new.conn)
-    c.is_revoked.ensures.survives
-
-pub returns-in-Ok-clause-was_open : goal.returns-in-Ok-clause-was_open
-returns-in-Ok-clause-was_open g c clean is_open =
+pub returns-in-Ok-clause-reads : goal.returns-in-Ok-clause-reads
+returns-in-Ok-clause-reads g c clean is_open =
     let mid = state g.S.Store c.is_revoked.new.conn in
     let still : HasCleanDisk mid = omega (arith, c.with_key_ids.ensures.survives.clean) in
     reads_then (state g.S.Store c.args.conn.now) mid (state g.S.Store c.with_key_ids.new.conn) c.in-Ok.is_revoked c.with_key_ids.result
-    (c.in-Ok.ensures.was_open still is_open) (c.with_key_ids.ensures.was_open clean)
+    (c.in-Ok.ensures.reads still is_open) (c.with_key_ids.ensures.reads clean)

@@ -5,8 +5,8 @@ use Rattle.tables.specs.Calls.{Never}
 use Rattle.office.specs.Decided.{certificate_concerned}
 use Rattle.views.specs.Concerning.{IsSubject}
 use Rattle.views.specs.Histories.{IsOfHistory}
-use Rattle.views.proofs.Showing.{never_where_open, reads_then_where_open, shows_then}
-use Rattle.tables.proofs.Staying.{reads_then}
+use Rattle.views.proofs.Showing.{shows_then}
+use Rattle.tables.proofs.Staying.{never_then, reads_then}
 use Rattle.views.proofs.subject.subject_of.Goals as goal
 
 pub returns-in-Ok-clause-shows : goal.returns-in-Ok-clause-shows
@@ -19,28 +19,18 @@ returns-in-Ok-clause-shows g c clean is_open =
     shows_then (λ s kept found. IsOfHistory s kept → found ≡ certificate_concerned s m)
     (λ s kept subject. c.in-Ok.certificate ≡ certificate_concerned s m → IsSubject subject s m)
     (λ s kept subject. IsOfHistory s kept → IsSubject subject s m) old mid new c.in-Ok.certificate
-    c.with_department.result (Never old) c.certificate_of.ensures.survives
+    c.with_department.result Never c.certificate_of.ensures.survives
     (λ s kept y lawful first rest history. rest (first history)) (c.in-Ok.ensures.shows still is_open)
     (c.with_department.ensures.shows clean)
 
 pub returns-in-Ok-clause-survives : goal.returns-in-Ok-clause-survives
 returns-in-Ok-clause-survives g c =
-    let m = c.args.message.now in
-    let old = state g.S.Store c.args.conn.now in
-    let mid = state g.S.Store c.certificate_of.new.conn in
-    let new = state g.S.Store c.with_department.new.conn in
-    reads_then_where_open (λ s kept found. IsOfHistory s kept → found ≡ certificate_concerned s m) old mid new
-    c.in-Ok.certificate c.in-Ok.ensures.shows (never_where_open old mid c.certificate_of.ensures.survives)
-    (never_where_open mid new c.with_department.ensures.survives)
+    never_then (state g.S.Store c.args.conn.now) (state g.S.Store c.certificate_of.new.conn) (state g.S.Store c.with_department.new.conn)
+    c.certificate_of.ensures.survives c.with_department.ensures.survives
 
-pub returns-in-Err-clause-survives : goal.returns-in-Err-clause-survives
-returns-in-Err-clause-survives g c =
-    never_where_open (state g.S.Store c.args.conn.now) (state g.S.Store c.certificate_of.new.conn)
-    c.certificate_of.ensures.survives
-
-pub returns-in-Ok-clause-was_open : goal.returns-in-Ok-clause-was_open
-returns-in-Ok-clause-was_open g c clean is_open =
+pub returns-in-Ok-clause-reads : goal.returns-in-Ok-clause-reads
+returns-in-Ok-clause-reads g c clean is_open =
     let mid = state g.S.Store c.certificate_of.new.conn in
     let still : HasCleanDisk mid = omega (arith, c.with_department.ensures.survives.clean) in
     reads_then (state g.S.Store c.args.conn.now) mid (state g.S.Store c.with_department.new.conn) c.in-Ok.certificate c.with_department.result
-    (c.in-Ok.ensures.was_open still is_open) (c.with_department.ensures.was_open clean)
+    (c.in-Ok.ensures.reads still is_open) (c.with_department.ensures.reads clean)

@@ -51,7 +51,7 @@ returns-in-Ok-None-clause-fault g c clean =
     let still : HasCleanDisk mid = omega (arith, c.insert_revoked.ensures.survives.clean) in
     let key_id = c.args.key_id.now in
     let finds = rw c.as_slice.ensures at c.in-Ok-None.ensures.finds still in
-    fails_then Has Has (RefusesKeyId key_id) (RefusesChange 0 0 (change.KeyId key_id)) (λ d. d) (Never old) old mid new
+    fails_then Has Has (RefusesKeyId key_id) (RefusesChange 0 0 (change.KeyId key_id)) (λ d. d) Never old mid new
     c.insert_revoked.result (found_leads old mid (λ d means. (finds d means).0))
     (λ d means why.
     let none : list_any (is_key_id key_id) d.revoked ≡ false = none_found key_id d.revoked
@@ -69,10 +69,10 @@ returns-in-Ok-None-clause-stays g c clean =
     let mid = state g.S.Store c.find_revoked.new.conn in
     let new = state g.S.Store c.insert_revoked.new.conn in
     let still : HasCleanDisk mid = omega (arith, c.insert_revoked.ensures.survives.clean) in
-    stays_then {Y = Unit {0}} old mid new c.in-Ok-None.field-0 c.insert_revoked.result (reads_stay old mid (Ok c.in-Ok-None.field-0) (c.in-Ok-None.ensures.was_open still))
+    stays_then {Y = Unit {0}} old mid new c.in-Ok-None.field-0 c.insert_revoked.result (reads_stay old mid (Ok c.in-Ok-None.field-0) (c.in-Ok-None.ensures.reads still))
     (c.insert_revoked.ensures.stays clean)
 
 pub returns-in-Ok-Some-clause-stays : goal.returns-in-Ok-Some-clause-stays
 returns-in-Ok-Some-clause-stays g c clean =
     reads_stay {X = Unit {0}} (state g.S.Store c.args.conn.now) (state g.S.Store c.find_revoked.new.conn) (Ok tt)
-    (c.in-Ok-Some.ensures.was_open clean)
+    (c.in-Ok-Some.ensures.reads clean)

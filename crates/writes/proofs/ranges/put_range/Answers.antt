@@ -33,7 +33,7 @@ returns-in-Ok-clause-fault g c clean =
     let new = state g.S.Store c.put_from.new.conn in
     let still : HasCleanDisk mid = omega (arith, c.put_from.ensures.survives.clean) in
     let range = c.args.range in
-    fails_then Has Has (λ d. RefusesJoined (run_from c.joined_low.result range d) d) (RefusesRange range) (λ d. d) (Never old) old mid new c.put_from.result
+    fails_then Has Has (λ d. RefusesJoined (run_from c.joined_low.result range d) d) (RefusesRange range) (λ d. d) Never old mid new c.put_from.result
     (found_leads old mid (λ d means. (c.in-Ok.ensures.finds still d means).0))
     (λ d means why.
     let found = c.in-Ok.ensures.finds still d means in
@@ -48,10 +48,10 @@ returns-in-Ok-clause-stays g c clean =
     let mid = state g.S.Store c.last_run.new.conn in
     let new = state g.S.Store c.put_from.new.conn in
     let still : HasCleanDisk mid = omega (arith, c.put_from.ensures.survives.clean) in
-    stays_then old mid new c.in-Ok.found c.put_from.result (reads_stay old mid (Ok c.in-Ok.found) (c.in-Ok.ensures.was_open still))
+    stays_then old mid new c.in-Ok.found c.put_from.result (reads_stay old mid (Ok c.in-Ok.found) (c.in-Ok.ensures.reads still))
     (c.put_from.ensures.stays clean)
 
 pub returns-in-Err-clause-stays : goal.returns-in-Err-clause-stays
 returns-in-Err-clause-stays g c clean =
     reads_stay {X = Unit {0}} (state g.S.Store c.args.conn.now) (state g.S.Store c.last_run.new.conn) (Err c.in-Err.fault)
-    (c.in-Err.ensures.was_open clean)
+    (c.in-Err.ensures.reads clean)

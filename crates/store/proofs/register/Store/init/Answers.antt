@@ -12,15 +12,21 @@ use Rattle.views.proofs.Showing.{survives_still}
 use Rattle.store.specs.Creating.{RefusesOpening}
 use Rattle.store.proofs.Limits.{opening_fits}
 use Rattle.store.proofs.OfficeRows.{excused_unless}
+use Rattle.store.proofs.Telling.{left_committed}
 use Rattle.rows.proofs.Before.{same_before}
 use Rattle.store.proofs.register.Store.init.Goals as goal
 
 pub returns-in-Ok-clause-made : goal.returns-in-Ok-clause-made
-returns-in-Ok-clause-made g c clean blank = record {
-  history = record { office = record { opening = c.requires.lawful; version = omega arith }; nonces = tt };
-  unlimited = c.in-Ok.ensures.survives.limit ∙ c.requires.unlimited;
-  rows = λ _. ((c.in-Ok.ensures.ends clean).2 tt blank).1;
-}
+returns-in-Ok-clause-made g c clean blank =
+    let ends = c.in-Ok.ensures.ends clean in
+    let rests = (ends.2 tt blank).1 in
+    record {
+      history = record { office = record { opening = c.requires.lawful; version = omega arith }; nonces = tt };
+      unlimited = c.in-Ok.ensures.survives.limit ∙ c.requires.unlimited;
+      rows = λ _. rests;
+      left = left_committed (state g.S.Store c.create.new.conn) c.args.opening.now []
+          (λ trees may. g.met.S.Store.settled c.create.new.conn.store trees ends.1 may) rests;
+    }
 
 pub returns-in-Err-clause-blank : goal.returns-in-Err-clause-blank
 returns-in-Err-clause-blank g c clean blank still = (c.in-Err.ensures.ends clean still).1 tt blank

@@ -1,6 +1,7 @@
 use Rattle.std.proofs.Common.{refl, Err, Ok}
 use Rattle.sqlite.specs.Held.{state}
 use Rattle.tables.specs.Faults.{HasFailed}
+use Rattle.tables.proofs.FirstTable.{means_offices}
 use Rattle.rows.specs.Rows.{office_contents}
 use Rattle.store.specs.Meaning.{DiskFailed}
 use Rattle.store.proofs.OfficeRows.{looks_weaker, not_missed}
@@ -9,19 +10,21 @@ use Rattle.store.proofs.Telling.{looks_before}
 use Rattle.store.proofs.register.Store.open.Goals as goal
 
 pub returns-in-Err-clause-refused : goal.returns-in-Err-clause-refused
-returns-in-Err-clause-refused g c clean con means =
+returns-in-Err-clause-refused g c clean rows has =
     let old = state g.S.Store c.args.conn in
     let new = state g.S.Store c.look.new.conn in
-    looks_weaker con (HasFailed old new) (DiskFailed old new) (Err c.in-Err.fault) (disk_failed old new c.requires.unlimited)
-    (c.in-Err.ensures.looks clean con means)
+    looks_weaker rows (HasFailed old new) (DiskFailed old new) (Err c.in-Err.fault) (disk_failed old new c.requires.unlimited)
+    (c.in-Err.ensures.looks clean rows has)
 
 pub returns-in-Err-clause-only : goal.returns-in-Err-clause-only
 returns-in-Err-clause-only g c clean still o l tells =
     let old = state g.S.Store c.args.conn in
     let new = state g.S.Store c.look.new.conn in
-    not_missed (office_contents o l) (DiskFailed old new) c.in-Err.fault refl
-    (looks_weaker (office_contents o l) (HasFailed old new) (DiskFailed old new) (Err c.in-Err.fault)
-    (disk_failed old new c.requires.unlimited) (c.in-Err.ensures.looks clean (office_contents o l) (tells.rows still).now))
+    let con = office_contents o l in
+    not_missed con.offices (DiskFailed old new) c.in-Err.fault refl
+    (looks_weaker con.offices (HasFailed old new) (DiskFailed old new) (Err c.in-Err.fault)
+    (disk_failed old new c.requires.unlimited)
+    (c.in-Err.ensures.looks clean con.offices (means_offices old.now con (tells.rows still).now)))
 
 pub returns-in-Ok-clause-stays_open : goal.returns-in-Ok-clause-stays_open
 returns-in-Ok-clause-stays_open g c clean = (c.in-Ok.ensures.still clean).0.is_open

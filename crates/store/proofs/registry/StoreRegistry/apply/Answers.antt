@@ -13,11 +13,12 @@ pub returns-clause-next : goal.returns-clause-next
 returns-clause-next g c clean =
     next_told c.args.arrival (state g.S.Store c.args.self.now.conn) (state g.S.Store c.take.new.conn) c.take.result c.told.result
     c.told.ensures (c.take.ensures.ends clean) c.take.ensures.survives.limit
+    (λ trees is_open may. g.met.S.Store.settled c.take.new.conn.store trees is_open may)
 
 pub returns-clause-fault : goal.returns-clause-fault
 returns-clause-fault g c clean =
     fault_told c.args.arrival (state g.S.Store c.args.self.now.conn) (state g.S.Store c.take.new.conn) c.take.result c.told.result
-    c.told.ensures (c.take.ensures.ends clean) c.take.ensures.survives.limit
+    c.told.ensures (c.take.ensures.ends clean) c.take.ensures.survives clean
 
 pub returns-clause-cause : goal.returns-clause-cause
 returns-clause-cause g c =

@@ -9,28 +9,28 @@ pub returns-clause-row : goal.returns-clause-row
 returns-clause-row g c clean =
     let old = state g.S.Store c.args.self.now.conn in
     let new = state g.S.Store c.read_entries.new.conn in
-    row_told (λ s kept rows. rows.items ≡ entries_of s) old new c.read_entries.result c.told.result c.told.ensures c.read_entries.ensures.was_open
+    row_told (λ s kept rows. rows.items ≡ entries_of s) old new c.read_entries.result c.told.result c.told.ensures c.read_entries.ensures.reads
     c.read_entries.ensures.shows clean
 
 pub returns-clause-same : goal.returns-clause-same
 returns-clause-same g c clean =
     let old = state g.S.Store c.args.self.now.conn in
     let new = state g.S.Store c.read_entries.new.conn in
-    same_told (λ s kept rows. rows.items ≡ entries_of s) old new c.read_entries.result c.told.result c.told.ensures c.read_entries.ensures.was_open
-    c.read_entries.ensures.shows c.read_entries.ensures.survives.limit clean
+    same_told (λ s kept rows. rows.items ≡ entries_of s) old new c.read_entries.result c.told.result c.told.ensures c.read_entries.ensures.reads
+    c.read_entries.ensures.shows c.read_entries.ensures.survives clean
 
 pub returns-clause-cause : goal.returns-clause-cause
 returns-clause-cause g c =
     let old = state g.S.Store c.args.self.now.conn in
     let new = state g.S.Store c.read_entries.new.conn in
-    cause_told (λ s kept rows. rows.items ≡ entries_of s) old new c.read_entries.result c.told.result c.told.ensures c.read_entries.ensures.was_open
+    cause_told (λ s kept rows. rows.items ≡ entries_of s) old new c.read_entries.result c.told.result c.told.ensures c.read_entries.ensures.reads
     c.read_entries.ensures.shows
 
 pub returns-clause-only : goal.returns-clause-only
 returns-clause-only g c clean =
     let old = state g.S.Store c.args.self.now.conn in
     let new = state g.S.Store c.read_entries.new.conn in
-    only_told (λ s kept rows. rows.items ≡ entries_of s) old new c.read_entries.result c.told.result c.told.ensures c.read_entries.ensures.was_open
+    only_told (λ s kept rows. rows.items ≡ entries_of s) old new c.read_entries.result c.told.result c.told.ensures c.read_entries.ensures.reads
     c.read_entries.ensures.shows clean
 
 pub returns-clause-was_open : goal.returns-clause-was_open
@@ -38,16 +38,16 @@ returns-clause-was_open g c clean =
     let old = state g.S.Store c.args.self.now.conn in
     let new = state g.S.Store c.read_entries.new.conn in
     open_told (λ s kept rows. rows.items ≡ entries_of s) old new c.read_entries.result c.told.result c.told.ensures
-    c.read_entries.ensures.was_open c.read_entries.ensures.shows clean
+    c.read_entries.ensures.reads c.read_entries.ensures.shows clean
 
 pub returns-clause-stays_open : goal.returns-clause-stays_open
 returns-clause-stays_open g c clean =
     let old = state g.S.Store c.args.self.now.conn in
     let new = state g.S.Store c.read_entries.new.conn in
     stays_told (λ s kept rows. rows.items ≡ entries_of s) old new c.read_entries.result c.told.result c.told.ensures
-    c.read_entries.ensures.was_open c.read_entries.ensures.shows clean
+    c.read_entries.ensures.reads c.read_entries.ensures.shows clean
 
 pub returns-clause-before : goal.returns-clause-before
 returns-clause-before g c clean still =
     reads_before (state g.S.Store c.args.self.now.conn) (state g.S.Store c.read_entries.new.conn) c.read_entries.result
-    (c.read_entries.ensures.was_open clean)
+    (c.read_entries.ensures.reads clean)

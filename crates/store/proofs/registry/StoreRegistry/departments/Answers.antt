@@ -10,28 +10,28 @@ pub returns-clause-row : goal.returns-clause-row
 returns-clause-row g c clean =
     let old = state g.S.Store c.args.self.now.conn in
     let new = state g.S.Store c.read_departments.new.conn in
-    row_told (λ s kept rows. rows.items ≡ departments_of s) old new c.read_departments.result c.told.result c.told.ensures c.read_departments.ensures.was_open
+    row_told (λ s kept rows. rows.items ≡ departments_of s) old new c.read_departments.result c.told.result c.told.ensures c.read_departments.ensures.reads
     (λ clean. shows_office (λ s kept rows. rows.items ≡ departments_of s) old new c.read_departments.result (c.read_departments.ensures.shows clean)) clean
 
 pub returns-clause-same : goal.returns-clause-same
 returns-clause-same g c clean =
     let old = state g.S.Store c.args.self.now.conn in
     let new = state g.S.Store c.read_departments.new.conn in
-    same_told (λ s kept rows. rows.items ≡ departments_of s) old new c.read_departments.result c.told.result c.told.ensures c.read_departments.ensures.was_open
-    (λ clean. shows_office (λ s kept rows. rows.items ≡ departments_of s) old new c.read_departments.result (c.read_departments.ensures.shows clean)) c.read_departments.ensures.survives.limit clean
+    same_told (λ s kept rows. rows.items ≡ departments_of s) old new c.read_departments.result c.told.result c.told.ensures c.read_departments.ensures.reads
+    (λ clean. shows_office (λ s kept rows. rows.items ≡ departments_of s) old new c.read_departments.result (c.read_departments.ensures.shows clean)) c.read_departments.ensures.survives clean
 
 pub returns-clause-cause : goal.returns-clause-cause
 returns-clause-cause g c =
     let old = state g.S.Store c.args.self.now.conn in
     let new = state g.S.Store c.read_departments.new.conn in
-    cause_told (λ s kept rows. rows.items ≡ departments_of s) old new c.read_departments.result c.told.result c.told.ensures c.read_departments.ensures.was_open
+    cause_told (λ s kept rows. rows.items ≡ departments_of s) old new c.read_departments.result c.told.result c.told.ensures c.read_departments.ensures.reads
     (λ clean. shows_office (λ s kept rows. rows.items ≡ departments_of s) old new c.read_departments.result (c.read_departments.ensures.shows clean))
 
 pub returns-clause-only : goal.returns-clause-only
 returns-clause-only g c clean =
     let old = state g.S.Store c.args.self.now.conn in
     let new = state g.S.Store c.read_departments.new.conn in
-    only_told (λ s kept rows. rows.items ≡ departments_of s) old new c.read_departments.result c.told.result c.told.ensures c.read_departments.ensures.was_open
+    only_told (λ s kept rows. rows.items ≡ departments_of s) old new c.read_departments.result c.told.result c.told.ensures c.read_departments.ensures.reads
     (λ clean. shows_office (λ s kept rows. rows.items ≡ departments_of s) old new c.read_departments.result (c.read_departments.ensures.shows clean)) clean
 
 pub returns-clause-was_open : goal.returns-clause-was_open
@@ -39,16 +39,16 @@ returns-clause-was_open g c clean =
     let old = state g.S.Store c.args.self.now.conn in
     let new = state g.S.Store c.read_departments.new.conn in
     open_told (λ s kept rows. rows.items ≡ departments_of s) old new c.read_departments.result c.told.result c.told.ensures
-    c.read_departments.ensures.was_open (λ clean. shows_office (λ s kept rows. rows.items ≡ departments_of s) old new c.read_departments.result (c.read_departments.ensures.shows clean)) clean
+    c.read_departments.ensures.reads (λ clean. shows_office (λ s kept rows. rows.items ≡ departments_of s) old new c.read_departments.result (c.read_departments.ensures.shows clean)) clean
 
 pub returns-clause-stays_open : goal.returns-clause-stays_open
 returns-clause-stays_open g c clean =
     let old = state g.S.Store c.args.self.now.conn in
     let new = state g.S.Store c.read_departments.new.conn in
     stays_told (λ s kept rows. rows.items ≡ departments_of s) old new c.read_departments.result c.told.result c.told.ensures
-    c.read_departments.ensures.was_open (λ clean. shows_office (λ s kept rows. rows.items ≡ departments_of s) old new c.read_departments.result (c.read_departments.ensures.shows clean)) clean
+    c.read_departments.ensures.reads (λ clean. shows_office (λ s kept rows. rows.items ≡ departments_of s) old new c.read_departments.result (c.read_departments.ensures.shows clean)) clean
 
 pub returns-clause-before : goal.returns-clause-before
 returns-clause-before g c clean still =
     reads_before (state g.S.Store c.args.self.now.conn) (state g.S.Store c.read_departments.new.conn) c.read_departments.result
-    (c.read_departments.ensures.was_open clean)
+    (c.read_departments.ensures.reads clean)

@@ -9,28 +9,28 @@ pub returns-clause-row : goal.returns-clause-row
 returns-clause-row g c clean =
     let old = state g.S.Store c.args.self.now.conn in
     let new = state g.S.Store c.read_pending.new.conn in
-    row_told (λ s kept rows. rows.items ≡ pending_of s) old new c.read_pending.result c.told.result c.told.ensures c.read_pending.ensures.was_open
+    row_told (λ s kept rows. rows.items ≡ pending_of s) old new c.read_pending.result c.told.result c.told.ensures c.read_pending.ensures.reads
     c.read_pending.ensures.shows clean
 
 pub returns-clause-same : goal.returns-clause-same
 returns-clause-same g c clean =
     let old = state g.S.Store c.args.self.now.conn in
     let new = state g.S.Store c.read_pending.new.conn in
-    same_told (λ s kept rows. rows.items ≡ pending_of s) old new c.read_pending.result c.told.result c.told.ensures c.read_pending.ensures.was_open
-    c.read_pending.ensures.shows c.read_pending.ensures.survives.limit clean
+    same_told (λ s kept rows. rows.items ≡ pending_of s) old new c.read_pending.result c.told.result c.told.ensures c.read_pending.ensures.reads
+    c.read_pending.ensures.shows c.read_pending.ensures.survives clean
 
 pub returns-clause-cause : goal.returns-clause-cause
 returns-clause-cause g c =
     let old = state g.S.Store c.args.self.now.conn in
     let new = state g.S.Store c.read_pending.new.conn in
-    cause_told (λ s kept rows. rows.items ≡ pending_of s) old new c.read_pending.result c.told.result c.told.ensures c.read_pending.ensures.was_open
+    cause_told (λ s kept rows. rows.items ≡ pending_of s) old new c.read_pending.result c.told.result c.told.ensures c.read_pending.ensures.reads
     c.read_pending.ensures.shows
 
 pub returns-clause-only : goal.returns-clause-only
 returns-clause-only g c clean =
     let old = state g.S.Store c.args.self.now.conn in
     let new = state g.S.Store c.read_pending.new.conn in
-    only_told (λ s kept rows. rows.items ≡ pending_of s) old new c.read_pending.result c.told.result c.told.ensures c.read_pending.ensures.was_open
+    only_told (λ s kept rows. rows.items ≡ pending_of s) old new c.read_pending.result c.told.result c.told.ensures c.read_pending.ensures.reads
     c.read_pending.ensures.shows clean
 
 pub returns-clause-was_open : goal.returns-clause-was_open
@@ -38,16 +38,16 @@ returns-clause-was_open g c clean =
     let old = state g.S.Store c.args.self.now.conn in
     let new = state g.S.Store c.read_pending.new.conn in
     open_told (λ s kept rows. rows.items ≡ pending_of s) old new c.read_pending.result c.told.result c.told.ensures
-    c.read_pending.ensures.was_open c.read_pending.ensures.shows clean
+    c.read_pending.ensures.reads c.read_pending.ensures.shows clean
 
 pub returns-clause-stays_open : goal.returns-clause-stays_open
 returns-clause-stays_open g c clean =
     let old = state g.S.Store c.args.self.now.conn in
     let new = state g.S.Store c.read_pending.new.conn in
     stays_told (λ s kept rows. rows.items ≡ pending_of s) old new c.read_pending.result c.told.result c.told.ensures
-    c.read_pending.ensures.was_open c.read_pending.ensures.shows clean
+    c.read_pending.ensures.reads c.read_pending.ensures.shows clean
 
 pub returns-clause-before : goal.returns-clause-before
 returns-clause-before g c clean still =
     reads_before (state g.S.Store c.args.self.now.conn) (state g.S.Store c.read_pending.new.conn) c.read_pending.result
-    (c.read_pending.ensures.was_open clean)
+    (c.read_pending.ensures.reads clean)
