@@ -41,6 +41,15 @@ IfUnserved (Err Store) P = P
 IfUnserved (Err NoMemory) P = P
 IfUnserved (Err Write) P = Unit {0}
 
+-- a fact of a call that served its request, though the response may have been cut
+abbrev pub IfServed : {A : Type 0} → Result A ServeFault → Type 0 → Type 0
+IfServed (Ok a) P = P
+IfServed (Err Read) P = Unit {0}
+IfServed (Err Nonces) P = Unit {0}
+IfServed (Err Store) P = Unit {0}
+IfServed (Err NoMemory) P = Unit {0}
+IfServed (Err Write) P = P
+
 -- a call that takes bytes fails by its reader, or by want of memory
 abbrev pub IsOfTaking : ServeFault → Type 0
 IsOfTaking Read = Unit {0}

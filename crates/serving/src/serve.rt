@@ -7,8 +7,8 @@ ghost use Rattle.office.specs.declared.opening.Opening.{Opening};
 ghost use Rattle.office.specs.declared.arrival.Arrival.{Arrival};
 ghost use Rattle.web.specs.Answers.{Keeps};
 ghost use Rattle.web.specs.Causes.{StopsAt};
-ghost use Rattle.serving.specs.Faults.{is_read, is_write, IfUnserved};
-ghost use Rattle.serving.specs.Nonces.{FailsBy};
+ghost use Rattle.serving.specs.Faults.{is_read, is_write, IfServed, IfUnserved};
+ghost use Rattle.serving.specs.Nonces.{Draws, FailsBy};
 ghost use Rattle.serving.specs.Served.{Served, Stopped};
 
 use crate::fault::ServeFault;
@@ -38,7 +38,7 @@ pub fn serve_one<R: Source, W: Sink, S: Registry, N: Source>(
     requires draws { N.failed nonces.old < u64.MAX }
     ensures honest { S.is_honest registry.new → S.is_honest registry.old }
     ensures was_open { S.is_honest registry.new → S.is_open registry.new → S.is_open registry.old }
-    ensures stays_open { S.is_honest registry.new → OnOk result (S.is_open registry.old → S.is_open registry.new) }
+    ensures stays_open { S.is_honest registry.new → IfServed result (S.is_open registry.old → S.is_open registry.new) }
 
     // One request and one nonce were taken, and the response that is due to them was written. Where something was asked
     // of the register, it is open and so keeps the history.
@@ -54,14 +54,23 @@ pub fn serve_one<R: Source, W: Sink, S: Registry, N: Source>(
 
     // After any other fault nothing was written, and the register means what it meant.
     ensures unwritten { IfUnserved result (writer.new ≡ writer.old) }
-    ensures unchanged { S.is_honest registry.new → IfUnserved result ((o : Opening) (l : List Arrival) → S.means registry.old o l → S.means registry.new o l) }
+    ensures unchanged { S.is_honest registry.new → IfUnserved result ((o : Opening) (l : List Arrival)
+        → S.means registry.old o l → S.means registry.new o l) }
+
+    // The bytes that are drawn of the nonces are the next ones, whatever comes of the call: a nonce, or nothing where no
+    // request came, or less where the source failed or ended.
+    ensures drawn { Draws result (N.remaining nonces.old) (N.remaining nonces.new) }
 
     // Each fault is answered only where what it names failed, `Nonces` also where the source ended, and `Store` also where
     // the database refused what was to be kept of the request that was taken.
-    ensures store { S.is_honest registry.new → result ≡ Err ServeFault.Store → (o : Opening) (l : List Arrival) → S.means registry.old o l → Stopped (R.remaining reader.old) (R.remaining reader.new) (N.remaining nonces.old) (N.remaining nonces.new) (λ request nonce. StopsAt S.means S.fails S.stops request moment nonce registry.old registry.new) }
+    ensures store { S.is_honest registry.new → result ≡ Err ServeFault.Store → (o : Opening) (l : List Arrival)
+        → S.means registry.old o l → Stopped (R.remaining reader.old) (R.remaining reader.new)
+        (N.remaining nonces.old) (N.remaining nonces.new)
+        (λ request nonce. StopsAt S.means S.fails S.stops request moment nonce registry.old registry.new) }
     ensures reader { R.failed reader.new ≡ (if is_read result then R.failed reader.old + 1 else R.failed reader.old) }
     ensures writer { W.failed writer.new ≡ (if is_write result then W.failed writer.old + 1 else W.failed writer.old) }
-    ensures nonces { FailsBy result (N.failed nonces.old) (N.failed nonces.new) (N.remaining nonces.old) (N.remaining nonces.new) }
+    ensures nonces { FailsBy result (N.failed nonces.old) (N.failed nonces.new)
+        (N.remaining nonces.old) (N.remaining nonces.new) }
 {
     let routes = Routes::new(alloc)?;
     serve_by(&routes, reader, writer, registry, alloc, moment, nonces)
@@ -82,7 +91,7 @@ pub fn serve_by<R: Source, W: Sink, S: Registry, N: Source>(
     requires draws { N.failed nonces.old < u64.MAX }
     ensures honest { S.is_honest registry.new → S.is_honest registry.old }
     ensures was_open { S.is_honest registry.new → S.is_open registry.new → S.is_open registry.old }
-    ensures stays_open { S.is_honest registry.new → OnOk result (S.is_open registry.old → S.is_open registry.new) }
+    ensures stays_open { S.is_honest registry.new → IfServed result (S.is_open registry.old → S.is_open registry.new) }
 
     // One request and one nonce were taken, and the response that is due to them was written. Where something was asked
     // of the register, it is open and so keeps the history.
@@ -98,14 +107,23 @@ pub fn serve_by<R: Source, W: Sink, S: Registry, N: Source>(
 
     // After any other fault nothing was written, and the register means what it meant.
     ensures unwritten { IfUnserved result (writer.new ≡ writer.old) }
-    ensures unchanged { S.is_honest registry.new → IfUnserved result ((o : Opening) (l : List Arrival) → S.means registry.old o l → S.means registry.new o l) }
+    ensures unchanged { S.is_honest registry.new → IfUnserved result ((o : Opening) (l : List Arrival)
+        → S.means registry.old o l → S.means registry.new o l) }
+
+    // The bytes that are drawn of the nonces are the next ones, whatever comes of the call: a nonce, or nothing where no
+    // request came, or less where the source failed or ended.
+    ensures drawn { Draws result (N.remaining nonces.old) (N.remaining nonces.new) }
 
     // Each fault is answered only where what it names failed, `Nonces` also where the source ended, and `Store` also where
     // the database refused what was to be kept of the request that was taken.
-    ensures store { S.is_honest registry.new → result ≡ Err ServeFault.Store → (o : Opening) (l : List Arrival) → S.means registry.old o l → Stopped (R.remaining reader.old) (R.remaining reader.new) (N.remaining nonces.old) (N.remaining nonces.new) (λ request nonce. StopsAt S.means S.fails S.stops request moment nonce registry.old registry.new) }
+    ensures store { S.is_honest registry.new → result ≡ Err ServeFault.Store → (o : Opening) (l : List Arrival)
+        → S.means registry.old o l → Stopped (R.remaining reader.old) (R.remaining reader.new)
+        (N.remaining nonces.old) (N.remaining nonces.new)
+        (λ request nonce. StopsAt S.means S.fails S.stops request moment nonce registry.old registry.new) }
     ensures reader { R.failed reader.new ≡ (if is_read result then R.failed reader.old + 1 else R.failed reader.old) }
     ensures writer { W.failed writer.new ≡ (if is_write result then W.failed writer.old + 1 else W.failed writer.old) }
-    ensures nonces { FailsBy result (N.failed nonces.old) (N.failed nonces.new) (N.remaining nonces.old) (N.remaining nonces.new) }
+    ensures nonces { FailsBy result (N.failed nonces.old) (N.failed nonces.new)
+        (N.remaining nonces.old) (N.remaining nonces.new) }
 {
     let request = take_request(routes, reader, alloc)?;
     let nonce = take_nonce(nonces)?;

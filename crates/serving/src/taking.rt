@@ -4,7 +4,7 @@ ghost use Rattle.std.specs.Prelude.{◌≡◌, ◌<◌, ◌+◌, length, IfOk, I
 ghost use Rattle.std.specs.Io.KnownBytes.{Consumes};
 ghost use Rattle.serving.specs.Faults.{is_read, IsOfTaking};
 ghost use Rattle.serving.specs.Requests.{IsFront, TakesMore, IsOneRequest};
-ghost use Rattle.serving.specs.Nonces.{FailsBy};
+ghost use Rattle.serving.specs.Nonces.{Draws, FailsBy};
 
 use crate::fault::ServeFault;
 use requests::{MAX_HEAD, Progress, Routes, body_size, progress_of, read_head};
@@ -48,7 +48,8 @@ fn take_more<R: Source>(
     size: usize,
 ) -> Result<(), ServeFault>
     requires { R.failed source.old < u64.MAX }
-    ensures more { OnOk result (TakesMore (R.remaining source.old) (R.remaining source.new) taken.old.items taken.new.items size) }
+    ensures more { OnOk result (TakesMore (R.remaining source.old) (R.remaining source.new)
+        taken.old.items taken.new.items size) }
     ensures failed { R.failed source.new ≡ (if is_read result then R.failed source.old + 1 else R.failed source.old) }
     ensures only { IfErr result IsOfTaking }
 {
@@ -90,7 +91,9 @@ pub(crate) fn take_nonce<N: Source>(source: &mut N) -> Result<[u8; 32], ServeFau
     requires { N.failed source.old < u64.MAX }
     ensures consumed { IfOk result (λ nonce. Consumes (N.remaining source.old) (N.remaining source.new) nonce) }
     ensures size { IfOk result (λ nonce. length nonce ≡ 32) }
-    ensures fails { FailsBy result (N.failed source.old) (N.failed source.new) (N.remaining source.old) (N.remaining source.new) }
+    ensures drawn { Draws result (N.remaining source.old) (N.remaining source.new) }
+    ensures fails { FailsBy result (N.failed source.old) (N.failed source.new)
+        (N.remaining source.old) (N.remaining source.new) }
     ensures only { IfErr result (λ e. e ≡ ServeFault.Nonces) }
 {
     let mut nonce = [0; 32];
