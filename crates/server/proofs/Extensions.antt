@@ -1,16 +1,18 @@
 -- Histories that grow connection by connection.
-use Rattle.std.proofs.Common.{◌≡◌, ◌≤◌, ℕ, List, [], ◌∷◌, ◌++◌, ◌∙◌, length, Option, Result, refl, sym, subst, ap, arith, append_assoc, length-append}
-use Rattle.std.specs.Prelude.{All}
+use Rattle.std.proofs.Common.{◌≡◌, ◌≤◌, ℕ, suc, List, [], ◌∷◌, ◌++◌, ◌∙◌, length, Option, Result, refl, sym, subst, ap, arith, append_assoc, length-append}
+use Rattle.std.specs.Prelude.{All, map}
 use Rattle.std.proofs.lemmas.List.{append-nil}
 use Rattle.std.proofs.lemmas.List.Elements.{All-append, All-cons, All-nil}
 use Rattle.office.specs.declared.opening.Opening.{Opening}
 use Rattle.office.specs.declared.arrival.Arrival.{Arrival}
+use Rattle.office.specs.declared.registry.Registry.{Ghosts}
 use Rattle.requests.specs.Asks.{Ask, refused, get, post}
 use Rattle.profile.specs.declared.limits.TheConstants.{LATEST_MOMENT}
 use Rattle.web.specs.Answers.{arrival_by, with_ask}
+use Rattle.web.specs.Runs.{AllDue}
 use Rattle.server.specs.declared.fault.Fault.{Fault}
 use Rattle.server.specs.Books.{Book}
-use Rattle.server.specs.Connections.{Visit, answered, cut, closed, Adds, InTurn, Visits, Meets, Extends, IsExtended, IsTimely}
+use Rattle.server.specs.Connections.{Talk, Visit, answered, cut, closed, AreServed, Visits, Meets, Extends, IsExtended, IsTimely, exchange_of, given_of}
 
 -- a history with at most so many arrivals more
 record Grows (most : ℕ) (old new : List Arrival) : Type 0 where
@@ -39,28 +41,30 @@ grows_by_ask old new (post caller key message) moment nonce lawful size same =
       same = same;
     }
 
--- a visit adds its arrival, or nothing
-grows_by_visit : (o : Opening) (visit : Visit) (old new : List Arrival) → Adds o visit old new → Grows 1 old new
-grows_by_visit o (answered talk) old new due = grows_by_ask old new due.ask talk.moment talk.nonce talk.lawful
-    talk.size due.history
-grows_by_visit o (cut talk) old new due = grows_by_ask old new due.ask talk.moment talk.nonce talk.lawful talk.size
-    due.history
-grows_by_visit o (closed fault) old new same = grows_by_none 1 old new same
-
--- visits add at most as many as they are
-grows_in_turn : (o : Opening) (visits : List Visit) (old new : List Arrival) → InTurn (Adds o) visits old new
-    → Grows (length visits) old new
-grows_in_turn o [] old new same = grows_by_none 0 old new same
-grows_in_turn o (visit ∷ visits) old new steps =
-    let mid = steps.0 in
-    let x = grows_by_visit o visit old mid steps.1 in
-    let y = grows_in_turn o visits mid new steps.2 in
+-- a request that was served adds its arrival, or nothing, before what follows
+grows_by_talk : (old new : List Arrival) (talk : Talk) (ask : Ask) (most : ℕ)
+    → Grows most (with_ask old ask talk.exchange.moment talk.exchange.nonce) new → Grows (suc most) old new
+grows_by_talk old new talk ask most y =
+    let mid = with_ask old ask talk.exchange.moment talk.exchange.nonce in
+    let x = grows_by_ask old mid ask talk.exchange.moment talk.exchange.nonce talk.lawful talk.size refl in
     record {
       more = x.more ++ y.more;
       count = (omega (arith, length-append x.more y.more, x.count, y.count));
       timely = All-append IsTimely x.more y.more x.timely y.timely;
       same = y.same ∙ ap (λ (l : List Arrival). l ++ y.more) x.same ∙ append_assoc old x.more y.more;
     }
+
+-- visits add at most as many as they are
+grows_by_visits : (o : Opening) (visits : List Visit) (old new : List Arrival)
+    → AllDue o old (map exchange_of visits) (map given_of visits) new → Grows (length visits) old new
+grows_by_visits o [] old new same = grows_by_none 0 old new same
+grows_by_visits o (answered talk ∷ visits) old new due = grows_by_talk old new talk due.0 (length visits)
+    (grows_by_visits o visits _ new due.4)
+grows_by_visits o (cut talk ∷ visits) old new due = grows_by_talk old new talk due.0 (length visits)
+    (grows_by_visits o visits _ new due.4)
+grows_by_visits o (closed silence ∷ visits) old new due =
+    let x = grows_by_visits o visits old new due in
+    record { more = x.more; count = (omega (arith, x.count)); timely = x.timely; same = x.same }
 
 -- a history that has grown is extended
 grown : (most : ℕ) (old new : List Arrival) (means : List Arrival → Type 0) → Grows most old new → means new
@@ -73,23 +77,24 @@ grown most old new means x m = record {
       x.same m;
 }
 
--- What means the same is extended by nothing.
-pub extends_same : (most : ℕ) (means : Opening → List Arrival → Type 0) → Extends most means means
-extends_same most means o l m = grown most l l (means o) (grows_by_none most l l refl) m
+-- What is served is extended by as many at most.
+served_extends : {S : Type 0} (register : Ghosts S) (old new : S) (visits : List Visit) → AreServed register old new visits
+    → register.is_honest new → Extends (length visits) (register.means old) (register.means new)
+served_extends register old new visits x h o l m =
+    let s = x h o l m in
+    grown (length visits) l s.0 (register.means new o) (grows_by_visits o visits l s.0 s.1) s.2
 
 -- A connection adds one arrival at most.
-pub visit_extends : {T : Type 0} (result : Result T Fault) (book book' : Option Book) (source source' : Option (List
-    ℕ)) (honest : Type 0)
-    (before after : Opening → List Arrival → Type 0) → Visits result book book' source source' honest before after
-    → honest → Extends 1 before after
-visit_extends result book book' source source' honest before after x h o l m =
-    let s = x.served h o l m in
-    grown 1 l s.0 (after o) (grows_by_visit o x.visit l s.0 s.1) s.2
+pub visit_extends : {S T : Type 0} (result : Result T Fault) (book book' : Option Book) (source source' : Option (List ℕ))
+    (register : Ghosts S) (old new : S) → Visits result book book' source source' register old new
+    → register.is_honest new → Extends 1 (register.means old) (register.means new)
+visit_extends result book book' source source' register old new x h =
+    served_extends register old new (x.visit ∷ []) x.served h
 
 -- So many connections add so many at most.
-pub meets_extends : (n : ℕ) (book book' : Option Book) (source source' : Option (List ℕ)) (honest : Type 0)
-    (before after : Opening → List Arrival → Type 0) → Meets n book book' source source' honest before after
-    → honest → Extends n before after
-meets_extends n book book' source source' honest before after x h o l m =
-    let s = x.served h o l m in
-    grown n l s.0 (after o) (subst (λ (most : ℕ). Grows most l s.0) x.all (grows_in_turn o x.visits l s.0 s.1)) s.2
+pub meets_extends : {S : Type 0} (n : ℕ) (book book' : Option Book) (source source' : Option (List ℕ)) (register : Ghosts S)
+    (old new : S) → Meets n book book' source source' register old new
+    → register.is_honest new → Extends n (register.means old) (register.means new)
+meets_extends n book book' source source' register old new x h =
+    subst (λ (most : ℕ). Extends most (register.means old) (register.means new)) x.all
+    (served_extends register old new x.visits x.served h)

@@ -1,2 +1,3 @@
 pub mod Extensions
+pub mod Runs
 pub mod Visits

@@ -1,58 +1,28 @@
--- Connections one after the other, and what each tells.
-use Rattle.std.proofs.Common.{◌≡◌, ◌≤◌, ◌+◌, ℕ, List, [], ◌∷◌, ◌++◌, length, take, Option, None, Some, Result, Ok, Err, OnOk, refl, sym, subst, ap, ◌∙◌, arith, length-append}
+-- What one connection did, by how it was served.
+use Rattle.std.proofs.Common.{◌≡◌, ◌≤◌, inl, inr, ℕ, List, [], ◌∷◌, ◌++◌, take, Option, None, Some, Result, Ok, Err, OnOk, refl, sym, subst, ap, ◌∙◌}
 use Rattle.std.specs.Io.KnownBytes.{Consumes, Appends}
+use Rattle.std.proofs.KnownBytes.{Consumes-nil}
 use Rattle.profile.specs.declared.limits.TheConstants.{LATEST_MOMENT}
 use Rattle.wire.specs.Streams.{AppendsBeginning}
+use Rattle.requests.specs.Asks.{Ask}
+use Rattle.requests.proofs.OneAsk.{one_of}
 use Rattle.office.specs.declared.opening.Opening.{Opening}
 use Rattle.office.specs.declared.arrival.Arrival.{Arrival}
-use Rattle.web.specs.Answers.{with_ask}
+use Rattle.office.specs.declared.registry.Registry.{Ghosts}
+use Rattle.web.specs.declared.exchange.Exchange.{Exchange}
+use Rattle.web.specs.declared.exchange.Given.TheVariants.{Answer}
+use Rattle.web.specs.Answers.{IsAnswered, IsOfTheRegister, Keeps, with_ask}
+use Rattle.web.specs.Runs.{Serves}
 use Rattle.serving.specs.declared.fault.ServeFault.{ServeFault}
 use Rattle.serving.specs.declared.fault.ServeFault.TheVariants.{Read, Nonces, Store, NoMemory, Write}
 use Rattle.serving.specs.Faults.{IfUnserved}
+use Rattle.serving.specs.Nonces.{Draws}
 use Rattle.serving.specs.Requests.{IsOneRequest}
 use Rattle.serving.specs.Served.{Served}
 use Rattle.server.specs.declared.fault.Fault.{Fault}
 use Rattle.server.specs.declared.fault.Fault.TheVariants.{Socket, Clock, Serving}
-use Rattle.server.specs.Books.{Coming, Book, IsMet, WhereTold, IsAccepted, IsEnded}
-use Rattle.server.specs.Connections.{Talk, answered, cut, closed, IsHeld, IsOfAccepting, IsSilent, Tells, Draws, Adds, InTurn, Visits, Meets}
-
--- one more, at the end
-in_turn_more : {V A : Type 0} (does : V → A → A → Type 0) (visits : List V) (visit : V) (old mid new : A)
-    → InTurn does visits old mid
-    → does visit mid new → InTurn does (visits ++ visit ∷ []) old new
-in_turn_more {V} {A} does [] visit old mid new first last = (new, subst (λ (a : A). does visit a new) first last, refl)
-in_turn_more does (v ∷ visits) visit old mid new first last =
-    (first.0, first.1, in_turn_more does visits visit first.0 mid new first.2 last)
-
--- no connection does nothing
-pub meets_none : (book : Option Book) (source : Option (List ℕ)) (honest : Type 0) (before : Opening → List Arrival
-    → Type 0)
-    → Meets 0 book book source source honest before before
-meets_none book source honest before = record {
-  visits = [];
-  all = refl;
-  told = refl;
-  drawn = refl;
-  served = λ h o l m. (l, refl, m);
-}
-
--- one connection more
-pub meets_more : {T : Type 0} (n : ℕ) (result : Result T Fault) (b0 b1 b2 : Option Book) (s0 s1 s2 : Option (List ℕ))
-    (h1 h2 : Type 0)
-    (before mid after : Opening → List Arrival → Type 0) → Meets n b0 b1 s0 s1 h1 before mid
-    → Visits result b1 b2 s1 s2 h2 mid after → (h2 → h1) → Meets (n + 1) b0 b2 s0 s2 h2 before after
-meets_more n result b0 b1 b2 s0 s1 s2 h1 h2 before mid after m v back =
-    let all : length (m.visits ++ v.visit ∷ []) ≡ n + 1 = omega (arith, length-append m.visits (v.visit ∷ []), m.all) in
-    record {
-      visits = m.visits ++ v.visit ∷ [];
-      all = all;
-      told = in_turn_more (λ visit. WhereTold (Tells visit)) m.visits v.visit b0 b1 b2 m.told v.told;
-      drawn = in_turn_more Draws m.visits v.visit s0 s1 s2 m.drawn v.drawn;
-      served = λ h o l x.
-          let first = m.served (back h) o l x in
-          let last = v.served h o first.0 first.2 in
-          (last.0, in_turn_more (Adds o) m.visits v.visit l first.0 last.0 first.1 last.1, last.2);
-    }
+use Rattle.server.specs.Books.{Book, WhereTold, IsAccepted, IsEnded}
+use Rattle.server.specs.Connections.{Talk, answered, cut, closed, AreServed, IsHeld, IsOfAccepting, IsSilent, Tells, TellsFault, Visits}
 
 -- what was taken of a connection is a beginning of what it sent
 split_request : (sent : List ℕ) (reader : Option (List ℕ)) (request : List ℕ) → Consumes (Some sent) reader request
@@ -69,8 +39,8 @@ took_all (Some all) written taken wrote took = let same : all ≡ taken = cc in 
 -- a request that was served, and what was written
 told_held : (talk : Talk) (written : List ℕ) (reader reader' writer writer' : Option (List ℕ)) (old mid new : Option
     Book)
-    → WhereTold (IsAccepted reader writer talk.moment) old mid → Consumes reader reader' talk.request
-    → IsOneRequest reader' talk.request
+    → WhereTold (IsAccepted reader writer talk.exchange.moment) old mid → Consumes reader reader' talk.exchange.request
+    → IsOneRequest reader' talk.exchange.request
     → Appends writer writer' written → WhereTold (IsEnded writer') mid new → WhereTold (IsHeld talk written) old new
 told_held talk written reader reader' writer writer' None mid new accepted taken one wrote ended = tt
 told_held talk written reader reader' writer writer' (Some old) None new accepted taken one wrote ended = absurd
@@ -78,8 +48,8 @@ told_held talk written reader reader' writer writer' (Some old) None new accepte
 told_held talk written reader reader' writer writer' (Some old) (Some mid) None accepted taken one wrote ended =
     absurd ended
 told_held talk written reader reader' writer writer' (Some old) (Some mid) (Some new) accepted taken one wrote ended =
-    let parts = split_request accepted.sent reader' talk.request
-    (subst (λ (r : Option (List ℕ)). Consumes r reader' talk.request) accepted.gives taken) one in
+    let parts = split_request accepted.sent reader' talk.exchange.request
+    (subst (λ (r : Option (List ℕ)). Consumes r reader' talk.exchange.request) accepted.gives taken) one in
     let all = took_all writer' written ended.written
     (subst (λ (w : Option (List ℕ)). Appends w writer' written) accepted.silent wrote) ended.took in
     let same = parts.1 in
@@ -94,14 +64,14 @@ told_held talk written reader reader' writer writer' (Some old) (Some mid) (Some
     }
 
 -- a connection on which nothing was written
-told_closed : (reader writer writer' : Option (List ℕ)) (moment : ℕ) (old mid new : Option Book)
+told_closed : (fault : ServeFault) (reader writer writer' : Option (List ℕ)) (moment : ℕ) (old mid new : Option Book)
     → WhereTold (IsAccepted reader writer moment) old mid
     → writer' ≡ writer → WhereTold (IsEnded writer') mid new
-    → WhereTold (λ a b. (next : Coming) × IsMet a b next []) old new
-told_closed reader writer writer' moment None mid new accepted same ended = tt
-told_closed reader writer writer' moment (Some old) None new accepted same ended = absurd accepted
-told_closed reader writer writer' moment (Some old) (Some mid) None accepted same ended = absurd ended
-told_closed reader writer writer' moment (Some old) (Some mid) (Some new) accepted same ended =
+    → WhereTold (TellsFault (Serving fault)) old new
+told_closed fault reader writer writer' moment None mid new accepted same ended = tt
+told_closed fault reader writer writer' moment (Some old) None new accepted same ended = absurd accepted
+told_closed fault reader writer writer' moment (Some old) (Some mid) None accepted same ended = absurd ended
+told_closed fault reader writer writer' moment (Some old) (Some mid) (Some new) accepted same ended =
     let silent = accepted.silent in
     let took = ended.took in
     let nothing : ended.written ≡ [] = cc in
@@ -111,60 +81,20 @@ told_closed reader writer writer' moment (Some old) (Some mid) (Some new) accept
     let kept' = ended.kept in
     (record { sent = accepted.sent; moment = moment }, record { coming = cc; kept = cc })
 
--- what the parts that were served make
-abbrev talk_of : (reader reader' source source' : Option (List ℕ)) (moment : ℕ) (honest : Type 0) (before after keeps :
-    Opening → List Arrival → Type 0)
-    → moment ≤ LATEST_MOMENT → Served reader reader' source source' moment honest before after keeps → Talk
-talk_of reader reader' source source' moment honest before after keeps lawful x = record {
-  request = x.request;
-  moment = moment;
-  nonce = x.nonce;
-  response = x.response;
-  lawful = lawful;
-  size = x.nonce_size;
-}
-
--- the response was written
-answered_by : {T : Type 0} (t : T) (reader reader' writer writer' source source' : Option (List ℕ)) (old mid new :
-    Option Book) (moment : ℕ)
-    (honest : Type 0) (before after keeps : Opening → List Arrival → Type 0) → moment ≤ LATEST_MOMENT
-    → WhereTold (IsAccepted reader writer moment) old mid
-    → ((x : Served reader reader' source source' moment honest before after keeps) × Appends writer writer' x.response)
-    → WhereTold (IsEnded writer') mid new → Visits {A = T} (Ok t) old new source source' honest before after
-answered_by t reader reader' writer writer' source source' old mid new moment honest before after keeps lawful accepted (
-  x,
-  wrote,
-) ended =
-    let talk = talk_of reader reader' source source' moment honest before after keeps lawful x in
-    record {
-      visit = answered talk;
-      ends = tt;
-      told = told_held talk x.response reader reader' writer writer' old mid new accepted x.taken x.one wrote ended;
-      drawn = x.nonce_taken;
-      served = λ h o l m.
-          let a = x.answered h o l m in (
-            with_ask l a.ask moment x.nonce,
-            record { ask = a.ask; asks = a.asks; text = a.text; list = a.list; history = refl; kept = λ of. tt },
-            a.history,
-          );
-    }
-
--- serving ended well
-pub answered_visit : {T A : Type 0} (t : T) (a : A) (served : Result A ServeFault) (reader reader' writer writer'
-    source source' : Option (List ℕ))
-    (old mid new : Option Book) (moment : ℕ) (honest : Type 0) (before after keeps : Opening → List Arrival → Type 0)
-    → served ≡ Ok a
-    → moment ≤ LATEST_MOMENT → WhereTold (IsAccepted reader writer moment) old mid
-    → OnOk served ((x : Served reader reader' source source' moment honest before after keeps) × Appends writer writer'
-    x.response)
-    → WhereTold (IsEnded writer') mid new → Visits {A = T} (Ok t) old new source source' honest before after
-answered_visit t a (Ok b) reader reader' writer writer' source source' old mid new moment honest before after keeps is
-    lawful accepted wrote ended =
-    answered_by t reader reader' writer writer' source source' old mid new moment honest before after keeps lawful accepted
-    wrote ended
-answered_visit t a (Err fault) reader reader' writer writer' source source' old mid new moment honest before after keeps is
-    lawful accepted wrote ended =
-    absurd (cc)
+-- one exchange that was answered is served
+serves_one : (x : Exchange) (response : List ℕ) (before after keeps : Opening → List Arrival → Type 0)
+    → IsAnswered before after keeps x.request x.moment x.nonce response
+    → Serves before after keeps (x ∷ []) (Answer response ∷ [])
+serves_one x response before after keeps answers o l m =
+    let a = answers o l m in (
+      with_ask l a.ask x.moment x.nonce,
+      (a.ask, a.asks, a.text, a.list, refl),
+      a.history,
+      λ h. elim h [
+        | inl none ↦ absurd none
+        | inr asks ↦ a.kept (subst (λ (k : Ask). IsOfTheRegister k) (one_of x.request asks.0 a.ask asks.1 a.asks) asks.2)
+      ],
+    )
 
 -- what is told of a talk is told with how much of its response was written
 told_cut : (talk : Talk) (count : ℕ) (old new : Option Book)
@@ -173,130 +103,115 @@ told_cut talk count None new held = tt
 told_cut talk count (Some old) None held = absurd held
 told_cut talk count (Some old) (Some new) held = (count, held)
 
--- a beginning of the response was written
-cut_visit : {T : Type 0} (reader reader' writer writer' source source' : Option (List ℕ)) (old mid new : Option Book)
-    (moment : ℕ)
-    (honest : Type 0) (before after keeps : Opening → List Arrival → Type 0) → moment ≤ LATEST_MOMENT
-    → WhereTold (IsAccepted reader writer moment) old mid
-    → ((x : Served reader reader' source source' moment honest before after keeps) × AppendsBeginning writer writer'
-    x.response)
-    → WhereTold (IsEnded writer') mid new → Visits {A = T} (Err (Serving Write)) old new source source' honest before
-    after
-cut_visit reader reader' writer writer' source source' old mid new moment honest before after keeps lawful accepted (
-  x,
-  wrote,
-) ended =
-    let talk = talk_of reader reader' source source' moment honest before after keeps lawful x in
-    record {
-      visit = cut talk;
-      ends = refl;
-      told = told_cut talk wrote.count old new (told_held talk (take wrote.count x.response) reader reader' writer
-          writer' old mid new accepted x.taken x.one wrote.grown ended);
-      drawn = x.nonce_taken;
-      served = λ h o l m.
-          let a = x.answered h o l m in (
-            with_ask l a.ask moment x.nonce,
-            record { ask = a.ask; asks = a.asks; text = a.text; list = a.list; history = refl; kept = λ of. tt },
-            a.history,
-          );
-    }
-
--- the request wasn't served
-silent_visit : {T W : Type 0} (told : W → Option (List ℕ)) (w w' : W) (fault : ServeFault) (reader : Option (List ℕ))
-    (source source' : Option (List ℕ)) (old mid new : Option Book) (moment : ℕ)
-    (honest : Type 0) (before after : Opening → List Arrival → Type 0)
-    → IsSilent (Serving fault) → WhereTold (IsAccepted reader (told w) moment) old mid → w' ≡ w
-    → WhereTold (IsEnded (told w')) mid new → (honest → (o : Opening) (l : List Arrival) → before o l
-    → after o l)
-    → Visits {A = T} (Err (Serving fault)) old new source source' honest before after
-silent_visit told w w' fault reader source source' old mid new moment honest before after silent
-    accepted same ended kept =
-    record {
-      visit = closed (Serving fault);
-      ends = (refl, silent);
-      told = told_closed reader (told w) (told w') moment old mid new accepted (ap told same) ended;
-      drawn = tt;
-      served = λ h o l m. (l, refl, kept h o l m);
-    }
-
 -- a result that is this fault
 abbrev fails : (A : Type 0) → ServeFault → Result A ServeFault
 fails A fault = Err fault
 
--- serving ended with this fault
-failed_by : {T A W : Type 0} (told : W → Option (List ℕ)) (w w' : W) (fault : ServeFault) (reader reader' source
-    source' : Option (List ℕ))
-    (old mid new : Option Book) (moment : ℕ) (honest : Type 0) (before after keeps : Opening → List Arrival → Type 0)
-    → moment ≤ LATEST_MOMENT
-    → WhereTold (IsAccepted reader (told w) moment) old mid
-    → (fails A fault ≡ fails A Write → (x : Served reader reader' source source' moment honest before after keeps) ×
-    AppendsBeginning (told w) (told w') x.response)
-    → IfUnserved (fails A fault) (w' ≡ w)
-    → (honest → IfUnserved (fails A fault) ((o : Opening) (l : List Arrival) → before o l → after o l))
-    → WhereTold (IsEnded (told w')) mid new → Visits {A = T} (Err (Serving fault)) old new source source' honest
-    before after
-failed_by told w w' Read reader reader' source source' old mid new moment honest before after keeps lawful accepted broke
-    same kept ended =
-    silent_visit told w w' Read reader source source' old mid new moment honest before after tt accepted same ended kept
-failed_by told w w' Nonces reader reader' source source' old mid new moment honest before after keeps lawful accepted broke
-    same kept ended =
-    silent_visit told w w' Nonces reader source source' old mid new moment honest before after tt accepted same ended
-    kept
-failed_by told w w' Store reader reader' source source' old mid new moment honest before after keeps lawful accepted broke
-    same kept ended =
-    silent_visit told w w' Store reader source source' old mid new moment honest before after tt accepted same ended
-    kept
-failed_by told w w' NoMemory reader reader' source source' old mid new moment honest before after keeps lawful accepted
-    broke same kept ended =
-    silent_visit told w w' NoMemory reader source source' old mid new moment honest before after tt accepted same ended
-    kept
-failed_by told w w' Write reader reader' source source' old mid new moment honest before after keeps lawful accepted broke
-    same kept ended =
-    cut_visit reader reader' (told w) (told w') source source' old mid new moment honest before after keeps lawful accepted
-    (broke refl) ended
+-- a connection that was accepted, served and ended
+module _ (S W : Type 0) (register : Ghosts S) (taken : W → Option (List ℕ)) (reader reader' source source' : Option (List ℕ))
+    (w w' : W) (s s' : S) (old mid new : Option Book) (moment : ℕ) (lawful : moment ≤ LATEST_MOMENT)
+    (accepted : WhereTold (IsAccepted reader (taken w) moment) old mid) (ended : WhereTold (IsEnded (taken w')) mid new) where
+  -- its request was served
+  abbrev IsServed : Type 0
+  IsServed = Served reader reader' source source' moment (register.is_honest s') (register.means s) (register.means s')
+      (Keeps register.means register.is_open s')
 
--- serving ended with a fault
-pub failed_visit : {T A W : Type 0} (told : W → Option (List ℕ)) (w w' : W) (fault : ServeFault) (served : Result A
-    ServeFault)
-    (reader reader' source source' : Option (List ℕ)) (old mid new : Option Book) (moment : ℕ) (honest : Type 0)
-    (before after keeps : Opening → List Arrival → Type 0) → served ≡ Err fault → moment ≤ LATEST_MOMENT
-    → WhereTold (IsAccepted reader (told w) moment) old mid
-    → (served ≡ Err Write → (x : Served reader reader' source source' moment honest before after keeps) × AppendsBeginning
-    (told w) (told w') x.response)
-    → IfUnserved served (w' ≡ w) → (honest → IfUnserved served ((o : Opening) (l : List Arrival) → before o l
-    → after o l))
-    → WhereTold (IsEnded (told w')) mid new → Visits {A = T} (Err (Serving fault)) old new source source' honest
-    before after
-failed_visit told w w' fault (Ok a) reader reader' source source' old mid new moment honest before after keeps is lawful
-    accepted broke same kept ended =
-    absurd (cc)
-failed_visit {T} {A} told w w' fault (Err e) reader reader' source source' old mid new moment honest before after keeps is
-    lawful accepted broke same kept ended =
-    let one : e ≡ fault = cc in
-    subst (λ (f : ServeFault). Visits {A = T} (Err (Serving f)) old new source source' honest before after) one
-    (failed_by {A = A} told w w' e reader reader' source source' old mid new moment honest before after keeps lawful
-    accepted broke same kept ended)
+  -- what was asked, and what was given
+  abbrev talk_of : IsServed → Talk
+  talk_of x = record {
+    exchange = record { request = x.request; moment = moment; nonce = x.nonce };
+    response = x.response;
+    lawful = lawful;
+    size = x.nonce_size;
+  }
 
--- accepting takes no nonce
-undrawn : (fault : Fault) (source : Option (List ℕ)) → IsOfAccepting fault → Draws (closed fault) source source
-undrawn Socket source only = refl
-undrawn Clock source only = refl
-undrawn (Serving fault) source only = absurd only
+  -- the register served it
+  talk_served : (x : IsServed) → AreServed register s s' (answered (talk_of x) ∷ [])
+  talk_served x = λ h. serves_one (talk_of x).exchange x.response (register.means s) (register.means s')
+      (Keeps register.means register.is_open s') (x.answered h)
 
--- where accepting failed, nothing was written
-silent : (fault : Fault) → IsOfAccepting fault → IsSilent fault
-silent Socket only = tt
-silent Clock only = tt
+  -- the response was written
+  answered_by : {T : Type 0} (t : T) (x : IsServed) → Appends (taken w) (taken w') x.response
+      → Visits {A = T} (Ok t) old new source source' register s s'
+  answered_by t x wrote = record {
+    visit = answered (talk_of x);
+    ends = tt;
+    told = told_held (talk_of x) x.response reader reader' (taken w) (taken w') old mid new accepted x.taken x.one wrote ended;
+    drawn = x.nonce_taken;
+    served = talk_served x;
+  }
+
+  -- a beginning of the response was written
+  cut_by : {T : Type 0} (x : IsServed) → AppendsBeginning (taken w) (taken w') x.response
+      → Visits {A = T} (Err (Serving Write)) old new source source' register s s'
+  cut_by x wrote = record {
+    visit = cut (talk_of x);
+    ends = refl;
+    told = told_cut (talk_of x) wrote.count old new (told_held (talk_of x) (take wrote.count x.response) reader reader'
+        (taken w) (taken w') old mid new accepted x.taken x.one wrote.grown ended);
+    drawn = x.nonce_taken;
+    served = talk_served x;
+  }
+
+  -- nothing was written
+  closed_by : {T : Type 0} (fault : ServeFault) (drawn : List ℕ) → Consumes source source' drawn
+      → IsSilent (Serving fault) drawn → w' ≡ w
+      → (register.is_honest s' → (o : Opening) (l : List Arrival) → register.means s o l → register.means s' o l)
+      → Visits {A = T} (Err (Serving fault)) old new source source' register s s'
+  closed_by fault drawn consumed silent same kept = record {
+    visit = closed (record { fault = Serving fault; drawn = drawn; silent = silent });
+    ends = refl;
+    told = told_closed fault reader (taken w) (taken w') moment old mid new accepted (ap taken same) ended;
+    drawn = consumed;
+    served = λ h o l m. (l, refl, kept h o l m, λ none. absurd none);
+  }
+
+  -- serving ended with this fault
+  failed_by : {T A : Type 0} (fault : ServeFault)
+      → (fails A fault ≡ fails A Write → (x : IsServed) × AppendsBeginning (taken w) (taken w') x.response)
+      → IfUnserved (fails A fault) (w' ≡ w)
+      → (register.is_honest s' → IfUnserved (fails A fault) ((o : Opening) (l : List Arrival) → register.means s o l
+      → register.means s' o l)) → Draws (fails A fault) source source'
+      → Visits {A = T} (Err (Serving fault)) old new source source' register s s'
+  failed_by Read broke same kept drew = closed_by Read drew.drawn drew.consumed drew.size same kept
+  failed_by Nonces broke same kept drew = closed_by Nonces drew.drawn drew.consumed drew.size same kept
+  failed_by Store broke same kept drew = closed_by Store drew.drawn drew.consumed drew.size same kept
+  failed_by NoMemory broke same kept drew = closed_by NoMemory drew.drawn drew.consumed drew.size same kept
+  failed_by Write broke same kept drew = let cut = broke refl in cut_by cut.0 cut.1
+
+  -- serving ended well
+  pub answered_visit : {T A : Type 0} (t : T) (a : A) (served : Result A ServeFault) → served ≡ Ok a
+      → OnOk served ((x : IsServed) × Appends (taken w) (taken w') x.response)
+      → Visits {A = T} (Ok t) old new source source' register s s'
+  answered_visit t a (Ok b) is wrote = answered_by t wrote.0 wrote.1
+  answered_visit t a (Err fault) is wrote = absurd (cc)
+
+  -- serving ended with a fault
+  pub failed_visit : {T A : Type 0} (fault : ServeFault) (served : Result A ServeFault) → served ≡ Err fault
+      → (served ≡ Err Write → (x : IsServed) × AppendsBeginning (taken w) (taken w') x.response)
+      → IfUnserved served (w' ≡ w) → (register.is_honest s' → IfUnserved served ((o : Opening) (l : List Arrival)
+      → register.means s o l → register.means s' o l)) → Draws served source source'
+      → Visits {A = T} (Err (Serving fault)) old new source source' register s s'
+  failed_visit fault (Ok a) is broke same kept drew = absurd (cc)
+  failed_visit {T} {A} fault (Err e) is broke same kept drew =
+      let one : e ≡ fault = cc in
+      subst (λ (f : ServeFault). Visits {A = T} (Err (Serving f)) old new source source' register s s') one
+      (failed_by {A = A} e broke same kept drew)
+
+-- where accepting failed, nothing was written, and nothing drawn
+silent : (fault : Fault) → IsOfAccepting fault → IsSilent fault []
+silent Socket only = refl
+silent Clock only = refl
 silent (Serving fault) only = absurd only
 
 -- no connection was accepted
-pub unaccepted_visit : {T : Type 0} (fault : Fault) (source : Option (List ℕ)) (old new : Option Book) (honest : Type 0)
-    (means : Opening → List Arrival → Type 0) → IsOfAccepting fault → WhereTold (Tells (closed fault)) old new
-    → Visits {A = T} (Err fault) old new source source honest means means
-unaccepted_visit fault source old new honest means only told = record {
-  visit = closed fault;
-  ends = (refl, silent fault only);
+pub unaccepted_visit : {T S : Type 0} (fault : Fault) (source : Option (List ℕ)) (old new : Option Book) (register : Ghosts S)
+    (s : S) → IsOfAccepting fault → WhereTold (TellsFault fault) old new
+    → Visits {A = T} (Err fault) old new source source register s s
+unaccepted_visit fault source old new register s only told = record {
+  visit = closed (record { fault = fault; drawn = []; silent = silent fault only });
+  ends = refl;
   told = told;
-  drawn = undrawn fault source only;
-  served = λ h o l m. (l, refl, m);
+  drawn = Consumes-nil source;
+  served = λ h o l m. (l, refl, m, λ none. absurd none);
 }

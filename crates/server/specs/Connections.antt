@@ -1,41 +1,57 @@
 -- What connections do to a listener, to a nonce source and to a register.
-use Rattle.std.specs.Prelude.{◌≡◌, ◌≤◌, ℕ, List, [], ◌∷◌, ◌++◌, length, take, All, Option, Some, Result, Ok, Err}
+use Rattle.std.specs.Prelude.{◌≡◌, ◌≤◌, ℕ, List, [], ◌∷◌, ◌++◌, length, take, map, flat_map, All, Option, Some, Result, Ok, Err}
 use Rattle.std.specs.Io.KnownBytes.{Consumes}
 use Rattle.profile.specs.declared.limits.TheConstants.{LATEST_MOMENT}
 use Rattle.office.specs.declared.opening.Opening.{Opening}
 use Rattle.office.specs.declared.arrival.Arrival.{Arrival}
-use Rattle.web.specs.Answers.{Answers}
-use Rattle.serving.specs.declared.fault.ServeFault.TheVariants.{Read, Nonces, Store, NoMemory, Write}
+use Rattle.office.specs.declared.registry.Registry.{Ghosts}
+use Rattle.web.specs.declared.exchange.Exchange.{Exchange}
+use Rattle.web.specs.declared.exchange.Given.{Given}
+use Rattle.web.specs.declared.exchange.Given.TheVariants as given
+use Rattle.web.specs.Answers.{Keeps}
+use Rattle.web.specs.Runs.{Serves}
+use Rattle.serving.specs.declared.fault.ServeFault.TheVariants.{Write}
+use Rattle.serving.specs.Faults.{IfServed}
+use Rattle.serving.specs.Nonces.{IsDrawn}
 use Rattle.serving.specs.Requests.{IsOneRequest}
 use Rattle.server.specs.declared.fault.Fault.{Fault}
 use Rattle.server.specs.declared.fault.Fault.TheVariants.{Socket, Clock, Serving}
 use Rattle.server.specs.Books.{Coming, Book, IsMet, WhereTold}
 
--- a request that was served, with the lawful moment and the nonce of its connection, and the response
+-- a request that was served, at a lawful moment and with a whole nonce, and the response
 pub record Talk : Type 0 where
-  pub request : List ℕ
-  pub moment : ℕ
-  pub nonce : List ℕ
+  pub exchange : Exchange
   pub response : List ℕ
-  pub lawful : moment ≤ LATEST_MOMENT
-  pub size : length nonce ≡ 32
+  pub lawful : exchange.moment ≤ LATEST_MOMENT
+  pub size : length exchange.nonce ≡ 32
 
--- What one connection did: it was answered, or it was cut off behind a beginning of the response, or it was closed by a
--- fault with nothing written.
+-- A fault after which nothing was written, and what was drawn of the nonces before it. `Write` comes behind a beginning of
+-- the response.
+abbrev pub IsSilent : Fault → (drawn : List ℕ) → Type 0
+IsSilent Socket drawn = drawn ≡ []
+IsSilent Clock drawn = drawn ≡ []
+IsSilent (Serving Write) drawn = ⊥
+IsSilent (Serving fault) drawn = IsDrawn {A = Unit {0}} (Err fault) drawn
+
+-- a connection on which nothing was written
+pub record Silence : Type 0 where
+  pub fault : Fault
+  pub drawn : List ℕ
+  pub silent : IsSilent fault drawn
+
+-- What one connection did: it was answered, or it was cut off behind a beginning of the response, or it was closed with
+-- nothing written.
 pub data Visit : Type 0 where
   answered : Talk → Visit
   cut : Talk → Visit
-  closed : Fault → Visit
+  closed : Silence → Visit
 
--- a fault after which nothing was written; `Write` comes behind a beginning of the response
-abbrev pub IsSilent : Fault → Type 0
-IsSilent Socket = Unit {0}
-IsSilent Clock = Unit {0}
-IsSilent (Serving Read) = Unit {0}
-IsSilent (Serving Nonces) = Unit {0}
-IsSilent (Serving Store) = Unit {0}
-IsSilent (Serving NoMemory) = Unit {0}
-IsSilent (Serving Write) = ⊥
+-- a fact of a connection that was given its response, though it may have been cut
+abbrev pub IfGiven : {A : Type 0} → Result A Fault → Type 0 → Type 0
+IfGiven (Ok a) P = P
+IfGiven (Err Socket) P = Unit {0}
+IfGiven (Err Clock) P = Unit {0}
+IfGiven (Err (Serving fault)) P = IfServed {A = Unit {0}} (Err fault) P
 
 -- the visit ends with this result
 abbrev pub EndsWith : {A : Type 0} → Visit → Result A Fault → Type 0
@@ -43,23 +59,34 @@ EndsWith (answered talk) (Ok a) = Unit {0}
 EndsWith (answered talk) (Err fault) = ⊥
 EndsWith (cut talk) (Ok a) = ⊥
 EndsWith (cut talk) (Err fault) = fault ≡ Serving Write
-EndsWith (closed fault) (Ok a) = ⊥
-EndsWith (closed fault) (Err same) = (fault ≡ same) × IsSilent fault
+EndsWith (closed silence) (Ok a) = ⊥
+EndsWith (closed silence) (Err fault) = silence.fault ≡ fault
+
+-- ---- the listener
 
 -- The request is a beginning of what the connection sent, its moment is that of the connection, and these bytes were
 -- written on it.
 pub record IsHeld (talk : Talk) (written : List ℕ) (old new : Book) : Type 0 where
   pub left : List ℕ
-  pub one : IsOneRequest (Some left) talk.request
-  pub met : IsMet old new (record { sent = talk.request ++ left; moment = talk.moment }) written
+  pub one : IsOneRequest (Some left) talk.exchange.request
+  pub met : IsMet old new (record { sent = talk.exchange.request ++ left; moment = talk.exchange.moment }) written
 
--- What the listener tells of a visit. It tells the moments too, so its clock doesn't fail.
+-- What the listener tells of a connection on which nothing was written. It tells the moments too, so its clock doesn't fail.
+abbrev pub TellsFault : Fault → (old new : Book) → Type 0
+TellsFault Socket old new = (old.coming ≡ []) × (new ≡ old)
+TellsFault Clock old new = ⊥
+TellsFault (Serving fault) old new = (next : Coming) × IsMet old new next []
+
+-- what the listener tells of a visit
 abbrev pub Tells : Visit → (old new : Book) → Type 0
 Tells (answered talk) old new = IsHeld talk talk.response old new
 Tells (cut talk) old new = (count : ℕ) × IsHeld talk (take count talk.response) old new
-Tells (closed Socket) old new = (old.coming ≡ []) × (new ≡ old)
-Tells (closed Clock) old new = ⊥
-Tells (closed (Serving fault)) old new = (next : Coming) × IsMet old new next []
+Tells (closed silence) old new = TellsFault silence.fault old new
+
+-- of visits, one after the other
+abbrev pub TellsAll : List Visit → (old new : Option Book) → Type 0
+TellsAll [] old new = new ≡ old
+TellsAll (visit ∷ visits) old new = (mid : Option Book) × WhereTold (Tells visit) old mid × TellsAll visits mid new
 
 -- accepting fails by these two alone
 abbrev pub IsOfAccepting : Fault → Type 0
@@ -67,53 +94,52 @@ IsOfAccepting Socket = Unit {0}
 IsOfAccepting Clock = Unit {0}
 IsOfAccepting (Serving fault) = ⊥
 
--- what a visit takes of the nonce source: a request that is served takes the next bytes of it as its nonce
-abbrev pub Draws : Visit → (old new : Option (List ℕ)) → Type 0
-Draws (answered talk) old new = Consumes old new talk.nonce
-Draws (cut talk) old new = Consumes old new talk.nonce
-Draws (closed Socket) old new = new ≡ old
-Draws (closed Clock) old new = new ≡ old
-Draws (closed (Serving fault)) old new = Unit {0}
+-- ---- the nonces and the register
 
--- The response is the one that is due to the request after this history, which then has the arrival that the request
--- asks for, where there is one.
-abbrev pub IsDue : Opening → Talk → (old new : List Arrival) → Type 0
-IsDue o talk old new = Answers o old talk.request talk.moment talk.nonce talk.response (λ h. new ≡ h) (λ _. Unit {0})
+-- the exchange of a visit, of which only what was drawn is known where it was closed
+abbrev pub exchange_of : Visit → Exchange
+exchange_of (answered talk) = talk.exchange
+exchange_of (cut talk) = talk.exchange
+exchange_of (closed silence) = record { request = []; moment = 0; nonce = silence.drawn }
 
--- what a visit adds to the history
-abbrev pub Adds : Opening → Visit → (old new : List Arrival) → Type 0
-Adds o (answered talk) old new = IsDue o talk old new
-Adds o (cut talk) old new = IsDue o talk old new
-Adds o (closed fault) old new = new ≡ old
+-- what the register gave to it
+abbrev pub given_of : Visit → Given
+given_of (answered talk) = given.Answer talk.response
+given_of (cut talk) = given.Answer talk.response
+given_of (closed silence) = given.Fault
 
--- whatever history the register meant
-abbrev pub Follows : {V : Type 0} (adds : Opening → V → (old new : List Arrival) → Type 0) → V
-    → (before after : Opening → List Arrival → Type 0) → Type 0
-Follows adds visit before after = (o : Opening) (l : List Arrival) → before o l
-    → (last : List Arrival) × adds o visit l last × after o last
+-- what a visit drew of the nonces
+abbrev pub drawn_of : Visit → List ℕ
+drawn_of visit = (exchange_of visit).nonce
 
--- what is done by each visit, one after the other
-abbrev pub InTurn : {V A : Type 0} (does : V → (old new : A) → Type 0) → List V → (old new : A) → Type 0
-InTurn does [] old new = new ≡ old
-InTurn {V} {A} does (visit ∷ visits) old new = (mid : A) × does visit old mid × InTurn does visits mid new
+-- An honest register gave to the exchanges of visits what is due, or a fault, whatever it meant before. Where it has
+-- answered since the last fault, it is open, and so keeps the history that it then means.
+abbrev pub AreServed : {S : Type 0} → Ghosts S → (old new : S) → List Visit → Type 0
+AreServed register old new visits = register.is_honest new → Serves (register.means old) (register.means new)
+    (Keeps register.means register.is_open new) (map exchange_of visits) (map given_of visits)
+
+-- ---- visits
 
 -- what one connection did, which ended with this result
-pub record Visits {A : Type 0} (result : Result A Fault) (book book' : Option Book) (nonces nonces' : Option (List ℕ))
-    (honest : Type 0) (before after : Opening → List Arrival → Type 0) : Type 0 where
+pub record Visits {A S : Type 0} (result : Result A Fault) (book book' : Option Book) (nonces nonces' : Option (List ℕ))
+    (register : Ghosts S) (old new : S) : Type 0 where
   pub visit : Visit
   pub ends : EndsWith visit result
   pub told : WhereTold (Tells visit) book book'
-  pub drawn : Draws visit nonces nonces'
-  pub served : honest → Follows Adds visit before after
+  pub drawn : Consumes nonces nonces' (drawn_of visit)
+  pub served : AreServed register old new (visit ∷ [])
 
--- what so many connections did, one after the other
-pub record Meets (count : ℕ) (book book' : Option Book) (nonces nonces' : Option (List ℕ)) (honest : Type 0)
-    (before after : Opening → List Arrival → Type 0) : Type 0 where
+-- What so many connections did, one after the other. What they drew, put together, is a beginning of the nonce source: so
+-- each nonce is the next 32 bytes, none is given twice, and nothing is left out but what was drawn before a fault.
+pub record Meets {S : Type 0} (count : ℕ) (book book' : Option Book) (nonces nonces' : Option (List ℕ))
+    (register : Ghosts S) (old new : S) : Type 0 where
   pub visits : List Visit
   pub all : length visits ≡ count
-  pub told : InTurn (λ visit. WhereTold (Tells visit)) visits book book'
-  pub drawn : InTurn Draws visits nonces nonces'
-  pub served : honest → Follows (λ o. InTurn (Adds o)) visits before after
+  pub told : TellsAll visits book book'
+  pub drawn : Consumes nonces nonces' (flat_map drawn_of visits)
+  pub served : AreServed register old new visits
+
+-- ---- what is added to the history
 
 -- an arrival that an office may be given at any time
 pub record IsTimely (arrival : Arrival) : Type 0 where

@@ -1,7 +1,7 @@
 //! One connection served.
 
 ghost use Rattle.std.specs.Prelude.{◌≤◌, ◌<◌, ◌+◌};
-ghost use Rattle.server.specs.Connections.{Visits};
+ghost use Rattle.server.specs.Connections.{IfGiven, Visits};
 
 use crate::fault::Fault;
 use crate::listener::{Connection, Listener};
@@ -20,8 +20,10 @@ pub(crate) fn serve_connection<R: AllocGlobal, L: Listener, S: Registry, N: Sour
 ) -> Result<(), Fault>
     requires { N.failed nonces.old < u64.MAX }
     ensures honest { S.is_honest store.new → S.is_honest store.old }
+    ensures was_open { S.is_honest store.new → S.is_open store.new → S.is_open store.old }
+    ensures stays_open { S.is_honest store.new → IfGiven result (S.is_open store.old → S.is_open store.new) }
     ensures visit { Visits result (L.book listener.old) (L.book listener.new) (N.remaining nonces.old)
-        (N.remaining nonces.new) (S.is_honest store.new) (S.means store.old) (S.means store.new) }
+        (N.remaining nonces.new) S.Registry store.old store.new }
     ensures failed { N.failed nonces.new ≤ N.failed nonces.old + 1 }
 {
     let accepted = match listener.accept() {

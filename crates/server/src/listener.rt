@@ -3,7 +3,7 @@
 ghost use Rattle.std.specs.Prelude.{◌≡◌, ◌≤◌, Option, None, IfOk, IfErr};
 ghost use Rattle.profile.specs.declared.limits.TheConstants.{LATEST_MOMENT};
 ghost use Rattle.server.specs.Books.{Book, WhereTold, IsAccepted, IsEnded};
-ghost use Rattle.server.specs.Connections.{Tells, closed, IsOfAccepting};
+ghost use Rattle.server.specs.Connections.{IsOfAccepting, TellsFault};
 
 use crate::fault::Fault;
 use wire::{Sink, Source};
@@ -43,7 +43,7 @@ pub trait Listener {
             (Self.Writer.taken c.writer) c.moment) (book self.old) (book self.new)) }
         ensures lawful { IfOk result (λ c. c.moment ≤ LATEST_MOMENT) }
         ensures fresh { IfOk result (λ c. (Self.Reader.failed c.reader ≡ 0) × (Self.Writer.failed c.writer ≡ 0)) }
-        ensures err { IfErr result (λ fault. WhereTold (Tells (closed fault)) (book self.old) (book self.new)) }
+        ensures err { IfErr result (λ fault. WhereTold (TellsFault fault) (book self.old) (book self.new)) }
         ensures only { IfErr result IsOfAccepting }
         ensures open { IfOk result (λ _. is_open self.new) };
 

@@ -58,6 +58,7 @@ pub fn selftest<
     S: Registry,
 >(rt: &R, store: &mut S) -> Result<(), SelftestFault>
     ensures honest { S.is_honest store.new → S.is_honest store.old }
+    ensures was_open { S.is_honest store.new → S.is_open store.new → S.is_open store.old }
     ensures served { S.is_honest store.new → Extends 1 (S.means store.old) (S.means store.new) }
 {
     let Ok(routes) = Routes::new(rt.alloc()) else {

@@ -36,12 +36,13 @@ pub fn serve_on<R: AllocGlobal, L: Listener, S: Registry, N: Source, O: Write, E
     requires { N.failed nonces.old + connections ≤ u64.MAX }
     ensures status { result ≤ FAULT }
     ensures honest { S.is_honest store.new → S.is_honest store.old }
+    ensures was_open { S.is_honest store.new → S.is_open store.new → S.is_open store.old }
 
     // Each connection is given the response that is due to its request after the arrivals of those before it, or it is
-    // closed with a fault. Each request's nonce is the next of the source, and the register then means the history with
-    // the arrivals that the requests ask for, in the order of the connections.
+    // closed with a fault. The nonces are the next bytes of the source, in the order of the connections. The register then
+    // means the history with the arrivals that the requests ask for, and is open where it has answered since the last fault.
     ensures met { result ≡ DONE → Meets connections (L.book listener.old) (L.book listener.new) (N.remaining nonces.old)
-        (N.remaining nonces.new) (S.is_honest store.new) (S.means store.old) (S.means store.new) }
+        (N.remaining nonces.new) S.Registry store.old store.new }
 
     // The register means the history with at most an arrival for each connection, each at a lawful moment. Where no
     // connection was met, all is as it was.

@@ -1,13 +1,14 @@
 use Rattle.std.proofs.Common.{◌≡◌, ◌≤◌, ◌+◌, ℕ, arith, subst}
 use Rattle.server.specs.Connections.{Extends}
 use Rattle.server.proofs.Extensions.{meets_extends}
-use Rattle.server.proofs.Visits.{meets_none, meets_more}
+use Rattle.server.proofs.Runs.{meets_none, meets_more}
 use Rattle.server.proofs.serve.serve_on.Goals as goal
 
 pub loop-served-init : goal.loop-served-init
 loop-served-init g c = record {
   honest = λ h. h;
-  meets = meets_none _ _ _ _;
+  was_open = λ h is. is;
+  meets = meets_none _ _ g.S.Registry _;
   failed = (omega arith);
 }
 
@@ -19,8 +20,9 @@ loop-served-preserved g c =
     (arith, at.invariant.failed, step.ensures.failed) in
     record {
       honest = λ h. at.invariant.honest (step.ensures.honest h);
-      meets = meets_more at.served step.result _ _ _ _ _ _ _ _ _ _ _ at.invariant.meets step.ensures.visit
-          step.ensures.honest;
+      was_open = λ h is. at.invariant.was_open (step.ensures.honest h) (step.ensures.was_open h is);
+      meets = meets_more at.served step.result _ _ _ _ _ _ g.S.Registry _ _ _ at.invariant.meets step.ensures.visit
+          step.ensures.honest step.ensures.stays_open;
       failed = failed;
     }
 
@@ -29,4 +31,4 @@ returns-clause-served g c h =
     let at = c.loop-served in
     let all : at.served ≡ c.args.connections = omega (arith, c.loop-served-test.false, at.auto.served-end) in
     subst (λ (n : ℕ). Extends n (g.S.Registry.means c.args.store.now) (g.S.Registry.means at.store)) all
-    (meets_extends at.served _ _ _ _ _ _ _ at.invariant.meets h)
+    (meets_extends at.served _ _ _ _ g.S.Registry _ _ at.invariant.meets h)

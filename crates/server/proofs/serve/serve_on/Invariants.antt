@@ -7,12 +7,11 @@ abbrev pub invariant-loop-served : goal.invariant-loop-served
 invariant-loop-served g l =
     let book = g.L.Listener.book in
     let remaining = g.N.Source.remaining in
-    let is_honest = g.S.Registry.is_honest in
-    let means = g.S.Registry.means in
+    let register = g.S.Registry in
     record {
-      honest : is_honest l.store → is_honest l.initial.store;
-      meets : Meets l.served (book l.initial.listener) (book l.listener) (remaining l.initial.nonces) (remaining
-          l.nonces)
-          (is_honest l.store) (means l.initial.store) (means l.store);
+      honest : register.is_honest l.store → register.is_honest l.initial.store;
+      was_open : register.is_honest l.store → register.is_open l.store → register.is_open l.initial.store;
+      meets : Meets l.served (book l.initial.listener) (book l.listener) (remaining l.initial.nonces)
+          (remaining l.nonces) register l.initial.store l.store;
       failed : g.N.Source.failed l.nonces ≤ g.N.Source.failed l.initial.nonces + l.served;
     }

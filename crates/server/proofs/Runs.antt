@@ -1,0 +1,125 @@
+-- Connections one after the other.
+use Rattle.std.proofs.Common.{◌≡◌, ◌+◌, ◌⊎◌, inl, inr, ℕ, List, [], ◌∷◌, ◌++◌, length, Option, Result, Ok, Err, refl, sym, subst, ap, ◌∙◌, arith, length-append}
+use Rattle.std.specs.Prelude.{map, flat_map}
+use Rattle.std.specs.Io.KnownBytes.{Consumes}
+use Rattle.std.proofs.KnownBytes.{Consumes-nil, Consumes-trans}
+use Rattle.std.proofs.lemmas.List.{append-nil}
+use Rattle.std.proofs.lemmas.List.Concat.{flat_map-append}
+use Rattle.office.specs.declared.opening.Opening.{Opening}
+use Rattle.office.specs.declared.arrival.Arrival.{Arrival}
+use Rattle.office.specs.declared.registry.Registry.{Ghosts}
+use Rattle.web.specs.Answers.{AsksTheRegister, with_ask}
+use Rattle.web.specs.Runs.{AllDue, HasAnswered}
+use Rattle.server.specs.declared.fault.Fault.{Fault}
+use Rattle.server.specs.Books.{Book, WhereTold}
+use Rattle.server.specs.Connections.{Visit, answered, cut, closed, AreServed, EndsWith, IfGiven, Meets, Tells, TellsAll, Visits, drawn_of, exchange_of, given_of}
+
+-- one more is told, at the end
+told_more : (visits : List Visit) (visit : Visit) (old mid new : Option Book) → TellsAll visits old mid
+    → WhereTold (Tells visit) mid new → TellsAll (visits ++ visit ∷ []) old new
+told_more [] visit old mid new first last = (new, subst (λ (b : Option Book). WhereTold (Tells visit) b new) first last, refl)
+told_more (v ∷ visits) visit old mid new first last =
+    (first.0, first.1, told_more visits visit first.0 mid new first.2 last)
+
+-- one more draws, at the end
+drawn_more : (visits : List Visit) (visit : Visit) (old mid new : Option (List ℕ)) → Consumes old mid (flat_map drawn_of visits)
+    → Consumes mid new (drawn_of visit) → Consumes old new (flat_map drawn_of (visits ++ visit ∷ []))
+drawn_more visits visit old mid new first last =
+    let same : flat_map drawn_of visits ++ drawn_of visit ≡ flat_map drawn_of (visits ++ visit ∷ []) =
+    ap (λ (t : List ℕ). flat_map drawn_of visits ++ t) (sym (append-nil (drawn_of visit)))
+    ∙ sym (flat_map-append drawn_of visits (visit ∷ [])) in
+    subst (Consumes old new) same (Consumes-trans old mid new (flat_map drawn_of visits) (drawn_of visit) first last)
+
+-- one more is due, at the end
+due_more : (o : Opening) (visits : List Visit) (visit : Visit) (old mid new : List Arrival)
+    → AllDue o old (map exchange_of visits) (map given_of visits) mid
+    → AllDue o mid (exchange_of visit ∷ []) (given_of visit ∷ []) new
+    → AllDue o old (map exchange_of (visits ++ visit ∷ [])) (map given_of (visits ++ visit ∷ [])) new
+due_more o [] visit old mid new first last =
+    subst (λ (l : List Arrival). AllDue o l (exchange_of visit ∷ []) (given_of visit ∷ []) new) first last
+due_more o (answered talk ∷ visits) visit old mid new first last =
+    let x = talk.exchange in
+    let next = with_ask old first.0 x.moment x.nonce in
+    (first.0, first.1, first.2, first.3, due_more o visits visit next mid new first.4 last)
+due_more o (cut talk ∷ visits) visit old mid new first last =
+    let x = talk.exchange in
+    let next = with_ask old first.0 x.moment x.nonce in
+    (first.0, first.1, first.2, first.3, due_more o visits visit next mid new first.4 last)
+due_more o (closed silence ∷ visits) visit old mid new first last = due_more o visits visit old mid new first last
+
+-- what the register has answered with one more is what it has answered before, and then this one
+answered_more : (so_far : Type 0) (visits : List Visit) (visit : Visit)
+    → HasAnswered so_far (map exchange_of (visits ++ visit ∷ [])) (map given_of (visits ++ visit ∷ []))
+    → HasAnswered (HasAnswered so_far (map exchange_of visits) (map given_of visits)) (exchange_of visit ∷ [])
+    (given_of visit ∷ [])
+answered_more so_far [] visit h = h
+answered_more so_far (answered talk ∷ visits) visit h =
+    answered_more (so_far ⊎ AsksTheRegister talk.exchange.request) visits visit h
+answered_more so_far (cut talk ∷ visits) visit h =
+    answered_more (so_far ⊎ AsksTheRegister talk.exchange.request) visits visit h
+answered_more so_far (closed silence ∷ visits) visit h = answered_more ⊥ visits visit h
+
+-- a register that was open where it had answered is open where it has answered now
+opens : {T : Type 0} (visit : Visit) (result : Result T Fault) (had was_open is_open : Type 0) → EndsWith visit result
+    → IfGiven result (was_open → is_open) → (had → was_open)
+    → (HasAnswered ⊥ (exchange_of visit ∷ []) (given_of visit ∷ []) → is_open)
+    → HasAnswered had (exchange_of visit ∷ []) (given_of visit ∷ []) → is_open
+opens (answered talk) (Ok t) had was_open is_open ends stays opened now h = elim h [
+  | inl before ↦ stays (opened before)
+  | inr asks ↦ now (inr asks)
+]
+opens (answered talk) (Err fault) had was_open is_open ends stays opened now h = absurd ends
+opens (cut talk) (Ok t) had was_open is_open ends stays opened now h = absurd ends
+opens {T} (cut talk) (Err fault) had was_open is_open ends stays opened now h =
+    let still : was_open → is_open = subst (λ (f : Fault). IfGiven {A = T} (Err f) (was_open → is_open)) ends stays in
+    elim h [
+      | inl before ↦ still (opened before)
+      | inr asks ↦ now (inr asks)
+    ]
+opens (closed silence) result had was_open is_open ends stays opened now h = absurd h
+
+-- one more is served, at the end
+served_more : {S T : Type 0} (register : Ghosts S) (visits : List Visit) (visit : Visit) (result : Result T Fault)
+    (s0 s1 s2 : S) → EndsWith visit result → AreServed register s0 s1 visits → AreServed register s1 s2 (visit ∷ [])
+    → (register.is_honest s2 → register.is_honest s1)
+    → (register.is_honest s2 → IfGiven result (register.is_open s1 → register.is_open s2))
+    → AreServed register s0 s2 (visits ++ visit ∷ [])
+served_more register visits visit result s0 s1 s2 ends first last back stays = λ h o l m.
+    let a = first (back h) o l m in
+    let b = last h o a.0 a.2 in (
+      b.0,
+      due_more o visits visit l a.0 b.0 a.1 b.1,
+      b.2,
+      λ answers. (
+        b.2,
+        opens visit result _ (register.is_open s1) (register.is_open s2) ends (stays h) (λ had. (a.3 had).1)
+            (λ now. (b.3 now).1) (answered_more ⊥ visits visit answers),
+      ),
+    )
+
+-- no connection does nothing
+pub meets_none : {S : Type 0} (book : Option Book) (source : Option (List ℕ)) (register : Ghosts S) (s : S)
+    → Meets 0 book book source source register s s
+meets_none book source register s = record {
+  visits = [];
+  all = refl;
+  told = refl;
+  drawn = Consumes-nil source;
+  served = λ h o l m. (l, refl, m, λ none. absurd none);
+}
+
+-- one connection more
+pub meets_more : {S T : Type 0} (n : ℕ) (result : Result T Fault) (b0 b1 b2 : Option Book) (n0 n1 n2 : Option (List ℕ))
+    (register : Ghosts S) (s0 s1 s2 : S) → Meets n b0 b1 n0 n1 register s0 s1
+    → Visits result b1 b2 n1 n2 register s1 s2 → (register.is_honest s2 → register.is_honest s1)
+    → (register.is_honest s2 → IfGiven result (register.is_open s1 → register.is_open s2))
+    → Meets (n + 1) b0 b2 n0 n2 register s0 s2
+meets_more n result b0 b1 b2 n0 n1 n2 register s0 s1 s2 m v back stays =
+    let all : length (m.visits ++ v.visit ∷ []) ≡ n + 1 = omega (arith, length-append m.visits (v.visit ∷ []), m.all) in
+    record {
+      visits = m.visits ++ v.visit ∷ [];
+      all = all;
+      told = told_more m.visits v.visit b0 b1 b2 m.told v.told;
+      drawn = drawn_more m.visits v.visit n0 n1 n2 m.drawn v.drawn;
+      served = served_more register m.visits v.visit result s0 s1 s2 v.ends m.served v.served back stays;
+    }
