@@ -5,6 +5,7 @@ ghost use Rattle.server.specs.Connections.{Extends};
 
 use crate::connection::serve_connection;
 use crate::fault::{Fault, SelftestFault};
+use crate::listener::Listener;
 use crate::listening::bind;
 use crate::loopback::Loopback;
 use crate::patience::STEP_SECONDS;
@@ -46,6 +47,23 @@ fn is_answered(client: TcpStream) -> bool {
     }
 }
 
+// Serves one connection of a listener.
+fn serve_once<R: AllocGlobal, L: Listener, S: Registry>(
+    rt: &R,
+    listener: &mut L,
+    store: &mut S,
+) -> Result<(), Fault>
+    ensures honest { S.is_honest store.new → S.is_honest store.old }
+    ensures was_open { S.is_honest store.new → S.is_open store.new → S.is_open store.old }
+    ensures served { S.is_honest store.new → Extends 1 (S.means store.old) (S.means store.new) }
+{
+    let Ok(routes) = Routes::new(rt.alloc()) else {
+        return Err(Fault::Serving(ServeFault::NoMemory));
+    };
+    let mut nonces = FromRead::new(NONCE);
+    serve_connection(&routes, rt, listener, store, &mut nonces)
+}
+
 /// Tests the way from a socket to a register and back, of an office with nothing revoked: listens on 127.0.0.1 at a port
 /// that the system chooses, connects to it, asks for the list, serves that connection, and looks at the answer.
 ///
@@ -61,20 +79,14 @@ pub fn selftest<
     ensures was_open { S.is_honest store.new → S.is_open store.new → S.is_open store.old }
     ensures served { S.is_honest store.new → Extends 1 (S.means store.old) (S.means store.new) }
 {
-    let Ok(routes) = Routes::new(rt.alloc()) else {
-        return Err(SelftestFault::Unserved(Fault::Serving(ServeFault::NoMemory)));
-    };
     let Ok(listener) = bind(rt, 0) else {
         return Err(SelftestFault::Unserved(Fault::Socket));
     };
     let Ok(client) = ask(rt, &listener) else {
         return Err(SelftestFault::Unserved(Fault::Socket));
     };
-    let mut nonces = FromRead::new(NONCE);
-    let mut connections = Loopback::new(&listener, rt);
-    match serve_connection(&routes, rt, &mut connections, store, &mut nonces) {
-        Ok(()) => {}
-        Err(fault) => return Err(SelftestFault::Unserved(fault)),
+    if let Err(fault) = serve_once(rt, &mut Loopback::new(&listener, rt), store) {
+        return Err(SelftestFault::Unserved(fault));
     }
     if is_answered(client) {
         Ok(())

@@ -57,17 +57,29 @@ fn printed_by(rt: &HostRuntime, tick: u64, moment: Option<u64>) -> Result<Vec<u8
 // The clock is read at the start, before each of the 24 bytes of the head, and before the response is written.
 #[test]
 fn a_connection_ends_with_its_minute(rt: HostRuntime) -> Result<(), Fail> {
-    let cases: [(u64, Option<u64>, &[u8]); 6] = [
-        (1, Some(0), b""),
-        (1, Some(253402300799), b""),
-        (2600, Some(0), b"sshoffice: connection 1 Read\n"),
-        (2450, Some(0), b"sshoffice: connection 1 Write\n"),
-        (1, Some(253402300800), b"sshoffice: connection 1 Clock\n"),
-        (1, None, b"sshoffice: connection 1 Clock\n"),
+    let cases: [(u64, &[u8]); 3] = [
+        (1, b""),
+        (2600, b"sshoffice: connection 1 Read\n"),
+        (2450, b"sshoffice: connection 1 Write\n"),
     ];
-    for (tick, moment, wanted) in cases {
-        let printed = printed_by(&rt, tick, moment)?;
-        assert_eq!(rt; printed.as_slice(), wanted, "{tick} at {moment:?}");
+    for (tick, wanted) in cases {
+        let printed = printed_by(&rt, tick, Some(0))?;
+        assert_eq!(rt; printed.as_slice(), wanted, "{tick}");
+    }
+    Ok(())
+}
+
+#[test]
+fn a_clock_that_fails_or_is_past_the_latest_moment_is_a_fault(rt: HostRuntime) -> Result<(), Fail> {
+    let cases: [(Option<u64>, &[u8]); 4] = [
+        (Some(253402300799), b""),
+        (Some(253402300800), b"sshoffice: connection 1 Clock\n"),
+        (Some(u64::MAX), b"sshoffice: connection 1 Clock\n"),
+        (None, b"sshoffice: connection 1 Clock\n"),
+    ];
+    for (moment, wanted) in cases {
+        let printed = printed_by(&rt, 1, moment)?;
+        assert_eq!(rt; printed.as_slice(), wanted, "{moment:?}");
     }
     Ok(())
 }
