@@ -1,7 +1,7 @@
 //! Refusals.
 
 ghost use Rattle.std.specs.Prelude.{◌≡◌};
-ghost use Rattle.profile.specs.Refusals.{refusal_name, refusal_number, refusal_status};
+ghost use Rattle.profile.specs.Refusals.{refusal_name, refusal_number, refusal_row, refusal_status};
 
 /// Why a request is refused. Of those that apply, the one that stands first here is answered.
 #[derive(Clone, Copy, Debug, PartialEq, Eq)]
@@ -62,9 +62,7 @@ struct Row(u8, &'static str, u16);
 
 impl Refusal {
     fn row(self) -> Row
-        ensures number { result.0 ≡ refusal_number self }
-        ensures name { result.1.now ≡ refusal_name self }
-        ensures status { result.2 ≡ refusal_status self }
+        ensures { (result.0, result.1.now, result.2) ≡ refusal_row self }
     {
         match self {
             Refusal::BadHead => Row(1, "BadHead", 400),
