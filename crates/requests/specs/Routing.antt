@@ -42,3 +42,7 @@ kinds = Message ∷ Fixed Cas ∷ Body ∷ Certificate ∷ Fixed RevocationList 
 -- their rows
 abbrev pub routing : RowsOf (RouteOf RouteKind)
 routing = rows_of kinds
+
+-- the rows of the routes with parameters
+abbrev pub routing_by_parameters : RowsOf (RouteOf RouteKind)
+routing_by_parameters = rows_of (Message ∷ Body ∷ Certificate ∷ [])

@@ -1,7 +1,7 @@
 //! The routes, kept for finding.
 
 ghost use Rattle.std.specs.Prelude.{◌≡◌, IfOk};
-ghost use Rattle.requests.specs.Routing.{routing};
+ghost use Rattle.requests.specs.Routing.{routing, routing_by_parameters};
 
 use crate::resource::Resource;
 use matchit::{InsertError, Router};
@@ -28,14 +28,23 @@ pub struct Routes {
     pub(crate) ghost whole: { router ≡ routing },
 }
 
-fn router_of(alloc: Global) -> Result<Router<RouteKind>, InsertError>
-    ensures { IfOk result (λ r. r ≡ routing) }
+/// The routes of messages, certificates and bodies.
+fn router_by_parameters(alloc: Global) -> Result<Router<RouteKind>, InsertError>
+    ensures { IfOk result (λ r. r ≡ routing_by_parameters) }
 {
     let mut router = Router::new(alloc);
     router.insert("/v1/callers/{caller}/requests/{key}", RouteKind::Message)?;
-    router.insert("/v1/pending", RouteKind::Fixed(Resource::Pending))?;
     router.insert("/v1/certs/{serial}", RouteKind::Certificate)?;
     router.insert("/v1/certs/{serial}/body", RouteKind::Body)?;
+    Ok(router)
+}
+
+/// All routes.
+fn router_of(alloc: Global) -> Result<Router<RouteKind>, InsertError>
+    ensures { IfOk result (λ r. r ≡ routing) }
+{
+    let mut router = router_by_parameters(alloc)?;
+    router.insert("/v1/pending", RouteKind::Fixed(Resource::Pending))?;
     router.insert("/v1/krl", RouteKind::Fixed(Resource::RevocationList))?;
     router.insert("/v1/signers", RouteKind::Fixed(Resource::Signers))?;
     router.insert("/v1/table", RouteKind::Fixed(Resource::Table))?;

@@ -6,12 +6,9 @@ use Rattle.requests.proofs.router.router_of.Goals as goal
 pub returns : goal.returns
 unfolding matchit_on_literals
 returns c =
-    let message = c.in_ok-insert.ensures.1 in
-    let pending = c.in_ok-insert-2.ensures.1 in
-    let certificate = c.in_ok-insert-3.ensures.1 in
-    let body = c.in_ok-insert-4.ensures.1 in
-    let list = c.in_ok-insert-5.ensures.1 in
-    let signers = c.in_ok-insert-6.ensures.1 in
-    let table = c.in_ok-insert-7.ensures.1 in
-    let cas = c.in_ok-insert-8.ensures.1 in
-    rw (cas, table, signers, list, body, certificate, pending, message, c.new-router.ensures) (refl {a = routing})
+    let pending = c.in_ok-insert.ensures.1 in
+    let list = c.in_ok-insert-2.ensures.1 in
+    let signers = c.in_ok-insert-3.ensures.1 in
+    let table = c.in_ok-insert-4.ensures.1 in
+    let cas = c.in_ok-insert-5.ensures.1 in
+    rw (cas, table, signers, list, pending, c.in_ok-router.ensures) (refl {a = routing})
