@@ -15,6 +15,7 @@ use Rattle.std.proofs.lemmas.List.Folds.{list_any-append}
 use Rattle.std.proofs.lemmas.List.Sums.{fold_push}
 use Rattle.std.proofs.lemmas.Map.Text.{is_eq-slice_cmp}
 use Rattle.text.specs.declared.pair.Pair.{Pair}
+use Rattle.lines.proofs.Cases.{or_order}
 use Rattle.profile.specs.Options.{is_known, is_option_value}
 use Rattle.profile.specs.declared.option_field.OptionField.{OptionField}
 use Rattle.cert.specs.declared.option_fault.OptionFault.{OptionFault}
@@ -56,12 +57,7 @@ any_by : (o : Ordering) (t : Pair → Bool) (p q : Pair) (qs : List Pair) → is
     → list_any t (match_ordering o (p ∷ q ∷ qs) (p ∷ qs) (q ∷ with_pair qs p)) ≡ (t p || (t q || list_any t qs))
 any_by Less t p q qs h e = refl
 any_by Equal t p q qs h e = absurd cc
-any_by Greater t p q qs h e = ap (λ b. t q || b) e ∙ around (t q) (t p) (list_any t qs)
-  where
-    around : (a b c : Bool) → (a || (b || c)) ≡ (b || (a || c))
-    around true true c = refl
-    around true false c = refl
-    around false b c = refl
+any_by Greater t p q qs h e = ap (λ b. t q || b) e ∙ or_order (t q) (t p) (list_any t qs)
 
 -- the pairs are the new one and those that were there
 pub list_any-with_pair : (t : Pair → Bool) (p : Pair) (qs : List Pair) → Lacks qs p.name

@@ -31,11 +31,6 @@ pub or_cases : (a b : Bool) → (a || b) ≡ true → (a ≡ true) ⊎ ((a ≡ f
 or_cases true b e = inl refl
 or_cases false b e = inr (refl, e)
 
-pub or_order : (a b c : Bool) → (a || (b || c)) ≡ (b || (a || c))
-or_order true true c = refl
-or_order true false c = refl
-or_order false b c = refl
-
 pub or_group : (a b c : Bool) → ((a || b) || c) ≡ (a || (b || c))
 or_group true b c = refl
 or_group false b c = refl

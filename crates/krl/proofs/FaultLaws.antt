@@ -99,18 +99,15 @@ no_parts_fault : (ps : List Part) (f : KrlFault) → AllByRecursion IsReadPart p
 no_parts_fault ps f h some (inl none) = no_text ps some none.0
 no_parts_fault ps f h some (inr bad) = no_item_fault part_text IsReadPart PartFault read_parts ps bad.0 bad.1 f h bad.2 bad.3 bad.4 bad.5
 
+-- parts with bytes behind them are bytes
+parts_and_more : (ps : List Part) (r : List ℕ) → r ≢ [] → flat_map part_text ps ++ r ≢ []
+parts_and_more [] r some e = some e
+parts_and_more (p ∷ ps) r some e = part_has_bytes p (flat_map part_text ps ++ r) (sym (append_assoc (part_text p) (flat_map part_text ps) r) ∙ e)
+
 one_parts_fault : (bytes : List ℕ) (f g : KrlFault) → PartsFault bytes f → PartsFault bytes g → f ≡ g
 one_parts_fault bytes f g (inl a) (inl b) = a.1 ∙ sym b.1
-one_parts_fault bytes f g (inl a) (inr b) = absurd (never b.0 b.1 b.4 (sym b.3 ∙ a.0))
-  where
-    never : (ps : List Part) (r : List ℕ) → r ≢ [] → flat_map part_text ps ++ r ≢ []
-    never [] r some e = some e
-    never (p ∷ ps) r some e = part_has_bytes p (flat_map part_text ps ++ r) (sym (append_assoc (part_text p) (flat_map part_text ps) r) ∙ e)
-one_parts_fault bytes f g (inr a) (inl b) = absurd (never a.0 a.1 a.4 (sym a.3 ∙ b.0))
-  where
-    never : (ps : List Part) (r : List ℕ) → r ≢ [] → flat_map part_text ps ++ r ≢ []
-    never [] r some e = some e
-    never (p ∷ ps) r some e = part_has_bytes p (flat_map part_text ps ++ r) (sym (append_assoc (part_text p) (flat_map part_text ps) r) ∙ e)
+one_parts_fault bytes f g (inl a) (inr b) = absurd (parts_and_more b.0 b.1 b.4 (sym b.3 ∙ a.0))
+one_parts_fault bytes f g (inr a) (inl b) = absurd (parts_and_more a.0 a.1 a.4 (sym a.3 ∙ b.0))
 one_parts_fault bytes f g (inr a) (inr b) = one_item_fault part_text IsReadPart PartFault read_parts a.0 b.0 a.1 b.1 f g a.2 b.2 (sym a.3 ∙ b.3) a.5 b.5
 
 no_certificates_fault : (ca reserved : List ℕ) (ps : List Part) (f : KrlFault) → IsSection (Certificates ca reserved ps) → list_all is_supported_part ps ≡ true → CertificatesFault (section_data (Certificates ca reserved ps)) f → ⊥

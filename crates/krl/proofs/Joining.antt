@@ -5,7 +5,8 @@ use Rattle.std.proofs.lemmas.Bool.{cases_lt, le-ltb}
 use Rattle.std.proofs.lemmas.Bool.Decides.{nat_tests}
 use Rattle.krl.specs.declared.run.Run.{Run}
 use Rattle.krl.specs.Sets.{is_within, contains, AreRunsFrom}
-use Rattle.krl.proofs.Booleans.{ltb-yes, or_order, or_group}
+use Rattle.lines.proofs.Cases.{or_order}
+use Rattle.krl.proofs.Booleans.{ltb-yes, or_group}
 use Rattle.krl.proofs.Maximal.{weaken}
 
 -- an interval is carried along the runs: those below it stay, those that it overlaps or touches join it, and it stands

@@ -224,22 +224,16 @@ parts_name serial key_id rs ids h =
 abbrev pub part_revokes : List ℕ → ℕ → List ℕ → List (List ℕ) → CaPart → Bool
 part_revokes blob serial key_id ids p = bytes_eq (key_blob p.ca) blob && (contains p.runs serial || is_key_id ids key_id)
 
+not_zero : (n : ℕ) → 0 < n → eqb n 0 ≡ false
+not_zero n lt = grind (arith, nat_tests)
+
 nothing_idle : (serial : ℕ) (key_id : List ℕ) (ids : List (List ℕ)) (rs : List Run) → (eqb (length rs) 0 && eqb (length ids) 0) ≡ true → (contains rs serial || is_key_id ids key_id) ≡ false
 nothing_idle serial key_id [] [] e = refl
-nothing_idle serial key_id (i ∷ ids) [] e = clash (eqb (suc (length ids)) 0) e (not_zero (length ids))
-  where
-    not_zero : (n : ℕ) → eqb (suc n) 0 ≡ false
-    not_zero n = grind (arith, nat_tests)
-nothing_idle serial key_id ids (r ∷ rs) e = clash (eqb (suc (length rs)) 0) ((and_parts (eqb (suc (length rs)) 0) (eqb (length ids) 0) e).0) (not_zero (length rs))
-  where
-    not_zero : (n : ℕ) → eqb (suc n) 0 ≡ false
-    not_zero n = grind (arith, nat_tests)
+nothing_idle serial key_id (i ∷ ids) [] e = clash (eqb (suc (length ids)) 0) e (not_zero (suc (length ids)) (omega arith))
+nothing_idle serial key_id ids (r ∷ rs) e = clash (eqb (suc (length rs)) 0) ((and_parts (eqb (suc (length rs)) 0) (eqb (length ids) 0) e).0) (not_zero (suc (length rs)) (omega arith))
 
 for_blob : (blob ca : List ℕ) → is_for blob (key_blob ca) ≡ bytes_eq (key_blob ca) blob
 for_blob blob ca = ap (λ b. b || bytes_eq (key_blob ca) blob) (not_zero (length (key_blob ca)) (let both = length-append (string_text []) ca in omega arith))
-  where
-    not_zero : (n : ℕ) → 0 < n → eqb n 0 ≡ false
-    not_zero n lt = grind (arith, nat_tests)
 
 -- whether the list revokes, a CA part at a time
 pub list_revokes : (blob : List ℕ) (serial : ℕ) (key_id : List ℕ) (cas : List CaPart) (ids : List (List ℕ)) → AllByRecursion (λ p. AreRuns p.runs) cas → list_any (section_revokes blob serial key_id) (published_sections cas ids) ≡ list_any (part_revokes blob serial key_id ids) cas

@@ -9,7 +9,8 @@ use Rattle.krl.specs.declared.run.Run.{Run}
 use Rattle.krl.specs.Sets.{is_within, contains, is_among, AreRunsFrom, AreRuns, IsRunOf, IsOneOf}
 use Rattle.krl.specs.Format.{Part, Serials, Range, KeyIds, OtherPart, part_text}
 use Rattle.krl.specs.Published.{names_serial, named_set, parts_length, is_short, serials_of, listed, ranges, serial_list, serial_parts, AreShortest}
-use Rattle.krl.proofs.Booleans.{ltb-yes, is_in, or_true, or_cases, or_order, or_group, clash}
+use Rattle.lines.proofs.Cases.{or_order}
+use Rattle.krl.proofs.Booleans.{ltb-yes, is_in, or_true, or_cases, or_group, clash}
 use Rattle.krl.proofs.LengthLaws.{u64s_length}
 use Rattle.krl.proofs.Maximal.{run_of, each_is_run, none_below, member_contains}
 use Rattle.std.proofs.Math.Bool.{or-false}

@@ -10,7 +10,6 @@ use Rattle.std.proofs.lemmas.Option.{option_and_then_some, same_Some}
 use Rattle.std.proofs.lemmas.Slice.Eq.{bytes_eq-Decides}
 use Rattle.base64.specs.Engines.{standard}
 use Rattle.base64.specs.GeneralPurpose.{IsBytes, decode_of, encode_of}
-use Rattle.base64.specs.declared.decode.DecodeError.{DecodeError}
 use Rattle.lines.specs.Keys.{key_blob, key_of}
 use Rattle.lines.specs.KeyLines.{is_base64_letter, is_base64_word, is_key, is_comment, is_comment_or_none, is_key_line, comment_text, key_line_head, key_line_text}
 use Rattle.lines.specs.Reading.{◌>>=◌, or_fault, after_type, word_of, comment_of, blob_of, checked_line, key_line_at, Gives, IsFault, HasWrongType, HasBadBase64, HasBadBlob, HasBadComment}
@@ -20,6 +19,7 @@ use Rattle.lines.specs.declared.key_line.LineFault.TheVariants.{WrongType, BadBa
 use Rattle.lines.proofs.Alphabet.{word_again, word_found}
 use Rattle.lines.proofs.Base64.{IsBytes-decode_of, IsBytes-drop, IsBytes-take, IsFreeOfSpace-encode_of, base64_again, base64_found, length-encode_of}
 use Rattle.lines.proofs.Blobs.{IsBytes-key_blob, is_key_from, is_key_parts, key_of_again, key_of_found, length-key_blob}
+use Rattle.lines.proofs.Cases.{ok_of}
 use Rattle.lines.proofs.Words.{comment_of-text, text_is, word_of-text}
 
 -- nothing, or something
@@ -57,17 +57,13 @@ blob_of_found word blob fits e = elim (cases_Bool (eqb (length word) 68)) [
   | inr other ↦ absurd (cc (sym (cond-false _ _ None other) ∙ e))
 ]
   where
-    ok_is : (r : Result (List ℕ) DecodeError) (b : List ℕ) → result_ok r ≡ Some b → r ≡ Ok b
-    ok_is (Ok x) b e = cc
-    ok_is (Err x) b e = absurd cc
-
     whole : (b : List ℕ) → result_ok (decode_of standard word) ≡ Some b
         → cond (eqb (length b) 51) (Some b) None ≡ Some blob → (word ≡ encode_of standard blob) × (length blob ≡ 51)
         × IsBytes blob
     whole b decoded kept = elim (cases_Bool (eqb (length b) 51)) [
       | inl passed ↦
           let same : b ≡ blob = same_Some _ _ (sym (cond-true _ (Some b) None passed) ∙ kept) in
-          let read : decode_of standard word ≡ Ok b = ok_is _ b decoded in
+          let read : decode_of standard word ≡ Ok b = ok_of _ b decoded in
           subst (λ (x : List ℕ). (word ≡ encode_of standard x) × (length x ≡ 51) × IsBytes x) same
           (base64_found word b fits read, eqb-true _ _ passed, IsBytes-decode_of standard word b fits read)
       | inr failed ↦ absurd (cc (sym (cond-false _ (Some b) None failed) ∙ kept))

@@ -1,3 +1,4 @@
+pub mod Cases
 pub mod Base64
 pub mod Alphabet
 pub mod Blobs

@@ -21,7 +21,8 @@ use Rattle.lines.specs.declared.key_line.KeyLine.{KeyLine}
 use Rattle.lines.proofs.Base64.{free_at}
 use Rattle.lines.proofs.KeyLineLaws.{found_from, key_line_again}
 use Rattle.message.specs.Reading.{after, key_line_after}
-use Rattle.message.proofs.Readings.{IsField, IsLine, ok_of}
+use Rattle.lines.proofs.Cases.{ok_of}
+use Rattle.message.proofs.Readings.{IsField, IsLine}
 use Rattle.message.proofs.Fields.{lacks_by, value_after}
 
 no_bytes : IsLine []

@@ -1,7 +1,6 @@
 -- Readings of the lines of a text from some line on: what is read, what is read again, and the first fault.
 use Rattle.std.proofs.Common.{◌≡◌, ℕ, suc, ◌+◌, ◌<◌, List, [], ◌∷◌, ◌++◌, length, drop, false, eqb, Option, Some, None, Result, Ok, Err, sym, ap, ◌∙◌, arith, length-append}
 use Rattle.std.specs.List.{All, AllByRecursion}
-use Rattle.std.specs.Result.{result_ok}
 use Rattle.base64.specs.GeneralPurpose.{IsBytes}
 use Rattle.message.specs.Reading.{line_of}
 use Rattle.message.proofs.Lines.{line_there, line_is_ended, Shares}
@@ -39,11 +38,6 @@ pub record IsReading {M : Type 0} (k : ℕ) (read : List (List ℕ) → Result M
 -- a last piece after lines
 pub more_than_none : (ls : List (List ℕ)) → 0 < length (ls ++ [] ∷ [])
 more_than_none ls = rw (length-append ls ([] ∷ [])) (omega arith)
-
--- a result whose value is there
-pub ok_of : {T E : Type 0} (r : Result T E) (x : T) → result_ok r ≡ Some x → r ≡ Ok x
-ok_of (Ok y) x e = cc
-ok_of (Err y) x e = absurd cc
 
 -- what was not read is nothing
 pub not_some : {X : Type 0} (x : X) → None ≡ Some x → ⊥

@@ -23,7 +23,8 @@ use Rattle.lines.proofs.Blobs.{IsBytes_from, all_bytes}
 use Rattle.message.specs.Values.{is_signature}
 use Rattle.message.specs.Texts.{signature_text}
 use Rattle.message.specs.Reading.{after, signature_after, signature_at}
-use Rattle.message.proofs.Readings.{IsField, IsLine, ok_of}
+use Rattle.lines.proofs.Cases.{ok_of}
+use Rattle.message.proofs.Readings.{IsField, IsLine}
 use Rattle.message.proofs.Fields.{value_after}
 use Rattle.message.proofs.Keys.{base64_line}
 

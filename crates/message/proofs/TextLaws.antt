@@ -14,7 +14,8 @@ use Rattle.message.specs.Texts.{lines_text, message_lines, message_text}
 use Rattle.message.specs.Belonging.{BelongsTo}
 use Rattle.message.specs.Reading.{Gives, pieces, message_in, message_at, message_of}
 use Rattle.message.specs.Faults.{SharesLines, IsFirstBad}
-use Rattle.message.proofs.Readings.{IsLine, AreBytes, IsReading, ok_of}
+use Rattle.lines.proofs.Cases.{ok_of}
+use Rattle.message.proofs.Readings.{IsLine, AreBytes, IsReading}
 use Rattle.message.proofs.Messages.{messages_read}
 
 -- ---- lines and texts
