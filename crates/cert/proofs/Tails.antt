@@ -10,7 +10,7 @@ use Rattle.profile.specs.declared.option_field.OptionField.{OptionField}
 use Rattle.profile.specs.declared.option_field.OptionField.TheVariants.{CriticalOptions, Extensions}
 use Rattle.profile.specs.Serials.{is_serial}
 use Rattle.cert.specs.Bodies.{cert_type, is_validity}
-use Rattle.cert.specs.Reading.{◌>>=◌, check, kind_of, principals_of, options_of, field_fault, type_at, bytes_32_at, serial_at, kind_at, key_id_at, principals_at, validity_at, options_at, reserved_at, ca_at, body_at}
+use Rattle.cert.specs.Reading.{◌>>=◌, check, kind_of, principals_of, options_of, field_fault, type_at, bytes_32_at, serial_at, kind_at, key_id_at, principals_at, validity_at, options_at, reserved_at, ca_at, from_key_id_at, body_at}
 use Rattle.cert.specs.declared.fields.CertFields.{CertFields}
 use Rattle.cert.specs.declared.cert_fault.CertFault.{CertFault}
 use Rattle.cert.specs.declared.cert_fault.CertFault.TheVariants.{Truncated, WrongType, BadNonce, BadKey, BadSerial, BadKind, BadKeyId, BadPrincipals, BadValidity, BadReserved, BadCa, TrailingBytes}
@@ -94,7 +94,7 @@ from_type c rest = type_at rest >>= then_type c
 
 -- reading a body is reading from its type on
 pub body_at-from_type : (c : CertFields) (bytes : List ℕ) → body_at bytes ≡ from_type c bytes
-unfolding body_at
+unfolding body_at from_key_id_at
 body_at-from_type c bytes = refl
 
 -- ---- how each field goes on, fails, or is cut

@@ -207,27 +207,22 @@ ca_at bytes = do
   key ← or_fault BadCa (key_of text.0)
   Ok (key, text.1)
 
--- the fields of a body, or the first fault
-unfoldable pub body_at : List ℕ → Result CertFields CertFault
-body_at bytes = do
-  named ← type_at bytes
-  nonce ← bytes_32_at BadNonce named.1
-  key ← bytes_32_at BadKey nonce.1
-  serial ← serial_at key.1
-  kind ← kind_at serial.1
-  key_id ← key_id_at kind.1
+-- the fields from the key id on, with those before it
+unfoldable pub from_key_id_at : (nonce key : List ℕ) → ℕ → Kind → List ℕ → Result CertFields CertFault
+from_key_id_at nonce key serial kind bytes = do
+  key_id ← key_id_at bytes
   principals ← principals_at key_id.1
   validity ← validity_at principals.1
-  options ← options_at CriticalOptions kind.0 validity.1
-  extensions ← options_at Extensions kind.0 options.1
+  options ← options_at CriticalOptions kind validity.1
+  extensions ← options_at Extensions kind options.1
   reserved ← reserved_at extensions.1
   ca ← ca_at reserved.1
   _ ← check TrailingBytes (length ca.1 == 0)
   Ok (record {
-    nonce = nonce.0;
-    key = key.0;
-    serial = serial.0;
-    kind = kind.0;
+    nonce = nonce;
+    key = key;
+    serial = serial;
+    kind = kind;
     key_id = key_id.0;
     principals = principals.0;
     after = validity.0.0;
@@ -236,3 +231,13 @@ body_at bytes = do
     extensions = extensions.0;
     ca = ca.0;
   })
+
+-- the fields of a body, or the first fault
+unfoldable pub body_at : List ℕ → Result CertFields CertFault
+body_at bytes = do
+  named ← type_at bytes
+  nonce ← bytes_32_at BadNonce named.1
+  key ← bytes_32_at BadKey nonce.1
+  serial ← serial_at key.1
+  kind ← kind_at serial.1
+  from_key_id_at nonce.0 key.0 serial.0 kind.0 kind.1

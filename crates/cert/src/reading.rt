@@ -18,6 +18,7 @@ ghost use Rattle.cert.specs.Reading.{
   options_at,
   reserved_at,
   ca_at,
+  from_key_id_at,
   body_at,
 };
 
@@ -166,23 +167,25 @@ fn read_ca(cursor: &mut Cursor) -> Result<[u8; 32], CertFault>
     Ok(key)
 }
 
-#[tactic(auto, unfolding(crate::specs::Reading::body_at))]
-fn fields_in(alloc: Global, bytes: &[u8]) -> Result<CertFields, CertFault>
-    ensures { Gives result (body_at bytes.now) }
+// The fields from the key id on, with those before it.
+#[tactic(auto, unfolding(crate::specs::Reading::from_key_id_at))]
+fn read_from_key_id(
+    alloc: Global,
+    cursor: &mut Cursor,
+    nonce: [u8; 32],
+    key: [u8; 32],
+    serial: u64,
+    kind: Kind,
+) -> Result<CertFields, CertFault>
+    ensures { Gives result (from_key_id_at nonce key serial kind cursor.old) }
 {
-    let mut cursor = Cursor::new(bytes);
-    read_type(&mut cursor)?;
-    let nonce = read_bytes_32(&mut cursor, CertFault::BadNonce)?;
-    let key = read_bytes_32(&mut cursor, CertFault::BadKey)?;
-    let serial = read_serial(&mut cursor)?;
-    let kind = read_kind(&mut cursor)?;
-    let key_id = read_key_id(alloc, &mut cursor)?;
-    let principals = read_principals(alloc, &mut cursor)?;
-    let (after, before) = read_validity(&mut cursor)?;
-    let options = read_options(alloc, &mut cursor, OptionField::CriticalOptions, kind)?;
-    let extensions = read_options(alloc, &mut cursor, OptionField::Extensions, kind)?;
-    read_reserved(&mut cursor)?;
-    let ca = read_ca(&mut cursor)?;
+    let key_id = read_key_id(alloc, cursor)?;
+    let principals = read_principals(alloc, cursor)?;
+    let (after, before) = read_validity(cursor)?;
+    let options = read_options(alloc, cursor, OptionField::CriticalOptions, kind)?;
+    let extensions = read_options(alloc, cursor, OptionField::Extensions, kind)?;
+    read_reserved(cursor)?;
+    let ca = read_ca(cursor)?;
     if !cursor.at_end() {
         return Err(CertFault::TrailingBytes);
     }
@@ -199,6 +202,19 @@ fn fields_in(alloc: Global, bytes: &[u8]) -> Result<CertFields, CertFault>
         extensions,
         ca,
     })
+}
+
+#[tactic(auto, unfolding(crate::specs::Reading::body_at))]
+fn fields_in(alloc: Global, bytes: &[u8]) -> Result<CertFields, CertFault>
+    ensures { Gives result (body_at bytes.now) }
+{
+    let mut cursor = Cursor::new(bytes);
+    read_type(&mut cursor)?;
+    let nonce = read_bytes_32(&mut cursor, CertFault::BadNonce)?;
+    let key = read_bytes_32(&mut cursor, CertFault::BadKey)?;
+    let serial = read_serial(&mut cursor)?;
+    let kind = read_kind(&mut cursor)?;
+    read_from_key_id(alloc, &mut cursor, nonce, key, serial, kind)
 }
 
 /// Reads a body (PROTOCOL.certkeys) of the profile: a text that `write_body` may write, and no other.
