@@ -33,6 +33,7 @@ use Rattle.message.specs.Reading.{
   message_in,
   number_after,
   one_line_in,
+  one_line_message_in,
   range_after,
   renewal_in,
 }
@@ -60,6 +61,7 @@ IsOfSome m =
     ⊎ IsOf (λ k. message.Rollover k) (λ k. is_key_line k ≡ true) m))))))
 
 some_read : IsReading 0 message_in IsOfSome message_lines
+unfolding one_line_message_in
 some_read = (
     kind_or message_lines (codes "department ") (λ d. message.Department d) department_in
     (λ d. is_department d ≡ true) department_lines (λ d. refl) department_reads (λ d. (_, (_, refl))) (

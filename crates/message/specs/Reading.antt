@@ -244,14 +244,10 @@ abbrev pub made : {A B : Type 0} → (A → B) → Result A ℕ → Result B ℕ
 made f (Ok x) = Ok (f x)
 made f (Err n) = Err n
 
--- a message, from the pieces of its text: line 1 says the kind
-abbrev pub message_in : List (List ℕ) → Result Message ℕ
-message_in ps =
-    if begins (codes "department ") ps then made (λ d. message.Department d) (department_in ps)
-    else (if begins (codes "issue ") ps then made (λ i. message.Issue i) (issue_in ps)
-    else (if begins (codes "renew ") ps then made (λ r. message.Renew r) (renewal_in ps)
-    else (if begins (codes "deliver ") ps then made (λ d. message.Deliver d) (delivery_in ps)
-    else (if begins (codes "revoke-serial ") ps
+-- a message of one line, from the pieces of its text
+unfoldable pub one_line_message_in : List (List ℕ) → Result Message ℕ
+one_line_message_in ps =
+    if begins (codes "revoke-serial ") ps
     then made (λ n. message.RevokeSerial n) (one_line_in (number_after is_serial (codes "revoke-serial ")) ps)
     else (if begins (codes "revoke-range ") ps
     then made (λ r. message.RevokeRange r) (one_line_in (range_after (codes "revoke-range ")) ps)
@@ -259,7 +255,16 @@ message_in ps =
     then made (λ k. message.RevokeKeyId k) (one_line_in (key_id_after (codes "revoke-keyid ")) ps)
     else (if begins (codes "rollover ") ps
     then made (λ k. message.Rollover k) (one_line_in (key_line_after (codes "rollover ")) ps)
-    else Err 1)))))))
+    else Err 1)))
+
+-- a message, from the pieces of its text: line 1 says the kind
+abbrev pub message_in : List (List ℕ) → Result Message ℕ
+message_in ps =
+    if begins (codes "department ") ps then made (λ d. message.Department d) (department_in ps)
+    else (if begins (codes "issue ") ps then made (λ i. message.Issue i) (issue_in ps)
+    else (if begins (codes "renew ") ps then made (λ r. message.Renew r) (renewal_in ps)
+    else (if begins (codes "deliver ") ps then made (λ d. message.Deliver d) (delivery_in ps)
+    else one_line_message_in ps)))
 
 -- the message that a text is, or the first line that does not fit
 abbrev pub message_at : List ℕ → Result Message ℕ

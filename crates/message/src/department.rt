@@ -1,7 +1,7 @@
 //! What a department is.
 
 ghost use Rattle.std.specs.Prelude.{◌≡◌, ◌&&◌, IfOk, codes, map};
-ghost use Rattle.message.specs.Reading.{Gives, department_in, kind_of, list_after, number_after};
+ghost use Rattle.message.specs.Reading.{Gives, department_in, kind_of, line_of, list_after, number_after, or_bad};
 ghost use Rattle.message.specs.Values.{
   are_administrators,
   are_extension_names,
@@ -59,16 +59,17 @@ impl Department {
     }
 }
 
-/// The kind of a line.
-fn kind_in(line: &[u8]) -> Option<Kind>
-    ensures { result ≡ kind_of line.now }
+/// The kind of line 2.
+fn kind_in(pieces: &[&[u8]]) -> Result<Kind, MessageFault>
+    ensures { Gives result (or_bad 2 (kind_of (line_of 2 (map (λ x. x.now) pieces.now)))) }
 {
+    let line = line(pieces, 2);
     if line == b"kind user".as_slice() {
-        Some(Kind::User)
+        Ok(Kind::User)
     } else if line == b"kind host".as_slice() {
-        Some(Kind::Host)
+        Ok(Kind::Host)
     } else {
-        None
+        Err(MessageFault::BadLine(2))
     }
 }
 
@@ -82,71 +83,69 @@ pub fn fits_kind(kind: Kind, texts: &[Text]) -> bool
     }
 }
 
-fn administrators_in(alloc: Global, line: &[u8]) -> Result<Option<Texts>, NoMemory>
-    ensures { IfOk result (λ o. o ≡ list_after are_administrators (codes "admins") line.now) }
+/// The administrators of line 3.
+fn administrators_in(alloc: Global, pieces: &[&[u8]]) -> Result<Texts, MessageFault>
+    ensures { Gives result
+        (or_bad 3 (list_after are_administrators (codes "admins") (line_of 3 (map (λ x. x.now) pieces.now)))) }
 {
-    let Some(administrators) = list_after(alloc, line, b"admins")? else {
-        return Ok(None);
-    };
-    Ok(if are_administrators(administrators.as_slice()) {
-        Some(administrators)
-    } else {
-        None
-    })
+    match list_after(alloc, line(pieces, 3), b"admins")? {
+        Some(texts) if are_administrators(texts.as_slice()) => Ok(texts),
+        _ => Err(MessageFault::BadLine(3)),
+    }
 }
 
-fn rules_in(alloc: Global, line: &[u8]) -> Result<Option<Texts>, NoMemory>
-    ensures { IfOk result (λ o. o ≡ list_after are_rules (codes "principals") line.now) }
+/// The rules of line 4.
+fn rules_in(alloc: Global, pieces: &[&[u8]]) -> Result<Texts, MessageFault>
+    ensures { Gives result
+        (or_bad 4 (list_after are_rules (codes "principals") (line_of 4 (map (λ x. x.now) pieces.now)))) }
 {
-    let Some(rules) = list_after(alloc, line, b"principals")? else {
-        return Ok(None);
-    };
-    Ok(if are_rules(rules.as_slice()) {
-        Some(rules)
-    } else {
-        None
-    })
+    match list_after(alloc, line(pieces, 4), b"principals")? {
+        Some(texts) if are_rules(texts.as_slice()) => Ok(texts),
+        _ => Err(MessageFault::BadLine(4)),
+    }
 }
 
-fn options_in(alloc: Global, kind: Kind, line: &[u8]) -> Result<Option<Texts>, NoMemory>
-    ensures { IfOk result (λ o. o ≡ list_after (λ ts. are_option_names ts && fits_kind kind ts) (codes "options") line.now) }
+/// The names of options of line 5.
+fn options_in(alloc: Global, kind: Kind, pieces: &[&[u8]]) -> Result<Texts, MessageFault>
+    ensures { Gives result (or_bad 5 (list_after (λ ts. are_option_names ts && fits_kind kind ts) (codes "options")
+        (line_of 5 (map (λ x. x.now) pieces.now)))) }
 {
-    let Some(options) = list_after(alloc, line, b"options")? else {
-        return Ok(None);
-    };
-    let fits = are_option_names(options.as_slice()) && fits_kind(kind, options.as_slice());
-    Ok(if fits { Some(options) } else { None })
+    match list_after(alloc, line(pieces, 5), b"options")? {
+        Some(texts) if are_option_names(texts.as_slice()) && fits_kind(kind, texts.as_slice()) => Ok(texts),
+        _ => Err(MessageFault::BadLine(5)),
+    }
 }
 
-fn extensions_in(alloc: Global, kind: Kind, line: &[u8]) -> Result<Option<Texts>, NoMemory>
-    ensures { IfOk result
-        (λ o. o ≡ list_after (λ ts. are_extension_names ts && fits_kind kind ts) (codes "extensions") line.now) }
+/// The names of extensions of line 6.
+fn extensions_in(alloc: Global, kind: Kind, pieces: &[&[u8]]) -> Result<Texts, MessageFault>
+    ensures { Gives result (or_bad 6 (list_after (λ ts. are_extension_names ts && fits_kind kind ts)
+        (codes "extensions") (line_of 6 (map (λ x. x.now) pieces.now)))) }
 {
-    let Some(extensions) = list_after(alloc, line, b"extensions")? else {
-        return Ok(None);
-    };
-    let fits = are_extension_names(extensions.as_slice()) && fits_kind(kind, extensions.as_slice());
-    Ok(if fits { Some(extensions) } else { None })
+    match list_after(alloc, line(pieces, 6), b"extensions")? {
+        Some(texts) if are_extension_names(texts.as_slice()) && fits_kind(kind, texts.as_slice()) => Ok(texts),
+        _ => Err(MessageFault::BadLine(6)),
+    }
 }
 
-fn namespaces_in(alloc: Global, kind: Kind, line: &[u8]) -> Result<Option<Texts>, NoMemory>
-    ensures { IfOk result (λ o. o ≡ list_after (λ ts. are_namespaces ts && fits_kind kind ts) (codes "namespaces") line.now) }
+/// The longest life of line 7.
+fn longest_life_in(pieces: &[&[u8]]) -> Result<u64, MessageFault>
+    ensures { Gives result
+        (or_bad 7 (number_after is_longest_life (codes "maxlife ") (line_of 7 (map (λ x. x.now) pieces.now)))) }
 {
-    let Some(namespaces) = list_after(alloc, line, b"namespaces")? else {
-        return Ok(None);
-    };
-    let fits = are_namespaces(namespaces.as_slice()) && fits_kind(kind, namespaces.as_slice());
-    Ok(if fits { Some(namespaces) } else { None })
+    match number_after(line(pieces, 7), b"maxlife ") {
+        Some(seconds) if 1 <= seconds && seconds <= LONGEST_LIFE => Ok(seconds),
+        _ => Err(MessageFault::BadLine(7)),
+    }
 }
 
-fn longest_life_in(line: &[u8]) -> Option<u64>
-    ensures { result ≡ number_after is_longest_life (codes "maxlife ") line.now }
+/// The namespaces of line 8.
+fn namespaces_in(alloc: Global, kind: Kind, pieces: &[&[u8]]) -> Result<Texts, MessageFault>
+    ensures { Gives result (or_bad 8 (list_after (λ ts. are_namespaces ts && fits_kind kind ts) (codes "namespaces")
+        (line_of 8 (map (λ x. x.now) pieces.now)))) }
 {
-    let seconds = number_after(line, b"maxlife ")?;
-    if 1 <= seconds && seconds <= LONGEST_LIFE {
-        Some(seconds)
-    } else {
-        None
+    match list_after(alloc, line(pieces, 8), b"namespaces")? {
+        Some(texts) if are_namespaces(texts.as_slice()) && fits_kind(kind, texts.as_slice()) => Ok(texts),
+        _ => Err(MessageFault::BadLine(8)),
     }
 }
 
@@ -156,30 +155,14 @@ impl Department {
     pub(crate) fn read(alloc: Global, pieces: &[&[u8]]) -> Result<Department, MessageFault>
         ensures { Gives result (department_in (map (λ x. x.now) pieces.now)) }
     {
-        let Some(name) = name_after(alloc, line(pieces, 1), b"department ")? else {
-            return Err(MessageFault::BadLine(1));
-        };
-        let Some(kind) = kind_in(line(pieces, 2)) else {
-            return Err(MessageFault::BadLine(2));
-        };
-        let Some(administrators) = administrators_in(alloc, line(pieces, 3))? else {
-            return Err(MessageFault::BadLine(3));
-        };
-        let Some(rules) = rules_in(alloc, line(pieces, 4))? else {
-            return Err(MessageFault::BadLine(4));
-        };
-        let Some(options) = options_in(alloc, kind, line(pieces, 5))? else {
-            return Err(MessageFault::BadLine(5));
-        };
-        let Some(extensions) = extensions_in(alloc, kind, line(pieces, 6))? else {
-            return Err(MessageFault::BadLine(6));
-        };
-        let Some(longest_life) = longest_life_in(line(pieces, 7)) else {
-            return Err(MessageFault::BadLine(7));
-        };
-        let Some(namespaces) = namespaces_in(alloc, kind, line(pieces, 8))? else {
-            return Err(MessageFault::BadLine(8));
-        };
+        let name = name_after(alloc, pieces, 1, b"department ")?;
+        let kind = kind_in(pieces)?;
+        let administrators = administrators_in(alloc, pieces)?;
+        let rules = rules_in(alloc, pieces)?;
+        let options = options_in(alloc, kind, pieces)?;
+        let extensions = extensions_in(alloc, kind, pieces)?;
+        let longest_life = longest_life_in(pieces)?;
+        let namespaces = namespaces_in(alloc, kind, pieces)?;
         if !ends_after(pieces, 8) {
             return Err(MessageFault::BadLine(9));
         }

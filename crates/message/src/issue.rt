@@ -49,32 +49,19 @@ fn options_in(alloc: Global, pieces: &[&[u8]]) -> Result<Pairs, NoMemory>
 
 impl Issue {
     /// The issue whose lines these are.
+    #[tactic(auto, unfolding(crate::specs::Reading::issue_in))]
     pub(crate) fn read(alloc: Global, pieces: &[&[u8]]) -> Result<Issue, MessageFault>
         ensures { Gives result (issue_in (map (λ x. x.now) pieces.now)) }
     {
-        let Some(department) = name_after(alloc, line(pieces, 1), b"issue ")? else {
-            return Err(MessageFault::BadLine(1));
-        };
-        let Some(key_id) = key_id_after(alloc, line(pieces, 2), b"keyid ")? else {
-            return Err(MessageFault::BadLine(2));
-        };
-        let Some(key) = key_line_after(alloc, line(pieces, 3), b"key ")? else {
-            return Err(MessageFault::BadLine(3));
-        };
-        let Some(principals) = principals_in(alloc, line(pieces, 4))? else {
-            return Err(MessageFault::BadLine(4));
-        };
-        let Some(after) = end_after(line(pieces, 5), b"after ") else {
-            return Err(MessageFault::BadLine(5));
-        };
-        let Some(before) = end_after(line(pieces, 6), b"before ") else {
-            return Err(MessageFault::BadLine(6));
-        };
+        let department = name_after(alloc, pieces, 1, b"issue ")?;
+        let key_id = key_id_after(alloc, pieces, 2, b"keyid ")?;
+        let key = key_line_after(alloc, pieces, 3, b"key ")?;
+        let principals = principals_in(alloc, pieces, 4)?;
+        let after = end_after(pieces, 5, b"after ")?;
+        let before = end_after(pieces, 6, b"before ")?;
         let options = options_in(alloc, pieces)?;
         let last = 7 + options.as_slice().len();
-        let Some(extensions) = extensions_in(alloc, line(pieces, last))? else {
-            return Err(MessageFault::BadLine(last as u64));
-        };
+        let extensions = extensions_in(alloc, pieces, last)?;
         if !ends_after(pieces, last) {
             return Err(MessageFault::BadLine(last as u64 + 1));
         }

@@ -3,8 +3,9 @@
 ghost use Rattle.std.specs.Prelude.{◌≡◌, ◌≤◌, map, IfOk, option_copied};
 ghost use Rattle.std.specs.Option.{option_and_then};
 ghost use Rattle.profile.specs.Decimals.{number_of};
-ghost use Rattle.message.specs.Reading.{after, ends_after, line_of, listed, name_after};
+ghost use Rattle.message.specs.Reading.{Gives, after, ends_after, line_of, listed, name_after, or_bad};
 
+use crate::fault::MessageFault;
 use profile::{is_name, read_decimal};
 use std::alloc::Global;
 use text::{NoMemory, Text, Texts, cut};
@@ -36,17 +37,20 @@ pub(crate) fn after<'a>(line: &'a [u8], head: &[u8]) -> Option<&'a [u8]>
     line.strip_prefix(head)
 }
 
-/// A name behind these bytes.
-pub(crate) fn name_after(alloc: Global, line: &[u8], head: &[u8]) -> Result<Option<Text>, NoMemory>
-    ensures { IfOk result (λ o. o ≡ name_after head.now line.now) }
+/// The name behind these bytes on line `n`.
+pub(crate) fn name_after(
+    alloc: Global,
+    pieces: &[&[u8]],
+    n: usize,
+    head: &[u8],
+) -> Result<Text, MessageFault>
+    requires { 1 ≤ n }
+    ensures { Gives result (or_bad n (name_after head.now (line_of n (map (λ x. x.now) pieces.now)))) }
 {
-    let Some(name) = after(line, head) else {
-        return Ok(None);
-    };
-    if !is_name(name) {
-        return Ok(None);
+    match after(line(pieces, n), head) {
+        Some(name) if is_name(name) => Ok(Text::from_slice(alloc, name)?),
+        _ => Err(MessageFault::BadLine(n as u64)),
     }
-    Ok(Some(Text::from_slice(alloc, name)?))
 }
 
 /// A number behind these bytes.

@@ -1,10 +1,10 @@
 //! The lists of messages.
 
-ghost use Rattle.std.specs.Prelude.{◌≡◌, ◌&&◌, IfOk, codes, nat_le, length};
+ghost use Rattle.std.specs.Prelude.{◌≡◌, ◌≤◌, ◌&&◌, codes, map, nat_le, length};
 ghost use Rattle.std.specs.List.{list_all};
 ghost use Rattle.profile.specs.Names.{is_name, is_namespace, is_principal, is_rule};
 ghost use Rattle.profile.specs.Options.{is_known};
-ghost use Rattle.message.specs.Reading.{list_after};
+ghost use Rattle.message.specs.Reading.{Gives, line_of, list_after, or_bad};
 ghost use Rattle.message.specs.Values.{
   are_administrators,
   are_distinct_and,
@@ -15,13 +15,14 @@ ghost use Rattle.message.specs.Values.{
   are_rules,
 };
 
-use crate::line::list_after;
+use crate::fault::MessageFault;
+use crate::line::{line, list_after};
 use profile::{
     MOST_ADMINISTRATORS, MOST_NAMESPACES, MOST_PRINCIPALS, MOST_RULES, OptionField, are_distinct,
     is_known, is_name, is_namespace, is_principal, is_rule,
 };
 use std::alloc::Global;
-use text::{NoMemory, Text, Texts};
+use text::{Text, Texts};
 
 fn all_names(texts: &[Text]) -> bool
     ensures { result ≡ list_all is_name texts.now }
@@ -125,30 +126,26 @@ pub fn are_namespaces(texts: &[Text]) -> bool
     texts.len() <= MOST_NAMESPACES && are_distinct_namespaces(texts)
 }
 
-/// The principals of a line.
-pub(crate) fn principals_in(alloc: Global, line: &[u8]) -> Result<Option<Texts>, NoMemory>
-    ensures { IfOk result (λ o. o ≡ list_after are_principals (codes "principals") line.now) }
+/// The principals of line `n`.
+pub(crate) fn principals_in(alloc: Global, pieces: &[&[u8]], n: usize) -> Result<Texts, MessageFault>
+    requires { 1 ≤ n }
+    ensures { Gives result
+        (or_bad n (list_after are_principals (codes "principals") (line_of n (map (λ x. x.now) pieces.now)))) }
 {
-    let Some(principals) = list_after(alloc, line, b"principals")? else {
-        return Ok(None);
-    };
-    Ok(if are_principals(principals.as_slice()) {
-        Some(principals)
-    } else {
-        None
-    })
+    match list_after(alloc, line(pieces, n), b"principals")? {
+        Some(principals) if are_principals(principals.as_slice()) => Ok(principals),
+        _ => Err(MessageFault::BadLine(n as u64)),
+    }
 }
 
-/// The extensions of a line.
-pub(crate) fn extensions_in(alloc: Global, line: &[u8]) -> Result<Option<Texts>, NoMemory>
-    ensures { IfOk result (λ o. o ≡ list_after are_extension_names (codes "extensions") line.now) }
+/// The extensions of line `n`.
+pub(crate) fn extensions_in(alloc: Global, pieces: &[&[u8]], n: usize) -> Result<Texts, MessageFault>
+    requires { 1 ≤ n }
+    ensures { Gives result
+        (or_bad n (list_after are_extension_names (codes "extensions") (line_of n (map (λ x. x.now) pieces.now)))) }
 {
-    let Some(extensions) = list_after(alloc, line, b"extensions")? else {
-        return Ok(None);
-    };
-    Ok(if are_extension_names(extensions.as_slice()) {
-        Some(extensions)
-    } else {
-        None
-    })
+    match list_after(alloc, line(pieces, n), b"extensions")? {
+        Some(extensions) if are_extension_names(extensions.as_slice()) => Ok(extensions),
+        _ => Err(MessageFault::BadLine(n as u64)),
+    }
 }

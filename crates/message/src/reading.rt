@@ -3,7 +3,7 @@
 ghost use Rattle.std.specs.Prelude.{◌≡◌, ℕ, IfOk, IsTrue, map};
 ghost use Rattle.message.specs.Belonging.{BelongsTo};
 ghost use Rattle.message.specs.Faults.{IsFirstBad};
-ghost use Rattle.message.specs.Reading.{Gives, begins, message_at, message_in, pieces};
+ghost use Rattle.message.specs.Reading.{Gives, begins, message_at, message_in, one_line_message_in, pieces};
 ghost use Rattle.message.specs.Texts.{message_text};
 ghost use Rattle.message.specs.Values.{is_message};
 ghost use Rattle.message.specs.declared.kinds.Message.{Message};
@@ -26,6 +26,25 @@ fn begins(pieces: &[&[u8]], head: &[u8]) -> bool
     after(line(pieces, 1), head).is_some()
 }
 
+#[tactic(auto, unfolding(crate::specs::Reading::one_line_message_in))]
+fn one_line_message_in(alloc: Global, pieces: &[&[u8]]) -> Result<Message, MessageFault>
+    ensures { Gives result (one_line_message_in (map (λ x. x.now) pieces.now)) }
+{
+    if begins(pieces, b"revoke-serial ") {
+        return Ok(Message::RevokeSerial(serial_in(pieces)?));
+    }
+    if begins(pieces, b"revoke-range ") {
+        return Ok(Message::RevokeRange(range_in(pieces)?));
+    }
+    if begins(pieces, b"revoke-keyid ") {
+        return Ok(Message::RevokeKeyId(key_id_in(alloc, pieces)?));
+    }
+    if begins(pieces, b"rollover ") {
+        return Ok(Message::Rollover(key_in(alloc, pieces)?));
+    }
+    Err(MessageFault::BadLine(1))
+}
+
 fn message_in(alloc: Global, pieces: &[&[u8]]) -> Result<Message, MessageFault>
     ensures { Gives result (message_in (map (λ x. x.now) pieces.now)) }
 {
@@ -41,19 +60,7 @@ fn message_in(alloc: Global, pieces: &[&[u8]]) -> Result<Message, MessageFault>
     if begins(pieces, b"deliver ") {
         return Ok(Message::Deliver(Delivery::read(pieces)?));
     }
-    if begins(pieces, b"revoke-serial ") {
-        return Ok(Message::RevokeSerial(serial_in(pieces)?));
-    }
-    if begins(pieces, b"revoke-range ") {
-        return Ok(Message::RevokeRange(range_in(pieces)?));
-    }
-    if begins(pieces, b"revoke-keyid ") {
-        return Ok(Message::RevokeKeyId(key_id_in(alloc, pieces)?));
-    }
-    if begins(pieces, b"rollover ") {
-        return Ok(Message::Rollover(key_in(alloc, pieces)?));
-    }
-    Err(MessageFault::BadLine(1))
+    one_line_message_in(alloc, pieces)
 }
 
 fn read(alloc: Global, bytes: &[u8]) -> Result<Message, MessageFault>

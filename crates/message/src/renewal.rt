@@ -27,12 +27,8 @@ impl Renewal {
         let Some(serial) = serial_after(line(pieces, 1), b"renew ") else {
             return Err(MessageFault::BadLine(1));
         };
-        let Some(after) = end_after(line(pieces, 2), b"after ") else {
-            return Err(MessageFault::BadLine(2));
-        };
-        let Some(before) = end_after(line(pieces, 3), b"before ") else {
-            return Err(MessageFault::BadLine(3));
-        };
+        let after = end_after(pieces, 2, b"after ")?;
+        let before = end_after(pieces, 3, b"before ")?;
         if !ends_after(pieces, 3) {
             return Err(MessageFault::BadLine(4));
         }

@@ -50,9 +50,7 @@ pub(crate) fn range_in(pieces: &[&[u8]]) -> Result<SerialRange, MessageFault>
 pub(crate) fn key_id_in(alloc: Global, pieces: &[&[u8]]) -> Result<Text, MessageFault>
     ensures { Gives result (one_line_in (key_id_after (codes "revoke-keyid ")) (map (λ x. x.now) pieces.now)) }
 {
-    let Some(key_id) = key_id_after(alloc, line(pieces, 1), b"revoke-keyid ")? else {
-        return Err(MessageFault::BadLine(1));
-    };
+    let key_id = key_id_after(alloc, pieces, 1, b"revoke-keyid ")?;
     if !ends_after(pieces, 1) {
         return Err(MessageFault::BadLine(2));
     }
@@ -63,9 +61,7 @@ pub(crate) fn key_id_in(alloc: Global, pieces: &[&[u8]]) -> Result<Text, Message
 pub(crate) fn key_in(alloc: Global, pieces: &[&[u8]]) -> Result<KeyLine, MessageFault>
     ensures { Gives result (one_line_in (key_line_after (codes "rollover ")) (map (λ x. x.now) pieces.now)) }
 {
-    let Some(key) = key_line_after(alloc, line(pieces, 1), b"rollover ")? else {
-        return Err(MessageFault::BadLine(1));
-    };
+    let key = key_line_after(alloc, pieces, 1, b"rollover ")?;
     if !ends_after(pieces, 1) {
         return Err(MessageFault::BadLine(2));
     }

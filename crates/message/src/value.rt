@@ -1,12 +1,15 @@
 //! Values in lines, each behind its word.
 
-ghost use Rattle.std.specs.Prelude.{◌≡◌, IfOk};
+ghost use Rattle.std.specs.Prelude.{◌≡◌, ◌≤◌, map};
 ghost use Rattle.std.specs.List.{list_all};
 ghost use Rattle.message.specs.Reading.{
+  Gives,
   digest_after,
   key_id_after,
   key_line_after,
+  line_of,
   number_after,
+  or_bad,
   range_after,
   range_of,
   signature_after,
@@ -15,58 +18,62 @@ ghost use Rattle.message.specs.Reading.{
 ghost use Rattle.profile.specs.Serials.{is_serial};
 ghost use Rattle.message.specs.Values.{is_digest, is_end, is_lower_hex, is_range};
 
-use crate::line::{after, number_after};
+use crate::fault::MessageFault;
+use crate::line::{after, line, number_after};
 use crate::serial_range::SerialRange;
 use base64::engine::general_purpose::STANDARD;
 use lines::{KeyLine, LineFault, Signature, read_key_line, read_signature_blob, word_and_rest};
 use profile::{LATEST_MOMENT, is_key_id, is_serial, read_decimal};
 use std::alloc::Global;
-use text::{NoMemory, Text};
+use text::Text;
 
+/// The key id behind these bytes on line `n`.
 pub(crate) fn key_id_after(
     alloc: Global,
-    line: &[u8],
+    pieces: &[&[u8]],
+    n: usize,
     head: &[u8],
-) -> Result<Option<Text>, NoMemory>
-    ensures { IfOk result (λ o. o ≡ key_id_after head.now line.now) }
+) -> Result<Text, MessageFault>
+    requires { 1 ≤ n }
+    ensures { Gives result (or_bad n (key_id_after head.now (line_of n (map (λ x. x.now) pieces.now)))) }
 {
-    let Some(key_id) = after(line, head) else {
-        return Ok(None);
-    };
-    if !is_key_id(key_id) {
-        return Ok(None);
+    match after(line(pieces, n), head) {
+        Some(key_id) if is_key_id(key_id) => Ok(Text::from_slice(alloc, key_id)?),
+        _ => Err(MessageFault::BadLine(n as u64)),
     }
-    Ok(Some(Text::from_slice(alloc, key_id)?))
 }
 
+/// The key line behind these bytes on line `n`.
 pub(crate) fn key_line_after(
     alloc: Global,
-    line: &[u8],
+    pieces: &[&[u8]],
+    n: usize,
     head: &[u8],
-) -> Result<Option<KeyLine>, NoMemory>
-    ensures { IfOk result (λ o. o ≡ key_line_after head.now line.now) }
+) -> Result<KeyLine, MessageFault>
+    requires { 1 ≤ n }
+    ensures { Gives result (or_bad n (key_line_after head.now (line_of n (map (λ x. x.now) pieces.now)))) }
 {
-    let Some(text) = after(line, head) else {
-        return Ok(None);
+    let Some(text) = after(line(pieces, n), head) else {
+        return Err(MessageFault::BadLine(n as u64));
     };
     match read_key_line(alloc, text) {
-        Ok(key) => Ok(Some(key)),
-        Err(LineFault::NoMemory) => Err(NoMemory),
-        Err(LineFault::WrongType) => Ok(None),
-        Err(LineFault::BadBase64) => Ok(None),
-        Err(LineFault::BadBlob) => Ok(None),
-        Err(LineFault::BadComment) => Ok(None),
+        Ok(key) => Ok(key),
+        Err(LineFault::NoMemory) => Err(MessageFault::NoMemory),
+        Err(LineFault::WrongType) => Err(MessageFault::BadLine(n as u64)),
+        Err(LineFault::BadBase64) => Err(MessageFault::BadLine(n as u64)),
+        Err(LineFault::BadBlob) => Err(MessageFault::BadLine(n as u64)),
+        Err(LineFault::BadComment) => Err(MessageFault::BadLine(n as u64)),
     }
 }
 
-pub(crate) fn end_after(line: &[u8], head: &[u8]) -> Option<u64>
-    ensures { result ≡ number_after is_end head.now line.now }
+/// The end of a validity behind these bytes on line `n`.
+pub(crate) fn end_after(pieces: &[&[u8]], n: usize, head: &[u8]) -> Result<u64, MessageFault>
+    requires { 1 ≤ n }
+    ensures { Gives result (or_bad n (number_after is_end head.now (line_of n (map (λ x. x.now) pieces.now)))) }
 {
-    let end = number_after(line, head)?;
-    if end <= LATEST_MOMENT {
-        Some(end)
-    } else {
-        None
+    match number_after(line(pieces, n), head) {
+        Some(end) if end <= LATEST_MOMENT => Ok(end),
+        _ => Err(MessageFault::BadLine(n as u64)),
     }
 }
 
