@@ -29,6 +29,12 @@ class Pair:
         text = sources.get(self.path, "")
         return text.index(self.old) if self.old and text.count(self.old) == 1 else None
 
+    def change(self):
+        """The places in the old text between which the new one differs."""
+        front = len(os.path.commonprefix([self.old, self.new]))
+        back = len(os.path.commonprefix([self.old[front:][::-1], self.new[front:][::-1]]))
+        return front, len(self.old) - back
+
 
 def closing(text, at):
     """The place of the brace that closes the one at this place."""
@@ -142,20 +148,22 @@ class Sources:
         self.items = {path: items_in(path, text, types) for path, text in self.blank.items()}
 
     def item_of(self, pair):
-        """The innermost function or constant that holds the old text, or None."""
+        """The innermost function or constant that holds what a pair changes, or None."""
         at = pair.place(self.texts)
         if at is None:
             return None
-        start = len(self.texts[pair.path][:at].encode()) + len(pair.old) - len(pair.old.lstrip())
-        end = start + len(pair.old.strip().encode())
-        around = [it for it in self.items[pair.path] if it.holds(start - 1, end)]
+        start, end = (len(self.texts[pair.path][: at + it].encode()) for it in pair.change())
+        around = [it for it in self.items[pair.path] if it.holds(start, end)]
         return min(around, key=lambda it: it.end - it.start) if around else None
 
     def changed(self, edit):
-        """The name of the one function in whose body an edit changes text, or None: it changes something else."""
+        """The names of the functions whose bodies an edit changes, of which each that names a changed constant is one.
+        There are none where it changes something else."""
         items = [self.item_of(it) if it.path.startswith("src/") else None for it in pairs_of(edit)]
-        names = {it.name if it and not it.is_constant else None for it in items}
-        return names.pop() if len(names) == 1 else None
+        if None in items:
+            return []
+        names = [[it.name] if not it.is_constant else self.users(it.name) for it in items]
+        return sorted({it for some in names for it in some}) if all(names) else []
 
     def constant(self, edit):
         """The name of the one constant that an edit changes, or None: it changes something else."""
@@ -163,13 +171,13 @@ class Sources:
         names = {it.name if it and it.is_constant else None for it in items}
         return names.pop() if len(names) == 1 else None
 
-    def user(self, constant):
-        """The name of the one function whose body names a constant, or None."""
+    def users(self, constant):
+        """The names of the functions whose bodies name a constant."""
         users = []
         for path, text in self.blank.items():
             functions = [it for it in self.items[path] if not it.is_constant]
             users += [it.name for it in functions if re.search(rf"\b{constant}\b", text[it.start : it.end])]
-        return users[0] if len(users) == 1 else None
+        return users
 
     def edited(self, edits):
         """The texts of the files that these edits change, each of which changes another function."""
