@@ -1,9 +1,10 @@
 //! The office over its tables: what is promised of all that it answers, in the words of the plain machine.
 //!
 //! Tables tell an opening and a history where they hold the rows of the plain machine that was opened so and was given
-//! the history's arrivals. Of a connection that a failed disk has shut that says nothing. Tables store what they tell
-//! where their connection is open: a crash then leaves these rows and nothing else. Tables that have answered are open,
-//! so what was answered is stored. A request whose bytes alone are refused asks nothing of the tables.
+//! the history's arrivals. Tables store what they tell where their connection is open: a crash then leaves these rows and
+//! nothing else. Tables that have answered are open, so what was answered is stored. Of a connection that a failed disk
+//! has shut, tables that tell a history say that a crash leaves its rows, or those with one arrival more. A request whose
+//! bytes alone are refused asks nothing of the tables.
 //!
 //! The clauses are asked of a disk that has returned what was written, as the call ends.
 #![tactic(auto)]
