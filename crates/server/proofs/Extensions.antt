@@ -78,22 +78,22 @@ grown most old new means x m = record {
 }
 
 -- What is served is extended by as many at most.
-served_extends : {S : Type 0} (register : Ghosts S) (old new : S) (visits : List Visit) → AreServed register old new visits
-    → register.is_honest new → Extends (length visits) (register.means old) (register.means new)
+served_extends : {S : Type 0} (register : Ghosts S) (old new : S) (visits : List Visit)
+    → AreServed register old new visits → register.is_honest new → Extends (length visits) (register.means old) (register.means new)
 served_extends register old new visits x h o l m =
     let s = x h o l m in
     grown (length visits) l s.0 (register.means new o) (grows_by_visits o visits l s.0 s.1) s.2
 
 -- A connection adds one arrival at most.
-pub visit_extends : {S T : Type 0} (result : Result T Fault) (book book' : Option Book) (source source' : Option (List ℕ))
-    (register : Ghosts S) (old new : S) → Visits result book book' source source' register old new
+pub visit_extends : {S T : Type 0} (result : Result T Fault) (book book' : Option Book)
+    (source source' : Option (List ℕ)) (register : Ghosts S) (old new : S) → Visits result book book' source source' register old new
     → register.is_honest new → Extends 1 (register.means old) (register.means new)
 visit_extends result book book' source source' register old new x h =
     served_extends register old new (x.visit ∷ []) x.served h
 
 -- So many connections add so many at most.
-pub meets_extends : {S : Type 0} (n : ℕ) (book book' : Option Book) (source source' : Option (List ℕ)) (register : Ghosts S)
-    (old new : S) → Meets n book book' source source' register old new
+pub meets_extends : {S : Type 0} (n : ℕ) (book book' : Option Book) (source source' : Option (List ℕ))
+    (register : Ghosts S) (old new : S) → Meets n book book' source source' register old new
     → register.is_honest new → Extends n (register.means old) (register.means new)
 meets_extends n book book' source source' register old new x h =
     subst (λ (most : ℕ). Extends most (register.means old) (register.means new)) x.all

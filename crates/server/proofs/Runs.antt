@@ -17,13 +17,14 @@ use Rattle.server.specs.Connections.{Visit, answered, cut, closed, AreServed, En
 -- one more is told, at the end
 told_more : (visits : List Visit) (visit : Visit) (old mid new : Option Book) → TellsAll visits old mid
     → WhereTold (Tells visit) mid new → TellsAll (visits ++ visit ∷ []) old new
-told_more [] visit old mid new first last = (new, subst (λ (b : Option Book). WhereTold (Tells visit) b new) first last, refl)
+told_more [] visit old mid new first last =
+    (new, subst (λ (b : Option Book). WhereTold (Tells visit) b new) first last, refl)
 told_more (v ∷ visits) visit old mid new first last =
     (first.0, first.1, told_more visits visit first.0 mid new first.2 last)
 
 -- one more draws, at the end
-drawn_more : (visits : List Visit) (visit : Visit) (old mid new : Option (List ℕ)) → Consumes old mid (flat_map drawn_of visits)
-    → Consumes mid new (drawn_of visit) → Consumes old new (flat_map drawn_of (visits ++ visit ∷ []))
+drawn_more : (visits : List Visit) (visit : Visit) (old mid new : Option (List ℕ))
+    → Consumes old mid (flat_map drawn_of visits) → Consumes mid new (drawn_of visit) → Consumes old new (flat_map drawn_of (visits ++ visit ∷ []))
 drawn_more visits visit old mid new first last =
     let same : flat_map drawn_of visits ++ drawn_of visit ≡ flat_map drawn_of (visits ++ visit ∷ []) =
     ap (λ (t : List ℕ). flat_map drawn_of visits ++ t) (sym (append-nil (drawn_of visit)))

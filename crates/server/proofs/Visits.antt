@@ -108,9 +108,11 @@ abbrev fails : (A : Type 0) → ServeFault → Result A ServeFault
 fails A fault = Err fault
 
 -- a connection that was accepted, served and ended
-module _ (S W : Type 0) (register : Ghosts S) (taken : W → Option (List ℕ)) (reader reader' source source' : Option (List ℕ))
+module _ (S W : Type 0) (register : Ghosts S) (taken : W → Option (List ℕ))
+    (reader reader' source source' : Option (List ℕ))
     (w w' : W) (s s' : S) (old mid new : Option Book) (moment : ℕ) (lawful : moment ≤ LATEST_MOMENT)
-    (accepted : WhereTold (IsAccepted reader (taken w) moment) old mid) (ended : WhereTold (IsEnded (taken w')) mid new) where
+    (accepted : WhereTold (IsAccepted reader (taken w) moment) old mid)
+    (ended : WhereTold (IsEnded (taken w')) mid new) where
   -- its request was served
   abbrev IsServed : Type 0
   IsServed = Served reader reader' source source' moment (register.is_honest s') (register.means s) (register.means s')
@@ -136,7 +138,8 @@ module _ (S W : Type 0) (register : Ghosts S) (taken : W → Option (List ℕ)) 
   answered_by t x wrote = record {
     visit = answered (talk_of x);
     ends = tt;
-    told = told_held (talk_of x) x.response reader reader' (taken w) (taken w') old mid new accepted x.taken x.one wrote ended;
+    told = told_held (talk_of x) x.response reader reader' (taken w) (taken w') old mid new accepted x.taken x.one
+        wrote ended;
     drawn = x.nonce_taken;
     served = talk_served x;
   }
@@ -205,8 +208,8 @@ silent Clock only = refl
 silent (Serving fault) only = absurd only
 
 -- no connection was accepted
-pub unaccepted_visit : {T S : Type 0} (fault : Fault) (source : Option (List ℕ)) (old new : Option Book) (register : Ghosts S)
-    (s : S) → IsOfAccepting fault → WhereTold (TellsFault fault) old new
+pub unaccepted_visit : {T S : Type 0} (fault : Fault) (source : Option (List ℕ)) (old new : Option Book)
+    (register : Ghosts S) (s : S) → IsOfAccepting fault → WhereTold (TellsFault fault) old new
     → Visits {A = T} (Err fault) old new source source register s s
 unaccepted_visit fault source old new register s only told = record {
   visit = closed (record { fault = fault; drawn = []; silent = silent fault only });
