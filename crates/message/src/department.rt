@@ -111,7 +111,8 @@ fn options_in(alloc: Global, kind: Kind, pieces: &[&[u8]]) -> Result<Texts, Mess
         (line_of 5 (map (λ x. x.now) pieces.now)))) }
 {
     match list_after(alloc, line(pieces, 5), b"options")? {
-        Some(texts) if are_option_names(texts.as_slice()) && fits_kind(kind, texts.as_slice()) => Ok(texts),
+        Some(texts) if are_option_names(texts.as_slice()) && fits_kind(kind, texts.as_slice()) =>
+            Ok(texts),
         _ => Err(MessageFault::BadLine(5)),
     }
 }
@@ -122,7 +123,8 @@ fn extensions_in(alloc: Global, kind: Kind, pieces: &[&[u8]]) -> Result<Texts, M
         (codes "extensions") (line_of 6 (map (λ x. x.now) pieces.now)))) }
 {
     match list_after(alloc, line(pieces, 6), b"extensions")? {
-        Some(texts) if are_extension_names(texts.as_slice()) && fits_kind(kind, texts.as_slice()) => Ok(texts),
+        Some(texts) if are_extension_names(texts.as_slice()) && fits_kind(kind, texts.as_slice()) =>
+            Ok(texts),
         _ => Err(MessageFault::BadLine(6)),
     }
 }
@@ -144,7 +146,9 @@ fn namespaces_in(alloc: Global, kind: Kind, pieces: &[&[u8]]) -> Result<Texts, M
         (line_of 8 (map (λ x. x.now) pieces.now)))) }
 {
     match list_after(alloc, line(pieces, 8), b"namespaces")? {
-        Some(texts) if are_namespaces(texts.as_slice()) && fits_kind(kind, texts.as_slice()) => Ok(texts),
+        Some(texts) if are_namespaces(texts.as_slice()) && fits_kind(kind, texts.as_slice()) => Ok(
+            texts,
+        ),
         _ => Err(MessageFault::BadLine(8)),
     }
 }

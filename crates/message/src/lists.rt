@@ -127,7 +127,11 @@ pub fn are_namespaces(texts: &[Text]) -> bool
 }
 
 /// The principals of line `n`.
-pub(crate) fn principals_in(alloc: Global, pieces: &[&[u8]], n: usize) -> Result<Texts, MessageFault>
+pub(crate) fn principals_in(
+    alloc: Global,
+    pieces: &[&[u8]],
+    n: usize,
+) -> Result<Texts, MessageFault>
     requires { 1 ≤ n }
     ensures { Gives result
         (or_bad n (list_after are_principals (codes "principals") (line_of n (map (λ x. x.now) pieces.now)))) }
@@ -139,7 +143,11 @@ pub(crate) fn principals_in(alloc: Global, pieces: &[&[u8]], n: usize) -> Result
 }
 
 /// The extensions of line `n`.
-pub(crate) fn extensions_in(alloc: Global, pieces: &[&[u8]], n: usize) -> Result<Texts, MessageFault>
+pub(crate) fn extensions_in(
+    alloc: Global,
+    pieces: &[&[u8]],
+    n: usize,
+) -> Result<Texts, MessageFault>
     requires { 1 ≤ n }
     ensures { Gives result
         (or_bad n (list_after are_extension_names (codes "extensions") (line_of n (map (λ x. x.now) pieces.now)))) }
