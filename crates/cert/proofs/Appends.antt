@@ -1,6 +1,6 @@
 -- Texts put at the end.
 use Rattle.std.proofs.Common.{◌≡◌, ℕ, List, ◌++◌, ap, ◌∙◌}
-use Rattle.wire.specs.Texts.{string_text}
+use Rattle.wire.specs.Texts.{u32_text, string_text}
 
 -- a text put after what stands so far
 pub put_after : (text out old so_far : List ℕ) → out ≡ old ++ text → old ≡ so_far → out ≡ so_far ++ text
@@ -11,3 +11,8 @@ pub string_after : (meant string out old so_far : List ℕ) → out ≡ old ++ s
     → old ≡ so_far → out ≡ so_far ++ string_text meant
 string_after meant string out old so_far e m f = e ∙ ap (λ x. x ++ string_text string) f
     ∙ ap (λ t. so_far ++ string_text t) m
+
+-- the same for a number
+pub number_after : (meant n : ℕ) (out old so_far : List ℕ) → out ≡ old ++ u32_text n → n ≡ meant → old ≡ so_far
+    → out ≡ so_far ++ u32_text meant
+number_after meant n out old so_far e m f = e ∙ ap (λ x. x ++ u32_text n) f ∙ ap (λ k. so_far ++ u32_text k) m

@@ -1,11 +1,10 @@
 //! Bodies written.
 
-ghost use Rattle.std.specs.Prelude.{◌≡◌, ◌<◌, ◌+◌, ◌^◌, ◌++◌, length, All, IfOk, IsTrue, OnOk};
+ghost use Rattle.std.specs.Prelude.{◌≡◌, ◌<◌, ◌+◌, ◌^◌, ◌++◌, length, All, IfOk, OnOk};
 ghost use Rattle.cert.specs.Options.{option_text, options_text};
 ghost use Rattle.cert.specs.declared.fields.CertFields.{CertFields};
 ghost use Rattle.cert.specs.Reading.{body_at};
-ghost use Rattle.wire.specs.Texts.{string_text};
-ghost use Rattle.cert.specs.Bodies.{IsCertFields, are_principals, body_text, front, kind_number, principals_text};
+ghost use Rattle.cert.specs.Bodies.{IsCertFields, body_text, kind_number, principals_text};
 
 use crate::fields::CertFields;
 use lines::key_blob_of;
@@ -62,40 +61,6 @@ fn options_bytes(alloc: Global, options: &[Pair]) -> Result<Vec<u8>, NoMemory>
     Ok(out)
 }
 
-fn put_principals(alloc: Global, out: &mut Vec<u8>, principals: &[Text]) -> Result<(), NoMemory>
-    requires { IsTrue (are_principals principals.now) }
-    ensures { OnOk result (out.new.items ≡ out.old.items ++ string_text (principals_text principals.now)) }
-{
-    let text = principals_bytes(alloc, principals)?;
-    put_string(out, text.as_slice())?;
-    Ok(())
-}
-
-fn put_options(alloc: Global, out: &mut Vec<u8>, options: &[Pair]) -> Result<(), NoMemory>
-    requires each { All (λ p. (length p.name < 2 ^ 32) × (length p.value + 4 < 2 ^ 32)) options.now }
-    requires whole { length (options_text options.now) < 2 ^ 32 }
-    ensures { OnOk result (out.new.items ≡ out.old.items ++ string_text (options_text options.now)) }
-{
-    let text = options_bytes(alloc, options)?;
-    put_string(out, text.as_slice())?;
-    Ok(())
-}
-
-// The fields up to the key id.
-fn front_bytes(alloc: Global, fields: &CertFields) -> Result<Vec<u8>, NoMemory>
-    requires { IsCertFields fields.now }
-    ensures { IfOk result (λ v. v.items ≡ front 6 fields.now) }
-{
-    let mut out = Vec::new(alloc);
-    put_string(&mut out, b"ssh-ed25519-cert-v01@openssh.com")?;
-    put_string(&mut out, &fields.nonce)?;
-    put_string(&mut out, &fields.key)?;
-    put_u64(&mut out, fields.serial)?;
-    put_u32(&mut out, number_of(fields.kind))?;
-    put_string(&mut out, fields.key_id.as_slice())?;
-    Ok(out)
-}
-
 /// The body of a certificate with these fields, which is what its CA signs (PROTOCOL.certkeys).
 pub fn write_body(alloc: Global, fields: &CertFields) -> Result<Vec<u8>, NoMemory>
     requires { IsCertFields fields.now }
@@ -105,12 +70,21 @@ pub fn write_body(alloc: Global, fields: &CertFields) -> Result<Vec<u8>, NoMemor
     ensures again { IfOk result (λ v. body_at v.items ≡ Ok fields.now) }
     ensures only { (c : CertFields) → IsCertFields c → IfOk result (λ v. v.items ≡ body_text c → c ≡ fields.now) }
 {
-    let mut out = front_bytes(alloc, fields)?;
-    put_principals(alloc, &mut out, fields.principals.as_slice())?;
+    let principals = principals_bytes(alloc, fields.principals.as_slice())?;
+    let options = options_bytes(alloc, fields.options.pairs())?;
+    let extensions = options_bytes(alloc, fields.extensions.pairs())?;
+    let mut out = Vec::new(alloc);
+    put_string(&mut out, b"ssh-ed25519-cert-v01@openssh.com")?;
+    put_string(&mut out, &fields.nonce)?;
+    put_string(&mut out, &fields.key)?;
+    put_u64(&mut out, fields.serial)?;
+    put_u32(&mut out, number_of(fields.kind))?;
+    put_string(&mut out, fields.key_id.as_slice())?;
+    put_string(&mut out, principals.as_slice())?;
     put_u64(&mut out, fields.after)?;
     put_u64(&mut out, fields.before)?;
-    put_options(alloc, &mut out, fields.options.pairs())?;
-    put_options(alloc, &mut out, fields.extensions.pairs())?;
+    put_string(&mut out, options.as_slice())?;
+    put_string(&mut out, extensions.as_slice())?;
     put_string(&mut out, b"")?;
     put_string(&mut out, &key_blob_of(&fields.ca))?;
     Ok(out)
