@@ -25,9 +25,7 @@ import sys
 import threading
 import time
 
-
-def seen(what, wanted, got):
-    print(f"passed: {what}" if wanted == got else f"failed: {what}\n< {wanted}\n> {got}", flush=True)
+from seeing import seen
 
 
 # ---- connections
@@ -303,7 +301,7 @@ def paced(front, folder, key, name, count):
     for number in range(count):
         seconds, answer = timed_issue(front, of, key, f"{name}-{number}")
         if b"\nissued " not in answer:
-            print(f"failed: issue {name}-{number} is answered {answer!r}")
+            seen(f"issue {name}-{number} is answered", b"\nissued ", answer)
         took.append(1000 * seconds)
         time.sleep(0.06)
     return took

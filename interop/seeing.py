@@ -6,7 +6,8 @@ import subprocess
 import sys
 
 TOP = pathlib.Path(__file__).resolve().parent.parent
-PROGRAM = os.path.realpath(sys.argv[1] if len(sys.argv) > 1 else TOP / "crates/sshoffice/out/sshoffice")
+# The program, which a script's one word may name.
+PROGRAM = os.path.realpath(sys.argv[1] if len(sys.argv) == 2 else TOP / "crates/sshoffice/out/sshoffice")
 
 passed = 0
 failed = 0
@@ -16,31 +17,47 @@ def seen(what, wanted, got):
     """Says whether what was got is what was wanted, and where it differs."""
     global passed, failed
     if wanted == got:
-        print(f"passed: {what}")
+        print(f"passed: {what}", flush=True)
         passed += 1
         return
-    print(f"failed: {what}")
-    show_difference(wanted, got)
+    print(f"failed: {what}", *list(difference(wanted, got))[:20], sep="\n  ", flush=True)
     failed += 1
 
 
-def show_difference(wanted, got):
-    """The lines that differ, or of other bytes the place of the first one. Of several values, those that differ."""
-    if isinstance(wanted, tuple) and isinstance(got, tuple) and len(wanted) == len(got):
-        for one, other in zip(wanted, got):
-            if one != other:
-                show_difference(one, other)
+def difference(wanted, got, at=""):
+    """Lines that tell both sides where they differ. Of a value that has parts, only those that do."""
+    if isinstance(wanted, dict) and isinstance(got, dict) and wanted.keys() == got.keys():
+        parts = [(f"{at}[{name!r}]", it, got[name]) for name, it in wanted.items()]
+    elif type(wanted) is type(got) in (list, tuple) and len(wanted) == len(got):
+        parts = [(f"{at}[{place}]", *both) for place, both in enumerate(zip(wanted, got))]
+    elif type(wanted) is type(got) in (bytes, str):
+        yield from texts_apart(wanted, got, f"{at} ".lstrip())
         return
+    else:
+        yield from (f"{at} {name} {side!r:.500}".lstrip() for name, side in (("wanted", wanted), ("got   ", got)))
+        return
+    for place, one, other in parts:
+        if one != other:
+            yield from difference(one, other, place)
+
+
+def texts_apart(wanted, got, at):
+    """Of texts of short lines the lines that differ, and of other bytes those around the first that does."""
     try:
-        lines = [side.decode().splitlines(keepends=True) if isinstance(side, bytes) else [repr(side)]
-                 for side in (wanted, got)]
+        sides = [side.decode() if isinstance(side, bytes) else side for side in (wanted, got)]
     except UnicodeDecodeError:
-        place = len(os.path.commonprefix([wanted, got]))
-        print(f"  differ at byte {place}: wanted {len(wanted)} bytes, {wanted[place:place + 16].hex()}..")
-        print(f"  {'':18}got {len(got)} bytes, {got[place:place + 16].hex()}..")
+        sides = ["\0"]
+    sides = [side.splitlines(keepends=True) for side in sides]
+    if not any("\0" in line or len(line) > 200 for side in sides for line in side):
+        yield f"{at}- wanted, + got"
+        yield from (line[0] + repr(line[1:]) for line in list(difflib.unified_diff(*sides, n=1))[2:] if line[0] != "@")
         return
-    for line in list(difflib.unified_diff(*lines, "wanted", "got", n=1))[:20]:
-        print(f"  {line.rstrip(chr(10))!r:.160}")
+    place = len(os.path.commonprefix([wanted, got]))
+    first = max(0, place - 8)
+    for name, side in (("wanted", wanted), ("got   ", got)):
+        part = side[first:place + 24]
+        shown = part.hex(" ", -4) if isinstance(part, bytes) else repr(part)
+        yield f"{at}{name} {len(side)} long, from {first} {shown}"
 
 
 def counted():

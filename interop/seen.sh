@@ -9,9 +9,17 @@ seen() {
     passed=$((passed + 1))
   else
     echo "failed: $1"
-    diff <(echo "$2") <(echo "$3") | head -n 10 || true
+    apart "$2" "$3"
     failed=$((failed + 1))
   fi
+}
+
+# apart WANTED GOT: the lines that differ, up to 200 characters of each, and what stands where the first difference is
+apart() {
+  local place
+  diff <(echo "$1") <(echo "$2") | head -n 10 | cut -c -200 || true
+  place=$({ cmp <(echo "$1") <(echo "$2") 2>&1 || true; } | grep -oE '(byte|char) [0-9]+' | cut -d ' ' -f 2)
+  [ "$place" -le 200 ] || printf '%s byte %d: %s\n' '<' "$place" "${1:place-1:80}" '>' "$place" "${2:place-1:80}"
 }
 
 # The last line, and whether nothing failed.
