@@ -1,8 +1,8 @@
-//! The tests of what only calls can show of `text`, `wire`, `lines`, `cert` and `krl`.
+//! The tests of what only calls can show of `wire`, `lines`, `cert` and `krl`.
 //!
-//! They call what any crate can call. Expected values come from outside: worked examples, the standards, and certificates
-//! of OpenSSH's own programs. Messages, key lines and lists are shown by the built program, in `interop/messages` and
-//! `interop/checking`.
+//! They call what any crate can call: readers and writers that end and fail, and the names of faults that no command prints.
+//! Expected values come from outside. What the built programs can show of texts, bodies, key lines and lists they show, in
+//! `interop/messages`, `interop/bodies`, `interop/checking` and `interop/specifications`.
 #![tactic(auto)]
 
 #[cfg(test)]
@@ -11,7 +11,5 @@ mod of_cert;
 mod of_krl;
 #[cfg(test)]
 mod of_lines;
-#[cfg(test)]
-mod of_text;
 #[cfg(test)]
 mod of_wire;

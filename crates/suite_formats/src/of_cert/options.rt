@@ -1,75 +1,131 @@
-//! Options built of pairs.
+//! Pairs that are no options.
 
-use super::pairs;
 use cert::{OptionFault, Options};
 use profile::{Kind, OptionField};
 use std::alloc::Global;
-use text::{NoMemory, Pair, Pairs};
+use text::{NoMemory, Pair, Pairs, Text};
 
-fn fault_of(
-    alloc: Global,
-    kind: Kind,
-    field: OptionField,
-    given: &[(&[u8], &[u8])],
-) -> Option<OptionFault> {
-    match pairs(alloc, given) {
+/// Pairs of one value, with these names.
+fn pairs(alloc: Global, names: &[&[u8]], value: &[u8]) -> Result<Pairs, NoMemory> {
+    let mut pairs = Pairs::new(alloc);
+    for name in names {
+        pairs.push(Pair {
+            name: Text::from_slice(alloc, name)?,
+            value: Text::from_slice(alloc, value)?,
+        })?;
+    }
+    Ok(pairs)
+}
+
+/// A kind, a field, names, the value of each, and their fault, if any.
+type Case = (
+    Kind,
+    OptionField,
+    &'static [&'static [u8]],
+    &'static [u8],
+    Option<OptionFault>,
+);
+
+const CASES: [Case; 14] = [
+    (Kind::User, OptionField::Extensions, &[], b"", None),
+    (
+        Kind::User,
+        OptionField::Extensions,
+        &[b"permit-pty"],
+        b"",
+        None,
+    ),
+    (
+        Kind::User,
+        OptionField::Extensions,
+        &[b"permit-x"],
+        b"",
+        Some(OptionFault::Unknown),
+    ),
+    (
+        Kind::User,
+        OptionField::Extensions,
+        &[b"verify-required"],
+        b"",
+        Some(OptionFault::Unknown),
+    ),
+    (
+        Kind::User,
+        OptionField::Extensions,
+        &[b"permit-pty"],
+        b"1",
+        Some(OptionFault::BadValue),
+    ),
+    (
+        Kind::User,
+        OptionField::Extensions,
+        &[b"permit-pty", b"permit-pty", b"permit-x"],
+        b"",
+        Some(OptionFault::Twice),
+    ),
+    (
+        Kind::User,
+        OptionField::CriticalOptions,
+        &[b"source-address"],
+        b"10.0.0.1/8",
+        Some(OptionFault::BadValue),
+    ),
+    (
+        Kind::User,
+        OptionField::CriticalOptions,
+        &[b"source-address"],
+        b"10.0.0.0/8",
+        None,
+    ),
+    (
+        Kind::User,
+        OptionField::CriticalOptions,
+        &[b"force-command"],
+        b"",
+        Some(OptionFault::BadValue),
+    ),
+    (
+        Kind::User,
+        OptionField::CriticalOptions,
+        &[b"permit-pty"],
+        b"",
+        Some(OptionFault::Unknown),
+    ),
+    (
+        Kind::Host,
+        OptionField::CriticalOptions,
+        &[b"permit-x"],
+        b"",
+        Some(OptionFault::NotForHosts),
+    ),
+    (
+        Kind::Host,
+        OptionField::Extensions,
+        &[b"permit-x"],
+        b"",
+        Some(OptionFault::NotForHosts),
+    ),
+    (Kind::Host, OptionField::CriticalOptions, &[], b"", None),
+    (Kind::Host, OptionField::Extensions, &[], b"", None),
+];
+
+fn fault_of(alloc: Global, case: &Case) -> Option<OptionFault> {
+    let (kind, field, names, value, _) = *case;
+    match pairs(alloc, names, value) {
         Ok(pairs) => Options::build(alloc, kind, field, pairs.as_slice()).err(),
         Err(NoMemory) => Some(OptionFault::NoMemory),
     }
 }
 
-/// A name and a value by themselves in a field, and their fault, if any.
-const CASES: [(OptionField, &[u8], &[u8], Option<OptionFault>); 8] = [
-    (OptionField::Extensions, b"permit-pty", b"", None),
-    (
-        OptionField::Extensions,
-        b"permit-x",
-        b"",
-        Some(OptionFault::Unknown),
-    ),
-    (
-        OptionField::Extensions,
-        b"verify-required",
-        b"",
-        Some(OptionFault::Unknown),
-    ),
-    (
-        OptionField::Extensions,
-        b"permit-pty",
-        b"1",
-        Some(OptionFault::BadValue),
-    ),
-    (
-        OptionField::CriticalOptions,
-        b"source-address",
-        b"10.0.0.1/8",
-        Some(OptionFault::BadValue),
-    ),
-    (
-        OptionField::CriticalOptions,
-        b"source-address",
-        b"10.0.0.0/8",
-        None,
-    ),
-    (
-        OptionField::CriticalOptions,
-        b"force-command",
-        b"",
-        Some(OptionFault::BadValue),
-    ),
-    (
-        OptionField::CriticalOptions,
-        b"permit-pty",
-        b"",
-        Some(OptionFault::Unknown),
-    ),
-];
-
-/// The index of the first case that has another fault.
-fn first_wrong(alloc: Global) -> Option<usize> {
-    for (index, (field, name, value, fault)) in CASES.iter().enumerate() {
-        if fault_of(alloc, Kind::User, *field, &[(*name, *value)]) != *fault {
-            return Some(index);
+/// The place of the first case that has another fault, this fault, and that of the case.
+fn first_other(
+    alloc: Global,
+    cases: &[Case],
+) -> Option<(usize, Option<OptionFault>, Option<OptionFault>)> {
+    for (place, case) in cases.iter().enumerate() {
+        let seen = fault_of(alloc, case);
+        if seen != case.4 {
+            return Some((place, seen, case.4));
         }
     }
     None
@@ -77,81 +133,5 @@ fn first_wrong(alloc: Global) -> Option<usize> {
 
 #[test]
 fn the_first_faulty_pair_is_named(rt: HostRuntime) {
-    let twice: [(&[u8], &[u8]); 3] = [
-        (b"permit-pty", b""),
-        (b"permit-pty", b""),
-        (b"permit-x", b""),
-    ];
-    assert_eq!(rt;
-        fault_of(rt.alloc(), Kind::User, OptionField::Extensions, &twice),
-        Some(OptionFault::Twice)
-    );
-    assert_eq!(rt; first_wrong(rt.alloc()), None);
-}
-
-fn have_names(pairs: &[Pair], names: &[&[u8]]) -> bool {
-    for (pair, name) in pairs.iter().zip(names) {
-        if !pair.name.is(name) {
-            return false;
-        }
-    }
-    pairs.len() == names.len()
-}
-
-/// Whether options are built of the pairs, and they and a copy of them have these names, in this order.
-fn are_listed(
-    alloc: Global,
-    kind: Kind,
-    field: OptionField,
-    given: &Pairs,
-    names: &[&[u8]],
-) -> bool {
-    let Ok(built) = Options::build(alloc, kind, field, given.as_slice()) else {
-        return false;
-    };
-    match built.copied(alloc) {
-        Ok(copy) => have_names(built.pairs(), names) && have_names(copy.pairs(), names),
-        Err(NoMemory) => false,
-    }
-}
-
-#[test]
-fn hosts_have_no_options(rt: HostRuntime) {
-    for field in [OptionField::CriticalOptions, OptionField::Extensions] {
-        assert_eq!(rt;
-            fault_of(rt.alloc(), Kind::Host, field, &[(b"permit-x", b"")]),
-            Some(OptionFault::NotForHosts)
-        );
-        assert!(rt; are_listed(rt.alloc(), Kind::Host, field, &Pairs::new(rt.alloc()), &[]));
-    }
-}
-
-#[test]
-fn pairs_are_listed_by_name(rt: HostRuntime) -> Result<(), NoMemory> {
-    let given = pairs(
-        rt.alloc(),
-        &[
-            (b"permit-pty", b""),
-            (b"permit-X11-forwarding", b""),
-            (b"no-touch-required", b""),
-            (b"permit-agent-forwarding", b""),
-        ],
-    )?;
-    let names: [&[u8]; 4] = [
-        b"no-touch-required",
-        b"permit-X11-forwarding",
-        b"permit-agent-forwarding",
-        b"permit-pty",
-    ];
-    assert!(rt;
-        are_listed(
-            rt.alloc(),
-            Kind::User,
-            OptionField::Extensions,
-            &given,
-            &names
-        )
-    );
-    assert!(rt; Options::none(rt.alloc()).pairs().is_empty());
-    Ok(())
+    assert_eq!(rt; first_other(rt.alloc(), &CASES), None);
 }

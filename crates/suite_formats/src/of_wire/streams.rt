@@ -12,132 +12,133 @@ use wire::{
 
 const TEXT: &[u8] = b"testing";
 
-/// Whether a read into three bytes gives these, or fails where none are given.
-fn gives<S: Source>(source: &mut S, wanted: Option<&[u8]>) -> bool
+/// What four reads into three dashes each make of them, or nothing where a read fails.
+type Reads = [Option<[u8; 3]>; 4];
+
+fn three<S: Source>(source: &mut S) -> Option<[u8; 3]>
     requires { S.failed source.old < 100 }
     ensures { S.failed source.new ≤ S.failed source.old + 1 }
 {
-    let mut buf = [0; 3];
-    match (source.read(&mut buf), wanted) {
-        (Ok(n), Some(bytes)) => &buf[..n] == bytes,
-        (Err(Failed), None) => true,
-        _ => false,
+    let mut buf = *b"---";
+    match source.read(&mut buf) {
+        Ok(_) => Some(buf),
+        Err(Failed) => None,
     }
 }
 
-/// Whether four reads into three bytes give these.
-fn gives_all<S: Source>(source: &mut S, wanted: [Option<&[u8]>; 4]) -> bool
+fn four<S: Source>(source: &mut S) -> Reads
     requires { S.failed source.old < 9 }
 {
-    let [first, second, third, fourth] = wanted;
-    gives(source, first) && gives(source, second) && gives(source, third) && gives(source, fourth)
+    [three(source), three(source), three(source), three(source)]
 }
 
-fn is_whole_reader_read() -> bool {
-    let mut reader = ScriptedReader::new(TEXT, Pace::Whole, Ending::Ends);
-    gives_all(
-        &mut reader,
-        [Some(b"tes"), Some(b"tin"), Some(b"g"), Some(b"")],
-    ) && reader.failures() == 0
-}
+const ENDING: Reads = [Some(*b"tes"), Some(*b"tin"), Some(*b"g--"), Some(*b"---")];
 
-fn is_slow_reader_read() -> bool {
-    let mut reader = ScriptedReader::new(TEXT, Pace::OneByte, Ending::Ends);
-    gives_all(
-        &mut reader,
-        [Some(b"t"), Some(b"e"), Some(b"s"), Some(b"t")],
-    ) && reader.rest == b"ing".as_slice()
+/// The reads of a reader, and how often it failed.
+fn reads(pace: Pace, ending: Ending) -> (Reads, u64) {
+    let mut reader = ScriptedReader::new(TEXT, pace, ending);
+    (four(&mut reader), reader.failures())
 }
 
 #[test]
-fn a_reader_goes_at_its_pace_and_ends(rt: HostRuntime) {
-    assert!(rt; is_whole_reader_read());
-    assert!(rt; is_slow_reader_read());
+fn a_reader_goes_at_its_pace_and_ends_or_fails(rt: HostRuntime) {
+    let slow = [Some(*b"t--"), Some(*b"e--"), Some(*b"s--"), Some(*b"t--")];
+    let failing = [Some(*b"tes"), Some(*b"tin"), Some(*b"g--"), None];
+    assert_eq!(rt; reads(Pace::Whole, Ending::Ends), (ENDING, 0));
+    assert_eq!(rt; reads(Pace::OneByte, Ending::Ends), (slow, 0));
+    assert_eq!(rt; reads(Pace::Whole, Ending::Fails), (failing, 1));
 }
 
-fn is_failing_reader_read() -> bool {
-    let mut reader = ScriptedReader::new(b"test", Pace::Whole, Ending::Fails);
-    gives_all(&mut reader, [Some(b"tes"), Some(b"t"), None, None]) && reader.failures() == 2
-}
-
-#[test]
-fn a_reader_fails_after_its_bytes(rt: HostRuntime) {
-    assert!(rt; is_failing_reader_read());
-}
-
-/// Whether the buffer is filled with these bytes, or to its beginning where nothing more is left.
-fn fills<S: Source>(source: &mut S, buf: &mut [u8], wanted: &[u8]) -> bool
-    requires { S.failed source.old < 100 }
-    ensures { S.failed source.new ≤ S.failed source.old + 1 }
-{
-    match read_full(source, buf) {
-        Ok(n) => &buf[..n] == wanted,
-        Err(Failed) => false,
-    }
-}
-
-fn is_filled_and_ends(pace: Pace) -> bool {
-    let mut reader = ScriptedReader::new(TEXT, pace, Ending::Ends);
-    let mut buf = [b'-'; 5];
-    fills(&mut reader, &mut buf, b"testi")
-        && reader.rest == b"ng".as_slice()
-        && fills(&mut reader, &mut buf, b"ng")
-        && fills(&mut reader, &mut buf, b"")
-        && reader.failures() == 0
-}
-
-#[test]
-fn a_buffer_is_filled_or_the_reader_is_at_its_end(rt: HostRuntime) {
-    assert!(rt; is_filled_and_ends(Pace::Whole));
-    assert!(rt; is_filled_and_ends(Pace::OneByte));
-}
-
-fn is_filled_and_fails(pace: Pace) -> bool {
-    let mut reader = ScriptedReader::new(TEXT, pace, Ending::Fails);
-    let mut buf = [b'-'; 9];
-    read_full(&mut reader, &mut buf).is_err()
-        && reader.failures() == 1
-        && &buf[..7] == TEXT
-        && reader.rest.is_empty()
-}
-
-#[test]
-fn a_reader_that_fails_has_given_what_it_had(rt: HostRuntime) {
-    assert!(rt; is_filled_and_fails(Pace::Whole));
-    assert!(rt; is_filled_and_fails(Pace::OneByte));
-}
-
-fn are_nonces_given(ending: Ending, wanted: [Option<&[u8]>; 4], failures: u64) -> bool {
+/// The reads of four nonce bytes, and how often they failed.
+fn nonces(ending: Ending) -> (Reads, u64) {
     let mut nonces = ScriptedNonces::new(b'3', 4, ending);
-    gives_all(&mut nonces, wanted) && nonces.failures() == failures
+    (four(&mut nonces), nonces.failures())
 }
 
 #[test]
 fn nonces_end_or_fail_after_their_count(rt: HostRuntime) {
-    assert!(rt;
-        are_nonces_given(
-            Ending::Ends,
-            [Some(b"333"), Some(b"3"), Some(b""), Some(b"")],
-            0
-        )
+    let (three, one, none) = (Some(*b"333"), Some(*b"3--"), Some(*b"---"));
+    assert_eq!(rt; nonces(Ending::Ends), ([three, one, none, none], 0));
+    assert_eq!(rt; nonces(Ending::Fails), ([three, one, None, None], 2));
+}
+
+/// What filling five dashes answers, and what they are then.
+type Filled = (Result<usize, Failed>, [u8; 5]);
+
+fn filled<S: Source>(source: &mut S) -> Filled
+    requires { S.failed source.old < 100 }
+    ensures { S.failed source.new ≤ S.failed source.old + 1 }
+{
+    let mut buf = [b'-'; 5];
+    let done = read_full(source, &mut buf);
+    (done, buf)
+}
+
+/// Five dashes filled three times, and how often the reader failed.
+fn fills(pace: Pace, ending: Ending) -> ([Filled; 3], u64) {
+    let mut reader = ScriptedReader::new(TEXT, pace, ending);
+    let three = [
+        filled(&mut reader),
+        filled(&mut reader),
+        filled(&mut reader),
+    ];
+    (three, reader.failures())
+}
+
+#[test]
+fn a_buffer_is_filled_or_the_reader_is_at_its_end(rt: HostRuntime) {
+    let wanted = (
+        [(Ok(5), *b"testi"), (Ok(2), *b"ng---"), (Ok(0), *b"-----")],
+        0,
     );
-    assert!(rt; are_nonces_given(Ending::Fails, [Some(b"333"), Some(b"3"), None, None], 2));
+    assert_eq!(rt; fills(Pace::Whole, Ending::Ends), wanted);
+    assert_eq!(rt; fills(Pace::OneByte, Ending::Ends), wanted);
 }
 
-/// Whether a writer of this limit takes the text up to it, and fails where it is shorter.
-fn takes(alloc: Global, pace: Pace, limit: usize) -> bool {
+#[test]
+fn a_reader_that_fails_has_given_what_it_had(rt: HostRuntime) {
+    let wanted = (
+        [
+            (Ok(5), *b"testi"),
+            (Err(Failed), *b"ng---"),
+            (Err(Failed), *b"-----"),
+        ],
+        2,
+    );
+    assert_eq!(rt; fills(Pace::Whole, Ending::Fails), wanted);
+    assert_eq!(rt; fills(Pace::OneByte, Ending::Fails), wanted);
+}
+
+/// How writing ends, how often a writer of this limit failed, and what it took.
+type Taken = (Result<(), Failed>, u64, Vec<u8>);
+
+fn taken(alloc: Global, pace: Pace, limit: usize) -> Taken {
     let mut writer = ScriptedWriter::new(alloc, pace, limit);
-    let is_written = write_all(&mut writer, TEXT).is_ok();
-    is_written == (limit >= TEXT.len())
-        && writer.failures() == if is_written { 0 } else { 1 }
-        && writer.taken.as_slice() == TEXT.get(..limit).unwrap_or(TEXT)
+    let done = write_all(&mut writer, TEXT);
+    let ScriptedWriter {
+        taken,
+        failures,
+        ..
+    } = writer;
+    (done, failures, taken)
 }
 
-/// The first limit up to 8 at which a writer takes something else.
-fn first_wrong_limit(alloc: Global, pace: Pace) -> Option<usize> {
+fn is_due(limit: usize, seen: &Taken) -> bool {
+    let (done, failures, bytes) = seen;
+    let wanted = if limit < 7 {
+        (Err(Failed), 1)
+    } else {
+        (Ok(()), 0)
+    };
+    (*done, *failures) == wanted && bytes.as_slice() == TEXT.get(..limit).unwrap_or(TEXT)
+}
+
+/// The first limit up to 8 at which a writer takes something else, and that.
+fn first_other(alloc: Global, pace: Pace) -> Option<(usize, Taken)> {
     for limit in 0..9 {
-        if !takes(alloc, pace, limit) {
-            return Some(limit);
+        let seen = taken(alloc, pace, limit);
+        if !is_due(limit, &seen) {
+            return Some((limit, seen));
         }
     }
     None
@@ -145,26 +146,23 @@ fn first_wrong_limit(alloc: Global, pace: Pace) -> Option<usize> {
 
 #[test]
 fn a_writer_takes_exactly_its_limit(rt: HostRuntime) {
-    assert_eq!(rt; first_wrong_limit(rt.alloc(), Pace::Whole), None);
-    assert_eq!(rt; first_wrong_limit(rt.alloc(), Pace::OneByte), None);
+    assert_eq!(rt; first_other(rt.alloc(), Pace::Whole), None);
+    assert_eq!(rt; first_other(rt.alloc(), Pace::OneByte), None);
 }
 
-fn is_appended(old: Vec<u8>) -> bool {
+fn appended(old: Vec<u8>) -> Taken {
     let mut sink = VecSink::new(old);
-    let is_written = write_all(&mut sink, TEXT).is_ok()
-        && write_all(&mut sink, b"").is_ok()
-        && sink.failures() == 0
-        && sink.as_slice() == b"old testing".as_slice();
-    let bytes = sink.into_vec();
-    is_written && bytes.as_slice() == b"old testing".as_slice()
+    let done = write_all(&mut sink, TEXT).and(write_all(&mut sink, b""));
+    let failures = sink.failures();
+    (done, failures, sink.into_vec())
 }
 
 #[test]
 fn a_vector_takes_all_after_what_it_holds(rt: HostRuntime) {
-    match b"old ".to_vec(rt.alloc()) {
-        Ok(old) => assert!(rt; is_appended(old)),
-        Err(_) => panic!(rt; "no memory"),
-    }
+    let old = b"old ".to_vec(rt.alloc()).expect(&rt, "memory");
+    let (done, failures, bytes) = appended(old);
+    assert_eq!(rt; (done, failures), (Ok(()), 0));
+    assert_eq!(rt; bytes.as_slice(), b"old testing".as_slice());
 }
 
 /// A stream of std that is interrupted some times, and then gives and takes so many bytes, or fails.
@@ -205,77 +203,61 @@ impl Write for Troubled {
     }
 }
 
-/// Whether a read of such a stream answers this, with so many failures.
-fn is_read(interruptions: u8, bytes: Option<usize>, wanted: Option<usize>, failures: u64) -> bool {
+/// What a read of such a stream answers, and how often it failed.
+fn read(interruptions: u8, bytes: Option<usize>) -> (Result<usize, Failed>, u64) {
     let mut source = FromRead::new(Troubled {
         interruptions,
         bytes,
     });
-    source.read(&mut [0; 5]).ok() == wanted && source.failures() == failures
+    let done = source.read(&mut [0; 5]);
+    (done, source.failures())
 }
 
-fn is_written_after_interruptions() -> bool {
+/// What a write to such a stream answers, and how often it failed.
+fn write(interruptions: u8, bytes: Option<usize>, text: &[u8]) -> (Result<usize, Failed>, u64) {
     let mut sink = FromWrite::new(Troubled {
-        interruptions: 3,
-        bytes: Some(2),
+        interruptions,
+        bytes,
     });
-    sink.write(TEXT) == Ok(2) && sink.failures() == 0
+    let done = sink.write(text);
+    (done, sink.failures())
 }
 
 #[test]
 fn interrupted_calls_are_made_again(rt: HostRuntime) {
-    assert!(rt; is_read(3, Some(2), Some(2), 0));
-    assert!(rt; is_written_after_interruptions());
-}
-
-fn is_broken_pipe_a_failure() -> bool {
-    let mut sink = FromWrite::new(Troubled {
-        interruptions: 1,
-        bytes: None,
-    });
-    write_all(&mut sink, TEXT).is_err() && sink.failures() == 1
+    assert_eq!(rt; read(3, Some(2)), (Ok(2), 0));
+    assert_eq!(rt; write(3, Some(2), TEXT), (Ok(2), 0));
 }
 
 #[test]
 fn other_errors_are_failures(rt: HostRuntime) {
-    assert!(rt; is_read(1, None, None, 1));
-    assert!(rt; is_broken_pipe_a_failure());
-}
-
-fn is_nothing_taken() -> bool {
-    let mut sink = FromWrite::new(Troubled {
-        interruptions: 0,
-        bytes: Some(0),
-    });
-    sink.write(b"").ok() == Some(0)
-        && sink.failures() == 0
-        && sink.write(TEXT).is_err()
-        && sink.failures() == 1
+    assert_eq!(rt; read(1, None), (Err(Failed), 1));
+    assert_eq!(rt; write(1, None, TEXT), (Err(Failed), 1));
 }
 
 #[test]
 fn a_write_that_takes_nothing_is_a_failure(rt: HostRuntime) {
-    assert!(rt; is_nothing_taken());
+    assert_eq!(rt; write(0, Some(0), b""), (Ok(0), 0));
+    assert_eq!(rt; write(0, Some(0), TEXT), (Err(Failed), 1));
 }
 
-fn is_slice_read() -> bool {
+/// The reads of a slice, and what is left of it.
+fn slice_read() -> (Reads, usize) {
     let mut source = FromRead::new(TEXT);
-    let are_given = gives_all(
-        &mut source,
-        [Some(b"tes"), Some(b"tin"), Some(b"g"), Some(b"")],
-    );
-    are_given && source.into_inner().is_empty()
+    let reads = four(&mut source);
+    (reads, source.into_inner().len())
 }
 
-fn is_vector_written(alloc: Global) -> bool {
+fn vector_written(alloc: Global) -> (Result<(), Failed>, Vec<u8>) {
     let mut sink = FromWrite::new(Vec::new(alloc));
-    let is_written = write_all(&mut sink, TEXT).is_ok();
-    let bytes = sink.into_inner();
-    is_written && bytes.as_slice() == TEXT
+    let done = write_all(&mut sink, TEXT);
+    (done, sink.into_inner())
 }
 
 #[test]
 fn streams_of_std_are_read_and_written(rt: HostRuntime) {
-    assert!(rt; is_slice_read());
-    assert!(rt; is_vector_written(rt.alloc()));
+    assert_eq!(rt; slice_read(), (ENDING, 0));
+    let (done, bytes) = vector_written(rt.alloc());
+    assert_eq!(rt; done, Ok(()));
+    assert_eq!(rt; bytes.as_slice(), TEXT);
 }

@@ -1,60 +1,56 @@
 //! Worked examples from the standards, written and read.
 
 use std::alloc::Global;
+use text::NoMemory;
 use wire::{Cursor, put_string, put_u32, put_u64};
 
-/// RFC 4251, section 5: 699921578 is stored as `29 b7 f4 aa`, and "testing" as `00 00 00 07 t e s t i n g`.
-const RFC_EXAMPLES: &[u8] = b"\x29\xb7\xf4\xaa\x00\x00\x00\x07testing";
+/// RFC 4251, section 5: 699921578 is stored as `29 b7 f4 aa`, and "testing" as `00 00 00 07 t e s t i n g`. PROTOCOL.krl:
+/// the magic number of a key revocation list spells the last eight bytes.
+const EXAMPLES: &[u8] = b"\x29\xb7\xf4\xaa\x00\x00\x00\x07testingSSHKRL\n\0";
 
-/// PROTOCOL.krl: the magic number of a key revocation list spells these bytes.
 const LIST_MAGIC: u64 = 0x5353_484b_524c_0a00;
 
-fn are_examples_written(alloc: Global) -> bool {
+fn examples(alloc: Global) -> Result<Vec<u8>, NoMemory> {
     let mut out = Vec::new(alloc);
-    put_u32(&mut out, 699_921_578).is_ok()
-        && put_string(&mut out, b"testing").is_ok()
-        && out.as_slice() == RFC_EXAMPLES
+    put_u32(&mut out, 699_921_578)?;
+    put_string(&mut out, b"testing")?;
+    put_u64(&mut out, LIST_MAGIC)?;
+    Ok(out)
 }
 
 #[test]
-fn examples_of_the_standard_are_written(rt: HostRuntime) {
-    assert!(rt; are_examples_written(rt.alloc()));
+fn examples_of_the_standards_are_written(rt: HostRuntime) {
+    let out = examples(rt.alloc()).expect(&rt, "memory");
+    assert_eq!(rt; out.as_slice(), EXAMPLES);
 }
 
-fn is_magic_written(alloc: Global) -> bool {
-    let mut out = Vec::new(alloc);
-    put_u64(&mut out, LIST_MAGIC).is_ok() && out.as_slice() == b"SSHKRL\n\0".as_slice()
-}
-
-#[test]
-fn a_long_number_is_written_and_read(rt: HostRuntime) {
-    assert!(rt; is_magic_written(rt.alloc()));
-    assert_eq!(rt; Cursor::new(b"SSHKRL\n\0").u64(), Some(LIST_MAGIC));
-}
-
-fn are_examples_read() -> bool {
-    let mut cursor = Cursor::new(RFC_EXAMPLES);
-    cursor.u32() == Some(699_921_578)
-        && cursor.string() == Some(b"testing".as_slice())
-        && cursor.at_end()
-        && cursor.u8().is_none()
+/// What a cursor reads of the examples, whether it is at the end then, and what it reads there.
+fn read<'a>() -> (Option<u32>, Option<&'a [u8]>, Option<u64>, bool, Option<u8>) {
+    let mut cursor = Cursor::new(EXAMPLES);
+    let values = (cursor.u32(), cursor.string(), cursor.u64());
+    (values.0, values.1, values.2, cursor.at_end(), cursor.u8())
 }
 
 #[test]
-fn examples_of_the_standard_are_read(rt: HostRuntime) {
-    assert!(rt; are_examples_read());
+fn examples_of_the_standards_are_read(rt: HostRuntime) {
+    let wanted = (
+        Some(699_921_578),
+        Some(b"testing".as_slice()),
+        Some(LIST_MAGIC),
+        true,
+        None,
+    );
+    assert_eq!(rt; read(), wanted);
 }
 
-fn stays_at_a_cut_string() -> bool {
+/// What a cursor reads where a string is cut: no string, its length, no long number, its first byte; and that more is left.
+fn read_cut() -> (bool, Option<u32>, Option<u64>, Option<u8>, bool) {
     let mut cursor = Cursor::new(b"\x00\x00\x00\x07testin");
-    cursor.string().is_none()
-        && cursor.u32() == Some(7)
-        && cursor.u64().is_none()
-        && cursor.u8() == Some(b't')
-        && !cursor.at_end()
+    let values = (cursor.string().is_some(), cursor.u32(), cursor.u64());
+    (values.0, values.1, values.2, cursor.u8(), cursor.at_end())
 }
 
 #[test]
 fn a_cut_string_leaves_the_cursor(rt: HostRuntime) {
-    assert!(rt; stays_at_a_cut_string());
+    assert_eq!(rt; read_cut(), (false, Some(7), None, Some(b't'), false));
 }
