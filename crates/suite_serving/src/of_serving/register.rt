@@ -36,7 +36,7 @@ impl Registry for Register {
     fn apply(&mut self, alloc: Global, _arrival: Arrival) -> Result<Outcome, StoreFault> {
         let reply = Text::from_slice(
             alloc,
-            b"issued 1\ndigest 6a1f0c55f2a1e0d3d1b2c3d4e5f60718293a4b5c6d7e8f90a1b2c3d4e5f60718\n",
+            b"issued 1\ndigest 82e0c34fe67da3fc3dc1be6682073994ec021449271b641cdd36180e95572e79\n",
         )?;
         self.applied = self.applied.saturating_add(1);
         Ok(Outcome::Accepted(reply))
