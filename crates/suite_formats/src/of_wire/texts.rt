@@ -43,7 +43,8 @@ fn examples_of_the_standards_are_read(rt: HostRuntime) {
     assert_eq!(rt; read(), wanted);
 }
 
-/// What a cursor reads where a string is cut: no string, its length, no long number, its first byte; and that more is left.
+/// What a cursor reads where a string is cut: no string, its length, no long number, its first byte; and that more is
+/// left.
 fn read_cut() -> (bool, Option<u32>, Option<u64>, Option<u8>, bool) {
     let mut cursor = Cursor::new(b"\x00\x00\x00\x07testin");
     let values = (cursor.string().is_some(), cursor.u32(), cursor.u64());
