@@ -80,8 +80,9 @@ pub fn apply_exchanges<R: Registry, W: Write>(
     ensures write { R.is_honest registry.new → result ≡ Err RunFault.Write → AreRun (R.means registry.old)
         (R.means registry.new) (Keeps R.means R.is_open registry.new) exchanges.now }
 
-    // Nothing was run.
+    // Nothing was run, and nothing is printed.
     ensures unrun { result ≡ Err RunFault.NoMemory → registry.new ≡ registry.old }
+    ensures unprinted { result ≡ Err RunFault.NoMemory → out.new ≡ out.old }
 {
     let given = run(registry, alloc, exchanges)?;
     print_all(out, given.as_slice())

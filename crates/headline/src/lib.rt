@@ -21,6 +21,7 @@ ghost use Rattle.requests.specs.Asks.{Asks, get};
 ghost use Rattle.office.specs.declared.opening.Opening.{Opening};
 ghost use Rattle.office.specs.declared.arrival.Arrival.{Arrival};
 ghost use Rattle.office.specs.Faults.{HasCause, IsOfARegister};
+ghost use Rattle.rows.specs.Transactions.{IsAsBefore};
 ghost use Rattle.store.specs.Meaning.{HasFailed, Stores, StoresWhereOpen, Tells};
 ghost use Rattle.web.specs.Causes.{IsOfAList};
 ghost use Rattle.laws.specs.Counting.{CountsUp};
@@ -58,10 +59,15 @@ pub fn replay<S: Alter, W: Write>(
         (state S.Store store.old.conn) (state S.Store store.new.conn) exchanges.now
         (W.contents out.old) (W.contents out.new) true }
 
-    // Where the output fails, all were run so, whatever of it was printed. For want of memory none was.
+    // Where the output fails, all were run so, whatever of it was printed. For want of memory none was, and nothing is
+    // printed.
     ensures write { HasCleanDisk (state S.Store store.new.conn) → result ≡ Err RunFault.Write
         → OfficeRuns (state S.Store store.old.conn) (state S.Store store.new.conn) exchanges.now }
     ensures unrun { result ≡ Err RunFault.NoMemory → store.new ≡ store.old }
+    ensures unprinted { result ≡ Err RunFault.NoMemory → out.new ≡ out.old }
+
+    // A disk that has returned what was written did so before.
+    ensures honest { HasCleanDisk (state S.Store store.new.conn) → HasCleanDisk (state S.Store store.old.conn) }
 
     // While the connection is open, the tables store what they tell: no crash afterwards loses it.
     ensures crash { StoresWhereOpen (state S.Store store.new.conn) }
@@ -103,6 +109,9 @@ pub fn respond<S: Alter>(
     ensures only { HasCleanDisk (state S.Store store.new.conn) → IfErr result (λ e. (o : Opening) (l : List Arrival) → Tells (state S.Store store.old.conn) o l → IsOfARegister e) }
     ensures cause { HasCleanDisk (state S.Store store.new.conn) → IfErr result (λ e. HasCause e (OfficeStops
         (λ s. state S.Store s.conn) request.now moment nonce.now store.old store.new)) }
+
+    // A disk that has returned what was written did so before.
+    ensures honest { HasCleanDisk (state S.Store store.new.conn) → HasCleanDisk (state S.Store store.old.conn) }
 
     // While the connection is open, they store what they tell: no crash afterwards loses it.
     ensures crash { StoresWhereOpen (state S.Store store.new.conn) }
@@ -159,6 +168,11 @@ pub fn publish<S: Alter, W: Sink>(
     ensures same { HasCleanDisk (state S.Store store.new.conn) → (o : Opening) (l : List Arrival) → Tells (state S.Store store.old.conn) o l → Tells (state S.Store store.new.conn) o l }
     ensures found { HasCleanDisk (state S.Store store.new.conn) → IfFound result ((o : Opening) (l : List Arrival)
         → Tells (state S.Store store.old.conn) o l → Stores (state S.Store store.new.conn) o l) }
+
+    // While the connection is open, the database is as it was, whatever its tables mean.
+    ensures before { HasCleanDisk (state S.Store store.new.conn) → IsTrue (state S.Store store.new.conn).is_open
+        → IsAsBefore (state S.Store store.old.conn) (state S.Store store.new.conn) }
+    ensures honest { HasCleanDisk (state S.Store store.new.conn) → HasCleanDisk (state S.Store store.old.conn) }
 
     // While the connection is open, they store what they tell: no crash afterwards loses it.
     ensures crash { StoresWhereOpen (state S.Store store.new.conn) }
