@@ -1,3 +1,1 @@
-pub mod Applying
-pub mod Checking
-pub mod Faults
+pub mod Words
