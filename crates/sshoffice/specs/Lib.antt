@@ -1,1 +1,3 @@
-pub mod Words
+pub mod Applying
+pub mod Checking
+pub mod Faults

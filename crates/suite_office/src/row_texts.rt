@@ -4,7 +4,6 @@ use office::Registry;
 use std::alloc::Global;
 use std::io::Write;
 use std::test::Fail;
-use web::{Exchange, Given, run};
 
 fn put_departments<R: Registry>(
     out: &mut Vec<u8>,
@@ -35,7 +34,7 @@ fn put_certificates<R: Registry>(
 
 /// Each row of a register but its requests, whole: CAs, departments, certificates with their bodies and signatures, and
 /// what is revoked.
-fn rows_of<R: Registry>(registry: &mut R, alloc: Global) -> Result<String, Fail> {
+pub fn rows_of<R: Registry>(registry: &mut R, alloc: Global) -> Result<Vec<u8>, Fail> {
     let mut out = Vec::new(alloc);
     let cas = registry.cas(alloc).ok().ok_or("cas")?;
     for ca in &cas {
@@ -45,16 +44,5 @@ fn rows_of<R: Registry>(registry: &mut R, alloc: Global) -> Result<String, Fail>
     put_certificates(&mut out, registry, alloc)?;
     let revoked = registry.revoked(alloc).ok().ok_or("revoked")?;
     writeln!(out, "{revoked:?}")?;
-    Ok(String::from_utf8(out).ok().ok_or("no text")?)
-}
-
-/// What exchanges are given by a register, and its rows then.
-pub fn given_and_rows<R: Registry>(
-    registry: &mut R,
-    alloc: Global,
-    exchanges: &[Exchange],
-) -> Result<(Vec<Given>, String), Fail> {
-    let given = run(registry, alloc, exchanges)?;
-    let rows = rows_of(registry, alloc)?;
-    Ok((given, rows))
+    Ok(out)
 }

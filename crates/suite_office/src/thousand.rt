@@ -117,8 +117,8 @@ fn filled(alloc: Global, text: &str, round: u64) -> Result<String, Fail> {
 }
 
 // The delivery of the first certificate that waits, or of none.
-fn delivery<R: Registry>(alloc: Global, registry: &mut R) -> Result<String, Fail> {
-    let pending = registry.pending(alloc)?;
+fn delivery(alloc: Global, plain: &mut PlainStore) -> Result<String, Fail> {
+    let pending = plain.pending(alloc)?;
     let Some(first) = pending.first() else {
         return Ok(String::from_str(alloc, "deliver 9\n")?);
     };
@@ -137,9 +137,9 @@ fn replaced(alloc: Global, delivery: &str, some: &str, others: &str) -> Result<S
 }
 
 // An exchange by its place, from 0. The moment and the nonce are other ones each time.
-fn exchange_at<R: Registry>(
+fn exchange_at(
     alloc: Global,
-    registry: &mut R,
+    plain: &mut PlainStore,
     delivered: &mut String,
     place: u64,
 ) -> Result<Exchange, Fail> {
@@ -149,7 +149,7 @@ fn exchange_at<R: Registry>(
     let message = match message {
         "astray" => replaced(alloc, DELIVERY, "82e0", "92e0")?,
         "deliver" => {
-            *delivered = delivery(alloc, registry)?;
+            *delivered = delivery(alloc, plain)?;
             String::from_str(alloc, delivered.as_str())?
         }
         "other" => replaced(alloc, delivered.as_str(), "QERE", "QEVE")?,
@@ -164,14 +164,15 @@ fn exchange_at<R: Registry>(
     })
 }
 
-// A thousand exchanges, of which the register tells which certificates wait.
-fn mixed<R: Registry>(alloc: Global, registry: &mut R) -> Result<Vec<Exchange>, Fail> {
+// A thousand exchanges, of which the plain store tells which certificates wait.
+fn mixed(alloc: Global) -> Result<Vec<Exchange>, Fail> {
+    let mut plain = PlainStore::new(alloc, opening_of(alloc, 1, LAST_SERIAL)?)?;
     let mut delivered = String::new(alloc);
     let mut mixed = Vec::new(alloc);
     for place in 0..EXCHANGES {
-        let one = exchange_at(alloc, registry, &mut delivered, place)?;
+        let one = exchange_at(alloc, &mut plain, &mut delivered, place)?;
         let request = one.request.as_slice();
-        let _ = answer(registry, alloc, request, one.moment, &one.nonce)?;
+        let _ = answer(&mut plain, alloc, request, one.moment, &one.nonce)?;
         mixed.push(one)?;
     }
     Ok(mixed)
@@ -188,8 +189,7 @@ fn repeated(alloc: Global, one: &Exchange) -> Result<Exchange, Fail> {
 
 /// A thousand exchanges, and then each of these again.
 pub fn mixed_twice(alloc: Global) -> Result<Vec<Exchange>, Fail> {
-    let mut plain = PlainStore::new(alloc, opening_of(alloc, 1, LAST_SERIAL)?)?;
-    let mut all = mixed(alloc, &mut plain)?;
+    let mut all = mixed(alloc)?;
     for place in 0..EXCHANGES {
         let one = all.get(place as usize).ok_or("so many exchanges")?;
         let again = repeated(alloc, one)?;
