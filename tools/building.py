@@ -147,6 +147,8 @@ def prove_side_by_side(rt, libraries, progress, logs):
     for crate in libraries:
         os.makedirs(f"{crate.folder}/out", exist_ok=True)
     held = rt.rtlib.lock(libraries)
+    # What other checkouts on this machine proved is taken where it is the same, and what is proved here is offered to them.
+    rt.share_work(True)
     try:
         return Lanes(rt, libraries, progress, logs).run()
     finally:

@@ -131,6 +131,12 @@ def pairs_of(edit):
     return pairs
 
 
+def functions_in(edit):
+    """The functions that an edit names by lines `function: NAME`, since a statement that they need is changed."""
+    with open(edit, encoding="utf-8") as it:
+        return [line[len("function: ") :].strip() for line in it.read().split("\n") if line.startswith("function: ")]
+
+
 class Sources:
     """The sources of a crate, and the functions and constants in them."""
 
