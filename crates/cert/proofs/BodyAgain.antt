@@ -12,11 +12,13 @@ use Rattle.profile.specs.declared.option_field.OptionField.TheVariants.{Critical
 use Rattle.cert.specs.Options.{options_text}
 use Rattle.profile.proofs.SerialLemmas.{serial_small}
 use Rattle.cert.specs.Bodies.{IsCertFields, cert_type, kind_number, principals_text, front, body_text, is_validity}
-use Rattle.cert.specs.Reading.{type_at, bytes_32_at, serial_at, kind_at, key_id_at, principals_at, validity_at, options_at, reserved_at, ca_at, body_at}
+use Rattle.cert.specs.Reading.{type_at, bytes_32_at, serial_at, kind_at, key_id_at, principals_at}
+use Rattle.cert.specs.Reading.{validity_at, options_at, reserved_at, ca_at, body_at}
 use Rattle.cert.specs.declared.fields.CertFields.{CertFields}
 use Rattle.cert.specs.declared.cert_fault.CertFault.TheVariants.{BadNonce, BadKey}
 use Rattle.cert.proofs.Sizes.{key_id-lt, principals_text-lt, options_text-lt}
-use Rattle.cert.proofs.NestedLaws.{principals_again, options_of_again}
+use Rattle.cert.proofs.NestedLaws.{principals_again}
+use Rattle.cert.proofs.OptionLaws.{options_of_again}
 use Rattle.cert.proofs.Tails
 use Rattle.cert.proofs.BodyParts.{bind_Ok, kind_again, kind_small, sample}
 

@@ -1,5 +1,6 @@
 -- A fault that is there is found; what reading gives is what was answered.
-use Rattle.std.proofs.Common.{◌≡◌, ◌≢◌, ℕ, zero, suc, ◌<◌, Bool, true, false, eqb, List, [], ◌++◌, length, Some, None, is_some, Result, Ok, Err, IfOk, IfErr, refl, sym, ap, ◌∙◌, subst, arith}
+use Rattle.std.proofs.Common.{◌≡◌, ◌≢◌, ℕ, zero, suc, ◌<◌, Bool, true, false, eqb, List, [], ◌++◌, length, Some}
+use Rattle.std.proofs.Common.{None, is_some, Result, Ok, Err, IfOk, IfErr, refl, sym, ap, ◌∙◌, subst, arith}
 use Rattle.std.proofs.lemmas.Bool.{both_ways, false_from_ne_true, eqb-true}
 use Rattle.std.proofs.lemmas.Option.{same_Some}
 use Rattle.std.proofs.lemmas.Slice.Eq.{bytes_eq-Decides}
@@ -49,10 +50,12 @@ use Rattle.cert.specs.declared.cert_fault.CertFault.TheVariants.{
   TrailingBytes,
   NoMemory,
 }
-use Rattle.cert.proofs.NestedLaws.{IsBytes_left, IsBytes_string, empty, principals_found, options_of_found}
+use Rattle.cert.proofs.NestedLaws.{IsBytes_left, IsBytes_string, empty, principals_found}
+use Rattle.cert.proofs.OptionLaws.{options_of_found}
 use Rattle.cert.proofs.Tails
 use Rattle.cert.proofs.BodyParts.{bind_Err, no_value, option_cases, none_of, kind_found, sample}
-use Rattle.cert.proofs.BodySays.{Says, body_at-says}
+use Rattle.cert.proofs.BodySays.{Says}
+use Rattle.cert.proofs.BodyStart.{body_at-says}
 use Rattle.cert.proofs.BodyAgain.{
   upto_nonce,
   upto_key,

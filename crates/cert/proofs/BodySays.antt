@@ -1,10 +1,9 @@
 -- What reading a body gives says what the bytes are.
-use Rattle.std.proofs.Common.{◌≡◌, ℕ, ◌^◌, ◌<◌, Bool, true, false, eqb, List, ◌++◌, length, Option, Some, None, is_some, Result, Ok, Err, refl, sym, ap, ◌∙◌, subst, append_assoc, arith, inl, inr}
+use Rattle.std.proofs.Common.{◌≡◌, ℕ, ◌^◌, ◌<◌, Bool, true, false, eqb, List, ◌++◌, length, Option, Some, None}
+use Rattle.std.proofs.Common.{is_some, Result, Ok, Err, refl, sym, ap, ◌∙◌, subst, append_assoc, arith, inl, inr}
 use Rattle.std.specs.Int.{w32, w64}
-use Rattle.std.specs.Str.{bytes_eq}
-use Rattle.std.proofs.lemmas.Bool.{cases_Bool, both_ways, eqb-true, eq-eqb}
+use Rattle.std.proofs.lemmas.Bool.{cases_Bool, both_ways}
 use Rattle.std.proofs.lemmas.List.{append-nil}
-use Rattle.std.proofs.lemmas.Slice.Eq.{bytes_eq-Decides}
 use Rattle.wire.specs.Texts.{u32_text, u64_text, string_text}
 use Rattle.wire.specs.Reading.{u32_at, u64_at, string_at}
 use Rattle.wire.proofs.Laws.{IsBytes, wide32, wide64, number_takes, string_takes}
@@ -13,46 +12,23 @@ use Rattle.lines.proofs.Blobs.{key_of_found, key_of_again}
 use Rattle.profile.specs.Names.{is_key_id}
 use Rattle.profile.specs.declared.option_field.OptionField.TheVariants.{CriticalOptions, Extensions}
 use Rattle.cert.specs.Options.{is_options, options_text}
-use Rattle.profile.specs.Serials.{is_serial}
-use Rattle.cert.specs.Bodies.{IsCertFields, are_principals, cert_type, kind_number, principals_text, front, body_text, is_validity}
-use Rattle.cert.specs.Reading.{◌>>=◌, check, kind_of, principals_of, options_of, type_at, bytes_32_at, serial_at, kind_at, key_id_at, principals_at, validity_at, options_at, reserved_at, ca_at, body_at}
+use Rattle.cert.specs.Bodies.{IsCertFields, are_principals, kind_number}
+use Rattle.cert.specs.Bodies.{principals_text, front, body_text, is_validity}
+use Rattle.cert.specs.Reading.{◌>>=◌, check, kind_of, principals_of, options_of}
+use Rattle.cert.specs.Reading.{kind_at, key_id_at, principals_at, validity_at, options_at, reserved_at, ca_at}
 use Rattle.cert.specs.Faults.{IsFault, ends_at, is_whole}
 use Rattle.cert.specs.declared.fields.CertFields.{CertFields}
 use Rattle.cert.specs.declared.cert_fault.CertFault.{CertFault}
-use Rattle.cert.specs.declared.cert_fault.CertFault.TheVariants.{Truncated, WrongType, BadNonce, BadKey, BadSerial, BadKind, BadKeyId, BadPrincipals, BadValidity, BadOptions, BadExtensions, BadReserved, BadCa, TrailingBytes}
-use Rattle.cert.proofs.NestedLaws.{
-  empty,
-  IsBytes_left,
-  IsBytes_string,
-  principals_found,
-  principals_again,
-  options_of_found,
-  options_of_again,
-}
+use Rattle.cert.specs.declared.cert_fault.CertFault.TheVariants.{Truncated}
+use Rattle.cert.specs.declared.cert_fault.CertFault.TheVariants.{BadKind, BadKeyId, BadPrincipals}
+use Rattle.cert.specs.declared.cert_fault.CertFault.TheVariants.{BadValidity, BadOptions, BadExtensions}
+use Rattle.cert.specs.declared.cert_fault.CertFault.TheVariants.{BadReserved, BadCa, TrailingBytes}
+use Rattle.cert.proofs.NestedLaws.{empty, IsBytes_left, IsBytes_string, principals_found, principals_again}
+use Rattle.cert.proofs.OptionLaws.{options_of_found, options_of_again}
 use Rattle.cert.proofs.Tails
-use Rattle.cert.proofs.BodyParts.{
-  bind_Ok,
-  bind_Err,
-  option_cases,
-  not_empty,
-  advance,
-  kind_found,
-  no_kind,
-  sample,
-  sample_is_lawful,
-  IsBare,
-  sample_is_bare,
-  with_nonce,
-  with_key,
-  with_serial,
-  with_key_id,
-  with_principals,
-  with_options,
-  with_extensions,
-  with_ca,
-  with_ends,
-  with_kind,
-}
+use Rattle.cert.proofs.BodyParts.{bind_Ok, bind_Err, option_cases, not_empty, advance, kind_found, no_kind, IsBare}
+use Rattle.cert.proofs.BodyParts.{with_key_id, with_principals, with_options, with_extensions, with_ca, with_ends}
+use Rattle.cert.proofs.BodyParts.{with_kind}
 
 -- fields that were read are lawful, and the bytes are their text; a fault that was found is there
 abbrev pub Says : List ℕ → Result CertFields CertFault → Type 0
@@ -87,7 +63,7 @@ module _ (n : ℕ) (small : n < 12) (c : CertFields) (l : IsCertFields c) (bytes
       (λ s is. judged s is (string_takes rest s.0 s.1 fits is))
 
   -- the bytes of the string pass a test, or are bad
-  says_tested : (test : List ℕ → Bool) (value : List ℕ → A)
+  pub says_tested : (test : List ℕ → Bool) (value : List ℕ → A)
       → ((s : List ℕ × List ℕ) → string_at rest ≡ Some s → test s.0 ≡ true → read ≡ Ok (value s.0, s.1))
       → ((s : List ℕ × List ℕ) → string_at rest ≡ Some s → test s.0 ≡ false → read ≡ Err bad)
       → ((s : List ℕ × List ℕ) → string_at rest ≡ Some s → test s.0 ≡ false → IsFault bytes bad)
@@ -251,67 +227,3 @@ says_kind c l bare bytes rest fits text =
     (says_key_id (record c { kind = kind }) (with_kind c l bare kind) bytes n.1 (IsBytes_left rest (u32_text
     (kind_number kind)) n.1 here fits)
     (advance bytes (front 4 c) rest (u32_text (kind_number kind)) n.1 text here))))
-
--- from the serial on
-pub says_serial : (c : CertFields) → IsCertFields c → IsBare c → (bytes rest : List ℕ) → IsBytes rest
-    → bytes ≡ front 3 c ++ rest → Says bytes (Tails.from_serial c rest)
-says_serial c l bare bytes rest fits text =
-    option_cases (u64_at rest) (Says bytes (Tails.from_serial c rest))
-    (λ none. becomes bytes _ (Err Truncated) (bind_Err (serial_at rest) (Tails.then_serial c) Truncated
-    (Tails.serial_is_cut rest none))
-    (3, omega arith, c, rest, record { lawful = l; text = text }, ap is_some none))
-    (λ n is. elim (cases_Bool (is_serial n.0)) [
-      | inl passes ↦
-          let here : rest ≡ u64_text n.0 ++ n.1 = number_takes w64 (2 ^ 64) wide64 rest n.0 n.1 fits is in
-          becomes bytes _ (Tails.then_serial c n) (bind_Ok (serial_at rest) (Tails.then_serial c) n
-          (Tails.serial_goes_on rest n is passes))
-          (says_kind (record c { serial = n.0 }) (with_serial c l n.0 passes) bare bytes n.1 (IsBytes_left rest
-          (u64_text n.0) n.1 here fits) (advance bytes (front 3 c) rest (u64_text n.0) n.1 text here))
-      | inr fails ↦ becomes bytes _ (Err BadSerial) (bind_Err (serial_at rest) (Tails.then_serial c) BadSerial
-          (Tails.serial_is_bad rest n is fails))
-          (c, rest, record { lawful = l; text = text }, (n, is, both_ways _ fails))
-    ])
-
--- from the key on
-pub says_key : (c : CertFields) → IsCertFields c → IsBare c → (bytes rest : List ℕ) → IsBytes rest
-    → bytes ≡ front 2 c ++ rest → Says bytes (Tails.from_key c rest)
-says_key c l bare bytes rest fits text =
-    says_tested 2 (omega arith) c l bytes rest fits text refl (bytes_32_at BadKey rest) (Tails.then_key c)
-    (Tails.bytes_32_is_cut BadKey rest) BadKey (λ s. eqb (length s) 32) (λ s. s)
-    (Tails.bytes_32_goes_on BadKey rest) (Tails.bytes_32_is_bad BadKey rest)
-    (λ s is fails. (c, rest, record { lawful = l; text = text }, (s, is, λ e. both_ways _ fails (eq-eqb _ _ e))))
-    (λ s left passes fits text. says_serial (record c { key = s }) (with_key c l s (eqb-true _ _ passes)) bare
-    bytes left fits text)
-
--- from the nonce on
-pub says_nonce : (c : CertFields) → IsCertFields c → IsBare c → (bytes rest : List ℕ) → IsBytes rest
-    → bytes ≡ front 1 c ++ rest → Says bytes (Tails.from_nonce c rest)
-says_nonce c l bare bytes rest fits text =
-    says_tested 1 (omega arith) c l bytes rest fits text refl (bytes_32_at BadNonce rest) (Tails.then_nonce c)
-    (Tails.bytes_32_is_cut BadNonce rest) BadNonce (λ s. eqb (length s) 32) (λ s. s)
-    (Tails.bytes_32_goes_on BadNonce rest) (Tails.bytes_32_is_bad BadNonce rest)
-    (λ s is fails. (c, rest, record { lawful = l; text = text }, (s, is, λ e. both_ways _ fails (eq-eqb _ _ e))))
-    (λ s left passes fits text. says_key (record c { nonce = s }) (with_nonce c l s (eqb-true _ _ passes)) bare
-    bytes left fits text)
-
--- from the type on
-pub says_type : (c : CertFields) → IsCertFields c → IsBare c → (bytes rest : List ℕ) → IsBytes rest
-    → bytes ≡ front 0 c ++ rest → Says bytes (Tails.from_type c rest)
-says_type c l bare bytes rest fits text =
-    says_tested 0 (omega arith) c l bytes rest fits text refl (type_at rest) (Tails.then_type c)
-    (Tails.type_is_cut rest) WrongType (λ s. bytes_eq s cert_type) (λ _. tt)
-    (Tails.type_goes_on rest) (Tails.type_is_bad rest)
-    (λ s is fails. (
-      c,
-      rest,
-      record { lawful = l; text = text },
-      (s, is, λ e. both_ways _ fails ((bytes_eq-Decides s.0 cert_type).1 e)),
-    ))
-    (λ s left passes fits text. says_nonce c l bare bytes left fits
-    (text ∙ ap (λ t. front 0 c ++ string_text t ++ left) ((bytes_eq-Decides s cert_type).0 passes)))
-
--- what reading gives says what the bytes are
-pub body_at-says : (bytes : List ℕ) → IsBytes bytes → Says bytes (body_at bytes)
-body_at-says bytes fits =
-    becomes bytes (body_at bytes) (Tails.from_type sample bytes) (Tails.body_at-from_type sample bytes)
-    (says_type sample sample_is_lawful sample_is_bare bytes bytes fits refl)

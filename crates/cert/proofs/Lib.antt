@@ -2,10 +2,13 @@ pub mod Appends
 pub mod Ascending
 pub mod Elements
 pub mod Listing
+pub mod SamePairs
 pub mod NestedLaws
+pub mod OptionLaws
 pub mod Sizes
 pub mod Tails
 pub mod BodyParts
 pub mod BodySays
+pub mod BodyStart
 pub mod BodyAgain
 pub mod BodyLaws

@@ -1,5 +1,7 @@
 -- What the lists inside a field say is their text, and their text is read.
-use Rattle.std.proofs.Common.{◌≡◌, ℕ, zero, suc, ◌+◌, ◌^◌, ◌<◌, ◌≤◌, Bool, true, false, cond, eqb, leb, ◌&&◌, List, [], ◌∷◌, ◌++◌, length, codes, Option, Some, None, refl, sym, ap, ◌∙◌, subst, append_assoc, arith, inl, inr}
+use Rattle.std.proofs.Common.{◌≡◌, ℕ, zero, suc, ◌+◌, ◌^◌, ◌<◌, ◌≤◌, Bool, true, false, cond}
+use Rattle.std.proofs.Common.{eqb, leb, ◌&&◌, List, [], ◌∷◌, ◌++◌, length, codes, Option, Some}
+use Rattle.std.proofs.Common.{None, refl, sym, ap, ◌∙◌, subst, append_assoc, arith, inl, inr}
 use Rattle.std.specs.Option.{option_map, option_and_then}
 use Rattle.std.specs.List.{list_all, flat_map}
 use Rattle.std.specs.Str.{bytes_eq}
@@ -14,26 +16,12 @@ use Rattle.wire.specs.Reading.{string_at}
 use Rattle.wire.proofs.Laws.{IsBytes, string_takes, string_again}
 use Rattle.profile.specs.Lists.{are_distinct}
 use Rattle.profile.specs.Names.{is_principal}
-use Rattle.profile.specs.Options.{is_known, is_flag, is_command, is_option_value}
+use Rattle.profile.specs.Options.{is_flag, is_command, is_option_value}
 use Rattle.profile.specs.Networks.{are_networks}
-use Rattle.profile.specs.declared.kind.Kind.{Kind}
-use Rattle.profile.specs.declared.kind.Kind.TheVariants.{User, Host}
-use Rattle.profile.specs.declared.option_field.OptionField.{OptionField}
-use Rattle.profile.specs.declared.option_field.OptionField.TheVariants.{CriticalOptions, Extensions}
-use Rattle.cert.specs.Options.{comes_before, is_ascending, is_option, is_options, option_data, option_text, options_text}
+use Rattle.cert.specs.Options.{option_data, option_text}
 use Rattle.cert.specs.Bodies.{are_principals, principals_text}
-use Rattle.cert.specs.Reading.{
-  strings_within,
-  principals_of,
-  value_of,
-  pair_of,
-  pair_at,
-  comes_next,
-  options_within,
-  options_of,
-}
-use Rattle.cert.proofs.Listing.{all_later}
-use Rattle.cert.proofs.Sizes.{principal-le, name-le, value-le, options-few}
+use Rattle.cert.specs.Reading.{strings_within, principals_of, value_of, pair_of, pair_at}
+use Rattle.cert.proofs.Sizes.{principal-le}
 
 -- ---- steps
 
@@ -63,7 +51,7 @@ cond_is true o y e = (refl, e)
 cond_is false o y e = absurd cc
 
 -- what was put in front
-map_is : {X : Type 0} (x : X) (o : Option (List X)) (ys : List X) → option_map (λ xs. x ∷ xs) o ≡ Some ys
+pub map_is : {X : Type 0} (x : X) (o : Option (List X)) (ys : List X) → option_map (λ xs. x ∷ xs) o ≡ Some ys
     → (xs : List X) × (o ≡ Some xs) × (ys ≡ x ∷ xs)
 map_is x (Some xs) ys e = (xs, refl, sym (same_Some _ _ e))
 map_is x None ys e = absurd cc
@@ -149,7 +137,7 @@ principals_again ps h =
 -- ---- pairs
 
 -- a flag has no value
-flag_value : (name value : List ℕ) → is_flag name ≡ true → is_option_value name value ≡ true → value ≡ []
+pub flag_value : (name value : List ℕ) → is_flag name ≡ true → is_option_value name value ≡ true → value ≡ []
 flag_value name value flag h =
     nothing value (by (bytes_eq name (codes "force-command")) (bytes_eq name (codes "source-address"))
     (is_flag name && eqb (length value) 0) refl refl h (λ e. eqb-true _ _ (and_parts (is_flag name) _ e).1))
@@ -250,7 +238,7 @@ pair_found bytes p rest h e =
         ∙ ap (λ (q : Pair). option_text q ++ after) is ∙ ap (λ (t : List ℕ). option_text p ++ t) ends
 
 -- an option is read from its text
-pair_again : (p : Pair) (rest : List ℕ) → (is_flag p.name ≡ true → p.value ≡ []) → length p.name < 2 ^ 32
+pub pair_again : (p : Pair) (rest : List ℕ) → (is_flag p.name ≡ true → p.value ≡ []) → length p.name < 2 ^ 32
     → length p.value + 4 < 2 ^ 32
     → pair_at (option_text p ++ rest) ≡ Some (p, rest)
 pair_again p rest flagged name value =
@@ -264,121 +252,3 @@ pair_again p rest flagged name value =
     held : (flag : Bool) → length (cond flag [] (string_text p.value)) < 2 ^ 32
     held true = omega arith
     held false = omega arith
-
--- ---- options
-
--- the names ascend from the previous one on
-abbrev pub ascends : List ℕ → List Pair → Bool
-ascends previous [] = true
-ascends previous (p ∷ ps) = comes_before previous p.name && ascends p.name ps
-
--- what the options that were read are
-pub record AreOptions (k : ℕ) (field : OptionField) (previous bytes : List ℕ) (ps : List Pair) : Type 0 where
-  pub text : bytes ≡ options_text ps
-  pub lawful : list_all (is_option field) ps ≡ true
-  pub rising : ascends previous ps ≡ true
-
-no_options : (k : ℕ) (field : OptionField) (previous : List ℕ) (ps : List Pair) → Some [] ≡ Some ps
-    → AreOptions k field previous [] ps
-no_options k field previous ps e = subst (λ (l : List Pair). AreOptions k field previous [] l) (same_Some _ _ e)
-    (record { text = refl; lawful = refl; rising = refl })
-
-options_step : (k : ℕ) (field : OptionField) (previous bytes : List ℕ) (p : Pair) (rest : List ℕ)
-    → pair_at bytes ≡ Some (p, rest) → comes_next field previous p ≡ true
-    → options_within (suc k) field previous bytes ≡ option_map (λ others. p ∷ others)
-    (options_within k field p.name rest)
-options_step k field previous [] p rest h t = absurd cc
-options_step k field previous (b ∷ bytes) p rest h t = rw (h, t) refl
-
-options_found : (k : ℕ) (field : OptionField) (previous bytes : List ℕ) (ps : List Pair) → IsBytes bytes
-    → options_within k field previous bytes ≡ Some ps → AreOptions k field previous bytes ps
-options_found zero field previous [] ps h e = no_options zero field previous ps e
-options_found (suc k) field previous [] ps h e = no_options (suc k) field previous ps e
-options_found zero field previous (b ∷ bytes) ps h e = absurd cc
-options_found (suc k) field previous (b ∷ bytes) ps h e =
-    option_and_then_some (λ o. cond (comes_next field previous o.0) (option_map (λ others. o.0 ∷ others)
-    (options_within k field o.0.name o.1)) None) (pair_at (b ∷ bytes)) ps e (λ o is gives.
-    let passed = cond_is (comes_next field previous o.0) (option_map (λ others. o.0 ∷ others)
-    (options_within k field o.0.name o.1)) ps gives in
-    let parts = and_parts (is_option field o.0) _ passed.0 in
-    let rest = map_is o.0 (options_within k field o.0.name o.1) ps passed.1 in
-    let here = pair_found (b ∷ bytes) o.0 o.1 h is in
-    let there = options_found k field o.0.name o.1 rest.0 (IsBytes_left (b ∷ bytes)
-    (option_text o.0) o.1 here h) rest.1 in
-    subst (λ (l : List Pair). AreOptions (suc k) field previous (b ∷ bytes) l) (sym rest.2) (record {
-      text = here ∙ ap (λ (t : List ℕ). option_text o.0 ++ t) there.text;
-      lawful = and_from (is_option field o.0) _ parts.0 there.lawful;
-      rising = and_from (comes_before previous o.0.name) _ parts.1 there.rising;
-    }))
-
-options_again : (k : ℕ) (field : OptionField) (previous : List ℕ) (ps : List Pair)
-    → list_all (is_option field) ps ≡ true → ascends previous ps ≡ true → length ps ≤ k
-    → options_within k field previous (options_text ps) ≡ Some ps
-options_again zero field previous [] lawful rising few = refl
-options_again (suc k) field previous [] lawful rising few = refl
-options_again zero field previous (p ∷ ps) lawful rising few = absurd (omega arith)
-options_again (suc k) field previous (p ∷ ps) lawful rising few =
-    let parts = and_parts (is_option field p) _ lawful in
-    let option = and_parts (is_known field p.name) _ parts.0 in
-    let order = and_parts (comes_before previous p.name) _ rising in
-    let name = name-le field p.name option.0 in
-    let value = value-le p.name p.value option.1 in
-    options_step k field previous (option_text p ++ options_text ps) p (options_text ps)
-    (pair_again p (options_text ps) (λ flag. flag_value p.name p.value flag option.1) (omega arith) (omega arith))
-    (and_from (is_option field p) _ parts.0 order.0)
-    ∙ ap (option_map (λ others. p ∷ others)) (options_again k field p.name ps parts.1 order.1 (omega arith))
-
--- names that ascend, one from the other, ascend
-pub is_ascending-ascends : (previous : List ℕ) (ps : List Pair) → ascends previous ps ≡ true
-    → (list_all (λ q. comes_before previous q.name) ps ≡ true) × (is_ascending ps ≡ true)
-is_ascending-ascends previous [] h = (refl, refl)
-is_ascending-ascends previous (p ∷ ps) h =
-    let parts = and_parts (comes_before previous p.name) _ h in
-    let others = is_ascending-ascends p.name ps parts.1 in (
-      and_from (comes_before previous p.name) _ parts.0 (all_later previous p.name ps parts.0 others.0),
-      and_from (list_all (λ q. comes_before p.name q.name) ps) _ others.0 others.1,
-    )
-
-ascends_from : (previous : List ℕ) (ps : List Pair) → list_all (λ q. comes_before previous q.name) ps ≡ true
-    → is_ascending ps ≡ true → ascends previous ps ≡ true
-ascends_from previous [] all h = refl
-ascends_from previous (p ∷ ps) all h =
-    let first = and_parts (comes_before previous p.name) _ all in
-    let parts = and_parts (list_all (λ q. comes_before p.name q.name) ps) _ h in
-    and_from (comes_before previous p.name) _ first.0 (ascends_from p.name ps parts.0 parts.1)
-
--- each name that is known comes after no byte
-named : (field : OptionField) (ps : List Pair) → list_all (is_option field) ps ≡ true
-    → list_all (λ q. comes_before [] q.name) ps ≡ true
-named field [] h = refl
-named field (p ∷ ps) h =
-    let parts = and_parts (is_option field p) _ h in
-    let option = and_parts (is_known field p.name) _ parts.0 in
-    and_from (comes_before [] p.name) _ (some field p.name option.0) (named field ps parts.1)
-  where
-    some : (field : OptionField) (name : List ℕ) → is_known field name ≡ true → comes_before [] name ≡ true
-    some CriticalOptions [] e = absurd cc
-    some Extensions [] e = absurd cc
-    some field (b ∷ name) e = refl
-
--- the options that were read are lawful, and the text is theirs
-pub options_of_found : (field : OptionField) (kind : Kind) (text : List ℕ) (ps : List Pair) → IsBytes text
-    → options_of field kind text ≡ Some ps → (text ≡ options_text ps) × (is_options field kind ps ≡ true)
-options_of_found field User text ps h e =
-    let read = options_found 6 field [] text ps h e in
-    let order = is_ascending-ascends [] ps read.rising in
-    (read.text, and_from (is_ascending ps) _ order.1 read.lawful)
-options_of_found field Host text ps h e =
-    let none = cond_is (eqb (length text) 0) (Some []) ps e in
-    let is = same_Some _ _ none.1 in
-    (empty text none.0 ∙ ap options_text is, subst (λ (l : List Pair). is_options field Host l ≡ true) is refl)
-
--- lawful options are read from their text
-pub options_of_again : (field : OptionField) (kind : Kind) (ps : List Pair) → is_options field kind ps ≡ true
-    → options_of field kind (options_text ps) ≡ Some ps
-options_of_again field User ps h =
-    let parts = and_parts (is_ascending ps) _ h in
-    options_again 6 field [] ps parts.1 (ascends_from [] ps (named field ps parts.1) parts.0)
-    (options-few field ps parts.0 parts.1)
-options_of_again field Host [] h = refl
-options_of_again field Host (p ∷ ps) h = absurd cc

@@ -1,5 +1,7 @@
 -- What a certificate holds is short.
-use Rattle.std.proofs.Common.{◌≡◌, ℕ, ◌+◌, ◌*◌, ◌^◌, ◌<◌, ◌≤◌, Bool, true, false, ◌&&◌, eqb, leb, cond, List, [], ◌∷◌, length, drop, Option, Some, None, All, IsTrue, codes, arith, sym, ap, ◌∙◌, subst, refl, length-append, length-drop, inl, inr}
+use Rattle.std.proofs.Common.{◌≡◌, ℕ, ◌+◌, ◌*◌, ◌^◌, ◌<◌, ◌≤◌, Bool, true, false, ◌&&◌, eqb, leb, cond}
+use Rattle.std.proofs.Common.{List, [], ◌∷◌, length, drop, Option, Some, None, All, IsTrue, codes}
+use Rattle.std.proofs.Common.{arith, sym, ap, ◌∙◌, subst, refl, length-append, length-drop, inl, inr}
 use Rattle.std.specs.List.{
   list_all,
   list_any,

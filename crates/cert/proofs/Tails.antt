@@ -10,10 +10,14 @@ use Rattle.profile.specs.declared.option_field.OptionField.{OptionField}
 use Rattle.profile.specs.declared.option_field.OptionField.TheVariants.{CriticalOptions, Extensions}
 use Rattle.profile.specs.Serials.{is_serial}
 use Rattle.cert.specs.Bodies.{cert_type, is_validity}
-use Rattle.cert.specs.Reading.{◌>>=◌, check, kind_of, principals_of, options_of, field_fault, type_at, bytes_32_at, serial_at, kind_at, key_id_at, principals_at, validity_at, options_at, reserved_at, ca_at, from_key_id_at, body_at}
+use Rattle.cert.specs.Reading.{◌>>=◌, check, kind_of, principals_of, options_of, field_fault}
+use Rattle.cert.specs.Reading.{type_at, bytes_32_at, serial_at, kind_at, key_id_at, principals_at}
+use Rattle.cert.specs.Reading.{validity_at, options_at, reserved_at, ca_at, from_key_id_at, body_at}
 use Rattle.cert.specs.declared.fields.CertFields.{CertFields}
 use Rattle.cert.specs.declared.cert_fault.CertFault.{CertFault}
-use Rattle.cert.specs.declared.cert_fault.CertFault.TheVariants.{Truncated, WrongType, BadNonce, BadKey, BadSerial, BadKind, BadKeyId, BadPrincipals, BadValidity, BadReserved, BadCa, TrailingBytes}
+use Rattle.cert.specs.declared.cert_fault.CertFault.TheVariants.{Truncated, WrongType, BadNonce, BadKey}
+use Rattle.cert.specs.declared.cert_fault.CertFault.TheVariants.{BadSerial, BadKind, BadKeyId, BadPrincipals}
+use Rattle.cert.specs.declared.cert_fault.CertFault.TheVariants.{BadValidity, BadReserved, BadCa, TrailingBytes}
 
 -- ---- what is left to be done, with the fields that were read in c
 

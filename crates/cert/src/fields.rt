@@ -13,7 +13,9 @@ pub struct CertFields {
     pub key: [u8; 32],
     /// 1 to 9223372036854775806.
     pub serial: u64,
+    /// Whether it is for a user or for a host.
     pub kind: Kind,
+    /// A department's name, `/` and 1 to 64 bytes from 0x21 to 0x7e.
     pub key_id: Text,
     /// 1 to 16 distinct principals, in the order given.
     pub principals: Texts,

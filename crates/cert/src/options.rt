@@ -150,6 +150,10 @@ impl Options {
     }
 
     /// A copy.
+    ///
+    /// # Errors
+    ///
+    /// `NoMemory`, where a growth was refused.
     pub fn copied(&self, alloc: Global) -> Result<Options, NoMemory>
         ensures { IfOk result (λ o. o ≡ self.now) }
     {

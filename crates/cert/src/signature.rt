@@ -23,6 +23,10 @@ pub fn read_signature(blob: &[u8]) -> Option<Signature>
 }
 
 /// The certificate that a body and the CA's signature of it make (PROTOCOL.certkeys).
+///
+/// # Errors
+///
+/// `NoMemory`, where a growth was refused.
 pub fn join_signature(
     alloc: Global,
     body: &[u8],

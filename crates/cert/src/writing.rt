@@ -62,6 +62,12 @@ fn options_bytes(alloc: Global, options: &[Pair]) -> Result<Vec<u8>, NoMemory>
 }
 
 /// The body of a certificate with these fields, which is what its CA signs (PROTOCOL.certkeys).
+///
+/// The fields are lawful: such as `read_body` gives.
+///
+/// # Errors
+///
+/// `NoMemory`, where a growth was refused.
 pub fn write_body(alloc: Global, fields: &CertFields) -> Result<Vec<u8>, NoMemory>
     requires { IsCertFields fields.now }
     ensures text { IfOk result (λ v. v.items ≡ body_text fields.now) }

@@ -1,14 +1,23 @@
 -- Bytes with a cut that is supported have no fault, and no bytes have two first faults.
-use Rattle.std.proofs.Common.{◌≡◌, ◌≢◌, ℕ, List, [], ◌∷◌, ◌++◌, true, ◌&&◌, inl, inr, Option, Some, None, refl, sym, subst, ◌∙◌, append_assoc, lit<}
+use Rattle.std.proofs.Common.{◌≡◌, ◌≢◌, ℕ, List, [], ◌∷◌, ◌++◌, true, ◌&&◌, inl, inr}
+use Rattle.std.proofs.Common.{Option, Some, None, refl, sym, subst, ◌∙◌, append_assoc, lit<}
 use Rattle.std.specs.Prelude.{MatchOption}
 use Rattle.std.specs.List.{flat_map, list_all, AllByRecursion}
 use Rattle.std.proofs.lemmas.Bool.{and_parts}
 use Rattle.wire.specs.Texts.{u32_text, u64_text, string_text}
 use Rattle.krl.specs.declared.fault.KrlFault.{KrlFault}
-use Rattle.krl.specs.declared.fault.KrlFault.TheVariants.{Truncated, BadMagic, BadVersion, BadFlags, Unsupported, BadSection}
-use Rattle.krl.specs.Format.{Part, Serials, Range, KeyIds, OtherPart, part_type, part_data, part_text, Section, Certificates, OtherSection, section_data, section_text, Header, header_text, magic, RevocationList, is_supported, is_supported_part, is_supported_section, IsString, IsPart, IsSection, IsHeader, IsCut}
-use Rattle.krl.specs.Faults.{FieldFault, IsU32, IsU64, accepted, refused_unless, is_magic, is_one, is_zero, NothingAfter, CommentFault, ReservedFault, FlagsFault, DateFault, NumberFault, VersionFault, text_of, HasString, HeaderFault, NoPart, is_part_type, PartFault, IsReadPart, PartsFault, CertificatesFault, SectionFault, IsReadSection, FirstFault}
-use Rattle.krl.proofs.Texts.{IsUnique, HasBytes, u32_unique, u64_unique, strings_unique, tagged_unique, part_unique, part_has_bytes, section_unique, section_has_bytes, header_fields, header_unique}
+use Rattle.krl.specs.declared.fault.KrlFault.TheVariants.{Truncated, BadMagic, BadVersion}
+use Rattle.krl.specs.declared.fault.KrlFault.TheVariants.{BadFlags, Unsupported, BadSection}
+use Rattle.krl.specs.Format.{Part, Serials, Range, KeyIds, OtherPart, part_type, part_data, part_text}
+use Rattle.krl.specs.Format.{Section, Certificates, OtherSection, section_data, section_text, Header}
+use Rattle.krl.specs.Format.{header_text, magic, RevocationList, is_supported, is_supported_part}
+use Rattle.krl.specs.Format.{is_supported_section, IsString, IsPart, IsSection, IsHeader, IsCut}
+use Rattle.krl.specs.Faults.{FieldFault, IsU32, IsU64, accepted, refused_unless, is_magic, is_one, is_zero}
+use Rattle.krl.specs.Faults.{NothingAfter, CommentFault, ReservedFault, FlagsFault, DateFault, NumberFault}
+use Rattle.krl.specs.Faults.{VersionFault, text_of, HasString, HeaderFault, NoPart, is_part_type, PartFault}
+use Rattle.krl.specs.Faults.{IsReadPart, PartsFault, CertificatesFault, SectionFault, IsReadSection, FirstFault}
+use Rattle.krl.proofs.Texts.{IsUnique, HasBytes, u32_unique, u64_unique, strings_unique, tagged_unique, part_unique}
+use Rattle.krl.proofs.Texts.{part_has_bytes, section_unique, section_has_bytes, header_fields, header_unique}
 
 -- ---- one field
 

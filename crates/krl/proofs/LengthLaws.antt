@@ -1,5 +1,6 @@
 -- Lengths of parts and of lists, as sums.
-use Rattle.std.proofs.Common.{◌≡◌, ℕ, ◌+◌, ◌*◌, ◌<◌, ◌≤◌, List, [], ◌∷◌, ◌++◌, length, Bool, true, false, cond, refl, sym, ap, ◌∙◌, arith, length-append}
+use Rattle.std.proofs.Common.{◌≡◌, ℕ, ◌+◌, ◌*◌, ◌<◌, ◌≤◌, List, [], ◌∷◌, ◌++◌, length, Bool}
+use Rattle.std.proofs.Common.{true, false, cond, refl, sym, ap, ◌∙◌, arith, length-append}
 use Rattle.std.specs.List.{sum_by, flat_map}
 use Rattle.std.proofs.lemmas.Bool.Decides.{nat_tests}
 use Rattle.std.proofs.lemmas.Grind.{flat_map-append}
@@ -9,8 +10,10 @@ use Rattle.lines.specs.Keys.{key_blob}
 use Rattle.krl.specs.declared.run.Run.{Run}
 use Rattle.krl.specs.declared.ca_part.CaPart.{CaPart}
 use Rattle.krl.specs.Format.{Serials, Range, KeyIds, part_text, section_data, section_text}
-use Rattle.krl.specs.Published.{is_short, serials_of, listed, ranges, serial_list, serial_parts, serial_length, key_id_parts, is_idle, ca_section, published_sections}
-use Rattle.krl.specs.Lengths.{listed_text, listed_length, range_text, range_length, key_id_length, tagged_length, section_length}
+use Rattle.krl.specs.Published.{is_short, serials_of, listed, ranges, serial_list, serial_parts}
+use Rattle.krl.specs.Published.{serial_length, key_id_parts, is_idle, ca_section, published_sections}
+use Rattle.krl.specs.Lengths.{listed_text, listed_length, range_text, range_length}
+use Rattle.krl.specs.Lengths.{key_id_length, tagged_length, section_length}
 
 pub u64s_length : (ns : List ℕ) → length (flat_map u64_text ns) ≡ 8 * length ns
 u64s_length [] = refl

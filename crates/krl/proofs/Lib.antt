@@ -12,6 +12,7 @@ pub mod Items
 pub mod PartReading
 pub mod SectionReading
 pub mod Shortest
+pub mod ShortestParts
 pub mod Publishing
 pub mod LengthLaws
 pub mod WritingLaws

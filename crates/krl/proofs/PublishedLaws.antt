@@ -4,9 +4,10 @@ use Rattle.std.proofs.lemmas.List.Elements.{recursion_from_All, All-weaker}
 use Rattle.krl.specs.declared.ca_part.CaPart.{CaPart}
 use Rattle.krl.specs.declared.krl_head.KrlHead.{KrlHead}
 use Rattle.krl.specs.Sets.{AreRuns}
-use Rattle.krl.specs.Published.{AreOnly, AreShortest, RevokesExactly, AreDistinctCas, fits, published_list, published_text, serial_parts}
+use Rattle.krl.specs.Published.{AreOnly, AreShortest, RevokesExactly, AreDistinctCas}
+use Rattle.krl.specs.Published.{fits, published_list, published_text, serial_parts}
 use Rattle.krl.proofs.Publishing.{only_cut, revokes_exactly}
-use Rattle.krl.proofs.Shortest.{are_shortest}
+use Rattle.krl.proofs.ShortestParts.{are_shortest}
 
 pub written_cut : (head : KrlHead) (cas : List CaPart) (ids : List (List ℕ)) → head.version < 2 ^ 64 → head.date < 2 ^ 64 → All (λ p. AreRuns p.runs) cas → fits cas ids ≡ true → AreOnly (published_text head cas ids) (published_list head cas ids)
 written_cut head cas ids v d h e = only_cut head cas ids v d (recursion_from_All (λ (p : CaPart). AreRuns p.runs) cas h) e

@@ -1,5 +1,6 @@
 -- The published list is lawful and supported, and revokes just what its parts name.
-use Rattle.std.proofs.Common.{◌≡◌, ◌≢◌, ℕ, suc, ◌+◌, ◌<◌, ◌≤◌, ◌^◌, List, [], ◌∷◌, ◌++◌, length, Bool, true, false, ◌&&◌, ◌||◌, cond, eqb, leb, inl, inr, refl, sym, ap, subst, ◌∙◌, arith, length-append}
+use Rattle.std.proofs.Common.{◌≡◌, ◌≢◌, ℕ, suc, ◌+◌, ◌<◌, ◌≤◌, ◌^◌, List, [], ◌∷◌, ◌++◌, length, Bool, true, false}
+use Rattle.std.proofs.Common.{◌&&◌, ◌||◌, cond, eqb, leb, inl, inr, refl, sym, ap, subst, ◌∙◌, arith, length-append}
 use Rattle.std.specs.List.{list_any, list_all, flat_map, AllByRecursion}
 use Rattle.std.specs.Str.{bytes_eq}
 use Rattle.std.proofs.lemmas.Bool.{and_parts}
@@ -11,11 +12,15 @@ use Rattle.krl.specs.declared.run.Run.{Run}
 use Rattle.krl.specs.declared.ca_part.CaPart.{CaPart}
 use Rattle.krl.specs.declared.krl_head.KrlHead.{KrlHead}
 use Rattle.krl.specs.Sets.{contains, AreRunsFrom, AreRuns}
-use Rattle.krl.specs.Format.{Part, Range, KeyIds, part_data, part_text, names, section_data, section_revokes, is_for, is_supported_part, is_supported_section, IsString, IsPart, IsPartContent, IsSection, IsCut}
-use Rattle.krl.specs.Published.{names_serial, named_set, is_short, serials_of, listed, ranges, serial_list, serial_parts, key_id_parts, is_idle, ca_section, published_sections, published_list, published_text, part_fits, fits, is_key_id, IsCaPartOf, AreDistinctCas, RevokesExactly, AreOnly}
+use Rattle.krl.specs.Format.{Part, Range, KeyIds, part_data, part_text, names, section_data, section_revokes, is_for}
+use Rattle.krl.specs.Format.{is_supported_part, is_supported_section, IsString, IsPart, IsPartContent, IsSection, IsCut}
+use Rattle.krl.specs.Published.{names_serial, named_set, is_short, serials_of, listed, ranges}
+use Rattle.krl.specs.Published.{serial_list, serial_parts, key_id_parts, is_idle, ca_section}
+use Rattle.krl.specs.Published.{published_sections, published_list, published_text, part_fits, fits}
+use Rattle.krl.specs.Published.{is_key_id, IsCaPartOf, AreDistinctCas, RevokesExactly, AreOnly}
 use Rattle.krl.proofs.Booleans.{or_group, clash}
 use Rattle.krl.proofs.Texts.{cut_unique}
-use Rattle.krl.proofs.Shortest.{serials_named}
+use Rattle.krl.proofs.ShortestParts.{serials_named}
 use Rattle.std.proofs.Math.Bool.{or-false, and-false}
 
 -- ---- lawful

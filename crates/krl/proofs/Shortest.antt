@@ -1,19 +1,16 @@
 -- No parts that name the set of the runs are shorter than those that are written.
-use Rattle.std.proofs.Common.{◌≡◌, ℕ, ◌+◌, ◌-◌, ◌*◌, ◌<◌, ◌≤◌, List, [], ◌∷◌, ◌++◌, length, Bool, true, false, ◌&&◌, ◌||◌, cond, leb, eqb, refl, sym, ap, subst, ◌∙◌, arith, inl, inr, length-append}
+use Rattle.std.proofs.Common.{◌≡◌, ℕ, ◌+◌, ◌-◌, ◌*◌, ◌<◌, ◌≤◌, List, [], ◌∷◌, ◌++◌, length, Bool, true, false}
+use Rattle.std.proofs.Common.{◌&&◌, ◌||◌, cond, leb, eqb, refl, sym, subst, ◌∙◌, arith, inl, inr, length-append}
 use Rattle.std.specs.Prelude.{nat_lt, if◌then◌else◌}
-use Rattle.std.specs.List.{flat_map}
 use Rattle.std.proofs.lemmas.Bool.{cases_lt, le-ltb, eqb-true}
 use Rattle.std.proofs.lemmas.Bool.Decides.{nat_tests}
-use Rattle.std.proofs.lemmas.List.{nil_from_length}
 use Rattle.krl.specs.declared.run.Run.{Run}
 use Rattle.krl.specs.Sets.{is_within, contains, is_among, AreRunsFrom, AreRuns, IsRunOf, IsOneOf}
-use Rattle.krl.specs.Format.{Part, Serials, Range, KeyIds, OtherPart, part_text}
-use Rattle.krl.specs.Published.{names_serial, named_set, parts_length, is_short, serials_of, listed, ranges, serial_list, serial_parts, AreShortest}
-use Rattle.lines.proofs.Cases.{or_order}
-use Rattle.krl.proofs.Booleans.{ltb-yes, is_in, or_true, or_cases, or_group, clash}
-use Rattle.krl.proofs.LengthLaws.{u64s_length}
+use Rattle.krl.specs.Format.{Part, Serials, Range, KeyIds, OtherPart}
+use Rattle.krl.specs.Published.{is_short, serials_of}
+use Rattle.krl.specs.Published.{listed, ranges, serial_list}
+use Rattle.krl.proofs.Booleans.{ltb-yes, is_in, or_true, or_cases, clash}
 use Rattle.krl.proofs.Maximal.{run_of, each_is_run, none_below, member_contains}
-use Rattle.std.proofs.Math.Bool.{or-false}
 
 -- what parts cost at least; parts of key ids and others name no serial
 abbrev pub part_len : Part → ℕ
@@ -229,10 +226,10 @@ ranges_alone rs qs h same =
 
 -- ---- what is written
 
-abbrev how_short : List Run → ℕ
+abbrev pub how_short : List Run → ℕ
 how_short rs = how_many is_short rs
 
-short_saves : (from : ℕ) (rs : List Run) → AreRunsFrom from rs → least_of_all rs + 5 * how_short rs ≤ 21 * length rs
+pub short_saves : (from : ℕ) (rs : List Run) → AreRunsFrom from rs → least_of_all rs + 5 * how_short rs ≤ 21 * length rs
 short_saves from [] h = omega arith
 short_saves from (r ∷ rs) h =
     let more = short_saves (r.hi + 2) rs h.3 in
@@ -245,15 +242,15 @@ short_saves from (r ∷ rs) h =
       | inr ge ↦ rw (le-ltb _ _ ge) (omega arith)
     ]
 
-lists_len : (ns : List ℕ) → parts_len (serial_list ns) ≤ 5 + 8 * length ns
+pub lists_len : (ns : List ℕ) → parts_len (serial_list ns) ≤ 5 + 8 * length ns
 lists_len [] = omega arith
 lists_len (n ∷ ns) = omega arith
 
-parts_len-append : (ps qs : List Part) → parts_len (ps ++ qs) ≡ parts_len ps + parts_len qs
+pub parts_len-append : (ps qs : List Part) → parts_len (ps ++ qs) ≡ parts_len ps + parts_len qs
 parts_len-append [] qs = omega arith
 parts_len-append (p ∷ ps) qs = let more = parts_len-append ps qs in omega arith
 
-written_cost : (from : ℕ) (rs : List Run) → AreRunsFrom from rs → 8 * length (listed rs) + parts_len (ranges rs) ≡ least_of_all rs
+pub written_cost : (from : ℕ) (rs : List Run) → AreRunsFrom from rs → 8 * length (listed rs) + parts_len (ranges rs) ≡ least_of_all rs
 written_cost from [] h = omega arith
 written_cost from (r ∷ rs) h =
     let more = written_cost (r.hi + 2) rs h.3 in
@@ -265,156 +262,10 @@ written_cost from (r ∷ rs) h =
     serials_len : (r : Run) → r.lo ≤ r.hi → r.hi < r.lo + 2 → length (serials_of r) ≡ (r.hi - r.lo) + 1
     serials_len r le lt = grind (arith, nat_tests)
 
-no_listed : (rs : List Run) → how_short rs ≡ 0 → listed rs ≡ []
+pub no_listed : (rs : List Run) → how_short rs ≡ 0 → listed rs ≡ []
 no_listed [] e = refl
 no_listed (r ∷ rs) e = by_test (is_short r) (no_listed rs) refl e
   where
     by_test : (b : Bool) → (how_short rs ≡ 0 → listed rs ≡ []) → is_short r ≡ b → cond b 1 0 + how_short rs ≡ 0 → listed (r ∷ rs) ≡ []
     by_test true rest is e = absurd (omega arith)
     by_test false rest is e = rw is (rest (omega arith))
-
--- ---- any parts
-
--- the serials that are listed, the ranges, and the lists
-abbrev pub serials_in : List Part → List ℕ
-serials_in [] = []
-serials_in (Serials ns ∷ ps) = ns ++ serials_in ps
-serials_in (Range r ∷ ps) = serials_in ps
-serials_in (KeyIds ids ∷ ps) = serials_in ps
-serials_in (OtherPart t bytes ∷ ps) = serials_in ps
-
-abbrev pub ranges_in : List Part → List Run
-ranges_in [] = []
-ranges_in (Serials ns ∷ ps) = ranges_in ps
-ranges_in (Range r ∷ ps) = r ∷ ranges_in ps
-ranges_in (KeyIds ids ∷ ps) = ranges_in ps
-ranges_in (OtherPart t bytes ∷ ps) = ranges_in ps
-
-has_append : (xs ys : List ℕ) (n : ℕ) → has (xs ++ ys) n ≡ (has xs n || has ys n)
-has_append [] ys n = refl
-has_append (x ∷ xs) ys n = ap (λ b. eqb n x || b) (has_append xs ys n) ∙ sym (or_group (eqb n x) (has xs n) (has ys n))
-
-named_parts : (ps : List Part) (n : ℕ) → named_set ps n ≡ (has (serials_in ps) n || contains (ranges_in ps) n)
-named_parts [] n = refl
-named_parts (Serials ns ∷ ps) n = ap (λ b. has ns n || b) (named_parts ps n) ∙ sym (or_group (has ns n) (has (serials_in ps) n) (contains (ranges_in ps) n)) ∙ ap (λ b. b || contains (ranges_in ps) n) (sym (has_append ns (serials_in ps) n))
-named_parts (Range r ∷ ps) n = ap (λ b. is_within n r || b) (named_parts ps n) ∙ or_order (is_within n r) (has (serials_in ps) n) (contains (ranges_in ps) n)
-named_parts (KeyIds ids ∷ ps) n = named_parts ps n
-named_parts (OtherPart t bytes ∷ ps) n = named_parts ps n
-
-parts_cost : (ps : List Part) → 8 * length (serials_in ps) + 21 * length (ranges_in ps) ≤ parts_len ps
-parts_cost [] = omega arith
-parts_cost (Serials ns ∷ ps) = let more = parts_cost ps in let both = length-append ns (serials_in ps) in omega arith
-parts_cost (Range r ∷ ps) = let more = parts_cost ps in omega arith
-parts_cost (KeyIds ids ∷ ps) = let more = parts_cost ps in omega arith
-parts_cost (OtherPart t bytes ∷ ps) = let more = parts_cost ps in omega arith
-
--- one listed serial wants a list
-list_cost : (ps : List Part) → 0 < length (serials_in ps) → 5 + 8 * length (serials_in ps) + 21 * length (ranges_in ps) ≤ parts_len ps
-list_cost [] lt = absurd (omega arith)
-list_cost (Serials ns ∷ ps) lt = let more = parts_cost ps in let both = length-append ns (serials_in ps) in omega arith
-list_cost (Range r ∷ ps) lt = let more = list_cost ps lt in omega arith
-list_cost (KeyIds ids ∷ ps) lt = let more = list_cost ps lt in omega arith
-list_cost (OtherPart t bytes ∷ ps) lt = let more = list_cost ps lt in omega arith
-
--- ---- no parts that name the same set are shorter than what is written
-
-written_len : (rs : List Run) → AreRuns rs → parts_len (serial_parts rs) ≤ least_of_all rs + 5
-written_len rs h =
-    let a = parts_len-append (serial_list (listed rs)) (ranges rs) in
-    let b = lists_len (listed rs) in
-    let c = written_cost 0 rs h in
-    omega arith
-
-written_ranges : (rs : List Run) → AreRuns rs → how_short rs ≡ 0 → parts_len (serial_parts rs) ≡ least_of_all rs
-written_ranges rs h none =
-    let e = no_listed rs none in
-    let c = written_cost 0 rs h in
-    let empty : length (listed rs) ≡ 0 = ap length e in
-    let rest : parts_len (ranges rs) ≡ least_of_all rs = omega arith in
-    ap (λ (ns : List ℕ). parts_len (serial_list ns ++ ranges rs)) e ∙ rest
-
-pub shortest_cost : (rs : List Run) (ps : List Part) → AreRuns rs → ((n : ℕ) → named_set ps n ≡ contains rs n) → parts_len (serial_parts rs) ≤ parts_len ps
-shortest_cost rs ps h same =
-    let both : (n : ℕ) → contains rs n ≡ (has (serials_in ps) n || contains (ranges_in ps) n) = λ n. sym (same n) ∙ named_parts ps n in
-    let bound = least rs (serials_in ps) (ranges_in ps) h both in
-    let len = written_len rs h in
-    let cost = parts_cost ps in
-    elim (cases_lt 0 (length (serials_in ps))) [
-      | inl some ↦ let more = list_cost ps some in omega arith
-      | inr none ↦
-          let e : serials_in ps ≡ [] = nil_from_length _ (omega arith) in
-          let alone = ranges_alone rs (ranges_in ps) h (λ n. both n ∙ ap (λ (ns : List ℕ). has ns n || contains (ranges_in ps) n) e) in
-          elim (cases_lt 0 (how_short rs)) [
-            | inl short ↦ let save = short_saves 0 rs h in omega arith
-            | inr long ↦ let exact = written_ranges rs h (omega arith) in omega arith
-          ]
-    ]
-
--- ---- in bytes
-
-part_bytes : (p : Part) → part_len p ≤ length (part_text p)
-part_bytes (Serials ns) = let same = u64s_length ns in omega arith
-part_bytes (Range r) = omega arith
-part_bytes (KeyIds ids) = omega arith
-part_bytes (OtherPart t bytes) = omega arith
-
-parts_bytes : (ps : List Part) → parts_len ps ≤ parts_length ps
-parts_bytes [] = omega arith
-parts_bytes (p ∷ ps) = let one = part_bytes p in let more = parts_bytes ps in let both = length-append (part_text p) (flat_map part_text ps) in omega arith
-
-ranges_bytes : (rs : List Run) → parts_length (ranges rs) ≡ parts_len (ranges rs)
-ranges_bytes [] = refl
-ranges_bytes (r ∷ rs) = by_test (is_short r) (ranges_bytes rs)
-  where
-    by_test : (b : Bool) → parts_length (ranges rs) ≡ parts_len (ranges rs) → parts_length (cond b (ranges rs) (Range r ∷ ranges rs)) ≡ parts_len (cond b (ranges rs) (Range r ∷ ranges rs))
-    by_test true more = more
-    by_test false more = let both = length-append (part_text (Range r)) (flat_map part_text (ranges rs)) in omega arith
-
--- the parts that are written cost just their length
-pub serial_bytes : (rs : List Run) → parts_length (serial_parts rs) ≡ parts_len (serial_parts rs)
-serial_bytes rs = by_list (listed rs)
-  where
-    by_list : (ns : List ℕ) → parts_length (serial_list ns ++ ranges rs) ≡ parts_len (serial_list ns ++ ranges rs)
-    by_list [] = ranges_bytes rs
-    by_list (n ∷ ns) =
-        let more = ranges_bytes rs in
-        let same = u64s_length (n ∷ ns) in
-        let both = length-append (part_text (Serials (n ∷ ns))) (flat_map part_text (ranges rs)) in
-        omega arith
-
-pub shortest_bytes : (rs : List Run) (others : List Part) → AreRuns rs → ((n : ℕ) → named_set others n ≡ contains rs n) → parts_length (serial_parts rs) ≤ parts_length others
-shortest_bytes rs others h same = let cost = shortest_cost rs others h same in let here = serial_bytes rs in let there = parts_bytes others in omega arith
-
--- ---- they name the set
-
-run_named : (r : Run) (n : ℕ) → r.lo ≤ r.hi → r.hi < r.lo + 2 → is_among (serials_of r) n ≡ is_within n r
-run_named r n le lt = grind (arith, nat_tests)
-
-named_append : (ps qs : List Part) (n : ℕ) → named_set (ps ++ qs) n ≡ (named_set ps n || named_set qs n)
-named_append [] qs n = refl
-named_append (p ∷ ps) qs n = ap (λ b. names_serial n p || b) (named_append ps qs n) ∙ sym (or_group (names_serial n p) (named_set ps n) (named_set qs n))
-
-list_named : (ns : List ℕ) (n : ℕ) → named_set (serial_list ns) n ≡ is_among ns n
-list_named [] n = refl
-list_named (m ∷ ns) n = or-false (is_among (m ∷ ns) n)
-
-runs_named : (from : ℕ) (rs : List Run) (n : ℕ) → AreRunsFrom from rs → (is_among (listed rs) n || named_set (ranges rs) n) ≡ contains rs n
-runs_named from [] n h = refl
-runs_named from (r ∷ rs) n h = elim (cases_lt r.hi (r.lo + 2)) [
-  | inl lt ↦ rw (ltb-yes lt) (
-      ap (λ b. b || named_set (ranges rs) n) (has_append (serials_of r) (listed rs) n)
-      ∙ or_group (is_among (serials_of r) n) (is_among (listed rs) n) (named_set (ranges rs) n)
-      ∙ ap (λ b. b || (is_among (listed rs) n || named_set (ranges rs) n)) (run_named r n h.1 lt)
-      ∙ ap (λ b. is_within n r || b) (runs_named (r.hi + 2) rs n h.3))
-  | inr ge ↦ rw (le-ltb _ _ ge) (or_order (is_among (listed rs) n) (is_within n r) (named_set (ranges rs) n) ∙ ap (λ b. is_within n r || b) (runs_named (r.hi + 2) rs n h.3))
-]
-
-pub serials_named : (rs : List Run) (n : ℕ) → AreRuns rs → named_set (serial_parts rs) n ≡ contains rs n
-serials_named rs n h = named_append (serial_list (listed rs)) (ranges rs) n ∙ ap (λ b. b || named_set (ranges rs) n) (list_named (listed rs) n) ∙ runs_named 0 rs n h
-
--- the parts that are written are shortest
-pub are_shortest : (rs : List Run) → AreRuns rs → AreShortest (serial_parts rs) rs
-are_shortest rs h = record {
-  names = λ n. serials_named rs n h;
-  shortest = λ others same. shortest_bytes rs others h same;
-}

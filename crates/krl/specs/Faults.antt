@@ -1,26 +1,34 @@
 -- The first fault of a list, after the longest beginning of whole and lawful fields, sections and parts.
-use Rattle.std.specs.Prelude.{◌≡◌, ◌≢◌, ◌==◌, ℕ, ◌<◌, ◌^◌, List, [], ◌++◌, ◌⊎◌, Bool, true, ◌||◌, Option, Some, None, MatchOption, if◌then◌else◌}
+use Rattle.std.specs.Prelude.{◌≡◌, ◌≢◌, ◌==◌, ℕ, ◌<◌, ◌^◌, List, [], ◌++◌, ◌⊎◌, Bool}
+use Rattle.std.specs.Prelude.{true, ◌||◌, Option, Some, None, MatchOption, if◌then◌else◌}
 use Rattle.std.specs.List.{flat_map, AllByRecursion}
 use Rattle.wire.specs.Texts.{u32_text, u64_text, string_text}
 use Rattle.krl.specs.declared.fault.KrlFault.{KrlFault}
-use Rattle.krl.specs.declared.fault.KrlFault.TheVariants.{Truncated, BadMagic, BadVersion, BadFlags, Unsupported, BadSection}
-use Rattle.krl.specs.Format.{Part, part_type, part_data, part_text, tagged_text, Section, section_text, Header, magic, header_text, IsString, IsPart, IsSection, IsHeader, is_supported_part, is_supported_section}
+use Rattle.krl.specs.declared.fault.KrlFault.TheVariants.{Truncated, BadMagic, BadVersion}
+use Rattle.krl.specs.declared.fault.KrlFault.TheVariants.{BadFlags, Unsupported, BadSection}
+use Rattle.krl.specs.Format.{Part, part_type, part_data, part_text, tagged_text, Section}
+use Rattle.krl.specs.Format.{section_text, Header, magic, header_text, IsString, IsPart}
+use Rattle.krl.specs.Format.{IsSection, IsHeader, is_supported_part, is_supported_section}
 
 -- What fails where a field is read: the field is cut short; or it is whole, and its value is refused; or it is lawful,
 -- and what fails comes after it.
-abbrev pub FieldFault : {X : Type 0} → (X → List ℕ) → (X → Type 0) → KrlFault → (X → Option KrlFault) → (X → List ℕ → KrlFault → Type 0) → List ℕ → KrlFault → Type 0
+abbrev pub FieldFault : {X : Type 0} → (X → List ℕ) → (X → Type 0) → KrlFault → (X → Option KrlFault)
+    → (X → List ℕ → KrlFault → Type 0) → List ℕ → KrlFault → Type 0
 FieldFault {X} text IsValue cut refusal After bytes f =
     (((x : X) (rest : List ℕ) → IsValue x → bytes ≢ text x ++ rest) × (f ≡ cut))
-    ⊎ ((x : X) × (rest : List ℕ) × IsValue x × (bytes ≡ text x ++ rest) × MatchOption (refusal x) (After x rest f) (λ g. f ≡ g))
+    ⊎ ((x : X) × (rest : List ℕ) × IsValue x × (bytes ≡ text x ++ rest)
+    × MatchOption (refusal x) (After x rest f) (λ g. f ≡ g))
 
 -- nothing fails after the field
 abbrev pub NothingAfter : {X : Type 0} → X → List ℕ → KrlFault → Type 0
 NothingAfter x rest f = ⊥
 
 -- What fails after the longest beginning of items that are lawful and supported.
-abbrev pub ItemFault : {X : Type 0} → (X → List ℕ) → (X → Type 0) → (List ℕ → KrlFault → Type 0) → List ℕ → KrlFault → Type 0
+abbrev pub ItemFault : {X : Type 0} → (X → List ℕ) → (X → Type 0) → (List ℕ → KrlFault → Type 0)
+    → List ℕ → KrlFault → Type 0
 ItemFault {X} text IsItem Fault bytes f =
-    (done : List X) × (rest : List ℕ) × AllByRecursion IsItem done × (bytes ≡ flat_map text done ++ rest) × (rest ≢ []) × Fault rest f
+    (done : List X) × (rest : List ℕ) × AllByRecursion IsItem done × (bytes ≡ flat_map text done ++ rest)
+    × (rest ≢ []) × Fault rest f
 
 abbrev pub IsU32 : ℕ → Type 0
 IsU32 n = n < 2 ^ 32
@@ -84,7 +92,9 @@ is_part_type t = t == 0x20 || (t == 0x21 || t == 0x23)
 
 -- a part's type is judged once its data was cut
 abbrev pub PartFault : List ℕ → KrlFault → Type 0
-PartFault = FieldFault text_of HasString BadSection (λ x. refused_unless (is_part_type x.0) (Unsupported x.0)) (λ x rest f. NoPart x × (f ≡ BadSection))
+PartFault =
+    FieldFault text_of HasString BadSection (λ x. refused_unless (is_part_type x.0) (Unsupported x.0))
+    (λ x rest f. NoPart x × (f ≡ BadSection))
 
 pub record IsReadPart (p : Part) : Type 0 where
   pub lawful : IsPart p
@@ -101,7 +111,9 @@ CertificatesFault =
 
 -- a section's type is judged once its data was cut
 abbrev pub SectionFault : List ℕ → KrlFault → Type 0
-SectionFault = FieldFault text_of HasString Truncated (λ x. refused_unless (is_one x.0) (Unsupported x.0)) (λ x rest f. CertificatesFault x.1 f)
+SectionFault =
+    FieldFault text_of HasString Truncated (λ x. refused_unless (is_one x.0) (Unsupported x.0))
+    (λ x rest f. CertificatesFault x.1 f)
 
 pub record IsReadSection (s : Section) : Type 0 where
   pub lawful : IsSection s
@@ -111,4 +123,5 @@ pub record IsReadSection (s : Section) : Type 0 where
 abbrev pub FirstFault : List ℕ → KrlFault → Type 0
 FirstFault bytes f =
     HeaderFault bytes f
-    ⊎ ((h : Header) × (rest : List ℕ) × IsHeader h × (bytes ≡ header_text h ++ rest) × ItemFault section_text IsReadSection SectionFault rest f)
+    ⊎ ((h : Header) × (rest : List ℕ) × IsHeader h × (bytes ≡ header_text h ++ rest)
+    × ItemFault section_text IsReadSection SectionFault rest f)

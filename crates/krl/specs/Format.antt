@@ -95,7 +95,8 @@ IsPart p = IsPartContent p × IsString (part_data p)
 
 -- at least one part; a type that isn't that of certificates
 abbrev pub IsSectionContent : Section → Type 0
-IsSectionContent (Certificates ca reserved parts) = IsString ca × IsString reserved × (parts ≢ []) × AllByRecursion IsPart parts
+IsSectionContent (Certificates ca reserved parts) =
+    IsString ca × IsString reserved × (parts ≢ []) × AllByRecursion IsPart parts
 IsSectionContent (OtherSection t data_bytes) = t ≢ 1
 
 abbrev pub IsSection : Section → Type 0
@@ -138,7 +139,8 @@ abbrev pub is_for : List ℕ → List ℕ → Bool
 is_for blob ca = length ca == 0 || bytes_eq ca blob
 
 abbrev pub section_revokes : List ℕ → ℕ → List ℕ → Section → Bool
-section_revokes blob serial key_id (Certificates ca reserved parts) = is_for blob ca && list_any (names serial key_id) parts
+section_revokes blob serial key_id (Certificates ca reserved parts) =
+    is_for blob ca && list_any (names serial key_id) parts
 section_revokes blob serial key_id (OtherSection t data_bytes) = false
 
 -- whether the list revokes the certificate of this serial and key id under the CA of this blob

@@ -1,5 +1,6 @@
 -- The list that is written: the shortest serial parts, and a section for each CA that has something revoked.
-use Rattle.std.specs.Prelude.{◌≡◌, ◌==◌, ℕ, ◌+◌, ◌≤◌, List, [], ◌∷◌, ◌++◌, length, Bool, true, false, ◌&&◌, ◌||◌, ◌⊎◌, ◌≢◌, nat_lt, nat_le, if◌then◌else◌}
+use Rattle.std.specs.Prelude.{◌≡◌, ◌==◌, ℕ, ◌+◌, ◌≤◌, List, [], ◌∷◌, ◌++◌, length, Bool, true}
+use Rattle.std.specs.Prelude.{false, ◌&&◌, ◌||◌, ◌⊎◌, ◌≢◌, nat_lt, nat_le, if◌then◌else◌}
 use Rattle.std.specs.List.{list_any, list_all, flat_map}
 use Rattle.std.specs.Str.{bytes_eq}
 use Rattle.lines.specs.Keys.{key_blob}
@@ -7,7 +8,8 @@ use Rattle.krl.specs.declared.run.Run.{Run}
 use Rattle.krl.specs.declared.ca_part.CaPart.{CaPart}
 use Rattle.krl.specs.declared.krl_head.KrlHead.{KrlHead}
 use Rattle.krl.specs.Sets.{is_within, is_among, contains}
-use Rattle.krl.specs.Format.{Part, Serials, Range, KeyIds, OtherPart, part_text, Section, Certificates, section_data, section_text, Header, RevocationList, list_text, IsCut, is_supported, revokes}
+use Rattle.krl.specs.Format.{Part, Serials, Range, KeyIds, OtherPart, part_text, Section, Certificates, section_data}
+use Rattle.krl.specs.Format.{section_text, Header, RevocationList, list_text, IsCut, is_supported, revokes}
 
 -- ---- serials
 
@@ -59,7 +61,8 @@ serial_length rs = parts_length (serial_parts rs)
 -- the parts name the set of the runs, and no parts of serials that name that set have fewer bytes
 pub record AreShortest (parts : List Part) (rs : List Run) : Type 0 where
   pub names : (n : ℕ) → named_set parts n ≡ contains rs n
-  pub shortest : (others : List Part) → ((n : ℕ) → named_set others n ≡ contains rs n) → parts_length parts ≤ parts_length others
+  pub shortest : (others : List Part) → ((n : ℕ) → named_set others n ≡ contains rs n)
+      → parts_length parts ≤ parts_length others
 
 -- ---- lists
 
@@ -119,9 +122,11 @@ AreDistinctCas (p ∷ ps) = ((q : CaPart) → IsCaPartOf q ps → q.ca ≢ p.ca)
 -- what a list revokes is what CA parts and key ids name
 pub record RevokesExactly (l : RevocationList) (cas : List CaPart) (ids : List (List ℕ)) : Type 0 where
   -- under a CA that has a part: its serials, and each of the key ids
-  pub own : (p : CaPart) → IsCaPartOf p cas → (serial : ℕ) (key_id : List ℕ) → revokes (key_blob p.ca) serial key_id l ≡ (contains p.runs serial || is_key_id ids key_id)
+  pub own : (p : CaPart) → IsCaPartOf p cas → (serial : ℕ) (key_id : List ℕ)
+      → revokes (key_blob p.ca) serial key_id l ≡ (contains p.runs serial || is_key_id ids key_id)
   -- under any other blob: nothing
-  pub others : (blob : List ℕ) → ((p : CaPart) → IsCaPartOf p cas → key_blob p.ca ≢ blob) → (serial : ℕ) (key_id : List ℕ) → revokes blob serial key_id l ≡ false
+  pub others : (blob : List ℕ) → ((p : CaPart) → IsCaPartOf p cas → key_blob p.ca ≢ blob)
+      → (serial : ℕ) (key_id : List ℕ) → revokes blob serial key_id l ≡ false
 
 -- bytes that can be cut in one way, as this list, which is supported
 pub record AreOnly (bytes : List ℕ) (l : RevocationList) : Type 0 where

@@ -1,5 +1,6 @@
 -- Sets of serials, and their runs.
-use Rattle.std.specs.Prelude.{◌≡◌, ◌==◌, ℕ, zero, suc, ◌+◌, ◌<◌, ◌≤◌, ◌^◌, List, [], ◌∷◌, Bool, true, false, ◌&&◌, ◌⊎◌, nat_lt, nat_le, Option, Some, None, drop, slice_index, min, max, ◌-◌, if◌then◌else◌}
+use Rattle.std.specs.Prelude.{◌≡◌, ◌==◌, ℕ, zero, suc, ◌+◌, ◌<◌, ◌≤◌, ◌^◌, List, [], ◌∷◌, Bool, true, false, ◌&&◌}
+use Rattle.std.specs.Prelude.{◌⊎◌, nat_lt, nat_le, Option, Some, None, drop, slice_index, min, max, ◌-◌, if◌then◌else◌}
 use Rattle.std.specs.List.{list_any, list_all}
 use Rattle.krl.specs.declared.run.Run.{Run}
 
@@ -72,5 +73,6 @@ abbrev pub cut_run : ℕ → Option ℕ → Run → Option Run
 cut_run from None r = if nat_le (max r.lo from) r.hi then Some (record { lo = max r.lo from; hi = r.hi }) else None
 cut_run from (Some bound) r =
     if nat_le bound (max r.lo from) then None
-    else if nat_le (max r.lo from) (min r.hi (bound - 1)) then Some (record { lo = max r.lo from; hi = min r.hi (bound - 1) })
+    else if nat_le (max r.lo from) (min r.hi (bound - 1))
+    then Some (record { lo = max r.lo from; hi = min r.hi (bound - 1) })
     else None

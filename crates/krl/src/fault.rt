@@ -1,6 +1,6 @@
 //! Why a list is refused.
 
-/// The first fault of a list from the left.
+/// The first fault of a list (OpenSSH PROTOCOL.krl) from the left.
 #[derive(Clone, Copy, Debug, PartialEq, Eq)]
 pub enum KrlFault {
     /// The list ends inside its header, or inside a section's type, length or data.

@@ -1,6 +1,6 @@
 //! What a list's header says.
 
-/// The version and the date of a list.
+/// The version and the date of a list (OpenSSH PROTOCOL.krl).
 #[derive(Clone, Copy, Debug, PartialEq, Eq)]
 pub struct KrlHead {
     /// The number of the list, higher in each later one (`krl_version`).

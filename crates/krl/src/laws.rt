@@ -18,6 +18,8 @@ pub fn runs_are_one()
 /// The serials of a set, `count` of them from `from` on, have their runs, and no others.
 pub fn a_set_has_its_runs()
     ensures runs { (set : ℕ → Bool) (from count : ℕ) → from + count ≤ 2 ^ 64 → AreRuns (runs_in set from count) }
-    ensures contains { (set : ℕ → Bool) (from count n : ℕ) → from + count ≤ 2 ^ 64 → contains (runs_in set from count) n ≡ (is_counted from count n && set n) }
-    ensures only { (set : ℕ → Bool) (from count : ℕ) (rs : List Run) → AreRuns rs → ((n : ℕ) → contains rs n ≡ (is_counted from count n && set n)) → rs ≡ runs_in set from count }
+    ensures contains { (set : ℕ → Bool) (from count n : ℕ) → from + count ≤ 2 ^ 64
+        → contains (runs_in set from count) n ≡ (is_counted from count n && set n) }
+    ensures only { (set : ℕ → Bool) (from count : ℕ) (rs : List Run) → AreRuns rs
+        → ((n : ℕ) → contains rs n ≡ (is_counted from count n && set n)) → rs ≡ runs_in set from count }
 {}

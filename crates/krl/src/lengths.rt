@@ -105,7 +105,8 @@ pub(crate) fn is_idle_part(part: &CaPart, ids: &[Text]) -> bool
 /// The length of the data of the CA's section.
 #[tactic(auto, using(crate::proofs::LengthLaws::data_lengths, crate::proofs::LengthLaws::serials_within, crate::proofs::LengthLaws::ids_within))]
 pub(crate) fn section_data_len(part: &CaPart, ids: &[Text]) -> Option<u64>
-    ensures { SomeIff result (length (section_data (ca_section ids.now part.now)) ≤ 4294967295) (length (section_data (ca_section ids.now part.now))) }
+    ensures { SomeIff result (length (section_data (ca_section ids.now part.now)) ≤ 4294967295)
+        (length (section_data (ca_section ids.now part.now))) }
 {
     let blob = key_blob_of(&part.ca);
     let Some(serials) = serials_len(part.runs.runs()) else {

@@ -42,8 +42,10 @@ fn serials_name(bytes: &[u8], serial: u64) -> Option<bool>
 
 // Whether a range has the serial. `None` where the data is no range.
 fn range_names(bytes: &[u8], serial: u64) -> Option<bool>
-    ensures found { IfSome result (λ b. (r : Run) × (r.lo < 2 ^ 64) × (r.hi < 2 ^ 64) × (bytes.now ≡ u64_text r.lo ++ u64_text r.hi) × (b ≡ is_within serial r)) }
-    ensures none { IfNone result ((r : Run) → r.lo < 2 ^ 64 → r.hi < 2 ^ 64 → bytes.now ≢ u64_text r.lo ++ u64_text r.hi) }
+    ensures found { IfSome result (λ b. (r : Run) × (r.lo < 2 ^ 64) × (r.hi < 2 ^ 64)
+        × (bytes.now ≡ u64_text r.lo ++ u64_text r.hi) × (b ≡ is_within serial r)) }
+    ensures none { IfNone result ((r : Run) → r.lo < 2 ^ 64 → r.hi < 2 ^ 64
+        → bytes.now ≢ u64_text r.lo ++ u64_text r.hi) }
 {
     let mut cursor = Cursor::new(bytes);
     let Some(lo) = cursor.u64() else {
@@ -62,7 +64,8 @@ fn range_names(bytes: &[u8], serial: u64) -> Option<bool>
 fn key_ids_name(bytes: &[u8], key_id: &[u8]) -> Option<bool>
     ensures some { IfSome result (λ b. bytes.now ≢ []) }
     ensures found { IfSome result (λ b. AreItems string_text IsString (λ i. bytes_eq i key_id.now) bytes.now b) }
-    ensures none { IfNone result ((ids : List (List ℕ)) → ids ≢ [] → AllByRecursion IsString ids → bytes.now ≢ flat_map string_text ids) }
+    ensures none { IfNone result ((ids : List (List ℕ)) → ids ≢ [] → AllByRecursion IsString ids
+        → bytes.now ≢ flat_map string_text ids) }
 {
     let mut cursor = Cursor::new(bytes);
     if cursor.at_end() {

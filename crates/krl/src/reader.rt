@@ -3,8 +3,10 @@
 ghost use Rattle.std.specs.Prelude.{◌≡◌, ◌==◌, ◌++◌, ℕ, true, IfOk, IfErr, OnOk};
 ghost use Rattle.wire.specs.Texts.{string_text, u32_text, u64_text};
 ghost use Rattle.lines.specs.Keys.{key_blob};
-ghost use Rattle.krl.specs.Format.{Header, IsCut, IsHeader, IsString, RevocationList, header_text, is_for, is_supported, revokes, section_revokes, section_text};
-ghost use Rattle.krl.specs.Faults.{CertificatesFault, FieldFault, FirstFault, HeaderFault, IsReadSection, IsU32, IsU64, ItemFault, NothingAfter, SectionFault, accepted, refused_unless};
+ghost use Rattle.krl.specs.Format.{Header, IsCut, IsHeader, IsString, RevocationList, header_text};
+ghost use Rattle.krl.specs.Format.{is_for, is_supported, revokes, section_revokes, section_text};
+ghost use Rattle.krl.specs.Faults.{CertificatesFault, FieldFault, FirstFault, HeaderFault, IsReadSection, IsU32};
+ghost use Rattle.krl.specs.Faults.{IsU64, ItemFault, NothingAfter, SectionFault, accepted, refused_unless};
 ghost use Rattle.krl.specs.Reading.{AreItems, IsBytes, ReadsCertificates, ReadsList, ReadsSection};
 
 use crate::fault::KrlFault;
@@ -73,7 +75,8 @@ fn read_section(
 // Reads a number of 8 bytes that has to be this one.
 fn expect_u64(cursor: &mut Cursor<'_>, wanted: u64, refusal: KrlFault) -> Result<(), KrlFault>
     ensures found { OnOk result (cursor.old ≡ u64_text wanted ++ cursor.new) }
-    ensures fault { IfErr result (FieldFault u64_text IsU64 KrlFault.Truncated (λ n. refused_unless (n == wanted) refusal) NothingAfter cursor.old) }
+    ensures fault { IfErr result (FieldFault u64_text IsU64 KrlFault.Truncated
+        (λ n. refused_unless (n == wanted) refusal) NothingAfter cursor.old) }
 {
     let Some(number) = cursor.u64() else {
         return Err(KrlFault::Truncated);
@@ -87,7 +90,8 @@ fn expect_u64(cursor: &mut Cursor<'_>, wanted: u64, refusal: KrlFault) -> Result
 // Reads the version of the format.
 fn expect_version(cursor: &mut Cursor<'_>) -> Result<(), KrlFault>
     ensures found { OnOk result (cursor.old ≡ u32_text 1 ++ cursor.new) }
-    ensures fault { IfErr result (FieldFault u32_text IsU32 KrlFault.Truncated (λ n. refused_unless (n == 1) KrlFault.BadVersion) NothingAfter cursor.old) }
+    ensures fault { IfErr result (FieldFault u32_text IsU32 KrlFault.Truncated
+        (λ n. refused_unless (n == 1) KrlFault.BadVersion) NothingAfter cursor.old) }
 {
     let Some(version) = cursor.u32() else {
         return Err(KrlFault::Truncated);
@@ -145,7 +149,8 @@ fn read_sections(
     key_id: &[u8],
 ) -> Result<bool, KrlFault>
     requires { IsBytes cursor.old }
-    ensures found { IfOk result (AreItems section_text IsReadSection (section_revokes blob.now serial key_id.now) cursor.old) }
+    ensures found { IfOk result
+        (AreItems section_text IsReadSection (section_revokes blob.now serial key_id.now) cursor.old) }
     ensures fault { IfErr result (ItemFault section_text IsReadSection SectionFault cursor.old) }
 {
     let mut revoked = false;
@@ -164,15 +169,19 @@ fn read_list(bytes: &[u8], blob: &[u8], serial: u64, key_id: &[u8]) -> Result<bo
     read_sections(&mut cursor, blob, serial, key_id)
 }
 
-/// Whether the list revokes the certificate of this serial and key id under this CA, of whose key the 32 bytes are
-/// given. The whole list is read before the answer; it takes no memory.
+/// Whether the list (OpenSSH PROTOCOL.krl) revokes the certificate of this serial and key id under this CA, of whose
+/// key the 32 bytes are given. The whole list is read before the answer. It takes no memory.
 ///
-/// A list may have any version and date, and any bytes in its reserved and comment strings; sections and parts may
-/// repeat; an empty serial list and a range that ends before it begins name nothing. An `Err` is the list's first fault
-/// from the left.
+/// A list may have any version and date, and any bytes in its reserved and comment strings. Sections and parts may
+/// repeat. An empty serial list and a range that ends before it begins name nothing.
+///
+/// # Errors
+///
+/// The list's first fault from the left. `KrlFault` says what each is.
 pub fn check(bytes: &[u8], ca: &[u8; 32], serial: u64, key_id: &[u8]) -> Result<bool, KrlFault>
     ensures found { IfOk result (ReadsList bytes.now (key_blob ca.now) serial key_id.now) }
-    ensures only { (l : RevocationList) → IsCut bytes.now l → is_supported l ≡ true → result ≡ Ok (revokes (key_blob ca.now) serial key_id.now l) }
+    ensures only { (l : RevocationList) → IsCut bytes.now l → is_supported l ≡ true
+        → result ≡ Ok (revokes (key_blob ca.now) serial key_id.now l) }
     ensures fault { IfErr result (FirstFault bytes.now) }
     ensures only_fault { (f : KrlFault) → FirstFault bytes.now f → result ≡ Err f }
 {

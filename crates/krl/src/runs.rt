@@ -1,6 +1,8 @@
 //! Sets of serials as runs.
 
-ghost use Rattle.std.specs.Prelude.{All, true, false, ◌≡◌, ◌≢◌, ◌↔◌, IsTrue, nat_le, ◌&&◌, ◌||◌, ◌<◌, ◌≤◌, ◌-◌, ◌^◌, ℕ, ◌+◌, [], ◌∷◌, IsSome, IfSome, OnOk, OnErr, IfOk, vec_len, length, slice_get, slice_index_or};
+ghost use Rattle.std.specs.Prelude.{All, true, false, ◌≡◌, ◌≢◌, ◌↔◌, IsTrue, nat_le, ◌&&◌, ◌||◌};
+ghost use Rattle.std.specs.Prelude.{◌<◌, ◌≤◌, ◌-◌, ◌^◌, ℕ, ◌+◌, [], ◌∷◌, IsSome, IfSome, OnOk};
+ghost use Rattle.std.specs.Prelude.{OnErr, IfOk, vec_len, length, slice_get, slice_index_or};
 ghost use Rattle.std.specs.Bool.{OnTrue, OnFalse};
 ghost use Rattle.std.specs.List.{list_any, filter_map};
 ghost use Rattle.std.specs.Option.{SomeIff};
@@ -82,7 +84,8 @@ impl Runs {
         requires low { 1 ≤ lo }
         requires order { lo ≤ hi }
         requires high { hi < 2 ^ 63 - 1 }
-        ensures union { OnOk result ((n : ℕ) → contains self.new n ≡ (is_within n (record { lo = lo; hi = hi }) || contains self.old n)) }
+        ensures union { OnOk result ((n : ℕ) → contains self.new n
+            ≡ (is_within n (record { lo = lo; hi = hi }) || contains self.old n)) }
         ensures changed { IfOk result (λ changed. OnTrue changed (self.new ≢ self.old)) }
         ensures same { IfOk result (λ changed. OnFalse changed (self.new ≡ self.old)) }
         ensures err { OnErr result (self.new ≡ self.old) }
@@ -97,6 +100,10 @@ impl Runs {
 
     /// The set cut at the numbers of `since`, which don't descend: for each place the serials that reach its number and
     /// the number of no later place. A serial below all of them goes to no place.
+    ///
+    /// # Errors
+    ///
+    /// `NoMemory`, where a growth was refused.
     pub fn split(&self, alloc: Global, since: &[u64]) -> Result<Vec<Runs>, NoMemory>
         requires { IsNonDecreasing since.now }
         ensures places { IfOk result (λ v. vec_len v ≡ length since.now) }
@@ -120,7 +127,8 @@ fn part_at(alloc: Global, runs: &[Run], since: &[u64], place: usize) -> Result<V
     requires ascending { IsNonDecreasing since.now }
     requires there { place < length since.now }
     ensures runs { IfOk result (λ v. AreRuns v.items) }
-    ensures part { IfOk result (λ v. (n : ℕ) → contains v.items n ≡ (is_last_reached since.now place n && contains runs.now n)) }
+    ensures part { IfOk result (λ v. (n : ℕ) → contains v.items n
+        ≡ (is_last_reached since.now place n && contains runs.now n)) }
 {
     between(alloc, runs, since[place], number_at(since, place + 1))
 }
@@ -140,7 +148,8 @@ fn between(
 ) -> Result<Vec<Run>, NoMemory>
     requires { AreRuns runs.now }
     ensures runs { IfOk result (λ v. AreRuns v.items) }
-    ensures cut { IfOk result (λ v. (n : ℕ) → contains v.items n ≡ ((nat_le from n && is_before n before) && contains runs.now n)) }
+    ensures cut { IfOk result (λ v. (n : ℕ) → contains v.items n
+        ≡ ((nat_le from n && is_before n before) && contains runs.now n)) }
 {
     Ok(cut_runs(alloc, runs, from, before)?)
 }
@@ -162,7 +171,8 @@ fn cut_runs(
 fn count_begun(runs: &[Run], serial: u64) -> usize
     requires { AreRuns runs.now }
     ensures bound { result ≤ length runs.now }
-    ensures point { IsPartitionPoint (λ r. nat_le r.lo serial ≡ true) (λ r. nat_le r.lo serial ≡ false) runs.now result }
+    ensures point { IsPartitionPoint (λ r. nat_le r.lo serial ≡ true) (λ r. nat_le r.lo serial ≡ false)
+        runs.now result }
 {
     runs.partition_point(|run| run.lo <= serial)
 }
@@ -222,6 +232,10 @@ fn joined(alloc: Global, runs: &[Run], with: Run) -> Result<Vec<Run>, NoMemory>
 }
 
 /// The set of serials that ascend strictly.
+///
+/// # Errors
+///
+/// `NoMemory`, where a growth was refused.
 pub fn runs_of(alloc: Global, serials: &[u64]) -> Result<Runs, NoMemory>
     requires { IsStrictlyIncreasing serials.now }
     ensures { IfOk result (λ r. (n : ℕ) → contains r n ≡ is_among serials.now n) }

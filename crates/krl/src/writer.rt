@@ -1,6 +1,7 @@
 //! The list's writer.
 
-ghost use Rattle.std.specs.Prelude.{◌≡◌, ◌≤◌, ◌<◌, ◌^◌, ◌+◌, ◌++◌, ◌∷◌, [], All, List, ℕ, length, true, IsTrue, OnOk, OnErr, IsOk, if◌then◌else◌, is_ok};
+ghost use Rattle.std.specs.Prelude.{◌≡◌, ◌≤◌, ◌<◌, ◌^◌, ◌+◌, ◌++◌, ◌∷◌, [], All, List, ℕ, length};
+ghost use Rattle.std.specs.Prelude.{true, IsTrue, OnOk, OnErr, IsOk, if◌then◌else◌, is_ok};
 ghost use Rattle.std.specs.List.{sum_by, flat_map};
 ghost use Rattle.std.specs.Io.KnownBytes.{Appends};
 ghost use Rattle.wire.specs.Streams.{AppendsBeginning};
@@ -8,7 +9,10 @@ ghost use Rattle.wire.specs.Texts.{string_text, u32_text, u64_text};
 ghost use Rattle.lines.specs.Writing.{Writes};
 ghost use Rattle.krl.specs.Sets.{AreRuns};
 ghost use Rattle.krl.specs.Format.{header_text, part_text, section_data, section_text};
-ghost use Rattle.krl.specs.Published.{ca_section, key_id_parts, listed, published_header, AreOnly, AreShortest, RevokesExactly, AreDistinctCas, fits, part_fits, published_length, published_list, published_sections, published_text, sections_of, serial_list, serial_parts};
+ghost use Rattle.krl.specs.Published.{ca_section, key_id_parts, listed, published_header, AreOnly};
+ghost use Rattle.krl.specs.Published.{AreShortest, RevokesExactly, AreDistinctCas, fits, part_fits};
+ghost use Rattle.krl.specs.Published.{published_length, published_list, published_sections};
+ghost use Rattle.krl.specs.Published.{published_text, sections_of, serial_list, serial_parts};
 ghost use Rattle.krl.specs.Lengths.{key_id_length, listed_length, listed_text, range_text};
 
 use crate::ca_part::CaPart;
@@ -62,7 +66,8 @@ fn write_tag<W: Sink>(kind: u8, len: u32, sink: &mut W) -> Result<(), Failed>
 
 fn write_header<W: Sink>(head: &KrlHead, sink: &mut W) -> Result<(), Failed>
     requires { W.failed sink.old < u64.MAX }
-    ensures written { Writes W.taken W.failed W.room sink.old sink.new (is_ok result) (header_text (published_header head.now)) }
+    ensures written { Writes W.taken W.failed W.room sink.old sink.new (is_ok result)
+        (header_text (published_header head.now)) }
     ensures version { OnOk result (head.now.version < 2 ^ 64) }
     ensures date { OnOk result (head.now.date < 2 ^ 64) }
 {
@@ -102,7 +107,8 @@ fn write_listed<W: Sink>(runs: &[Run], sink: &mut W) -> Result<(), Failed>
 fn write_serial_list<W: Sink>(runs: &[Run], sink: &mut W) -> Result<(), Failed>
     requires writer { W.failed sink.old < u64.MAX }
     requires fits { sum_by listed_length runs.now ≤ 4294967295 }
-    ensures { Writes W.taken W.failed W.room sink.old sink.new (is_ok result) (flat_map part_text (serial_list (listed runs.now))) }
+    ensures { Writes W.taken W.failed W.room sink.old sink.new (is_ok result)
+        (flat_map part_text (serial_list (listed runs.now))) }
 {
     let len = listed_len(runs).unwrap();
     if len == 0 {
@@ -150,7 +156,8 @@ fn write_ids<W: Sink>(ids: &[Text], sink: &mut W) -> Result<(), Failed>
 fn write_key_ids<W: Sink>(ids: &[Text], sink: &mut W) -> Result<(), Failed>
     requires writer { W.failed sink.old < u64.MAX }
     requires fits { sum_by key_id_length ids.now ≤ 4294967295 }
-    ensures { Writes W.taken W.failed W.room sink.old sink.new (is_ok result) (flat_map part_text (key_id_parts ids.now)) }
+    ensures { Writes W.taken W.failed W.room sink.old sink.new (is_ok result)
+        (flat_map part_text (key_id_parts ids.now)) }
 {
     if ids.is_empty() {
         return Ok(());
@@ -165,7 +172,8 @@ fn write_parts<W: Sink>(runs: &[Run], ids: &[Text], sink: &mut W) -> Result<(), 
     requires writer { W.failed sink.old < u64.MAX }
     requires serials { sum_by listed_length runs.now ≤ 4294967295 }
     requires key_ids { sum_by key_id_length ids.now ≤ 4294967295 }
-    ensures { Writes W.taken W.failed W.room sink.old sink.new (is_ok result) (flat_map part_text (serial_parts runs.now ++ key_id_parts ids.now)) }
+    ensures { Writes W.taken W.failed W.room sink.old sink.new (is_ok result)
+        (flat_map part_text (serial_parts runs.now ++ key_id_parts ids.now)) }
 {
     write_serial_list(runs, sink)?;
     write_ranges(runs, sink)?;
@@ -177,7 +185,8 @@ fn write_parts<W: Sink>(runs: &[Run], ids: &[Text], sink: &mut W) -> Result<(), 
 fn write_data<W: Sink>(part: &CaPart, ids: &[Text], sink: &mut W) -> Result<(), Failed>
     requires writer { W.failed sink.old < u64.MAX }
     requires fits { length (section_data (ca_section ids.now part.now)) ≤ 4294967295 }
-    ensures { Writes W.taken W.failed W.room sink.old sink.new (is_ok result) (section_data (ca_section ids.now part.now)) }
+    ensures { Writes W.taken W.failed W.room sink.old sink.new (is_ok result)
+        (section_data (ca_section ids.now part.now)) }
 {
     write_string(&key_blob_of(&part.ca), sink)?;
     write_string(b"", sink)?;
@@ -188,7 +197,8 @@ fn write_data<W: Sink>(part: &CaPart, ids: &[Text], sink: &mut W) -> Result<(), 
 fn write_section<W: Sink>(part: &CaPart, ids: &[Text], sink: &mut W) -> Result<(), Failed>
     requires writer { W.failed sink.old < u64.MAX }
     requires fits { length (section_data (ca_section ids.now part.now)) ≤ 4294967295 }
-    ensures { Writes W.taken W.failed W.room sink.old sink.new (is_ok result) (section_text (ca_section ids.now part.now)) }
+    ensures { Writes W.taken W.failed W.room sink.old sink.new (is_ok result)
+        (section_text (ca_section ids.now part.now)) }
 {
     let len = section_data_len(part, ids).unwrap();
     write_tag(CERTIFICATES, len as u32, sink)?;
@@ -199,7 +209,8 @@ fn write_section<W: Sink>(part: &CaPart, ids: &[Text], sink: &mut W) -> Result<(
 fn write_part<W: Sink>(part: &CaPart, ids: &[Text], sink: &mut W) -> Result<(), Failed>
     requires writer { W.failed sink.old < u64.MAX }
     requires fits { IsTrue (part_fits ids.now part.now) }
-    ensures written { Writes W.taken W.failed W.room sink.old sink.new (is_ok result) (flat_map section_text (sections_of ids.now part.now)) }
+    ensures written { Writes W.taken W.failed W.room sink.old sink.new (is_ok result)
+        (flat_map section_text (sections_of ids.now part.now)) }
     ensures lawful { AreRuns part.now.runs }
 {
     if is_idle_part(part, ids) {
@@ -211,7 +222,8 @@ fn write_part<W: Sink>(part: &CaPart, ids: &[Text], sink: &mut W) -> Result<(), 
 fn write_sections<W: Sink>(parts: &[CaPart], ids: &[Text], sink: &mut W) -> Result<(), Failed>
     requires writer { W.failed sink.old < u64.MAX }
     requires fits { IsTrue (fits parts.now ids.now) }
-    ensures written { Writes W.taken W.failed W.room sink.old sink.new (is_ok result) (flat_map section_text (published_sections parts.now ids.now)) }
+    ensures written { Writes W.taken W.failed W.room sink.old sink.new (is_ok result)
+        (flat_map section_text (published_sections parts.now ids.now)) }
     ensures lawful { OnOk result (All (λ p. AreRuns p.runs) parts.now) }
 {
     for part in parts {
@@ -228,7 +240,8 @@ fn write_list<W: Sink>(
 ) -> Result<(), Failed>
     requires writer { W.failed sink.old < u64.MAX }
     requires fits { IsTrue (fits parts.now ids.now) }
-    ensures written { Writes W.taken W.failed W.room sink.old sink.new (is_ok result) (published_text head.now parts.now ids.now) }
+    ensures written { Writes W.taken W.failed W.room sink.old sink.new (is_ok result)
+        (published_text head.now parts.now ids.now) }
     ensures version { OnOk result (head.now.version < 2 ^ 64) }
     ensures date { OnOk result (head.now.date < 2 ^ 64) }
     ensures lawful { OnOk result (All (λ p. AreRuns p.runs) parts.now) }
@@ -258,8 +271,10 @@ pub fn write_krl<W: Sink>(
     requires writer { W.failed sink.old < u64.MAX }
     requires fits { IsTrue (fits parts.now ids.now) }
 
-    ensures ok { OnOk result (Appends (W.taken sink.old) (W.taken sink.new) (published_text head.now parts.now ids.now)) }
-    ensures err { OnErr result (AppendsBeginning (W.taken sink.old) (W.taken sink.new) (published_text head.now parts.now ids.now)) }
+    ensures ok { OnOk result
+        (Appends (W.taken sink.old) (W.taken sink.new) (published_text head.now parts.now ids.now)) }
+    ensures err { OnErr result
+        (AppendsBeginning (W.taken sink.old) (W.taken sink.new) (published_text head.now parts.now ids.now)) }
     ensures failed { W.failed sink.new ≡ (if is_ok result then W.failed sink.old else W.failed sink.old + 1) }
 
     // A writer that has the room does not fail.
@@ -269,10 +284,12 @@ pub fn write_krl<W: Sink>(
     ensures len { length (published_text head.now parts.now ids.now) ≡ published_length parts.now ids.now }
 
     // It can be cut in one way, and that is supported.
-    ensures one_cut { OnOk result (AreOnly (published_text head.now parts.now ids.now) (published_list head.now parts.now ids.now)) }
+    ensures one_cut { OnOk result
+        (AreOnly (published_text head.now parts.now ids.now) (published_list head.now parts.now ids.now)) }
 
     // It revokes just the serials and key ids that were given, each under its CA.
-    ensures exact { AreDistinctCas parts.now → OnOk result (RevokesExactly (published_list head.now parts.now ids.now) parts.now ids.now) }
+    ensures exact { AreDistinctCas parts.now
+        → OnOk result (RevokesExactly (published_list head.now parts.now ids.now) parts.now ids.now) }
 
     // No other lists and ranges of serials that name the same set are shorter.
     ensures shortest { OnOk result (All (λ p. AreShortest (serial_parts p.runs) p.runs) parts.now) }

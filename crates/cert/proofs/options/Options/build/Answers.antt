@@ -4,14 +4,8 @@ use Rattle.std.proofs.lemmas.List.{take_all}
 use Rattle.text.specs.declared.pair.Pair.{Pair}
 use Rattle.cert.specs.Options.{comes_before, is_ascending, listing, is_options}
 use Rattle.cert.specs.OptionFaults.{options_fault}
-use Rattle.cert.proofs.Listing.{
-  IsListedSoFar,
-  fault_answered-Err,
-  lists_one_more,
-  is_options-listing,
-  is_ascending-listing,
-  same_pairs,
-}
+use Rattle.cert.proofs.Listing.{IsListedSoFar, fault_answered-Err, lists_one_more, is_options-listing, is_ascending-listing}
+use Rattle.cert.proofs.SamePairs.{same_pairs}
 use Rattle.cert.proofs.options.Options.build.Goals as goal
 
 pub returns-in-Some-clause-fault : goal.returns-in-Some-clause-fault
