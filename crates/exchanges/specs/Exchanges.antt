@@ -1,5 +1,5 @@
--- Exchange files: records one after the other until the end, each a line `exchange MOMENT NONCE LENGTH` and LENGTH bytes
--- of a request.
+-- Exchange files: records one after the other until the end, each a line `exchange MOMENT NONCE LENGTH` and LENGTH
+-- bytes of a request.
 use Rattle.std.specs.Prelude.{◌≡◌, ◌≢◌, ◌↔◌, ℕ, ◌+◌, ◌^◌, ◌<◌, ◌≤◌, List, [], ◌∷◌, ◌++◌, length, codes}
 use Rattle.std.specs.Fmt.{decimal}
 use Rattle.std.specs.List.{AllByRecursion, flat_map}
@@ -41,7 +41,8 @@ pub record IsBadRecord (file : List ℕ) (k : ℕ) : Type 0 where
   pub more : rest ≢ []
   pub first : k ≤ MAX_EXCHANGES → (e : Exchange) (after : List ℕ) → IsExchange e → rest ≢ exchange_text e ++ after
 
--- Bytes that tell of a file what reading asks: which exchanges it is the text of, and which record is the first bad one.
+-- Bytes that tell of a file what reading asks: which exchanges it is the text of, and which record is the first bad
+-- one.
 pub record TellsOf (file bytes : List ℕ) : Type 0 where
   pub exchanges : (es : List Exchange) → AreExchanges es → (bytes ≡ exchanges_text es) ↔ (file ≡ exchanges_text es)
   pub bad : (k : ℕ) → IsBadRecord bytes k ↔ IsBadRecord file k

@@ -1,5 +1,6 @@
 -- Records read from the left.
-use Rattle.std.specs.Prelude.{ℕ, List, length, take, drop, codes, ◌&&◌, nat_le, nat_lt, ◌==◌, if◌then◌else◌, Option, Some, None, option_map}
+use Rattle.std.specs.Prelude.{ℕ, List, length, take, drop, codes, ◌&&◌, nat_le, nat_lt, ◌==◌, if◌then◌else◌, Option}
+use Rattle.std.specs.Prelude.{Some, None, option_map}
 use Rattle.std.specs.List.{before_first, after_first}
 use Rattle.std.specs.Option.{option_and_then}
 use Rattle.std.specs.Result.{result_ok}

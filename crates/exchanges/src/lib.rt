@@ -1,7 +1,7 @@
 //! Exchange files: how they are read, how their exchanges are run over an office, and what is printed for them.
 //!
-//! A file is read exactly as its format says, and the first bad record is named. What is printed is what the office gave
-//! to each exchange, one after the other.
+//! A file is read exactly as its format says, and the first bad record is named. What is printed is what the office
+//! gave to each exchange, one after the other.
 #![tactic(auto)]
 
 mod printing;

@@ -208,9 +208,10 @@ fn push_record(
     Ok(())
 }
 
-/// The exchanges of a file: records one after the other until its end, each a line `exchange MOMENT NONCE LENGTH` and then
-/// LENGTH bytes of a request. MOMENT is 0 to 18446744073709551615 and LENGTH 0 to 65536, both in decimal without sign or
-/// leading zeros; NONCE is 64 lower case hexadecimal digits. A file has at most 10000 records, and may have none.
+/// The exchanges of a file: records one after the other until its end, each a line `exchange MOMENT NONCE LENGTH` and
+/// then LENGTH bytes of a request. MOMENT is 0 to 18446744073709551615 and LENGTH 0 to 65536, both in decimal without
+/// sign or leading zeros; NONCE is 64 lower case hexadecimal digits. A file has at most 10000 records, and may have
+/// none.
 ///
 /// # Errors
 ///
@@ -220,7 +221,8 @@ pub fn read_exchanges(alloc: Global, file: &[u8]) -> Result<Vec<Exchange>, Excha
     ensures found { IfOk result (λ es. AreExchanges es.items × (file.now ≡ exchanges_text es.items)) }
 
     // The text of lawful exchanges is read, or memory is refused.
-    ensures only { (es : List Exchange) → AreExchanges es → file.now ≡ exchanges_text es → MatchResult result (λ v. v.items ≡ es) (λ e. e ≡ ExchangesFault.NoMemory) }
+    ensures only { (es : List Exchange) → AreExchanges es → file.now ≡ exchanges_text es
+        → MatchResult result (λ v. v.items ≡ es) (λ e. e ≡ ExchangesFault.NoMemory) }
 
     // The record that is named is the first bad one.
     ensures bad { IfErr result (λ e. IsFault file.now e) }

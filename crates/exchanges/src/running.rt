@@ -61,8 +61,8 @@ pub fn print_all<W: Write>(out: &mut W, given: &[Given]) -> Result<(), RunFault>
 ///
 /// # Errors
 ///
-/// `NoMemory` where nothing was run, `Write` where all were run and the output can't be written, and `Fault` where all is
-/// printed and an exchange was given a fault.
+/// `NoMemory` where nothing was run, `Write` where all were run and the output can't be written, and `Fault` where all
+/// is printed and an exchange was given a fault.
 pub fn apply_exchanges<R: Registry, W: Write>(
     registry: &mut R,
     alloc: Global,
@@ -73,7 +73,8 @@ pub fn apply_exchanges<R: Registry, W: Write>(
     ensures was_open { R.is_honest registry.new → R.is_open registry.new → R.is_open registry.old }
     ensures ok { R.is_honest registry.new → OnOk result (Prints (R.means registry.old) (R.means registry.new)
         (Keeps R.means R.is_open registry.new) exchanges.now (W.contents out.old) (W.contents out.new) false) }
-    ensures fault { R.is_honest registry.new → result ≡ Err RunFault.Fault → Prints (R.means registry.old) (R.means registry.new)
+    ensures fault { R.is_honest registry.new → result ≡ Err RunFault.Fault
+        → Prints (R.means registry.old) (R.means registry.new)
         (Keeps R.means R.is_open registry.new) exchanges.now (W.contents out.old) (W.contents out.new) true }
 
     // All were run, whatever of it was printed.

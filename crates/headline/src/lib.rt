@@ -1,31 +1,33 @@
 //! The office over its tables: what is promised of all that it answers, in the words of the plain machine.
 //!
 //! Tables tell an opening and a history where they hold the rows of the plain machine that was opened so and was given
-//! the history's arrivals. Tables store what they tell where their connection is open: a crash then leaves these rows and
-//! nothing else. Tables that have answered are open, so what was answered is stored. Of a connection that a failed disk
-//! has shut, tables that tell a history say that a crash leaves its rows, or those with one arrival more. A request whose
-//! bytes alone are refused asks nothing of the tables.
+//! the history's arrivals. Tables store what they tell where their connection is open: a crash then leaves these rows
+//! and nothing else. Tables that have answered are open, so what was answered is stored. Of a connection that a failed
+//! disk has shut, tables that tell a history say that a crash leaves its rows, or those with one arrival more. A
+//! request whose bytes alone are refused asks nothing of the tables.
 //!
 //! The clauses are asked of a disk that has returned what was written, as the call ends.
 #![tactic(auto)]
 
 mod fault;
 
-ghost use Rattle.std.specs.Prelude.{◌≡◌, ◌≢◌, ◌⊎◌, ◌<◌, ◌+◌, ℕ, List, length, Err, IfErr, IfOk, IsTrue, OnErr, OnOk, false, if◌then◌else◌, true};
+ghost use Rattle.std.specs.Prelude.{◌≡◌, ◌≢◌, ◌⊎◌, ◌<◌, ◌+◌, ℕ, List, length, Err, IfErr, IsTrue, OnOk, if◌then◌else◌};
 ghost use Rattle.std.specs.Io.KnownBytes.{Appends};
 ghost use Rattle.krl.specs.Published.{fits, published_text};
 ghost use Rattle.sqlite.specs.Held.{state};
 ghost use Rattle.sqlite.specs.State.{HasCleanDisk};
-ghost use Rattle.requests.specs.declared.resource.Resource.TheVariants.{RevocationList};
-ghost use Rattle.requests.specs.Asks.{Asks, get};
+ghost use Rattle.tables.specs.Honest.{Between, On, StaysClean};
 ghost use Rattle.office.specs.declared.opening.Opening.{Opening};
 ghost use Rattle.office.specs.declared.arrival.Arrival.{Arrival};
-ghost use Rattle.office.specs.Faults.{HasCause, IsOfARegister};
-ghost use Rattle.rows.specs.Transactions.{IsAsBefore};
-ghost use Rattle.store.specs.Meaning.{HasFailed, Stores, StoresWhereOpen, Tells};
+ghost use Rattle.office.specs.Faults.{HasCause};
+ghost use Rattle.store.specs.Meaning.{HasFailed, KeepsTelling, StoresWhereOpen};
 ghost use Rattle.web.specs.Causes.{IsOfAList};
 ghost use Rattle.laws.specs.Counting.{CountsUp};
-ghost use Rattle.headline.specs.Headline.{BodiesNameTheirSigners, BodiesStay, EqualVersionsAreEqualLists, IfFound, IsList, IsListResponse, ListsForgetNothing, OfStore, OfficeAnswers, OfficePrints, OfficeRuns, OfficeStops, is_write};
+ghost use Rattle.headline.specs.Headline.{AnswersDue, AnswersList, BodiesNameTheirSigners, BodiesStay};
+ghost use Rattle.headline.specs.Headline.{EqualVersionsAreEqualLists, FailsAsRegister, IsAsBeforeWhereOpen};
+ghost use Rattle.headline.specs.Headline.{KeepsTellingOnErr, ListsForgetNothing, OfStore, OfficeStops, PrintsDue};
+ghost use Rattle.headline.specs.Headline.{PrintsWithFaults, PublishFailsAsRegister, RunsUnprinted, StoresWhereFound};
+ghost use Rattle.headline.specs.Headline.{WritesList, is_write};
 
 pub use exchanges::RunFault;
 use exchanges::apply_exchanges;
@@ -39,8 +41,8 @@ use store::{Store, what_is_open_is_stored};
 use web::{Exchange, answer};
 use wire::Sink;
 
-/// Exchanges, one after the other, over the tables of an office: whatever was lost, repeated or put in another order. What
-/// each is given is printed, whole where some are given a fault.
+/// Exchanges, one after the other, over the tables of an office: whatever was lost, repeated or put in another order.
+/// What each is given is printed, whole where some are given a fault.
 pub fn replay<S: Alter, W: Write>(
     store: &mut Store<S>,
     alloc: Global,
@@ -50,30 +52,28 @@ pub fn replay<S: Alter, W: Write>(
     // Each exchange is given the response that the plain machine gives after the first acceptances among the arrivals
     // before it that met no fault; to a GET of the list the response is the list, exact. The tables then tell the
     // history with all arrivals. Where an exchange asked something of them, they are open and store that history.
-    ensures ok { HasCleanDisk (state S.Store store.new.conn) → OnOk result (OfficePrints (state S.Store store.old.conn)
-        (state S.Store store.new.conn) exchanges.now (W.contents out.old) (W.contents out.new) false) }
+    ensures ok { On S.Store (PrintsDue exchanges.now (W.contents out.old) (W.contents out.new))
+        store.old.conn store.new.conn result }
 
     // The same, but some are given a fault, and are no part of the history. The tables store it where they have
     // answered since the last fault.
-    ensures fault { HasCleanDisk (state S.Store store.new.conn) → result ≡ Err RunFault.Fault → OfficePrints
-        (state S.Store store.old.conn) (state S.Store store.new.conn) exchanges.now
-        (W.contents out.old) (W.contents out.new) true }
+    ensures fault { On S.Store (PrintsWithFaults exchanges.now (W.contents out.old) (W.contents out.new))
+        store.old.conn store.new.conn result }
 
     // Where the output fails, all were run so, whatever of it was printed. For want of memory none was, and nothing is
     // printed.
-    ensures write { HasCleanDisk (state S.Store store.new.conn) → result ≡ Err RunFault.Write
-        → OfficeRuns (state S.Store store.old.conn) (state S.Store store.new.conn) exchanges.now }
+    ensures write { On S.Store (RunsUnprinted exchanges.now) store.old.conn store.new.conn result }
     ensures unrun { result ≡ Err RunFault.NoMemory → store.new ≡ store.old }
     ensures unprinted { result ≡ Err RunFault.NoMemory → out.new ≡ out.old }
 
     // A disk that has returned what was written did so before.
-    ensures honest { HasCleanDisk (state S.Store store.new.conn) → HasCleanDisk (state S.Store store.old.conn) }
+    ensures honest { StaysClean S.Store store.old.conn store.new.conn }
 
     // While the connection is open, the tables store what they tell: no crash afterwards loses it.
     ensures crash { StoresWhereOpen (state S.Store store.new.conn) }
 
-    // The kth message that makes a certificate gets the serial first + k - 1 and the digest of the kth body, so no serial
-    // names two bodies; a body stays, and names the CA that signs it.
+    // The kth message that makes a certificate gets the serial first + k - 1 and the digest of the kth body, so no
+    // serial names two bodies; a body stays, and names the CA that signs it.
     ensures serials { (o : Opening) (l : List Arrival) → CountsUp o l }
     ensures bodies { BodiesStay }
     ensures signers { BodiesNameTheirSigners }
@@ -98,26 +98,25 @@ pub fn respond<S: Alter>(
 ) -> Result<Vec<u8>, StoreFault>
     // It is the one that is due, and the tables then tell the history with the request's arrival, where it has one.
     // Where something was asked of them, they are open and store that history, so that no crash loses it.
-    ensures answered { HasCleanDisk (state S.Store store.new.conn) → IfOk result (λ v. OfficeAnswers
-        (state S.Store store.old.conn) (state S.Store store.new.conn) request.now moment nonce.now v.items) }
+    ensures answered { On S.Store (AnswersDue request.now moment nonce.now) store.old.conn store.new.conn result }
 
     // After a fault they tell what they told.
-    ensures fault { HasCleanDisk (state S.Store store.new.conn) → OnErr result ((o : Opening) (l : List Arrival) → Tells (state S.Store store.old.conn) o l → Tells (state S.Store store.new.conn) o l) }
+    ensures fault { On S.Store KeepsTellingOnErr store.old.conn store.new.conn result }
 
     // Such a fault is want of memory, or the database failed, or refused a row that was due. `Device` is answered only
     // where one of the last two was.
-    ensures only { HasCleanDisk (state S.Store store.new.conn) → IfErr result (λ e. (o : Opening) (l : List Arrival) → Tells (state S.Store store.old.conn) o l → IsOfARegister e) }
+    ensures only { On S.Store FailsAsRegister store.old.conn store.new.conn result }
     ensures cause { HasCleanDisk (state S.Store store.new.conn) → IfErr result (λ e. HasCause e (OfficeStops
         (λ s. state S.Store s.conn) request.now moment nonce.now store.old store.new)) }
 
     // A disk that has returned what was written did so before.
-    ensures honest { HasCleanDisk (state S.Store store.new.conn) → HasCleanDisk (state S.Store store.old.conn) }
+    ensures honest { StaysClean S.Store store.old.conn store.new.conn }
 
     // While the connection is open, they store what they tell: no crash afterwards loses it.
     ensures crash { StoresWhereOpen (state S.Store store.new.conn) }
 
     // To GET of the list it is the list, which revokes exactly what accepted messages named.
-    ensures list { HasCleanDisk (state S.Store store.new.conn) → Asks request.now (get RevocationList) → IfOk result (λ v. (o : Opening) (l : List Arrival) → Tells (state S.Store store.old.conn) o l → IsListResponse o l v.items) }
+    ensures list { On S.Store (AnswersList request.now) store.old.conn store.new.conn result }
     ensures forgets { ListsForgetNothing }
     ensures versions { EqualVersionsAreEqualLists }
 {
@@ -134,7 +133,8 @@ pub fn respond<S: Alter>(
 fn write_found<W: Sink>(revoked: &Revoked, sink: &mut W) -> Result<(), PublishFault>
     requires { W.failed sink.old < u64.MAX }
     ensures fits { OnOk result (IsTrue (fits revoked.now.parts.items revoked.now.key_ids)) }
-    ensures ok { OnOk result (Appends (W.taken sink.old) (W.taken sink.new) (published_text revoked.now.head revoked.now.parts.items revoked.now.key_ids)) }
+    ensures ok { OnOk result (Appends (W.taken sink.old) (W.taken sink.new)
+        (published_text revoked.now.head revoked.now.parts.items revoked.now.key_ids)) }
     ensures unwritten { IfErr result (λ e. e ≢ PublishFault.Write → sink.new ≡ sink.old) }
     ensures failed { W.failed sink.new ≡ (if is_write result then W.failed sink.old + 1 else W.failed sink.old) }
     ensures only { IfErr result (OfStore (IsOfAList (length revoked.now.parts.items))) }
@@ -152,8 +152,8 @@ fn write_found<W: Sink>(revoked: &Revoked, sink: &mut W) -> Result<(), PublishFa
     }
 }
 
-/// Writes the key revocation list from front to back, without holding it. Where a section would be too long it is a fault
-/// of memory. The writer is lent with fewer than 18446744073709551615 failures.
+/// Writes the key revocation list from front to back, without holding it. Where a section would be too long it is a
+/// fault of memory. The writer is lent with fewer than 18446744073709551615 failures.
 pub fn publish<S: Alter, W: Sink>(
     store: &mut Store<S>,
     alloc: Global,
@@ -162,17 +162,15 @@ pub fn publish<S: Alter, W: Sink>(
     requires { W.failed sink.old < u64.MAX }
 
     // What is written is the list, which revokes exactly what accepted messages named.
-    ensures list { HasCleanDisk (state S.Store store.new.conn) → OnOk result ((o : Opening) (l : List Arrival) → Tells (state S.Store store.old.conn) o l → (bytes : List ℕ) × IsList o l bytes × Appends (W.taken sink.old) (W.taken sink.new) bytes) }
+    ensures list { On S.Store (WritesList (W.taken sink.old) (W.taken sink.new)) store.old.conn store.new.conn result }
 
     // The tables tell what they told. Where the list was found, they are open and store it, so that no crash loses it.
-    ensures same { HasCleanDisk (state S.Store store.new.conn) → (o : Opening) (l : List Arrival) → Tells (state S.Store store.old.conn) o l → Tells (state S.Store store.new.conn) o l }
-    ensures found { HasCleanDisk (state S.Store store.new.conn) → IfFound result ((o : Opening) (l : List Arrival)
-        → Tells (state S.Store store.old.conn) o l → Stores (state S.Store store.new.conn) o l) }
+    ensures same { Between S.Store KeepsTelling store.old.conn store.new.conn }
+    ensures found { On S.Store StoresWhereFound store.old.conn store.new.conn result }
 
     // While the connection is open, the database is as it was, whatever its tables mean.
-    ensures before { HasCleanDisk (state S.Store store.new.conn) → IsTrue (state S.Store store.new.conn).is_open
-        → IsAsBefore (state S.Store store.old.conn) (state S.Store store.new.conn) }
-    ensures honest { HasCleanDisk (state S.Store store.new.conn) → HasCleanDisk (state S.Store store.old.conn) }
+    ensures before { Between S.Store IsAsBeforeWhereOpen store.old.conn store.new.conn }
+    ensures honest { StaysClean S.Store store.old.conn store.new.conn }
 
     // While the connection is open, they store what they tell: no crash afterwards loses it.
     ensures crash { StoresWhereOpen (state S.Store store.new.conn) }
@@ -183,8 +181,7 @@ pub fn publish<S: Alter, W: Sink>(
     ensures failed { W.failed sink.new ≡ (if is_write result then W.failed sink.old + 1 else W.failed sink.old) }
 
     // A fault of the register is want of memory, or the database failed. `Device` is answered only where it did.
-    ensures only { HasCleanDisk (state S.Store store.new.conn) → IfErr result (OfStore (λ e. (o : Opening)
-        (l : List Arrival) → Tells (state S.Store store.old.conn) o l → IsOfARegister e)) }
+    ensures only { On S.Store PublishFailsAsRegister store.old.conn store.new.conn result }
     ensures cause { IfErr result (OfStore (λ e. HasCause e (HasFailed (state S.Store store.old.conn)
         (state S.Store store.new.conn)))) }
 {

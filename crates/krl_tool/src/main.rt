@@ -6,11 +6,11 @@
 //!     krl_tool add SERIALS STRIDE
 //!     krl_tool gather SERIAL..
 //!
-//! `list` writes the list of a specification to standard output. `check` prints whether a list revokes the certificate of
-//! this serial and key id under the CA of a public key, or why the list is refused. `time` writes a list of so many runs
-//! into memory and reads it again, and `add` adds so many serials to a set; how long that took goes to standard error.
-//! `gather` prints the runs of the serials that it is given. Files and the clock are the system's, and nothing is proved
-//! of them.
+//! `list` writes the list of a specification to standard output. `check` prints whether a list revokes the certificate
+//! of this serial and key id under the CA of a public key, or why the list is refused. `time` writes a list of so many
+//! runs into memory and reads it again, and `add` adds so many serials to a set; how long that took goes to standard
+//! error. `gather` prints the runs of the serials that it is given. Files and the clock are the system's, and nothing
+//! is proved of them.
 #![tactic(auto)]
 
 mod answer;

@@ -96,8 +96,8 @@ fn parts_of(alloc: Global, sections: Vec<Section>) -> Result<Vec<CaPart>> {
     Ok(parts)
 }
 
-/// Reads a specification, in the form of `ssh-keygen -k` but for the CAs: lines `ca: KEY` with the line of a public key,
-/// `serial: NUMBER` and `serial: NUMBER-NUMBER` for the CA before them, ascending with a gap between any two, and
+/// Reads a specification, in the form of `ssh-keygen -k` but for the CAs: lines `ca: KEY` with the line of a public
+/// key, `serial: NUMBER` and `serial: NUMBER-NUMBER` for the CA before them, ascending with a gap between any two, and
 /// `id: KEYID`.
 pub(crate) fn read_specification(alloc: Global, text: &str) -> Result<Specification> {
     let mut draft = Draft {

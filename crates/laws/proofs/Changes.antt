@@ -1,5 +1,6 @@
 -- What accepted messages do to the state: so an invariant is one proof for each change.
-use Rattle.std.proofs.Common.{◌≡◌, ℕ, ◌<◌, ◌≤◌, List, length, Bool, true, false, cond, leb, ltb, Option, Some, None, refl}
+use Rattle.std.proofs.Common.{◌≡◌, ℕ, ◌<◌, ◌≤◌, List, length, Bool, true}
+use Rattle.std.proofs.Common.{false, cond, leb, ltb, Option, Some, None, refl}
 use Rattle.std.specs.Option.{option_map}
 use Rattle.std.proofs.lemmas.Bool.{or_parts, leb-false, ltb-false}
 use Rattle.lines.specs.declared.signature.Signature.{Signature}
@@ -13,9 +14,11 @@ use Rattle.message.specs.declared.kinds.Message.TheVariants as message
 use Rattle.message.specs.Values.{is_message}
 use Rattle.office.specs.declared.certificate.Certificate.{Certificate}
 use Rattle.office.specs.Certificates.{renewed_certificate}
-use Rattle.office.specs.State.{State, next_serial, certificate_of, newest_key, is_ca, is_range_revoked, is_key_id_revoked, has_any}
+use Rattle.office.specs.State.{State, next_serial, certificate_of, newest_key}
+use Rattle.office.specs.State.{is_ca, is_range_revoked, is_key_id_revoked, has_any}
 use Rattle.office.specs.Refusals.{refusals, first_holding}
-use Rattle.office.specs.Machine.{after, issued, with_department, with_certificate, with_one_more, with_signature, with_range, with_key_id, with_ca, ca_from_now, republished}
+use Rattle.office.specs.Machine.{after, issued, with_department, with_certificate, with_one_more}
+use Rattle.office.specs.Machine.{with_signature, with_range, with_key_id, with_ca, ca_from_now, republished}
 use Rattle.office.proofs.Judged.{none_holds}
 use Rattle.office.proofs.Decisions.{serial_of_one}
 use Rattle.laws.proofs.Inductions.{IsKeptBy}

@@ -1,5 +1,6 @@
 -- Serials count up.
-use Rattle.std.proofs.Common.{◌≡◌, ℕ, zero, suc, ◌+◌, ◌-◌, List, [], ◌∷◌, ◌++◌, length, map, Bool, true, false, cond, Option, Some, None, refl, sym, ap, subst, ◌∙◌, length-append, add-one}
+use Rattle.std.proofs.Common.{◌≡◌, ℕ, zero, suc, ◌+◌, ◌-◌, List, [], ◌∷◌, ◌++◌, length, map, Bool, true, false}
+use Rattle.std.proofs.Common.{cond, Option, Some, None, refl, sym, ap, subst, ◌∙◌, length-append, add-one}
 use Rattle.std.specs.Prelude.{is_none, filter}
 use Rattle.std.specs.Option.{option_map}
 use Rattle.std.proofs.lemmas.List.{append-nil, map-append}
@@ -12,9 +13,12 @@ use Rattle.office.specs.declared.opening.Opening.{Opening}
 use Rattle.office.specs.declared.certificate.Certificate.{Certificate}
 use Rattle.office.specs.declared.arrival.Arrival.{Arrival}
 use Rattle.office.specs.Certificates.{renewed_certificate}
-use Rattle.office.specs.State.{State, next_serial, certificate_of, newest_key, is_range_revoked, is_key_id_revoked, has_any}
+use Rattle.office.specs.State.{State, next_serial, certificate_of, newest_key}
+use Rattle.office.specs.State.{is_range_revoked, is_key_id_revoked, has_any}
 use Rattle.office.specs.Refusals.{refusals, first_holding}
-use Rattle.office.specs.Machine.{after, reply_to, reply_to_made, issued, signed_at, with_department, with_certificate, with_one_more, with_signature, with_range, with_key_id, with_ca, ca_from_now, republished}
+use Rattle.office.specs.Machine.{after, reply_to, reply_to_made, issued, signed_at}
+use Rattle.office.specs.Machine.{with_department, with_certificate, with_one_more, with_signature}
+use Rattle.office.specs.Machine.{with_range, with_key_id, with_ca, ca_from_now, republished}
 use Rattle.office.specs.History.{First, state}
 use Rattle.office.proofs.Judged.{none_holds}
 use Rattle.office.proofs.Growth.{opening_stays, length-signed_at}

@@ -10,7 +10,8 @@ use Rattle.office.specs.declared.opening.Opening.{Opening}
 use Rattle.office.specs.declared.arrival.Arrival.{Arrival}
 use Rattle.office.specs.declared.arrival.Kept.{Kept}
 use Rattle.office.specs.Machine.{State, opened, refusals, first_holding, reply_to}
-use Rattle.office.specs.History.{First, kept_by, judged, add_accepted, with_arrival, first_accepted, state, state_after, change}
+use Rattle.office.specs.History.{First, kept_by, judged, add_accepted, with_arrival}
+use Rattle.office.specs.History.{first_accepted, state, state_after, change}
 use Rattle.office.proofs.Judged.{IsFirst, judged_is_first}
 use Rattle.office.proofs.Histories.{message_lawful}
 

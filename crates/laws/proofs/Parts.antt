@@ -1,5 +1,6 @@
 -- The sections of the published list, while more serials are handed out and CAs come.
-use Rattle.std.proofs.Common.{◌≡◌, ℕ, zero, suc, ◌+◌, ◌<◌, ◌≤◌, List, [], ◌∷◌, ◌++◌, length, map, Bool, true, false, cond, ◌&&◌, leb, ltb, refl, sym, ap, ap₂, ◌∙◌, arith, length-append, add-one}
+use Rattle.std.proofs.Common.{◌≡◌, ℕ, zero, suc, ◌+◌, ◌<◌, ◌≤◌, List, [], ◌∷◌, ◌++◌, length, map, Bool, true}
+use Rattle.std.proofs.Common.{false, cond, ◌&&◌, leb, ltb, refl, sym, ap, ap₂, ◌∙◌, arith, length-append, add-one}
 use Rattle.std.specs.List.{list_all}
 use Rattle.std.proofs.lemmas.Bool.{and_left, and_right, lt-leb, lt-ltb}
 use Rattle.std.proofs.lemmas.List.{map-append, length-map}

@@ -32,7 +32,9 @@ issue_replies fs = map (λ f. f.reply) (filter (λ f. is_issuing f.message) fs)
 abbrev pub reply_of : Certificate → List ℕ
 reply_of c = issue_reply c.fields.serial c.body
 
--- the kth message that made a certificate got the kth certificate's serial and digest, and the kth serial is first + k - 1
+-- the kth message that made a certificate got the kth certificate's serial and digest, and the kth serial is
+-- first + k - 1
 pub record CountsUp (o : Opening) (l : List Arrival) : Type 0 where
   pub replies : issue_replies (first_accepted o l) ≡ map reply_of (state o l).certificates
-  pub serials : map (λ c. c.fields.serial) (state o l).certificates ≡ counted_from o.first (length (state o l).certificates)
+  pub serials : map (λ c. c.fields.serial) (state o l).certificates
+      ≡ counted_from o.first (length (state o l).certificates)

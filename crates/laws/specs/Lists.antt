@@ -14,9 +14,11 @@ use Rattle.laws.specs.Signers.{is_signer}
 pub record IsExact (o : Opening) (l : List Arrival) (list : RevocationList) : Type 0 where
   -- under a CA of the office: the serials that were named and that it signs, and every key id that was named
   pub own : (place : ℕ) (ca : Ca) → slice_get (state o l).cas place ≡ Some ca → (serial : ℕ) (key_id : List ℕ)
-      → revokes (key_blob ca.key) serial key_id list ≡ ((is_serial_named o l serial && is_signer ca (state o l) serial) || is_key_id_named o l key_id)
+      → revokes (key_blob ca.key) serial key_id list
+      ≡ ((is_serial_named o l serial && is_signer ca (state o l) serial) || is_key_id_named o l key_id)
   -- under any other blob: nothing
-  pub others : (blob : List ℕ) → ((place : ℕ) (ca : Ca) → slice_get (state o l).cas place ≡ Some ca → key_blob ca.key ≢ blob)
+  pub others : (blob : List ℕ)
+      → ((place : ℕ) (ca : Ca) → slice_get (state o l).cas place ≡ Some ca → key_blob ca.key ≢ blob)
       → (serial : ℕ) (key_id : List ℕ) → revokes blob serial key_id list ≡ false
 
 -- bytes that can be cut in one way, as a list that is supported and exact

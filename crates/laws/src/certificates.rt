@@ -11,8 +11,8 @@ ghost use Rattle.laws.specs.Signers.{signer_of};
 ghost use Rattle.laws.specs.Bodies.{IsBodyFor};
 ghost use Rattle.laws.specs.Counting.{CountsUp};
 
-/// The kth message that makes a certificate gets the serial `first + k - 1` and the digest of the kth body: so no serial
-/// names two bodies.
+/// The kth message that makes a certificate gets the serial `first + k - 1` and the digest of the kth body: so no
+/// serial names two bodies.
 pub fn serials_count_up()
     ensures { (o : Opening) (l : List Arrival) → CountsUp o l }
 {}

@@ -1,12 +1,16 @@
 -- Words of 68 characters of the standard alphabet: they are the base64 of 51 bytes, and nothing else is.
-use Rattle.std.proofs.Common.{◌≡◌, ℕ, zero, suc, ◌+◌, ◌*◌, ◌/◌, ◌%◌, ◌<◌, ◌≤◌, true, false, eqb, ltb, nat_lt, slice_set, List, [], ◌∷◌, ◌++◌, length, drop, replicate, slice_index, Option, None, Ok, refl, sym, ap, ◌∙◌, arith}
+use Rattle.std.proofs.Common.{◌≡◌, ℕ, zero, suc, ◌+◌, ◌*◌, ◌/◌, ◌%◌, ◌<◌, ◌≤◌, true, false}
+use Rattle.std.proofs.Common.{eqb, ltb, nat_lt, slice_set, List, [], ◌∷◌, ◌++◌, length, drop}
+use Rattle.std.proofs.Common.{replicate, slice_index, Option, None, Ok, refl, sym, ap, ◌∙◌, arith}
 use Rattle.std.specs.List.{list_all}
 use Rattle.std.proofs.lemmas.Bool.{agree_below_at, and_from, and_parts, cond-false, eq-eqb, eqb-true, ltb-true, ne_eqb}
 use Rattle.std.proofs.lemmas.List.{append-nil, drop_all, drop_more, length-append}
 use Rattle.base64.specs.Engines.{standard}
 use Rattle.base64.specs.GeneralPurpose.{IsBytes, decode_of, encode_of}
 use Rattle.base64.specs.Rfc4648.{encode_symbols, padding_len}
-use Rattle.base64.specs.Decode.{decode_error, decode_outcome, decoded_bytes, groups_before_last, groups_bytes, groups_error, lone_error, no_leftover, or_else, push_leftover, scan, scan_last, suffix_bytes, suffix_error, symbol_error}
+use Rattle.base64.specs.Decode.{decode_error, decode_outcome, decoded_bytes, groups_before_last}
+use Rattle.base64.specs.Decode.{groups_bytes, groups_error, lone_error, no_leftover, or_else}
+use Rattle.base64.specs.Decode.{push_leftover, scan, scan_last, suffix_bytes, suffix_error, symbol_error}
 use Rattle.base64.specs.declared.decode.DecodeError.{DecodeError}
 use Rattle.base64.specs.declared.engine.DecodePaddingMode.TheVariants.{RequireCanonical}
 use Rattle.base64.proofs.Decoding.{length-groups_bytes, scan-cons_ok, scan-nil}

@@ -1,12 +1,16 @@
 -- The standard engine of base64: what it writes is read again, nothing else is read, and no space is written.
-use Rattle.std.proofs.Common.{◌≡◌, ℕ, zero, suc, ◌+◌, ◌*◌, ◌/◌, ◌%◌, ◌<◌, true, false, not, eqb, List, [], ◌∷◌, ◌++◌, length, drop, replicate, get_or, slice_index, Option, Some, None, Result, Ok, Err, refl, sym, subst, ◌∙◌, ◌⊎◌, arith, inl, inr}
+use Rattle.std.proofs.Common.{◌≡◌, ℕ, zero, suc, ◌+◌, ◌*◌, ◌/◌, ◌%◌, ◌<◌, true, false, not, eqb, List}
+use Rattle.std.proofs.Common.{[], ◌∷◌, ◌++◌, length, drop, replicate, get_or, slice_index, Option}
+use Rattle.std.proofs.Common.{Some, None, Result, Ok, Err, refl, sym, subst, ◌∙◌, ◌⊎◌, arith, inl, inr}
 use Rattle.std.specs.List.{AllByRecursion, list_all}
 use Rattle.std.proofs.lemmas.Bool.{and_parts, not-true}
 use Rattle.std.proofs.lemmas.List.{length-append, length-replicate}
 use Rattle.base64.specs.Engines.{standard}
 use Rattle.base64.specs.GeneralPurpose.{IsBytes, IsConsistent, IsStrict, decode_of, encode_of, encoded_size_of}
 use Rattle.base64.specs.Rfc4648.{encode_symbols, padding_len}
-use Rattle.base64.specs.Decode.{IsDecodeTable, decode_outcome, decode_group, group_bytes, group_error, groups_before_last, groups_bytes, groups_error, lone_error, no_leftover, or_else, push_leftover, scan_last, scan_steps, suffix_bytes, symbol_error}
+use Rattle.base64.specs.Decode.{IsDecodeTable, decode_outcome, decode_group, group_bytes, group_error}
+use Rattle.base64.specs.Decode.{groups_before_last, groups_bytes, groups_error, lone_error, no_leftover}
+use Rattle.base64.specs.Decode.{or_else, push_leftover, scan_last, scan_steps, suffix_bytes, symbol_error}
 use Rattle.base64.specs.declared.decode.DecodeError.{DecodeError}
 use Rattle.base64.specs.declared.engine.general_purpose.GeneralPurpose.{GeneralPurpose}
 use Rattle.base64.proofs.Decoding.{IsLeftover, IsLeftover_next, scan-cons_err, scan-cons_ok}

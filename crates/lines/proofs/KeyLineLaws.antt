@@ -1,5 +1,6 @@
 -- What is read as a key line is its text, its text is read, and each fault says what is wrong with the whole text.
-use Rattle.std.proofs.Common.{◌≡◌, ◌≢◌, ℕ, true, false, cond, eqb, ◌⊎◌, ◌↔◌, List, ◌++◌, length, take, drop, Option, Some, None, Result, Ok, Err, refl, sym, ap, subst, ◌∙◌, arith, inl, inr}
+use Rattle.std.proofs.Common.{◌≡◌, ◌≢◌, ℕ, true, false, cond, eqb, ◌⊎◌, ◌↔◌, List, ◌++◌, length, take, drop}
+use Rattle.std.proofs.Common.{Option, Some, None, Result, Ok, Err, refl, sym, ap, subst, ◌∙◌, arith, inl, inr}
 use Rattle.std.specs.Prelude.{IfOk, IsTrue}
 use Rattle.std.specs.List.{list_all}
 use Rattle.std.specs.Result.{MatchResult, result_ok}
@@ -11,13 +12,16 @@ use Rattle.std.proofs.lemmas.Slice.Eq.{bytes_eq-Decides}
 use Rattle.base64.specs.Engines.{standard}
 use Rattle.base64.specs.GeneralPurpose.{IsBytes, decode_of, encode_of}
 use Rattle.lines.specs.Keys.{key_blob, key_of}
-use Rattle.lines.specs.KeyLines.{is_base64_letter, is_base64_word, is_key, is_comment, is_comment_or_none, is_key_line, comment_text, key_line_head, key_line_text}
-use Rattle.lines.specs.Reading.{◌>>=◌, or_fault, after_type, word_of, comment_of, blob_of, checked_line, key_line_at, Gives, IsFault, HasWrongType, HasBadBase64, HasBadBlob, HasBadComment}
+use Rattle.lines.specs.KeyLines.{is_base64_letter, is_base64_word, is_key, is_comment, is_comment_or_none}
+use Rattle.lines.specs.KeyLines.{is_key_line, comment_text, key_line_head, key_line_text}
+use Rattle.lines.specs.Reading.{◌>>=◌, or_fault, after_type, word_of, comment_of, blob_of, checked_line}
+use Rattle.lines.specs.Reading.{key_line_at, Gives, IsFault, HasWrongType, HasBadBase64, HasBadBlob, HasBadComment}
 use Rattle.lines.specs.declared.key_line.KeyLine.{KeyLine}
 use Rattle.lines.specs.declared.key_line.LineFault.{LineFault}
 use Rattle.lines.specs.declared.key_line.LineFault.TheVariants.{WrongType, BadBase64, BadBlob, BadComment, NoMemory}
 use Rattle.lines.proofs.Alphabet.{word_again, word_found}
-use Rattle.lines.proofs.Base64.{IsBytes-decode_of, IsBytes-drop, IsBytes-take, IsFreeOfSpace-encode_of, base64_again, base64_found, length-encode_of}
+use Rattle.lines.proofs.Base64.{IsBytes-decode_of, IsBytes-drop, IsBytes-take}
+use Rattle.lines.proofs.Base64.{IsFreeOfSpace-encode_of, base64_again, base64_found, length-encode_of}
 use Rattle.lines.proofs.Blobs.{IsBytes-key_blob, is_key_from, is_key_parts, key_of_again, key_of_found, length-key_blob}
 use Rattle.lines.proofs.Cases.{ok_of}
 use Rattle.lines.proofs.Words.{comment_of-text, text_is, word_of-text}

@@ -1,5 +1,7 @@
--- Public key lines (sshd(8), AUTHORIZED_KEYS FILE FORMAT, without options): a type, a blob in base64, a comment or none.
-use Rattle.std.specs.Prelude.{ℕ, List, [], ◌∷◌, ◌++◌, length, codes, Bool, true, ◌&&◌, ◌||◌, ◌==◌, nat_le, nat_lt, Option, Some, None}
+-- Public key lines (sshd(8), AUTHORIZED_KEYS FILE FORMAT, without options): a type, a blob in base64, a comment or
+-- none.
+use Rattle.std.specs.Prelude.{ℕ, List, [], ◌∷◌, ◌++◌, length, codes, Bool, true}
+use Rattle.std.specs.Prelude.{◌&&◌, ◌||◌, ◌==◌, nat_le, nat_lt, Option, Some, None}
 use Rattle.std.specs.List.{list_all}
 use Rattle.base64.specs.Engines.{standard}
 use Rattle.base64.specs.GeneralPurpose.{encode_of}

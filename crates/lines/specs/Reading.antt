@@ -1,12 +1,14 @@
 -- What a text says as a key line, and the first thing that is wrong with it.
-use Rattle.std.specs.Prelude.{◌≡◌, ◌≢◌, ℕ, List, ◌++◌, length, take, drop, Bool, false, ◌==◌, nat_lt, if◌then◌else◌, Option, Some, None, option_and_then, Result, Ok, Err, IsOk, IsTrue}
+use Rattle.std.specs.Prelude.{◌≡◌, ◌≢◌, ℕ, List, ◌++◌, length, take, drop, Bool, false, ◌==◌, nat_lt}
+use Rattle.std.specs.Prelude.{if◌then◌else◌, Option, Some, None, option_and_then, Result, Ok, Err, IsOk, IsTrue}
 use Rattle.std.specs.List.{before_first, after_first}
 use Rattle.std.specs.Result.{result_ok}
 use Rattle.std.specs.Str.{bytes_eq}
 use Rattle.base64.specs.Engines.{standard}
 use Rattle.base64.specs.GeneralPurpose.{IsBytes, encode_of, decode_of}
 use Rattle.lines.specs.Keys.{key_blob, key_of}
-use Rattle.lines.specs.KeyLines.{is_base64_word, is_key, is_comment, is_comment_or_none, is_key_line, key_line_head, key_line_text}
+use Rattle.lines.specs.KeyLines.{is_base64_word, is_key, is_comment, is_comment_or_none}
+use Rattle.lines.specs.KeyLines.{is_key_line, key_line_head, key_line_text}
 use Rattle.lines.specs.declared.key_line.KeyLine.{KeyLine}
 use Rattle.lines.specs.declared.key_line.LineFault.{LineFault}
 use Rattle.lines.specs.declared.key_line.LineFault.TheVariants.{WrongType, BadBase64, BadBlob, BadComment, NoMemory}

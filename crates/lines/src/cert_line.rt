@@ -8,6 +8,10 @@ use std::alloc::Global;
 use text::NoMemory;
 
 /// A certificate as ssh-keygen(1) writes it: the type, the certificate in base64, and the comment, without a line feed.
+///
+/// # Errors
+///
+/// `NoMemory`, where a growth was refused.
 pub fn write_cert_line(alloc: Global, cert: &[u8], comment: &[u8]) -> Result<Vec<u8>, NoMemory>
     ensures { IfOk result (λ text. text.items ≡ certificate_line_text cert.now comment.now) }
 {

@@ -16,6 +16,10 @@ pub struct KeyLine {
 
 impl KeyLine {
     /// A copy.
+    ///
+    /// # Errors
+    ///
+    /// `NoMemory`, where a growth was refused.
     pub fn copied(&self, alloc: Global) -> Result<KeyLine, NoMemory>
         ensures { IfOk result (λ k. k ≡ self.now) }
     {

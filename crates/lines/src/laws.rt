@@ -26,7 +26,6 @@ pub fn key_lines_are_lawful_or_faulty()
 
 /// 68 characters of the standard alphabet are the base64 of 51 bytes, and nothing else is.
 pub fn base64_words_are_blobs()
-    ensures { (word : List ℕ) → IsBytes word
-        → IsTrue (is_base64_word word)
+    ensures { (word : List ℕ) → IsBytes word → IsTrue (is_base64_word word)
         ↔ ((blob : List ℕ) × IsBytes blob × (length blob ≡ 51) × (word ≡ encode_of standard blob)) }
 {}

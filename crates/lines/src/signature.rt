@@ -3,5 +3,6 @@
 /// The 64 bytes of an Ed25519 signature (RFC 8032 section 5.1.6).
 #[derive(Clone, Copy, Debug, PartialEq, Eq)]
 pub struct Signature {
+    /// R and S, 32 bytes each.
     pub bytes: [u8; 64],
 }

@@ -32,7 +32,11 @@ pub fn bare_key_line(key: &[u8; 32]) -> [u8; 80]
     line
 }
 
-/// Puts a key line at the end, without a line feed. A refusal leaves the vector as it was.
+/// Puts a key line at the end, without a line feed.
+///
+/// # Errors
+///
+/// `NoMemory`, where a growth was refused, so never within the vector's capacity. The vector is as it was.
 pub fn put_key_line(out: &mut Vec<u8>, line: &KeyLine) -> Result<(), NoMemory>
     ensures ok { OnOk result (out.new.items ≡ out.old.items ++ key_line_text line.now) }
     ensures err { OnErr result (out.new.items ≡ out.old.items) }
@@ -55,6 +59,10 @@ pub fn put_key_line(out: &mut Vec<u8>, line: &KeyLine) -> Result<(), NoMemory>
 }
 
 /// A key line as text, without a line feed.
+///
+/// # Errors
+///
+/// `NoMemory`, where a growth was refused.
 pub fn write_key_line(alloc: Global, line: &KeyLine) -> Result<Vec<u8>, NoMemory>
     ensures { IfOk result (λ text. text.items ≡ key_line_text line.now) }
 {

@@ -1,5 +1,7 @@
 -- Issues from their option lines on.
-use Rattle.std.proofs.Common.{◌≡◌, ℕ, zero, suc, ◌+◌, ◌≤◌, List, [], ◌∷◌, ◌++◌, length, map, drop, true, cond, ◌⊎◌, Option, Some, None, Result, Ok, Err, refl, sym, ap, subst, ◌∙◌, arith, inl, inr, append-nil, append_assoc, length-append}
+use Rattle.std.proofs.Common.{◌≡◌, ℕ, zero, suc, ◌+◌, ◌≤◌, List, [], ◌∷◌, ◌++◌, length, map, drop}
+use Rattle.std.proofs.Common.{true, cond, ◌⊎◌, Option, Some, None, Result, Ok, Err, refl, sym, ap}
+use Rattle.std.proofs.Common.{subst, ◌∙◌, arith, inl, inr, append-nil, append_assoc, length-append}
 use Rattle.std.specs.Prelude.{codes}
 use Rattle.std.proofs.Math.Seq.{drop-append_seam, drop-length}
 use Rattle.text.specs.declared.pair.Pair.{Pair}
@@ -7,7 +9,8 @@ use Rattle.lines.specs.declared.key_line.KeyLine.{KeyLine}
 use Rattle.message.specs.declared.issue.Issue.{Issue}
 use Rattle.message.specs.Values.{are_extension_names}
 use Rattle.message.specs.Texts.{list_line, option_line}
-use Rattle.message.specs.Reading.{◌>>=◌, or_bad, line_of, ends_after, list_after, option_after, is_new_option, options_from}
+use Rattle.message.specs.Reading.{◌>>=◌, or_bad, line_of, ends_after, list_after}
+use Rattle.message.specs.Reading.{option_after, is_new_option, options_from}
 use Rattle.message.proofs.Readings.{IsReading}
 use Rattle.message.proofs.FirstLines.{line_then}
 use Rattle.message.proofs.Ends.{then_end}

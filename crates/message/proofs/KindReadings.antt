@@ -1,5 +1,6 @@
 -- Messages of several kinds, of which the first line says the kind.
-use Rattle.std.proofs.Common.{◌≡◌, ℕ, suc, ◌<◌, List, [], ◌∷◌, ◌++◌, length, drop, Bool, true, false, cond, ◌⊎◌, Result, Ok, Err, refl, sym, ap, subst, ◌∙◌, arith, inl, inr}
+use Rattle.std.proofs.Common.{◌≡◌, ℕ, suc, ◌<◌, List, [], ◌∷◌, ◌++◌, length, drop, Bool, true, false}
+use Rattle.std.proofs.Common.{cond, ◌⊎◌, Result, Ok, Err, refl, sym, ap, subst, ◌∙◌, arith, inl, inr}
 use Rattle.std.specs.List.{AllByRecursion}
 use Rattle.message.specs.Reading.{made, line_of}
 use Rattle.message.proofs.Heads.{Heads, has_head}

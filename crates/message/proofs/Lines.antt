@@ -1,5 +1,6 @@
 -- Lines among the pieces of a text, and how many of them two texts share.
-use Rattle.std.proofs.Common.{◌≡◌, ℕ, suc, ◌-◌, ◌<◌, List, [], ◌∷◌, length, take, drop, get_or, Bool, true, false, cond, ◌⊎◌, ltb, refl, sym, ap, ◌∙◌, arith, inl, inr, length-drop, drop-cons}
+use Rattle.std.proofs.Common.{◌≡◌, ℕ, suc, ◌-◌, ◌<◌, List, [], ◌∷◌, length, take, drop, get_or, Bool, true}
+use Rattle.std.proofs.Common.{false, cond, ◌⊎◌, ltb, refl, sym, ap, ◌∙◌, arith, inl, inr, length-drop, drop-cons}
 use Rattle.std.proofs.lemmas.Bool.{ltb-true, lt-ltb, cond-true}
 use Rattle.message.specs.Reading.{line_of}
 

@@ -15,6 +15,7 @@ pub struct Delivery {
     pub serial: u64,
     /// The SHA-256 of the body that was signed, as 64 hexadecimal digits in lower case.
     pub digest: [u8; 64],
+    /// The CA's signature of the body.
     pub signature: Signature,
 }
 

@@ -24,6 +24,7 @@ use text::{NoMemory, Text, Texts};
 /// A department with its profile of what may be issued.
 #[derive(Debug, Drop)]
 pub struct Department {
+    /// 1 to 32 bytes of `a-z 0-9 -`.
     pub name: Text,
     /// Fixed for good once the department is there.
     pub kind: Kind,
@@ -43,6 +44,10 @@ pub struct Department {
 
 impl Department {
     /// A copy of its own.
+    ///
+    /// # Errors
+    ///
+    /// `NoMemory`, where a growth was refused.
     pub fn copied(&self, alloc: Global) -> Result<Department, NoMemory>
         ensures { IfOk result (λ d. d ≡ self.now) }
     {

@@ -17,6 +17,7 @@ use text::{NoMemory, Pairs, Text, Texts};
 pub struct Issue {
     /// The name of the department.
     pub department: Text,
+    /// A department's name, `/` and 1 to 64 bytes from 0x21 to 0x7e.
     pub key_id: Text,
     /// The subject's key, with the comment of its line.
     pub key: KeyLine,

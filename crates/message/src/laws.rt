@@ -16,7 +16,8 @@ pub fn reading_finds_the_message_of_a_text()
 
 /// A text belongs to one message.
 pub fn a_text_belongs_to_one_message()
-    ensures { (a b : Message) → IsTrue (is_message a) → IsTrue (is_message b) → message_text a ≡ message_text b → a ≡ b }
+    ensures { (a b : Message) → IsTrue (is_message a) → IsTrue (is_message b)
+        → message_text a ≡ message_text b → a ≡ b }
 {}
 
 /// The line that reading names is the first that fits no message: the bytes are no message's text, the lines before it

@@ -3,6 +3,8 @@
 /// The serials from `lo` to `hi`, both included. 1 <= `lo` <= `hi` <= 9223372036854775806.
 #[derive(Clone, Copy, Debug, PartialEq, Eq)]
 pub struct SerialRange {
+    /// The first serial.
     pub lo: u64,
+    /// The last serial.
     pub hi: u64,
 }

@@ -169,6 +169,10 @@ fn put_range(out: &mut Vec<u8>, range: SerialRange) -> Result<(), NoMemory>
 }
 
 /// The text of a message. Read again, the text of a lawful message gives it.
+///
+/// # Errors
+///
+/// `NoMemory`, where a growth was refused.
 pub fn write_message(alloc: Global, message: &Message) -> Result<Vec<u8>, NoMemory>
     ensures { IfOk result (λ text. text.items ≡ message_text message.now) }
 {

@@ -1,12 +1,14 @@
 -- What is answered, and why.
-use Rattle.std.proofs.Common.{◌≡◌, inl, inr, Bool, true, false, List, [], ◌∷◌, Ok, Err, Result, IfErr, refl, sym, subst, ◌∙◌, arith}
+use Rattle.std.proofs.Common.{◌≡◌, inl, inr, Bool, true, false, List, [], ◌∷◌, Ok}
+use Rattle.std.proofs.Common.{Err, Result, IfErr, refl, sym, subst, ◌∙◌, arith}
 use Rattle.std.specs.Prelude.{◌==◌, ◌≤◌, if◌then◌else◌, IsOk, IsPermutation}
 use Rattle.sqlite.specs.Tree.{Trees}
 use Rattle.sqlite.specs.State.{State, HasCleanDisk, IsUnchanged, Survives}
 use Rattle.office.specs.declared.opening.Opening.{Opening}
 use Rattle.office.specs.declared.arrival.Arrival.{Arrival}
 use Rattle.office.specs.declared.fault.StoreFault.{StoreFault}
-use Rattle.office.specs.declared.fault.StoreFault.TheVariants.{AlreadyAnOffice, Damaged, Device, NoMemory, NotAnOffice, WrongSchema}
+use Rattle.office.specs.declared.fault.StoreFault.TheVariants.{AlreadyAnOffice, Damaged, Device}
+use Rattle.office.specs.declared.fault.StoreFault.TheVariants.{NoMemory, NotAnOffice, WrongSchema}
 use Rattle.tables.specs.declared.offices.OfficeRow.{OfficeRow}
 use Rattle.tables.specs.declared.cas.CaRow.{CaRow}
 use Rattle.tables.specs.declared.fault.Fault.{Fault}

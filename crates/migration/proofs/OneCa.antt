@@ -1,5 +1,6 @@
 -- After a history without rollovers an office has the CA that it began with, and no other.
-use Rattle.std.proofs.Common.{◌≡◌, ℕ, List, [], ◌∷◌, Bool, true, false, Option, Some, None, Result, Ok, Err, refl, sym, ap, subst}
+use Rattle.std.proofs.Common.{◌≡◌, ℕ, List, [], ◌∷◌, Bool, true, false, Option}
+use Rattle.std.proofs.Common.{Some, None, Result, Ok, Err, refl, sym, ap, subst}
 use Rattle.std.specs.Prelude.{if◌then◌else◌, IfSome}
 use Rattle.std.specs.List.{fold}
 use Rattle.std.proofs.lemmas.List.Sums.{fold_push}
@@ -11,7 +12,8 @@ use Rattle.office.specs.declared.arrival.Arrival.{Arrival}
 use Rattle.office.specs.declared.certificate.Certificate.{Certificate}
 use Rattle.office.specs.Messages.{message_with_text}
 use Rattle.office.specs.State.{State, first_ca, opened}
-use Rattle.office.specs.Machine.{after, is_key_id_revoked, is_range_revoked, renewed, republished, with_key_id, with_one_more, with_range}
+use Rattle.office.specs.Machine.{after, is_key_id_revoked, is_range_revoked, renewed}
+use Rattle.office.specs.Machine.{republished, with_key_id, with_one_more, with_range}
 use Rattle.office.specs.History.{First, add_accepted, change, judged, kept_by, state, state_after, with_arrival}
 use Rattle.office.proofs.Judged.{judged_is_first}
 use Rattle.rows.specs.Rows.{ca_rows, office_contents}

@@ -1,5 +1,6 @@
 -- What the tables of schema 1 hold, and what they become.
-use Rattle.std.specs.Prelude.{◌≡◌, false, ◌==◌, List, [], ◌∷◌, map, Bool, true, if◌then◌else◌, IfSome, IsTrue, Result, Ok, Err}
+use Rattle.std.specs.Prelude.{◌≡◌, false, ◌==◌, List, [], ◌∷◌, map, Bool, true}
+use Rattle.std.specs.Prelude.{if◌then◌else◌, IfSome, IsTrue, Result, Ok, Err}
 use Rattle.std.specs.List.{AllByRecursion}
 use Rattle.sqlite.specs.Effect.{Database}
 use Rattle.sqlite.specs.State.{State}

@@ -5,7 +5,8 @@ use Rattle.sqlite.specs.State.{State}
 use Rattle.office.specs.declared.opening.Opening.{Opening}
 use Rattle.office.specs.declared.arrival.Arrival.{Arrival}
 use Rattle.office.specs.declared.fault.StoreFault.{StoreFault}
-use Rattle.office.specs.declared.fault.StoreFault.TheVariants.{AlreadyAnOffice, Damaged, Device, NoMemory, NotAnOffice, WrongSchema}
+use Rattle.office.specs.declared.fault.StoreFault.TheVariants.{AlreadyAnOffice, Damaged, Device}
+use Rattle.office.specs.declared.fault.StoreFault.TheVariants.{NoMemory, NotAnOffice, WrongSchema}
 use Rattle.tables.specs.declared.cas.CaRow.{CaRow}
 use Rattle.tables.specs.declared.fault.Fault.{Fault}
 use Rattle.tables.specs.declared.fault.Fault.TheVariants as table
@@ -57,6 +58,14 @@ Judges c stopped (Err NoMemory) = Unit {0}
 Judges c stopped (Err Device) = stopped
 Judges c stopped (Err e) = ca_of c.offices ≡ Err e
 
+-- so it is of a database at rest with the tables of schema 1
+abbrev pub JudgesAtRest : State → State → Result (Unit {0}) StoreFault → Type 0
+JudgesAtRest old new r = (c : Contents) → Rests (Had c) old → Judges c (HasStopped c old new) r
+
+-- so it is inside of the transaction, of tables that are as one of these says
+abbrev pub JudgesInside : (Contents → Database → Type 0) → State → State → Result (Unit {0}) StoreFault → Type 0
+JudgesInside Before old new r = (c : Contents) → Before c old.now → Judges c (HasStopped c old new) r
+
 -- ---- a part of the transaction
 
 -- the tables of schema 2 hold these contents, of which no CA is one
@@ -82,9 +91,13 @@ IsExcused stopped NotAnOffice = ⊥
 IsExcused stopped WrongSchema = ⊥
 IsExcused stopped Damaged = ⊥
 
--- Of tables of schema 1 that tell a history: they hold its rows in schema 2; or they tell it as before, and the fault has
--- its cause.
+-- Of tables of schema 1 that tell a history: they hold its rows in schema 2; or they tell it as before, and the fault
+-- has its cause.
 abbrev pub Carries : State → State → Opening → List Arrival → Result (Unit {0}) StoreFault → Type 0
 Carries old new o l (Ok x) = IsTrue new.is_open × Rests (Has (office_contents o l)) new
 Carries old new o l (Err e) =
     TellsBefore new o l × (IsTrue old.is_open → IsExcused (HasStopped (former_contents o l) old new) e)
+
+-- so it is of each history
+abbrev pub CarriesEach : State → State → Result (Unit {0}) StoreFault → Type 0
+CarriesEach old new r = (o : Opening) (l : List Arrival) → TellsBefore old o l → Carries old new o l r

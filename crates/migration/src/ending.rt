@@ -1,9 +1,8 @@
 //! The end of the transaction.
 
-ghost use Rattle.sqlite.specs.Held.{state};
-ghost use Rattle.sqlite.specs.State.{HasCleanDisk, Survives};
 ghost use Rattle.rows.specs.Transactions.{Commits, Concludes};
 ghost use Rattle.migration.specs.Migrating.{TellsEnd, done};
+ghost use Rattle.tables.specs.Honest.{On, OutlivesBy};
 
 use office::StoreFault;
 use rows::{close, fault_of, undo};
@@ -14,12 +13,9 @@ pub(crate) fn end<S: Alter>(
     conn: &mut Connection<S>,
     moved: Result<(), StoreFault>,
 ) -> Result<(), StoreFault>
-    ensures concludes { HasCleanDisk (state S.Store conn.new) →
-        Concludes (done moved) (state S.Store conn.old) (state S.Store conn.new) (done result) }
-    ensures tells { HasCleanDisk (state S.Store conn.new)
-        → TellsEnd moved (state S.Store conn.old) (state S.Store conn.new) result }
-    ensures survives { Survives (state S.Store conn.old) (state S.Store conn.new)
-        (Commits (done moved) (state S.Store conn.old)) }
+    ensures concludes { On S.Store (Concludes (done moved)) conn.old conn.new (done result) }
+    ensures tells { On S.Store (TellsEnd moved) conn.old conn.new result }
+    ensures survives { OutlivesBy S.Store (Commits (done moved)) conn.old conn.new }
 {
     match moved {
         Ok(()) => match close(conn) {

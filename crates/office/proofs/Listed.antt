@@ -1,17 +1,16 @@
 -- What is listed by what is revoked.
-use Rattle.std.proofs.Common.{◌≡◌, ℕ, List, Bool, map, ap₂}
-use Rattle.std.specs.Prelude.{filter}
-use Rattle.std.proofs.Math.Path.{fun_ext}
+use Rattle.std.proofs.Common.{◌≡◌, List, ap₂}
+use Rattle.std.specs.Prelude.{◌||◌, Bool}
+use Rattle.std.specs.List.{list_any}
+use Rattle.std.specs.Str.{bytes_eq}
 use Rattle.office.specs.State.{State}
-use Rattle.office.specs.Listing.{state_revoking}
-use Rattle.office.specs.Publication.{entries_of, entry_of, is_pending, pending_of, pending_row}
+use Rattle.office.specs.declared.certificate.Certificate.{Certificate}
+use Rattle.office.specs.declared.listing.Revocations.{Revocations}
+use Rattle.office.specs.Listing.{AreRevocations, is_among}
+use Rattle.office.specs.Publication.{is_certificate_revoked}
 
--- what is revoked is the state's
-module _ (serials : ℕ → Bool) (key_ids : List (List ℕ)) (s : State) (same : (n : ℕ) → serials n ≡ s.revoked n) (ids : key_ids ≡ s.revoked_key_ids) where
-  pub entries_shown : map (entry_of (state_revoking serials key_ids)) s.certificates ≡ entries_of s
-  entries_shown = ap₂ (λ (f : ℕ → Bool) (ks : List (List ℕ)). map (entry_of (state_revoking f ks)) s.certificates) (fun_ext same) ids
-
-  pub pending_shown : map pending_row (filter (is_pending (state_revoking serials key_ids)) s.certificates) ≡ pending_of s
-  pending_shown =
-      ap₂ (λ (f : ℕ → Bool) (ks : List (List ℕ)). map pending_row (filter (is_pending (state_revoking f ks)) s.certificates))
-      (fun_ext same) ids
+-- what is among the state's revocations is what the state revokes
+pub among_is : (r : Revocations) (s : State) (c : Certificate) → AreRevocations r s → is_among r c ≡ is_certificate_revoked s c
+among_is r s c are =
+    ap₂ (λ (b : Bool) (ids : List (List _)). b || list_any (λ k. bytes_eq k c.fields.key_id) ids)
+    (are.serials c.fields.serial) are.key_ids

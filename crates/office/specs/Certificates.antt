@@ -20,7 +20,8 @@ pub record IsCertificate (c : Certificate) : Type 0 where
 
 -- the certificate of these fields, which isn't signed yet
 abbrev pub certificate_with : List ℕ → CertFields → Certificate
-certificate_with department fields = record { department = department; fields = fields; body = body_text fields; signature = None }
+certificate_with department fields =
+    record { department = department; fields = fields; body = body_text fields; signature = None }
 
 -- names as flags, without values
 abbrev pub flags : List (List ℕ) → List Pair
@@ -52,7 +53,9 @@ certificate_for i serial kind ca nonce = certificate_with i.department (fields_f
 
 -- the fields of the old certificate for another validity, under another serial
 abbrev pub renewed_fields : CertFields → Renewal → (serial : ℕ) → (ca nonce : List ℕ) → CertFields
-renewed_fields old r serial ca nonce = record old { nonce = nonce; serial = serial; after = r.after; before = r.before; ca = ca }
+renewed_fields old r serial ca nonce =
+    record old { nonce = nonce; serial = serial; after = r.after; before = r.before; ca = ca }
 
 abbrev pub renewed_certificate : Certificate → Renewal → (serial : ℕ) → (ca nonce : List ℕ) → Certificate
-renewed_certificate old r serial ca nonce = certificate_with old.department (renewed_fields old.fields r serial ca nonce)
+renewed_certificate old r serial ca nonce =
+    certificate_with old.department (renewed_fields old.fields r serial ca nonce)

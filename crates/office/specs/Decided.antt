@@ -1,5 +1,6 @@
 -- What a decision says of the plain office.
-use Rattle.std.specs.Prelude.{◌≡◌, ℕ, ◌<◌, ◌≤◌, List, length, Bool, IsTrue, IsSome, Option, None, option_copied, Result, Ok, Err}
+use Rattle.std.specs.Prelude.{◌≡◌, ℕ, ◌<◌, ◌≤◌, List, length, Bool, IsTrue, IsSome, Option, None, option_copied, Result}
+use Rattle.std.specs.Prelude.{Ok, Err}
 use Rattle.std.specs.Option.{option_and_then}
 use Rattle.profile.specs.Names.{department_of, is_key_id}
 use Rattle.message.specs.declared.department.Department.{Department}
@@ -120,7 +121,8 @@ stepped_by d s = record { state = written d s; reply = d.reply }
 
 -- the decision is the plain office's step, unless memory was refused
 abbrev pub Decided : Result Decision Stop → State → List ℕ → Message → ℕ → List ℕ → Type 0
-Decided (Ok d) s caller m moment nonce = (step s caller m moment nonce ≡ Ok (stepped_by d s)) × (d.next ≡ next_serial (written d s))
+Decided (Ok d) s caller m moment nonce =
+    (step s caller m moment nonce ≡ Ok (stepped_by d s)) × (d.next ≡ next_serial (written d s))
 Decided (Err (stop.Refused r)) s caller m moment nonce = step s caller m moment nonce ≡ Err r
 Decided (Err stop.NoMemory) s caller m moment nonce = Unit {0}
 

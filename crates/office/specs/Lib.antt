@@ -13,6 +13,7 @@ pub mod Messages
 pub mod History
 pub mod Laws
 pub mod Faults
+pub mod Registers
 pub mod Decided
 pub mod Shows
 pub mod Views

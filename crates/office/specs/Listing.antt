@@ -1,16 +1,21 @@
 -- What is listed of certificates beside what is revoked.
-use Rattle.std.specs.Prelude.{ℕ, List, [], Bool}
+use Rattle.std.specs.Prelude.{◌≡◌, ℕ, List, Bool, ◌||◌, take, drop}
+use Rattle.std.specs.List.{list_any}
+use Rattle.std.specs.Str.{bytes_eq}
+use Rattle.krl.specs.Sets.{contains}
 use Rattle.office.specs.State.{State}
+use Rattle.office.specs.declared.certificate.Certificate.{Certificate}
+use Rattle.office.specs.declared.listing.Revocations.{Revocations}
 
--- a state in which these serials and key ids are revoked, and of which nothing else is known
-abbrev pub state_revoking : (ℕ → Bool) → List (List ℕ) → State
-state_revoking serials key_ids = record {
-  opening = record { ca = []; root = []; station = []; first = 0; last = 0 };
-  cas = [];
-  departments = [];
-  certificates = [];
-  revoked = serials;
-  revoked_key_ids = key_ids;
-  version = 0;
-  date = 0;
-}
+-- they are the state's
+pub record AreRevocations (r : Revocations) (s : State) : Type 0 where
+  pub serials : (n : ℕ) → contains r.serials n ≡ s.revoked n
+  pub key_ids : r.key_ids.items ≡ s.revoked_key_ids
+
+-- the certificate's serial is one of these, or its key id
+abbrev pub is_among : Revocations → Certificate → Bool
+is_among r c = contains r.serials c.fields.serial || list_any (λ k. bytes_eq k c.fields.key_id) r.key_ids.items
+
+-- certificates by serial from the place on, of many the first 1000
+abbrev pub batch_of : State → ℕ → List Certificate
+batch_of s place = take 1000 (drop place s.certificates)

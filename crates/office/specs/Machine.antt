@@ -1,5 +1,6 @@
 -- The plain office: one message at a time. It knows nothing of repeats.
-use Rattle.std.specs.Prelude.{ℕ, zero, suc, ◌+◌, ◌-◌, List, [], ◌∷◌, ◌++◌, length, ◌||◌, if◌then◌else◌, Option, Some, None, Result, Ok, Err}
+use Rattle.std.specs.Prelude.{ℕ, zero, suc, ◌+◌, ◌-◌, List, [], ◌∷◌, ◌++◌, length, ◌||◌, if◌then◌else◌, Option, Some}
+use Rattle.std.specs.Prelude.{None, Result, Ok, Err}
 use Rattle.std.specs.Option.{option_map, option_map_or}
 use Rattle.std.specs.FinMap.Entries.{put, by_order}
 use Rattle.std.specs.Cmp.Lexicographic.{slice_cmp}
@@ -37,11 +38,15 @@ pub use Rattle.office.specs.Refusals.{refusals, first_holding}
 
 -- the certificate that an issue makes
 abbrev pub issued : State → Issue → List ℕ → Certificate
-issued s i nonce = certificate_for i (next_serial s) (kind_or_user (department_named s i.department)) (newest_key s.opening s.cas) nonce
+issued s i nonce =
+    certificate_for i (next_serial s) (kind_or_user (department_named s i.department)) (newest_key s.opening s.cas)
+    nonce
 
 -- the certificate that a renewal makes of one that is there
 abbrev pub renewed : State → Renewal → List ℕ → Option Certificate
-renewed s r nonce = option_map (λ c. renewed_certificate c r (next_serial s) (newest_key s.opening s.cas) nonce) (certificate_of s r.serial)
+renewed s r nonce =
+    option_map (λ c. renewed_certificate c r (next_serial s) (newest_key s.opening s.cas) nonce)
+    (certificate_of s r.serial)
 
 -- ---- changes
 
@@ -66,7 +71,8 @@ signed_at (c ∷ cs) zero signature = signed c signature ∷ cs
 signed_at (c ∷ cs) (suc place) signature = c ∷ signed_at cs place signature
 
 abbrev pub with_signature : State → ℕ → Signature → State
-with_signature s serial signature = record s { certificates = signed_at s.certificates (serial - s.opening.first) signature }
+with_signature s serial signature =
+    record s { certificates = signed_at s.certificates (serial - s.opening.first) signature }
 
 -- the serials of the range are revoked too
 abbrev pub with_range : State → SerialRange → State
@@ -106,7 +112,8 @@ after s (message.RevokeRange r) moment nonce =
 after s (message.RevokeKeyId key_id) moment nonce =
     if is_key_id_revoked s key_id then s else republished (with_key_id s key_id) moment
 after s (message.Rollover k) moment nonce =
-    if has_any s.revoked_key_ids then republished (with_ca s (ca_from_now s k.key)) moment else with_ca s (ca_from_now s k.key)
+    if has_any s.revoked_key_ids then republished (with_ca s (ca_from_now s k.key)) moment
+    else with_ca s (ca_from_now s k.key)
 
 -- the serial and the digest of the certificate that was made
 abbrev pub reply_to_made : State → Option Certificate → List ℕ
@@ -117,9 +124,12 @@ reply_to s (message.Department d) moment nonce = department_reply d.name
 reply_to s (message.Issue i) moment nonce = issue_reply (next_serial s) (issued s i nonce).body
 reply_to s (message.Renew r) moment nonce = reply_to_made s (renewed s r nonce)
 reply_to s (message.Deliver d) moment nonce = delivery_reply d.serial
-reply_to s (message.RevokeSerial serial) moment nonce = revocation_reply (after s (message.RevokeSerial serial) moment nonce).version
-reply_to s (message.RevokeRange r) moment nonce = revocation_reply (after s (message.RevokeRange r) moment nonce).version
-reply_to s (message.RevokeKeyId key_id) moment nonce = revocation_reply (after s (message.RevokeKeyId key_id) moment nonce).version
+reply_to s (message.RevokeSerial serial) moment nonce =
+    revocation_reply (after s (message.RevokeSerial serial) moment nonce).version
+reply_to s (message.RevokeRange r) moment nonce =
+    revocation_reply (after s (message.RevokeRange r) moment nonce).version
+reply_to s (message.RevokeKeyId key_id) moment nonce =
+    revocation_reply (after s (message.RevokeKeyId key_id) moment nonce).version
 reply_to s (message.Rollover k) moment nonce = rollover_reply (length s.cas + 1) (next_serial s)
 
 pub record Stepped : Type 0 where
@@ -133,4 +143,5 @@ refused_or None a = Ok a
 -- the refusal with the least number, or the new state and the reply
 abbrev pub step : State → List ℕ → Message → ℕ → List ℕ → Result Stepped Refusal
 step s caller m moment nonce =
-    refused_or (first_holding (refusals s caller m moment)) (record { state = after s m moment nonce; reply = reply_to s m moment nonce })
+    refused_or (first_holding (refusals s caller m moment))
+    (record { state = after s m moment nonce; reply = reply_to s m moment nonce })

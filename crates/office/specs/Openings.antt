@@ -1,5 +1,6 @@
 -- What an office begins with.
-use Rattle.std.specs.Prelude.{◌≡◌, ℕ, List, length, Bool, false, ◌&&◌, not, nat_le, if◌then◌else◌, IsTrue, Result, Ok, Err}
+use Rattle.std.specs.Prelude.{◌≡◌, ℕ, List, length, Bool, false, ◌&&◌, not, nat_le, if◌then◌else◌, IsTrue, Result, Ok}
+use Rattle.std.specs.Prelude.{Err}
 use Rattle.std.specs.Str.{bytes_eq}
 use Rattle.profile.specs.Names.{is_name}
 use Rattle.profile.specs.declared.limits.TheConstants.{LAST_SERIAL}

@@ -1,5 +1,6 @@
 -- What a register shows of its state.
-use Rattle.std.specs.Prelude.{◌≡◌, ℕ, suc, List, [], ◌∷◌, length, map, filter, Bool, ◌&&◌, ◌||◌, not, if◌then◌else◌, Option, is_none}
+use Rattle.std.specs.Prelude.{◌≡◌, ℕ, suc, List, [], ◌∷◌, length, map, filter, Bool, ◌&&◌, ◌||◌, not, if◌then◌else◌}
+use Rattle.std.specs.Prelude.{Option, is_none}
 use Rattle.std.specs.Option.{option_map}
 use Rattle.lines.specs.Digests.{digest_text}
 use Rattle.cert.specs.Certificates.{certificate_text}
@@ -36,7 +37,10 @@ abbrev pub pending_of : State → List Pending
 pending_of s = map pending_row (filter (is_pending s) s.certificates)
 
 abbrev pub issued_row : Certificate → Issued
-issued_row c = record { key_id = c.fields.key_id; certificate = option_map (λ signature. certificate_text c.body signature.bytes) c.signature }
+issued_row c = record {
+  key_id = c.fields.key_id;
+  certificate = option_map (λ signature. certificate_text c.body signature.bytes) c.signature;
+}
 
 abbrev pub issued_of : State → ℕ → Option Issued
 issued_of s serial = option_map issued_row (certificate_of s serial)
@@ -85,7 +89,8 @@ is_revoked_under s place serial = s.revoked serial && is_last_reached (map (λ c
 
 -- the runs of the revoked serials that were issued under the CA at the place
 abbrev pub part_of : State → ℕ → Ca → CaPart
-part_of s place ca = record { ca = ca.key; runs = runs_in (is_revoked_under s place) s.opening.first (length s.certificates) }
+part_of s place ca =
+    record { ca = ca.key; runs = runs_in (is_revoked_under s place) s.opening.first (length s.certificates) }
 
 abbrev pub parts_from : State → ℕ → List Ca → List CaPart
 parts_from s place [] = []

@@ -1,5 +1,6 @@
 -- What is refused: for each kind of message the refusals by their numbers, each with the test whether it applies.
-use Rattle.std.specs.Prelude.{ℕ, List, [], ◌∷◌, length, Bool, true, false, not, ◌||◌, nat_lt, nat_le, if◌then◌else◌, Option, Some, None, is_none}
+use Rattle.std.specs.Prelude.{ℕ, List, [], ◌∷◌, length, Bool, true, false, not, ◌||◌, nat_lt, nat_le, if◌then◌else◌}
+use Rattle.std.specs.Prelude.{Option, Some, None, is_none}
 use Rattle.std.specs.Option.{option_map_or}
 use Rattle.std.specs.Str.{bytes_eq}
 use Rattle.lines.specs.declared.signature.Signature.{Signature}
@@ -35,7 +36,8 @@ use Rattle.message.specs.declared.kinds.Message.TheVariants as message
 use Rattle.office.specs.declared.ca.TheConstants.{MOST_CAS}
 use Rattle.office.specs.declared.certificate.Certificate.{Certificate}
 use Rattle.office.specs.Permissions.{may_administer, is_permitted_by, is_renewal_permitted_by}
-use Rattle.office.specs.State.{State, next_serial, certificate_of, department_named, department_of_serial, is_ca, is_key_id_revoked, is_key_id_of_revoked, is_revoked}
+use Rattle.office.specs.State.{State, next_serial, certificate_of, department_named, department_of_serial, is_ca}
+use Rattle.office.specs.State.{is_key_id_revoked, is_key_id_of_revoked, is_revoked}
 
 abbrev pub same_kind : Kind → Kind → Bool
 same_kind User User = true
@@ -81,7 +83,11 @@ issue_refusals s caller i moment =
 abbrev pub renewal_refusals : State → List ℕ → Renewal → ℕ → List (Refusal × Bool)
 renewal_refusals s caller r moment =
     (NotAllowed, not (may_administer s.opening caller (department_of_serial s r.serial)))
-    ∷ (NotPermitted, is_one_that (λ c. not (is_renewal_permitted_by (department_of_serial s r.serial) c r)) (certificate_of s r.serial))
+    ∷ (
+      NotPermitted,
+      is_one_that (λ c. not (is_renewal_permitted_by (department_of_serial s r.serial) c r))
+          (certificate_of s r.serial),
+    )
     ∷ (AlreadyEnded, is_one_that (λ c. nat_le r.before moment) (certificate_of s r.serial))
     ∷ (KeyIdRevoked, is_key_id_of_revoked s r.serial)
     ∷ (UnknownSerial, is_none (certificate_of s r.serial))

@@ -8,7 +8,8 @@ department_reply name = codes "department " ++ name ++ 10 ∷ []
 
 -- the serial, and the digest of the body
 abbrev pub issue_reply : ℕ → List ℕ → List ℕ
-issue_reply serial body = (codes "issued " ++ decimal serial ++ 10 ∷ []) ++ (codes "digest " ++ digest_text body ++ 10 ∷ [])
+issue_reply serial body =
+    (codes "issued " ++ decimal serial ++ 10 ∷ []) ++ (codes "digest " ++ digest_text body ++ 10 ∷ [])
 
 abbrev pub delivery_reply : ℕ → List ℕ
 delivery_reply serial = codes "signed " ++ decimal serial ++ 10 ∷ []
@@ -19,4 +20,5 @@ revocation_reply version = (codes "revoked" ++ 10 ∷ []) ++ (codes "version " +
 
 -- the number of the CA, and the first serial that it serves
 abbrev pub rollover_reply : ℕ → ℕ → List ℕ
-rollover_reply number since = (codes "rollover " ++ decimal number ++ 10 ∷ []) ++ (codes "since " ++ decimal since ++ 10 ∷ [])
+rollover_reply number since =
+    (codes "rollover " ++ decimal number ++ 10 ∷ []) ++ (codes "since " ++ decimal since ++ 10 ∷ [])

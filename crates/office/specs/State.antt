@@ -1,5 +1,6 @@
 -- The state of the plain office: whole lists.
-use Rattle.std.specs.Prelude.{ℕ, zero, suc, ◌+◌, ◌-◌, List, [], ◌∷◌, length, Bool, true, false, ◌&&◌, ◌||◌, nat_lt, if◌then◌else◌, Option, Some, None, slice_get}
+use Rattle.std.specs.Prelude.{ℕ, zero, suc, ◌+◌, ◌-◌, List, [], ◌∷◌, length, Bool, true, false, ◌&&◌, ◌||◌, nat_lt}
+use Rattle.std.specs.Prelude.{if◌then◌else◌, Option, Some, None, slice_get}
 use Rattle.std.specs.List.{list_any}
 use Rattle.std.specs.Option.{option_map, option_and_then, option_map_or}
 use Rattle.std.specs.Str.{bytes_eq}
@@ -50,7 +51,8 @@ next_serial s = s.opening.first + length s.certificates
 
 -- the certificate of a serial
 abbrev pub certificate_of : State → ℕ → Option Certificate
-certificate_of s serial = if nat_lt serial s.opening.first then None else slice_get s.certificates (serial - s.opening.first)
+certificate_of s serial =
+    if nat_lt serial s.opening.first then None else slice_get s.certificates (serial - s.opening.first)
 
 abbrev pub body_of : State → ℕ → Option (List ℕ)
 body_of s serial = option_map (λ c. c.body) (certificate_of s serial)

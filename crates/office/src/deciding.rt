@@ -28,7 +28,8 @@ fn decide_department(
     department: &Department,
 ) -> Result<Decision, Stop>
     requires lawful { IsTrue (is_department department.now) }
-    ensures decided { (s : State) → Agrees view.now s (message.Department department.now) → (moment : ℕ) (nonce : List ℕ)
+    ensures decided { (s : State) → Agrees view.now s (message.Department department.now)
+        → (moment : ℕ) (nonce : List ℕ)
         → Decided result s caller.now (message.Department department.now) moment nonce }
     ensures room { (s : State) → IfOk result (λ d. HasRoom d.change s) }
     ensures change { IfOk result (λ d. IsLawfulChange d.change) }
@@ -53,7 +54,8 @@ fn decide_issue(
 ) -> Result<Decision, Stop>
     requires viewed { IsView view.now }
     requires lawful { IsTrue (is_issue issue.now) }
-    ensures decided { (s : State) → Agrees view.now s (message.Issue issue.now) → Decided result s caller.now (message.Issue issue.now) moment nonce.now }
+    ensures decided { (s : State) → Agrees view.now s (message.Issue issue.now)
+        → Decided result s caller.now (message.Issue issue.now) moment nonce.now }
     ensures room { (s : State) → Agrees view.now s (message.Issue issue.now) → IfOk result (λ d. HasRoom d.change s) }
     ensures change { IfOk result (λ d. IsLawfulChange d.change) }
     ensures version { IfOk result (λ d. d.version ≡ view.now.version) }
@@ -91,7 +93,8 @@ pub fn decide(
     requires lawful { IsTrue (is_message message.now) }
 
     // The step of the plain machine, for each state that the view shows.
-    ensures decided { (s : State) → Agrees view.now s message.now → Decided result s caller.now message.now moment nonce.now }
+    ensures decided { (s : State) → Agrees view.now s message.now
+        → Decided result s caller.now message.now moment nonce.now }
 
     // A certificate is made only where a serial is left, only certificates that are there are signed, only serials that
     // were handed out are revoked, and a CA comes only where there are fewer than eight.

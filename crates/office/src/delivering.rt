@@ -59,7 +59,8 @@ pub(crate) fn decide_delivery(
     requires { IsTrue (is_delivery delivery.now) }
     ensures decided { (s : State) → Agrees view.now s (message.Deliver delivery.now) → (moment : ℕ) (nonce : List ℕ)
         → Decided result s caller.now (message.Deliver delivery.now) moment nonce }
-    ensures room { (s : State) → Agrees view.now s (message.Deliver delivery.now) → IfOk result (λ d. HasRoom d.change s) }
+    ensures room { (s : State) → Agrees view.now s (message.Deliver delivery.now)
+        → IfOk result (λ d. HasRoom d.change s) }
     ensures change { IfOk result (λ d. IsLawfulChange d.change) }
     ensures version { IfOk result (λ d. d.version ≡ view.now.version) }
 {

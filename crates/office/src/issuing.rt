@@ -65,7 +65,8 @@ pub(crate) fn issued(
     nonce: &[u8; 32],
 ) -> Result<Certificate, NoMemory>
     requires { IsIssuable view.now department.now issue.now }
-    ensures made { IfOk result (λ c. c ≡ certificate_for issue.now view.now.next department.now.kind (newest_key view.now.opening.now view.now.cas.now) nonce.now) }
+    ensures made { IfOk result (λ c. c ≡ certificate_for issue.now view.now.next department.now.kind
+        (newest_key view.now.opening.now view.now.cas.now) nonce.now) }
     ensures lawful { IfOk result (λ c. IsCertificate c) }
 {
     let kind = department.kind;

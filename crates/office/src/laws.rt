@@ -13,7 +13,8 @@ ghost use Rattle.office.specs.Laws.{ReplyFits, ascend_from};
 /// Whatever the message, its refusals stand in the order of their numbers, from 10 on: so the first that applies is the
 /// one with the least number.
 pub fn refusals_ascend()
-    ensures { (s : State) (caller : List ℕ) (m : Message) (moment : ℕ) → ascend_from 10 (refusals s caller m moment) ≡ true }
+    ensures { (s : State) (caller : List ℕ) (m : Message) (moment : ℕ)
+        → ascend_from 10 (refusals s caller m moment) ≡ true }
 {}
 
 /// Each reply that is due, a kept one too, has at most 99 bytes.

@@ -36,7 +36,7 @@ pub use concern::{Concern, concerned};
 pub use deciding::decide;
 pub use fault::StoreFault;
 pub use laws::{refusals_ascend, replies_are_short};
-pub use listing::{entries_among, has_key_id, pending_among};
+pub use listing::{BATCH, Revocations, has_key_id};
 pub use opening::{Opening, OpeningFault};
 pub use publication::{Entry, Issued, Pending, Revoked, Standing};
 pub use registry::Registry;

@@ -33,8 +33,8 @@ pub enum OpeningFault {
 }
 
 impl Opening {
-    /// An opening of these values, or the first fault in the order of `OpeningFault`. It takes no memory, and on a fault
-    /// the texts are dropped.
+    /// An opening of these values, or the first fault in the order of `OpeningFault`. It takes no memory, and on a
+    /// fault the texts are dropped.
     pub fn new(
         ca: [u8; 32],
         root: String,

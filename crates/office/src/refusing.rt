@@ -55,7 +55,8 @@ pub(crate) fn refusal_of_issue(
     ensures least { (s : State) → Agrees view.now s (message.Issue issue.now)
         → result ≡ first_holding (issue_refusals s caller.now issue.now moment) }
     ensures left { result ≡ None → view.now.next ≤ view.now.opening.now.last }
-    ensures permitted { result ≡ None → IfSome (option_copied view.now.department) (λ d. IsTrue (is_permitted d issue.now)) }
+    ensures permitted { result ≡ None → IfSome (option_copied view.now.department)
+        (λ d. IsTrue (is_permitted d issue.now)) }
     ensures there { result ≡ None → IsSome view.now.department }
 {
     if !may_administer(view.opening, caller, view.department) {

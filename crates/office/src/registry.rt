@@ -1,18 +1,22 @@
 //! What the layers above see of a store.
 
-ghost use Rattle.std.specs.Prelude.{◌≡◌, ◌++◌, [], ◌∷◌, List, IfOk, OnOk, OnErr, IfErr};
+ghost use Rattle.std.specs.Prelude.{◌≡◌, ◌++◌, [], ◌∷◌, List, OnOk, OnErr, IfErr};
 ghost use Rattle.office.specs.declared.opening.Opening.{Opening};
 ghost use Rattle.office.specs.declared.arrival.Arrival.{Arrival};
 ghost use Rattle.office.specs.Machine.{body_of};
-ghost use Rattle.office.specs.Publication.{AreRevoked, departments_of, entries_of, issued_of, pending_of};
+ghost use Rattle.office.specs.Listing.{AreRevocations, batch_of};
+ghost use Rattle.office.specs.Publication.{AreRevoked, departments_of, issued_of};
 ghost use Rattle.office.specs.History.{due, state};
 ghost use Rattle.office.specs.Shows.{IsOffice};
-ghost use Rattle.office.specs.Faults.{HasCause, IsOfARegister};
+ghost use Rattle.office.specs.Faults.{HasCause};
+ghost use Rattle.office.specs.Registers.{AnswersBy, FailsAsARegister, MeansOneMore, MeansTheSame};
 
 use crate::arrival::{Arrival, Outcome};
 use crate::ca::Ca;
+use crate::certificate::Certificate;
 use crate::fault::StoreFault;
-use crate::publication::{Entry, Issued, Pending, Revoked};
+use crate::listing::Revocations;
+use crate::publication::{Issued, Revoked};
 use message::Department;
 use std::alloc::Global;
 use text::Text;
@@ -21,10 +25,10 @@ use text::Text;
 ///
 /// Each call's clauses are asked of an honest register alone, as the call leaves it: honesty only falls. What a call
 /// answers was asked of an open register, and the register is open after the answer. A register that a failed disk has
-/// shut stays shut, and answers faults alone. A reading call leaves what the register means as it is, and so does a fault;
-/// while the register is open, all that is kept is as before then, even where it means no history, as in damaged tables.
-/// `Device` is answered only where the database failed, or refused what was to be kept of an arrival, and a register that
-/// means a history answers no other fault but want of memory.
+/// shut stays shut, and answers faults alone. A reading call leaves what the register means as it is, and so does a
+/// fault; while the register is open, all that is kept is as before then, even where it means no history, as in damaged
+/// tables. `Device` is answered only where the database failed, or refused what was to be kept of an arrival, and a
+/// register that means a history answers no other fault but want of memory.
 pub trait Registry {
     /// So far every answer of the disk was true.
     ghost is_honest: { Self → Type 0 };
@@ -50,89 +54,96 @@ pub trait Registry {
         ensures honest { is_honest self.new → is_honest self.old }
         ensures was_open { is_honest self.new → is_open self.new → is_open self.old }
         ensures stays_open { is_honest self.new → OnOk result (is_open self.new) }
-        ensures due { is_honest self.new → IfOk result (λ outcome. (o : Opening) (l : List Arrival) → means self.old o l → outcome ≡ due o l arrival) }
-        ensures next { is_honest self.new → OnOk result ((o : Opening) (l : List Arrival) → means self.old o l → means self.new o (l ++ arrival ∷ [])) }
-        ensures fault { is_honest self.new → OnErr result ((o : Opening) (l : List Arrival) → means self.old o l → means self.new o l) }
+        ensures due { is_honest self.new → AnswersBy means self.old result (λ o l outcome. outcome ≡ due o l arrival) }
+        ensures next { is_honest self.new → OnOk result (MeansOneMore means arrival self.old self.new) }
+        ensures fault { is_honest self.new → OnErr result (MeansTheSame means self.old self.new) }
         ensures before { is_honest self.new → is_open self.new → OnErr result (is_as_before self.old self.new) }
         ensures cause { IfErr result (λ e. HasCause e (stops self.old self.new arrival)) }
-        ensures only { is_honest self.new → IfErr result (λ e. (o : Opening) (l : List Arrival) → means self.old o l → IsOfARegister e) };
+        ensures only { is_honest self.new → FailsAsARegister means self.old result };
 
     /// The CAs by number.
     fn cas(&mut self, alloc: Global) -> Result<Vec<Ca>, StoreFault>
         ensures honest { is_honest self.new → is_honest self.old }
         ensures was_open { is_honest self.new → is_open self.new → is_open self.old }
         ensures stays_open { is_honest self.new → OnOk result (is_open self.new) }
-        ensures row { is_honest self.new → IfOk result (λ cas. (o : Opening) (l : List Arrival) → means self.old o l → cas.items ≡ (state o l).cas) }
-        ensures same { is_honest self.new → (o : Opening) (l : List Arrival) → means self.old o l → means self.new o l }
+        ensures row { is_honest self.new → AnswersBy means self.old result (λ o l cas. cas.items ≡ (state o l).cas) }
+        ensures same { is_honest self.new → MeansTheSame means self.old self.new }
         ensures before { is_honest self.new → is_open self.new → is_as_before self.old self.new }
         ensures cause { IfErr result (λ e. HasCause e (fails self.old self.new)) }
-        ensures only { is_honest self.new → IfErr result (λ e. (o : Opening) (l : List Arrival) → means self.old o l → IsOfARegister e) };
-
-    /// The certificates that are neither signed nor revoked, by serial.
-    fn pending(&mut self, alloc: Global) -> Result<Vec<Pending>, StoreFault>
-        ensures honest { is_honest self.new → is_honest self.old }
-        ensures was_open { is_honest self.new → is_open self.new → is_open self.old }
-        ensures stays_open { is_honest self.new → OnOk result (is_open self.new) }
-        ensures row { is_honest self.new → IfOk result (λ rows. (o : Opening) (l : List Arrival) → means self.old o l → rows.items ≡ pending_of (state o l)) }
-        ensures same { is_honest self.new → (o : Opening) (l : List Arrival) → means self.old o l → means self.new o l }
-        ensures before { is_honest self.new → is_open self.new → is_as_before self.old self.new }
-        ensures cause { IfErr result (λ e. HasCause e (fails self.old self.new)) }
-        ensures only { is_honest self.new → IfErr result (λ e. (o : Opening) (l : List Arrival) → means self.old o l → IsOfARegister e) };
+        ensures only { is_honest self.new → FailsAsARegister means self.old result };
 
     /// The body of a serial, or `None` where it wasn't issued.
     fn body(&mut self, alloc: Global, serial: u64) -> Result<Option<Text>, StoreFault>
         ensures honest { is_honest self.new → is_honest self.old }
         ensures was_open { is_honest self.new → is_open self.new → is_open self.old }
         ensures stays_open { is_honest self.new → OnOk result (is_open self.new) }
-        ensures row { is_honest self.new → IfOk result (λ body. (o : Opening) (l : List Arrival) → means self.old o l → body ≡ body_of (state o l) serial) }
-        ensures same { is_honest self.new → (o : Opening) (l : List Arrival) → means self.old o l → means self.new o l }
+        ensures row { is_honest self.new → AnswersBy means self.old result
+            (λ o l body. body ≡ body_of (state o l) serial) }
+        ensures same { is_honest self.new → MeansTheSame means self.old self.new }
         ensures before { is_honest self.new → is_open self.new → is_as_before self.old self.new }
         ensures cause { IfErr result (λ e. HasCause e (fails self.old self.new)) }
-        ensures only { is_honest self.new → IfErr result (λ e. (o : Opening) (l : List Arrival) → means self.old o l → IsOfARegister e) };
+        ensures only { is_honest self.new → FailsAsARegister means self.old result };
 
     /// The certificate of a serial, or `None` where it wasn't issued.
     fn certificate(&mut self, alloc: Global, serial: u64) -> Result<Option<Issued>, StoreFault>
         ensures honest { is_honest self.new → is_honest self.old }
         ensures was_open { is_honest self.new → is_open self.new → is_open self.old }
         ensures stays_open { is_honest self.new → OnOk result (is_open self.new) }
-        ensures row { is_honest self.new → IfOk result (λ issued. (o : Opening) (l : List Arrival) → means self.old o l → issued ≡ issued_of (state o l) serial) }
-        ensures same { is_honest self.new → (o : Opening) (l : List Arrival) → means self.old o l → means self.new o l }
+        ensures row { is_honest self.new → AnswersBy means self.old result
+            (λ o l issued. issued ≡ issued_of (state o l) serial) }
+        ensures same { is_honest self.new → MeansTheSame means self.old self.new }
         ensures before { is_honest self.new → is_open self.new → is_as_before self.old self.new }
         ensures cause { IfErr result (λ e. HasCause e (fails self.old self.new)) }
-        ensures only { is_honest self.new → IfErr result (λ e. (o : Opening) (l : List Arrival) → means self.old o l → IsOfARegister e) };
+        ensures only { is_honest self.new → FailsAsARegister means self.old result };
 
     /// What the published list is made of.
     fn revoked(&mut self, alloc: Global) -> Result<Revoked, StoreFault>
         ensures honest { is_honest self.new → is_honest self.old }
         ensures was_open { is_honest self.new → is_open self.new → is_open self.old }
         ensures stays_open { is_honest self.new → OnOk result (is_open self.new) }
-        ensures row { is_honest self.new → IfOk result (λ revoked. (o : Opening) (l : List Arrival) → means self.old o l → AreRevoked revoked (state o l)) }
-        ensures same { is_honest self.new → (o : Opening) (l : List Arrival) → means self.old o l → means self.new o l }
+        ensures row { is_honest self.new → AnswersBy means self.old result
+            (λ o l revoked. AreRevoked revoked (state o l)) }
+        ensures same { is_honest self.new → MeansTheSame means self.old self.new }
         ensures before { is_honest self.new → is_open self.new → is_as_before self.old self.new }
         ensures cause { IfErr result (λ e. HasCause e (fails self.old self.new)) }
-        ensures only { is_honest self.new → IfErr result (λ e. (o : Opening) (l : List Arrival) → means self.old o l → IsOfARegister e) };
+        ensures only { is_honest self.new → FailsAsARegister means self.old result };
 
     /// The departments by name.
     fn departments(&mut self, alloc: Global) -> Result<Vec<Department>, StoreFault>
         ensures honest { is_honest self.new → is_honest self.old }
         ensures was_open { is_honest self.new → is_open self.new → is_open self.old }
         ensures stays_open { is_honest self.new → OnOk result (is_open self.new) }
-        ensures row { is_honest self.new → IfOk result (λ rows. (o : Opening) (l : List Arrival) → means self.old o l → rows.items ≡ departments_of (state o l)) }
-        ensures same { is_honest self.new → (o : Opening) (l : List Arrival) → means self.old o l → means self.new o l }
+        ensures row { is_honest self.new → AnswersBy means self.old result
+            (λ o l rows. rows.items ≡ departments_of (state o l)) }
+        ensures same { is_honest self.new → MeansTheSame means self.old self.new }
         ensures before { is_honest self.new → is_open self.new → is_as_before self.old self.new }
         ensures cause { IfErr result (λ e. HasCause e (fails self.old self.new)) }
-        ensures only { is_honest self.new → IfErr result (λ e. (o : Opening) (l : List Arrival) → means self.old o l → IsOfARegister e) };
+        ensures only { is_honest self.new → FailsAsARegister means self.old result };
 
-    /// Every certificate, by serial.
-    fn certificates(&mut self, alloc: Global) -> Result<Vec<Entry>, StoreFault>
+    /// The serials and the key ids that are revoked.
+    fn revocations(&mut self, alloc: Global) -> Result<Revocations, StoreFault>
         ensures honest { is_honest self.new → is_honest self.old }
         ensures was_open { is_honest self.new → is_open self.new → is_open self.old }
         ensures stays_open { is_honest self.new → OnOk result (is_open self.new) }
-        ensures row { is_honest self.new → IfOk result (λ rows. (o : Opening) (l : List Arrival) → means self.old o l → rows.items ≡ entries_of (state o l)) }
-        ensures same { is_honest self.new → (o : Opening) (l : List Arrival) → means self.old o l → means self.new o l }
+        ensures row { is_honest self.new → AnswersBy means self.old result
+            (λ o l revocations. AreRevocations revocations (state o l)) }
+        ensures same { is_honest self.new → MeansTheSame means self.old self.new }
         ensures before { is_honest self.new → is_open self.new → is_as_before self.old self.new }
         ensures cause { IfErr result (λ e. HasCause e (fails self.old self.new)) }
-        ensures only { is_honest self.new → IfErr result (λ e. (o : Opening) (l : List Arrival) → means self.old o l → IsOfARegister e) };
+        ensures only { is_honest self.new → FailsAsARegister means self.old result };
+
+    /// Certificates by serial, the first of which stands at place 0: those from this place on, of many the first 1000.
+    /// At the end there is none.
+    fn certificates(&mut self, alloc: Global, place: u64) -> Result<Vec<Certificate>, StoreFault>
+        ensures honest { is_honest self.new → is_honest self.old }
+        ensures was_open { is_honest self.new → is_open self.new → is_open self.old }
+        ensures stays_open { is_honest self.new → OnOk result (is_open self.new) }
+        ensures row { is_honest self.new → AnswersBy means self.old result
+            (λ o l rows. rows.items ≡ batch_of (state o l) place) }
+        ensures same { is_honest self.new → MeansTheSame means self.old self.new }
+        ensures before { is_honest self.new → is_open self.new → is_as_before self.old self.new }
+        ensures cause { IfErr result (λ e. HasCause e (fails self.old self.new)) }
+        ensures only { is_honest self.new → FailsAsARegister means self.old result };
 
     /// It shows no office whose opening isn't lawful, nor one whose version has none after it.
     ghost lawful: { (s : Self) (o : Opening) (l : List Arrival) → means s o l → IsOffice o l };

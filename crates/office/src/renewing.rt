@@ -67,7 +67,8 @@ fn renewed(
     nonce: &[u8; 32],
 ) -> Result<Certificate, NoMemory>
     requires { IsRenewable view.now old.now renewal.now }
-    ensures made { IfOk result (λ c. c ≡ renewed_certificate old.now renewal.now view.now.next (newest_key view.now.opening.now view.now.cas.now) nonce.now) }
+    ensures made { IfOk result (λ c. c ≡ renewed_certificate old.now renewal.now view.now.next
+        (newest_key view.now.opening.now view.now.cas.now) nonce.now) }
     ensures lawful { IfOk result (λ c. IsCertificate c) }
 {
     let fields = CertFields {
@@ -103,7 +104,8 @@ pub(crate) fn decide_renewal(
 ) -> Result<Decision, Stop>
     requires viewed { IsView view.now }
     requires lawful { IsTrue (is_renewal renewal.now) }
-    ensures decided { (s : State) → Agrees view.now s (message.Renew renewal.now) → Decided result s caller.now (message.Renew renewal.now) moment nonce.now }
+    ensures decided { (s : State) → Agrees view.now s (message.Renew renewal.now)
+        → Decided result s caller.now (message.Renew renewal.now) moment nonce.now }
     ensures room { (s : State) → Agrees view.now s (message.Renew renewal.now) → IfOk result (λ d. HasRoom d.change s) }
     ensures change { IfOk result (λ d. IsLawfulChange d.change) }
     ensures version { IfOk result (λ d. d.version ≡ view.now.version) }

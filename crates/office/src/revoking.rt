@@ -22,7 +22,8 @@ use std::alloc::Global;
 use text::{NoMemory, Text};
 
 fn refusal_of_serial(view: &View, caller: &[u8], serial: u64) -> Option<Refusal>
-    ensures least { (s : State) → Agrees view.now s (message.RevokeSerial serial) → result ≡ first_holding (serial_refusals s caller.now serial) }
+    ensures least { (s : State) → Agrees view.now s (message.RevokeSerial serial)
+        → result ≡ first_holding (serial_refusals s caller.now serial) }
     ensures there { result ≡ None → IsSome (option_copied view.now.certificate) }
 {
     match view.certificate {
@@ -33,7 +34,8 @@ fn refusal_of_serial(view: &View, caller: &[u8], serial: u64) -> Option<Refusal>
 }
 
 fn refusal_of_range(view: &View, caller: &[u8], range: SerialRange) -> Option<Refusal>
-    ensures least { (s : State) → Agrees view.now s (message.RevokeRange range) → result ≡ first_holding (range_refusals s caller.now range) }
+    ensures least { (s : State) → Agrees view.now s (message.RevokeRange range)
+        → result ≡ first_holding (range_refusals s caller.now range) }
     ensures first { result ≡ None → view.now.opening.now.first ≤ range.lo }
     ensures issued { result ≡ None → range.hi < view.now.next }
 {
@@ -47,7 +49,8 @@ fn refusal_of_range(view: &View, caller: &[u8], range: SerialRange) -> Option<Re
 }
 
 fn refusal_of_key_id(view: &View, caller: &[u8], key_id: &Text) -> Option<Refusal>
-    ensures { (s : State) → Agrees view.now s (message.RevokeKeyId key_id.now) → result ≡ first_holding (key_id_refusals s caller.now key_id.now) }
+    ensures { (s : State) → Agrees view.now s (message.RevokeKeyId key_id.now)
+        → result ≡ first_holding (key_id_refusals s caller.now key_id.now) }
 {
     if !may_administer(view.opening, caller, view.department) {
         return Some(Refusal::NotAllowed);
@@ -60,7 +63,13 @@ fn refusal_of_key_id(view: &View, caller: &[u8], key_id: &Text) -> Option<Refusa
 
 /// All that is to be revoked is.
 fn unchanged(alloc: Global, view: &View) -> Result<Decision, NoMemory>
-    ensures { IfOk result (λ d. d ≡ record { reply = revocation_reply view.now.version; next = view.now.next; version = view.now.version; date = view.now.date; change = change.Nothing }) }
+    ensures { IfOk result (λ d. d ≡ record {
+      reply = revocation_reply view.now.version;
+      next = view.now.next;
+      version = view.now.version;
+      date = view.now.date;
+      change = change.Nothing;
+    }) }
 {
     let reply = to_revocation(alloc, view.version)?;
     Ok(unpublished(view, reply, Change::Nothing))
@@ -69,7 +78,13 @@ fn unchanged(alloc: Global, view: &View) -> Result<Decision, NoMemory>
 /// More is revoked.
 fn changed(alloc: Global, view: &View, change: Change, moment: u64) -> Result<Decision, NoMemory>
     requires { view.now.version < 9223372036854775807 }
-    ensures { IfOk result (λ d. d ≡ record { reply = revocation_reply (view.now.version + 1); next = view.now.next; version = view.now.version + 1; date = moment; change = change }) }
+    ensures { IfOk result (λ d. d ≡ record {
+      reply = revocation_reply (view.now.version + 1);
+      next = view.now.next;
+      version = view.now.version + 1;
+      date = moment;
+      change = change;
+    }) }
 {
     let reply = to_revocation(alloc, view.version + 1)?;
     Ok(published(view, reply, change, moment))
@@ -87,7 +102,8 @@ pub(crate) fn decide_serial(
     requires lawful { IsTrue (is_serial serial) }
     ensures decided { (s : State) → Agrees view.now s (message.RevokeSerial serial) → (nonce : List ℕ)
         → Decided result s caller.now (message.RevokeSerial serial) moment nonce }
-    ensures room { (s : State) → Agrees view.now s (message.RevokeSerial serial) → IfOk result (λ d. HasRoom d.change s) }
+    ensures room { (s : State) → Agrees view.now s (message.RevokeSerial serial)
+        → IfOk result (λ d. HasRoom d.change s) }
     ensures change { IfOk result (λ d. IsLawfulChange d.change) }
     ensures version { IfOk result (λ d. d.version ≤ view.now.version + 1) }
 {
@@ -141,7 +157,8 @@ pub(crate) fn decide_key_id(
     requires lawful { IsTrue (is_key_id key_id.now) }
     ensures decided { (s : State) → Agrees view.now s (message.RevokeKeyId key_id.now) → (nonce : List ℕ)
         → Decided result s caller.now (message.RevokeKeyId key_id.now) moment nonce }
-    ensures room { (s : State) → Agrees view.now s (message.RevokeKeyId key_id.now) → IfOk result (λ d. HasRoom d.change s) }
+    ensures room { (s : State) → Agrees view.now s (message.RevokeKeyId key_id.now)
+        → IfOk result (λ d. HasRoom d.change s) }
     ensures change { IfOk result (λ d. IsLawfulChange d.change) }
     ensures version { IfOk result (λ d. d.version ≤ view.now.version + 1) }
 {

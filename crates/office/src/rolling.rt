@@ -23,7 +23,8 @@ fn is_ca(cas: &[Ca], key: &[u8]) -> bool
 
 /// The refusal of a rollover with the least number.
 fn refusal_of_rollover(view: &View, caller: &[u8], line: &KeyLine) -> Option<Refusal>
-    ensures least { (s : State) → Agrees view.now s (message.Rollover line.now) → result ≡ first_holding (rollover_refusals s caller.now line.now.key) }
+    ensures least { (s : State) → Agrees view.now s (message.Rollover line.now)
+        → result ≡ first_holding (rollover_refusals s caller.now line.now.key) }
     ensures few { result ≡ None → length view.now.cas.now < 8 }
 {
     if !view.opening.root.is(caller) {

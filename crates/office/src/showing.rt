@@ -29,7 +29,8 @@ impl Certificate {
 
     // The body with its signature, if there is one.
     fn joined(&self, alloc: Global) -> Result<Option<Text>, NoMemory>
-        ensures { IfOk result (λ joined. joined ≡ option_map (λ signature. certificate_text self.now.body signature.bytes) self.now.signature) }
+        ensures { IfOk result (λ joined. joined ≡ option_map
+            (λ signature. certificate_text self.now.body signature.bytes) self.now.signature) }
     {
         match &self.signature {
             Some(signature) => {
@@ -93,8 +94,8 @@ fn zipped(alloc: Global, cas: &[Ca], split: Vec<Runs>) -> Result<Vec<CaPart>, Al
         .collect(alloc)
 }
 
-/// A part for each CA: those of the serials that it signs, which are the ones from its first serial to the next CA's. No
-/// CA serves from an earlier serial on than the one before it.
+/// A part for each CA: those of the serials that it signs, which are the ones from its first serial to the next CA's.
+/// No CA serves from an earlier serial on than the one before it.
 pub fn parts_of(alloc: Global, cas: &[Ca], serials: &Runs) -> Result<Vec<CaPart>, NoMemory>
     requires { IsNonDecreasing (numbers cas.now) }
     ensures { IfOk result (λ parts. AreParts parts.items cas.now serials.now) }

@@ -57,7 +57,8 @@ row_of a reply = record { caller = a.caller; key = a.key; bytes = a.bytes; reply
 
 -- what is found of an arrival that is no repeat
 abbrev pub Judges : Result Decision Stop → Contents → Arrival → Type 0
-Judges (Ok d) t a = IsOkAnd (judged (state_of t) t.kept a) (λ f. (f.arrival ≡ a) × (f.reply ≡ d.reply) × (written d (state_of t) ≡ change (state_of t) f))
+Judges (Ok d) t a = IsOkAnd (judged (state_of t) t.kept a) (λ f. (f.arrival ≡ a) × (f.reply ≡ d.reply)
+    × (written d (state_of t) ≡ change (state_of t) f))
 Judges (Err (stop.Refused r)) t a = judged (state_of t) t.kept a ≡ Err r
 Judges (Err stop.NoMemory) t a = Unit {0}
 

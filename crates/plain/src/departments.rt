@@ -53,7 +53,8 @@ pub(crate) fn put_department(
     departments: &mut Vec<Department>,
     department: Department,
 ) -> Result<(), NoMemory>
-    ensures ok { OnOk result (entries departments.new.items ≡ put (slice_cmp nat_cmp) department.name department (entries departments.old.items)) }
+    ensures ok { OnOk result (entries departments.new.items ≡ put (slice_cmp nat_cmp) department.name department
+        (entries departments.old.items)) }
     ensures err { OnErr result (departments.new.items ≡ departments.old.items) }
 {
     let place = place_of(departments, department.name.as_slice());

@@ -71,7 +71,8 @@ impl PlainStore {
     /// What a message gives.
     fn decided(&self, alloc: Global, arrival: &Arrival, message: &Message) -> Result<Decision, Stop>
         requires { IsTrue (is_message message.now) }
-        ensures decided { Decided result (state_of self.now) arrival.now.caller message.now arrival.now.moment arrival.now.nonce }
+        ensures decided { Decided result (state_of self.now) arrival.now.caller message.now arrival.now.moment
+            arrival.now.nonce }
         ensures room { IfOk result (λ d. HasRoom d.change (state_of self.now)) }
         ensures change { IfOk result (λ d. IsLawfulChange d.change) }
         ensures version { IfOk result (λ d. d.version ≤ LAST_VERSION) }

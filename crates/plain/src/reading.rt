@@ -1,32 +1,86 @@
 //! What the store shows.
 
-ghost use Rattle.std.specs.Prelude.{◌≡◌, IfOk};
+ghost use Rattle.std.specs.Prelude.{◌≡◌, IfOk, take, drop};
 ghost use Rattle.office.specs.Parts.{AreParts};
-ghost use Rattle.office.specs.Publication.{entries_of, pending_of};
+ghost use Rattle.office.specs.Listing.{AreRevocations, batch_of};
 ghost use Rattle.plain.specs.Contents.{state_of};
 
 use crate::store::PlainStore;
-use krl::CaPart;
+use krl::{CaPart, Runs};
 use message::Department;
-use office::{Ca, Entry, Pending, entries_among, parts_of, pending_among};
+use office::{BATCH, Ca, Certificate, Revocations, parts_of};
 use std::alloc::Global;
-use text::{NoMemory, Texts};
+use text::{NoMemory, Text, Texts};
+
+fn first_batch(certificates: &[Certificate]) -> &[Certificate]
+    ensures { result.now ≡ take 1000 certificates.now }
+{
+    if certificates.len() < BATCH {
+        return certificates;
+    }
+    &certificates[..BATCH]
+}
+
+fn batch_of(certificates: &[Certificate], place: u64) -> &[Certificate]
+    ensures { result.now ≡ take 1000 (drop place certificates.now) }
+{
+    let place = place as usize;
+    if certificates.len() <= place {
+        return &[];
+    }
+    first_batch(&certificates[place..])
+}
+
+fn copied(certificates: &[Certificate], alloc: Global) -> Result<Vec<Certificate>, NoMemory>
+    ensures { IfOk result (λ copies. copies.items ≡ certificates.now) }
+{
+    let mut copies = Vec::with_capacity(alloc, certificates.len())?;
+    for certificate in certificates {
+        copies.push(certificate.copied(alloc)?)?;
+    }
+    Ok(copies)
+}
+
+fn copied_runs(runs: &Runs, alloc: Global) -> Result<Runs, NoMemory>
+    ensures { IfOk result (λ copy. copy ≡ runs.now) }
+{
+    let Some(copy) = Runs::from_runs(Vec::from_slice(alloc, runs.runs())?) else {
+        unreachable!();
+    };
+    Ok(copy)
+}
 
 impl PlainStore {
-    /// The certificates that are neither signed nor revoked.
-    pub(crate) fn pending_rows(&self, alloc: Global) -> Result<Vec<Pending>, NoMemory>
-        ensures { IfOk result (λ rows. rows.items ≡ pending_of (state_of self.now)) }
+    /// Certificates by serial, from this place on, of many the first 1000.
+    pub(crate) fn certificate_rows(
+        &self,
+        alloc: Global,
+        place: u64,
+    ) -> Result<Vec<Certificate>, NoMemory>
+        ensures { IfOk result (λ rows. rows.items ≡ batch_of (state_of self.now) place) }
     {
-        let key_ids = self.revoked_key_ids.as_slice();
-        pending_among(alloc, self.certificates.as_slice(), &self.revoked, key_ids)
+        copied(batch_of(self.certificates.as_slice(), place), alloc)
     }
 
-    /// Every certificate.
-    pub(crate) fn entries(&self, alloc: Global) -> Result<Vec<Entry>, NoMemory>
-        ensures { IfOk result (λ rows. rows.items ≡ entries_of (state_of self.now)) }
+    /// The revoked key ids.
+    fn key_id_rows(&self, alloc: Global) -> Result<Vec<Text>, NoMemory>
+        ensures { IfOk result (λ ids. ids.items ≡ self.now.key_ids) }
     {
-        let key_ids = self.revoked_key_ids.as_slice();
-        entries_among(alloc, self.certificates.as_slice(), &self.revoked, key_ids)
+        let mut key_ids = Vec::with_capacity(alloc, self.revoked_key_ids.len())?;
+        for key_id in &self.revoked_key_ids {
+            key_ids.push(key_id.copied(alloc)?)?;
+        }
+        Ok(key_ids)
+    }
+
+    /// The revoked serials and key ids.
+    pub(crate) fn revoked_rows(&self, alloc: Global) -> Result<Revocations, NoMemory>
+        ensures { IfOk result (λ rows. AreRevocations rows (state_of self.now)) }
+    {
+        Ok(Revocations {
+            serials: copied_runs(&self.revoked, alloc)?,
+            key_ids: self.key_id_rows(alloc)?,
+        })
     }
 
     /// The revoked serials of each CA.
@@ -36,15 +90,11 @@ impl PlainStore {
         parts_of(alloc, self.cas.as_slice(), &self.revoked)
     }
 
-    /// The revoked key ids.
+    /// The revoked key ids, as the published list has them.
     pub(crate) fn key_ids(&self, alloc: Global) -> Result<Texts, NoMemory>
         ensures { IfOk result (λ ids. ids ≡ self.now.key_ids) }
     {
-        let mut key_ids = Texts::new(alloc);
-        for key_id in &self.revoked_key_ids {
-            key_ids.push(key_id.copied(alloc)?)?;
-        }
-        Ok(key_ids)
+        Ok(Texts::from_vec(self.key_id_rows(alloc)?))
     }
 
     /// The CAs.

@@ -10,7 +10,9 @@ use crate::judging::kept_reply;
 use crate::store::PlainStore;
 use krl::KrlHead;
 use message::Department;
-use office::{Arrival, Ca, Entry, Issued, Outcome, Pending, Registry, Revoked, Stop, StoreFault};
+use office::{
+    Arrival, Ca, Certificate, Issued, Outcome, Registry, Revocations, Revoked, Stop, StoreFault,
+};
 use std::alloc::Global;
 use text::Text;
 
@@ -46,10 +48,6 @@ impl Registry for PlainStore {
         Ok(self.ca_rows(alloc)?)
     }
 
-    fn pending(&mut self, alloc: Global) -> Result<Vec<Pending>, StoreFault> {
-        Ok(self.pending_rows(alloc)?)
-    }
-
     fn body(&mut self, alloc: Global, serial: u64) -> Result<Option<Text>, StoreFault> {
         match self.issued(serial) {
             Some(certificate) => Ok(Some(certificate.body.copied(alloc)?)),
@@ -79,8 +77,12 @@ impl Registry for PlainStore {
         Ok(self.department_rows(alloc)?)
     }
 
-    fn certificates(&mut self, alloc: Global) -> Result<Vec<Entry>, StoreFault> {
-        Ok(self.entries(alloc)?)
+    fn revocations(&mut self, alloc: Global) -> Result<Revocations, StoreFault> {
+        Ok(self.revoked_rows(alloc)?)
+    }
+
+    fn certificates(&mut self, alloc: Global, place: u64) -> Result<Vec<Certificate>, StoreFault> {
+        Ok(self.certificate_rows(alloc, place)?)
     }
 
     ghost lawful = { λ s o l m. shows_office (state_of s) s.kept o l m };

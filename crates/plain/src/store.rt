@@ -37,9 +37,29 @@ impl Model for PlainStore {
 
     ghost Value = { Contents };
 
-    ghost view = { λ s. record { opening = s.opening; cas = s.cas.items; departments = s.departments.items; certificates = s.certificates.items; runs = s.revoked; key_ids = s.revoked_key_ids.items; kept = s.kept.items; version = s.version; date = s.date } };
+    ghost view = { λ s. record {
+      opening = s.opening;
+      cas = s.cas.items;
+      departments = s.departments.items;
+      certificates = s.certificates.items;
+      runs = s.revoked;
+      key_ids = s.revoked_key_ids.items;
+      kept = s.kept.items;
+      version = s.version;
+      date = s.date;
+    } };
 
-    ghost invariant = { λ s. AreKept (record { opening = s.opening; cas = s.cas.items; departments = s.departments.items; certificates = s.certificates.items; runs = s.revoked; key_ids = s.revoked_key_ids.items; kept = s.kept.items; version = s.version; date = s.date }) };
+    ghost invariant = { λ s. AreKept (record {
+      opening = s.opening;
+      cas = s.cas.items;
+      departments = s.departments.items;
+      certificates = s.certificates.items;
+      runs = s.revoked;
+      key_ids = s.revoked_key_ids.items;
+      kept = s.kept.items;
+      version = s.version;
+      date = s.date;
+    }) };
 }
 
 impl PlainStore {

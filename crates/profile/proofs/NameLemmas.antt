@@ -1,5 +1,7 @@
 -- Rules and key ids, by how they are spelled.
-use Rattle.std.proofs.Common.{false, ◌≡◌, ◌<◌, ◌-◌, inl, inr, ℕ, List, [], ◌∷◌, ◌++◌, length, take, drop, true, ◌&&◌, not, ◌==◌, nat_lt, arith, ap, sym, ◌∙◌, refl, subst, length-append, length-take, take-append-drop}
+use Rattle.std.proofs.Common.{false, ◌≡◌, ◌<◌, ◌-◌, inl, inr, ℕ, List, [], ◌∷◌, ◌++◌, length}
+use Rattle.std.proofs.Common.{take, drop, true, ◌&&◌, not, ◌==◌, nat_lt, arith, ap, sym}
+use Rattle.std.proofs.Common.{◌∙◌, refl, subst, length-append, length-take, take-append-drop}
 use Rattle.std.specs.List.{list_all, prefix_len}
 use Rattle.std.specs.Str.{bytes_eq}
 use Rattle.std.proofs.lemmas.Bool.{and_parts, and_from, or_cases, or_left, or_right, eqb-true, ltb-true, lt-ltb}
@@ -8,7 +10,8 @@ use Rattle.std.proofs.lemmas.Slice.Eq.{bytes_eq-Decides}
 use Rattle.std.proofs.Math.Seq.{drop-append_seam}
 use Rattle.profile.proofs.Lacking.{Lacks, lacks_from, before_first-append}
 use Rattle.profile.specs.Laws.{Meets, MeetsSuffix, IsKeyId}
-use Rattle.profile.specs.Names.{has_size, is_name, is_name_byte, meets, meets_suffix, ends_longer, department_of, is_key_id, is_key_id_end, is_key_id_byte}
+use Rattle.profile.specs.Names.{has_size, is_name, is_name_byte, meets, meets_suffix, ends_longer}
+use Rattle.profile.specs.Names.{department_of, is_key_id, is_key_id_end, is_key_id_byte}
 
 ends_longer_found : (t suffix : List ℕ) → ends_longer t suffix ≡ true → MeetsSuffix t (42 ∷ suffix)
 ends_longer_found t suffix h =

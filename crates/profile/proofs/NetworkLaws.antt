@@ -1,5 +1,7 @@
 -- Networks, by how they are spelled.
-use Rattle.std.proofs.Common.{◌≡◌, ◌<◌, ◌≤◌, ◌+◌, ◌-◌, ◌*◌, ◌%◌, ◌^◌, inl, inr, ℕ, suc, List, [], ◌∷◌, ◌++◌, length, map, true, false, ◌&&◌, ◌==◌, nat_le, decimal, Option, Some, None, arith, ap, sym, ◌∙◌, refl, append_assoc}
+use Rattle.std.proofs.Common.{◌≡◌, ◌<◌, ◌≤◌, ◌+◌, ◌-◌, ◌*◌, ◌%◌, ◌^◌, inl, inr, ℕ, suc, List, []}
+use Rattle.std.proofs.Common.{◌∷◌, ◌++◌, length, map, true, false, ◌&&◌, ◌==◌, nat_le, decimal}
+use Rattle.std.proofs.Common.{Option, Some, None, arith, ap, sym, ◌∙◌, refl, append_assoc}
 use Rattle.std.specs.Char.{is_ascii_digit}
 use Rattle.std.specs.List.{list_all, slice_split, join_with_byte, before_first, after_first, AllByRecursion}
 use Rattle.std.specs.Net.Text.{dotted_text}
@@ -9,11 +11,13 @@ use Rattle.std.proofs.lemmas.List.{length-map}
 use Rattle.std.proofs.lemmas.List.Elements.{All-append, All-from_recursion, recursion_from_All}
 use Rattle.std.proofs.lemmas.List.Splits.{join_with_byte-slice_split, length-slice_split}
 use Rattle.profile.proofs.DecimalLemmas.{number_of-decimal, number_spelled}
-use Rattle.profile.proofs.Lacking.{Lacks, decimal_lacks, before_first-append, after_first-append, cut_at, slice_split-join_with_byte}
+use Rattle.profile.proofs.Lacking.{Lacks, decimal_lacks, before_first-append}
+use Rattle.profile.proofs.Lacking.{after_first-append, cut_at, slice_split-join_with_byte}
 use Rattle.profile.proofs.NetworkLemmas.{address_of-dotted_text, octets_dotted}
 use Rattle.profile.specs.Decimals.{number_of}
 use Rattle.profile.specs.Laws.{AreNetworks}
-use Rattle.profile.specs.Networks.{are_octets, address_of, is_block, is_network, are_networks, Network, IsNetwork, network_text}
+use Rattle.profile.specs.Networks.{are_octets, address_of, is_block, is_network}
+use Rattle.profile.specs.Networks.{are_networks, Network, IsNetwork, network_text}
 
 -- the text is this network's
 pub record Spells (t : List ℕ) : Type 0 where

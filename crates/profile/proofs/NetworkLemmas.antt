@@ -1,5 +1,6 @@
 -- Networks: what their texts are.
-use Rattle.std.proofs.Common.{◌≡◌, ◌<◌, ◌+◌, ◌*◌, ℕ, List, [], ◌∷◌, ◌++◌, length, true, ◌==◌, decimal, Some, None, arith, ap, sym, ◌∙◌, refl, append_assoc, map, cond, inl, inr, subst}
+use Rattle.std.proofs.Common.{◌≡◌, ◌<◌, ◌+◌, ◌*◌, ℕ, List, [], ◌∷◌, ◌++◌, length, true, ◌==◌, decimal, Some}
+use Rattle.std.proofs.Common.{None, arith, ap, sym, ◌∙◌, refl, append_assoc, map, cond, inl, inr, subst}
 use Rattle.std.specs.Int.{from_be_bytes, w32}
 use Rattle.std.specs.List.{list_all, slice_split, join_with_byte}
 use Rattle.std.specs.Net.Grammar.{IsDotted}

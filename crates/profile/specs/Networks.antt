@@ -1,5 +1,6 @@
 -- IPv4 networks in CIDR notation (RFC 4632 section 3.1), as source-address lists them (PROTOCOL.certkeys).
-use Rattle.std.specs.Prelude.{◌≡◌, ℕ, ◌+◌, ◌-◌, ◌*◌, ◌^◌, ◌%◌, ◌<◌, ◌≤◌, List, ◌++◌, length, fold, codes, decimal, Bool, false, ◌&&◌, ◌==◌, nat_le, Option, Some, None, if◌then◌else◌}
+use Rattle.std.specs.Prelude.{◌≡◌, ℕ, ◌+◌, ◌-◌, ◌*◌, ◌^◌, ◌%◌, ◌<◌, ◌≤◌, List, ◌++◌, length, fold, codes}
+use Rattle.std.specs.Prelude.{decimal, Bool, false, ◌&&◌, ◌==◌, nat_le, Option, Some, None, if◌then◌else◌}
 use Rattle.std.specs.List.{list_all, slice_split, before_first, after_first}
 use Rattle.std.specs.Net.Text.{dotted_text}
 use Rattle.std.specs.Str.Parse.{digits_value}

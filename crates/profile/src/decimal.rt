@@ -48,7 +48,11 @@ pub fn read_decimal(text: &[u8]) -> Option<u64>
     }
 }
 
-/// The number in decimal, without leading zeros, at the end of `out`. A refusal leaves `out` as it was.
+/// The number in decimal, without leading zeros, at the end of `out`.
+///
+/// # Errors
+///
+/// `NoMemory`, where a growth was refused. `out` is as it was.
 pub fn put_decimal(out: &mut Vec<u8>, number: u64) -> Result<(), NoMemory>
     ensures ok { OnOk result (out.new.items ≡ out.old.items ++ decimal number) }
     ensures err { OnErr result (out.new.items ≡ out.old.items) }

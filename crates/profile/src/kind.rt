@@ -3,6 +3,8 @@
 /// Whom a certificate speaks of (PROTOCOL.certkeys, "type"). A department keeps its kind for good.
 #[derive(Clone, Copy, Debug, PartialEq, Eq)]
 pub enum Kind {
+    /// A user: SSH_CERT_TYPE_USER, which is 1.
     User,
+    /// A host: SSH_CERT_TYPE_HOST, which is 2.
     Host,
 }

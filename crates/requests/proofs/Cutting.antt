@@ -1,5 +1,6 @@
 -- How the path of a message is cut into caller and key.
-use Rattle.std.proofs.Common.{◌≡◌, ℕ, ◌+◌, List, [], ◌∷◌, ◌++◌, length, drop, take, Some, Bool, true, false, cond, ap, ◌∙◌, arith, ◌==◌, codes, refl}
+use Rattle.std.proofs.Common.{◌≡◌, ℕ, ◌+◌, List, [], ◌∷◌, ◌++◌, length, drop, take, Some}
+use Rattle.std.proofs.Common.{Bool, true, false, cond, ap, ◌∙◌, arith, ◌==◌, codes, refl}
 use Rattle.std.specs.Prelude.{position}
 use Rattle.std.specs.List.{position_from}
 use Rattle.std.proofs.lemmas.Iterator.Adapters.{position_from-zero}

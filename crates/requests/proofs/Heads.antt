@@ -1,5 +1,6 @@
 -- Heads in the bytes of a request and in their front.
-use Rattle.std.proofs.Common.{◌≡◌, ℕ, ◌+◌, ◌-◌, ◌≤◌, List, ◌++◌, length, take, drop, min, sym, ap, ◌∙◌, arith, length-append}
+use Rattle.std.proofs.Common.{◌≡◌, ℕ, ◌+◌, ◌-◌, ◌≤◌, List, ◌++◌, length, take}
+use Rattle.std.proofs.Common.{drop, min, sym, ap, ◌∙◌, arith, length-append}
 use Rattle.std.proofs.Math.Seq.{take-append-add}
 use Rattle.std.proofs.lemmas.List.{take-append-drop, drop-append-le, length-map, length-take}
 use Rattle.httparse.specs.declared.spans.HeaderSpan.{HeaderSpan}

@@ -1,5 +1,6 @@
 -- What a request asks is lawful.
-use Rattle.std.proofs.Common.{lit≤, ◌≡◌, inl, inr, ℕ, ◌≤◌, List, [], ◌∷◌, length, take, Bool, true, false, cond, refl, sym, subst, arith, codes, nat_lt}
+use Rattle.std.proofs.Common.{lit≤, ◌≡◌, inl, inr, ℕ, ◌≤◌, List, [], ◌∷◌, length, take, Bool}
+use Rattle.std.proofs.Common.{true, false, cond, refl, sym, subst, arith, codes, nat_lt}
 use Rattle.std.specs.Str.{bytes_eq}
 use Rattle.std.specs.Str.Parse.{digits_value}
 use Rattle.std.proofs.lemmas.Bool.Decides.{nat_tests}

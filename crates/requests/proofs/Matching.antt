@@ -1,12 +1,14 @@
 -- What a found route says of the path.
-use Rattle.std.proofs.Common.{◌≡◌, ◌⊎◌, inl, inr, ℕ, zero, suc, ◌-◌, List, [], ◌∷◌, ◌++◌, length, drop, take, Option, Some, None, Bool, true, false, cond, refl, sym, ap, ◌∙◌, subst, arith, ◌==◌}
+use Rattle.std.proofs.Common.{◌≡◌, ◌⊎◌, inl, inr, ℕ, zero, suc, ◌-◌, List, [], ◌∷◌, ◌++◌, length, drop, take}
+use Rattle.std.proofs.Common.{Option, Some, None, Bool, true, false, cond, refl, sym, ap, ◌∙◌, subst, arith, ◌==◌}
 use Rattle.std.specs.Prelude.{⊤, ltb, ◌&&◌}
 use Rattle.std.specs.List.{list_all}
 use Rattle.std.proofs.lemmas.Bool.Decides.{nat_tests}
 use Rattle.std.proofs.lemmas.List.{take-append-drop}
 use Rattle.matchit.specs.Rows.{RowsOf, param_token, catch_all_token}
 use Rattle.matchit.specs.Router.{RouteOf}
-use Rattle.matchit.specs.Seek.{own, step, or_else, seek, first, param_step, has_slash, with_suffix, same_text, segment, longest_suffix}
+use Rattle.matchit.specs.Seek.{own, step, or_else, seek, first, param_step, has_slash}
+use Rattle.matchit.specs.Seek.{with_suffix, same_text, segment, longest_suffix}
 use Rattle.requests.specs.declared.resource.Resource.{Resource}
 use Rattle.requests.specs.declared.router.RouteKind.{RouteKind}
 use Rattle.requests.specs.declared.router.RouteKind.TheVariants.{Message, Certificate, Body, Fixed}

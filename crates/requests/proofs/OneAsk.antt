@@ -1,5 +1,6 @@
 -- Texts tell paths apart, and so requests ask one thing.
-use Rattle.std.proofs.Common.{◌≡◌, true, inl, inr, ℕ, List, length, drop, take, refl, sym, ap, ◌∙◌, subst, arith, codes, decimal}
+use Rattle.std.proofs.Common.{◌≡◌, true, inl, inr, ℕ, List, length, drop, take}
+use Rattle.std.proofs.Common.{refl, sym, ap, ◌∙◌, subst, arith, codes, decimal}
 use Rattle.std.proofs.lemmas.List.{append_cancel_right}
 use Rattle.std.proofs.lemmas.Fmt.{decimal_injective}
 use Rattle.httparse.specs.Grammar.{RequestHead}

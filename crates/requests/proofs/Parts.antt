@@ -1,5 +1,6 @@
 -- Parameters of a path, and how they are passed.
-use Rattle.std.proofs.Common.{◌≡◌, ℕ, ◌-◌, ◌<◌, List, [], ◌∷◌, ◌++◌, length, Some, Bool, true, false, cond, refl, ap, ◌∙◌, subst, arith, ◌==◌, decimal, IsTrue, nat_le}
+use Rattle.std.proofs.Common.{◌≡◌, ℕ, ◌-◌, ◌<◌, List, [], ◌∷◌, ◌++◌, length, Some, Bool, true, false}
+use Rattle.std.proofs.Common.{cond, refl, ap, ◌∙◌, subst, arith, ◌==◌, decimal, IsTrue, nat_le}
 use Rattle.std.specs.Prelude.{◌&&◌}
 use Rattle.std.specs.List.{list_all}
 use Rattle.std.specs.Str.Parse.{AllDigits}

@@ -1,5 +1,6 @@
 -- How long the phrases of status codes are.
-use Rattle.std.proofs.Common.{◌≡◌, ℕ, zero, suc, ◌<◌, ◌≤◌, Bool, true, ◌&&◌, List, length, nat_le, Option, Some, None, refl, sym, subst, arith}
+use Rattle.std.proofs.Common.{◌≡◌, ℕ, zero, suc, ◌<◌, ◌≤◌, Bool, true, ◌&&◌, List}
+use Rattle.std.proofs.Common.{length, nat_le, Option, Some, None, refl, sym, subst, arith}
 use Rattle.std.proofs.lemmas.Bool.Decides.{Decides-below_and, nat_tests}
 use Rattle.http.specs.StatusCode.{reason_phrase}
 

@@ -1,5 +1,6 @@
 -- How the search of a router goes along a path: through literal bytes, and past a parameter.
-use Rattle.std.proofs.Common.{◌≡◌, ℕ, zero, suc, ◌-◌, ◌<◌, List, [], ◌∷◌, ◌++◌, length, drop, Some, None, Bool, true, false, cond, refl, ap, ◌∙◌, arith, ◌==◌, nat_eq, length-append}
+use Rattle.std.proofs.Common.{◌≡◌, ℕ, zero, suc, ◌-◌, ◌<◌, List, [], ◌∷◌, ◌++◌, length, drop, Some, None}
+use Rattle.std.proofs.Common.{Bool, true, false, cond, refl, ap, ◌∙◌, arith, ◌==◌, nat_eq, length-append}
 use Rattle.std.proofs.lemmas.Bool.Decides.{nat_tests}
 use Rattle.std.specs.Prelude.{ltb, ◌&&◌}
 use Rattle.std.specs.Cmp.Lexicographic.{pointwise}

@@ -1,10 +1,12 @@
 -- What the bytes of a request ask: RFC 9112, section 3, and this office's refusals in their order.
-use Rattle.std.specs.Prelude.{◌≡◌, ◌≢◌, ◌⊎◌, ◌≤◌, IsTrue, ℕ, Bool, List, [], ◌∷◌, length, take, codes, nat_lt, if◌then◌else◌}
+use Rattle.std.specs.Prelude.{◌≡◌, ◌≢◌, ◌⊎◌, ◌≤◌, IsTrue, ℕ, Bool, List, []}
+use Rattle.std.specs.Prelude.{◌∷◌, length, take, codes, nat_lt, if◌then◌else◌}
 use Rattle.std.specs.Str.{bytes_eq}
 use Rattle.std.specs.Str.Parse.{digits_value}
 use Rattle.httparse.specs.Grammar.{RequestHead}
 use Rattle.profile.specs.declared.refusal.Refusal.{Refusal}
-use Rattle.profile.specs.declared.refusal.Refusal.TheVariants.{BadHead, NoRoute, WrongMethod, LengthRequired, TooLong, ShortBody}
+use Rattle.profile.specs.declared.refusal.Refusal.TheVariants.{BadHead, NoRoute, WrongMethod}
+use Rattle.profile.specs.declared.refusal.Refusal.TheVariants.{LengthRequired, TooLong, ShortBody}
 use Rattle.requests.specs.declared.limits.TheConstants.{MAX_BODY}
 use Rattle.requests.specs.declared.resource.Resource.{Resource}
 use Rattle.requests.specs.Heads.{IsGood, lengths, is_coded}

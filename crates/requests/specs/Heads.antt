@@ -1,6 +1,7 @@
 -- The head of a request: RFC 9112, sections 2 to 5, with this office's limits, and what it says of the body (RFC 9110,
 -- section 8.6; RFC 9112, section 6).
-use Rattle.std.specs.Prelude.{◌≡◌, ℕ, ◌+◌, ◌≤◌, Bool, List, [], ◌∷◌, length, map, filter, All, codes, min, nat_lt, Option, Some, None}
+use Rattle.std.specs.Prelude.{◌≡◌, ℕ, ◌+◌, ◌≤◌, Bool, List, [], ◌∷◌, length, map}
+use Rattle.std.specs.Prelude.{filter, All, codes, min, nat_lt, Option, Some, None}
 use Rattle.std.specs.Str.{str_eq_ignore_ascii_case}
 use Rattle.std.specs.Str.Parse.{IsNumeral, digits_value}
 use Rattle.httparse.specs.Grammar.{RequestHead, ReadsRequest, print_request}

@@ -3,7 +3,8 @@ use Rattle.std.specs.Prelude.{⊤, ℕ, List, ◌++◌, codes, decimal, IsTrue}
 use Rattle.profile.specs.Names.{is_name}
 use Rattle.profile.specs.Serials.{is_serial}
 use Rattle.requests.specs.declared.resource.Resource.{Resource}
-use Rattle.requests.specs.declared.resource.Resource.TheVariants.{Pending, Certificate, Body, RevocationList, Signers, Table, Cas}
+use Rattle.requests.specs.declared.resource.Resource.TheVariants.{Pending, Certificate, Body}
+use Rattle.requests.specs.declared.resource.Resource.TheVariants.{RevocationList, Signers, Table, Cas}
 
 -- where a path leads: to the messages of a caller under a request key, or to a resource
 pub data Path : Type 0 where

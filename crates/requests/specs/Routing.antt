@@ -37,7 +37,8 @@ rows_of (kind ∷ rest) = (pattern_of kind, row_of kind) ∷ rows_of rest
 
 -- the routes, in the order in which a router keeps them
 abbrev pub kinds : List RouteKind
-kinds = Message ∷ Fixed Cas ∷ Body ∷ Certificate ∷ Fixed RevocationList ∷ Fixed Pending ∷ Fixed Signers ∷ Fixed Table ∷ []
+kinds =
+    Message ∷ Fixed Cas ∷ Body ∷ Certificate ∷ Fixed RevocationList ∷ Fixed Pending ∷ Fixed Signers ∷ Fixed Table ∷ []
 
 -- their rows
 abbrev pub routing : RowsOf (RouteOf RouteKind)

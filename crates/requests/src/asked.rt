@@ -28,8 +28,11 @@ pub enum Asked<'a> {
     Get(Resource),
     /// That the office take a message of this caller under this request key. Both are names.
     Post {
+        /// The caller's name.
         caller: &'a [u8],
+        /// The request key.
         key: &'a [u8],
+        /// The bytes of the body, at most `MAX_BODY`.
         message: &'a [u8],
     },
 }
@@ -96,7 +99,8 @@ fn head_asks<'a>(routes: &Routes, head: &Head<'a>, rest: &'a [u8]) -> Asked<'a>
     }
 }
 
-/// What the bytes of a request ask. Bytes after the body, and all bytes after the head of a GET, aren't looked at.
+/// What the bytes of a request ask (RFC 9112, section 3). Bytes after the body, and all bytes after the head of a GET,
+/// aren't looked at.
 pub fn asks<'a>(routes: &Routes, request: &'a [u8]) -> Asked<'a>
     ensures asked { Asks request.now (ask_of result) }
     ensures lawful { IsLawful (ask_of result) }

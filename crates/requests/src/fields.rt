@@ -1,6 +1,7 @@
 //! The values of header lines of one name.
 
-ghost use Rattle.std.specs.Prelude.{◌≡◌, ℕ, ◌+◌, ◌≤◌, ◌<◌, List, [], ◌∷◌, ◌++◌, length, min, All, IfSome, IfNone, OnSome, codes, nat_lt};
+ghost use Rattle.std.specs.Prelude.{◌≡◌, ℕ, ◌+◌, ◌≤◌, ◌<◌, List, [], ◌∷◌, ◌++◌, length};
+ghost use Rattle.std.specs.Prelude.{min, All, IfSome, IfNone, OnSome, codes, nat_lt};
 ghost use Rattle.std.specs.Str.{str_eq_ignore_ascii_case};
 ghost use Rattle.std.specs.Str.Parse.{IsNumeral, digits_value};
 ghost use Rattle.httparse.specs.Spans.{IsHeaderWithin};

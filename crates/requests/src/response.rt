@@ -103,7 +103,8 @@ fn put_head(out: &mut Vec<u8>, status: StatusCode, media: MediaType, size: usize
     );
 }
 
-/// The head of a response with status 200 and a body of `size` bytes, at the end of what stands in `out`.
+/// The head of a response (RFC 9112, sections 4 and 5) with status 200 and a body of `size` bytes, at the end of what
+/// stands in `out`.
 pub fn begin_response(out: &mut Vec<u8>, media: MediaType, size: usize)
     requires { vec_len out.old + MAX_RESPONSE_HEAD ≤ vec_capacity out.old }
     ensures items { out.new.items ≡ out.old.items ++ response_head 200 media size }
@@ -138,7 +139,7 @@ fn respond_in_pieces(
     room
 }
 
-/// A response with status 200, in room that was reserved before.
+/// A response (RFC 9112, sections 4 and 5) with status 200, in room that was reserved before.
 pub fn respond(room: Vec<u8>, media: MediaType, body: &[u8]) -> Vec<u8>
     requires empty { room.items ≡ [] }
     requires space { MAX_RESPONSE_HEAD + length body.now ≤ vec_capacity room }

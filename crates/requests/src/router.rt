@@ -53,7 +53,11 @@ fn router_of(alloc: Global) -> Result<Router<RouteKind>, InsertError>
 }
 
 impl Routes {
-    /// The routes. Only want of memory is in the way.
+    /// The routes of the office.
+    ///
+    /// # Errors
+    ///
+    /// `NoMemory`, where the router took a route not in. Only want of memory is in the way.
     pub fn new(alloc: Global) -> Result<Routes, NoMemory> {
         match router_of(alloc) {
             Ok(router) => Ok(Routes { router }),

@@ -1,5 +1,5 @@
 -- The row of a certificate is that of no other, and it is read again.
-use Rattle.std.proofs.Common.{◌≡◌, ℕ, suc, ◌<◌, Bool, true, false, cond, Ok, List, [], ◌∷◌, length, map, arith, Less, nat_cmp, refl, sym, ap, subst, ◌∙◌, eqb, eq-eqb, Option, Some, None}
+use Rattle.std.proofs.Common.{◌≡◌, ℕ, suc, ◌<◌, Bool, true, false, cond, Ok, List, [], ◌∷◌, length, map, filter, arith, Less, nat_cmp, refl, sym, ap, subst, ◌∙◌, eqb, eq-eqb, Option, Some, None}
 use Rattle.std.specs.Prelude.{◌&&◌, IfSome, Result}
 use Rattle.std.specs.Cmp.{nat_cmp_is}
 use Rattle.std.specs.List.{AllByRecursion}
@@ -18,7 +18,8 @@ use Rattle.office.specs.declared.certificate.Certificate.{Certificate}
 use Rattle.office.specs.Certificates.{IsCertificate}
 use Rattle.tables.specs.declared.certs.CertRow.{CertRow}
 use Rattle.tables.specs.declared.fault.Fault.{Fault}
-use Rattle.rows.specs.Certificates.{AreCounted, IsSigned, certificate_in, certificate_with, fits, signature_in}
+use Rattle.rows.specs.Certificates.{AreCounted, IsSigned, certificate_in, certificate_with, fits, is_within, signature_in}
+use Rattle.tables.specs.Changes.{is_within as rows_within}
 use Rattle.rows.specs.Reading.{IsRead, each}
 use Rattle.rows.specs.Rows.{cert_row}
 
@@ -91,3 +92,55 @@ pub certs_again : (cs : List Certificate) → AllByRecursion (λ c. IsCertificat
     → each certificate_in (map cert_row cs) ≡ Some cs
 certs_again [] all = refl
 certs_again (c ∷ cs) all = rw (certificate_again c all.0.0 all.0.1, certs_again cs all.1) refl
+
+-- ---- those between two serials
+
+-- the rows of some certificates are some of the rows
+pub within_rows : (lo hi : ℕ) (cs : List Certificate)
+    → filter (rows_within lo hi) (map cert_row cs) ≡ map cert_row (filter (is_within lo hi) cs)
+within_rows lo hi [] = refl
+within_rows lo hi (c ∷ cs) =
+    elim (is_within lo hi c) as (λ b.
+    cond b (cert_row c ∷ filter (rows_within lo hi) (map cert_row cs)) (filter (rows_within lo hi) (map cert_row cs))
+    ≡ map cert_row (cond b (c ∷ filter (is_within lo hi) cs) (filter (is_within lo hi) cs))) [
+      | true ↦ ap (λ (rs : List CertRow). cert_row c ∷ rs) (within_rows lo hi cs)
+      | false ↦ within_rows lo hi cs
+    ]
+
+above_within : (m lo hi : ℕ) (cs : List Certificate) → AllByRecursion (λ r. nat_cmp m r.serial ≡ Less) (map cert_row cs)
+    → AllByRecursion (λ r. nat_cmp m r.serial ≡ Less) (map cert_row (filter (is_within lo hi) cs))
+above_within m lo hi [] all = tt
+above_within m lo hi (c ∷ cs) all =
+    elim (is_within lo hi c) as (λ b. AllByRecursion (λ r. nat_cmp m r.serial ≡ Less) (map cert_row (cond b (c ∷ filter (is_within lo hi) cs) (filter (is_within lo hi) cs)))) [
+      | true ↦ (all.0, above_within m lo hi cs all.1)
+      | false ↦ above_within m lo hi cs all.1
+    ]
+
+rise_within : (lo hi : ℕ) (cs : List Certificate) → IsAscending (λ a b. nat_cmp a.serial b.serial ≡ Less) (map cert_row cs)
+    → IsAscending (λ a b. nat_cmp a.serial b.serial ≡ Less) (map cert_row (filter (is_within lo hi) cs))
+rise_within lo hi [] up = tt
+rise_within lo hi (c ∷ cs) up =
+    elim (is_within lo hi c) as (λ b. IsAscending (λ a b. nat_cmp a.serial b.serial ≡ Less) (map cert_row (cond b (c ∷ filter (is_within lo hi) cs) (filter (is_within lo hi) cs)))) [
+      | true ↦ (above_within c.fields.serial lo hi cs up.0, rise_within lo hi cs up.1)
+      | false ↦ rise_within lo hi cs up.1
+    ]
+
+-- they ascend
+pub within_rise : (n lo hi : ℕ) (cs : List Certificate) → AreCounted n cs
+    → IsAscending (λ a b. nat_cmp a.serial b.serial ≡ Less) (filter (rows_within lo hi) (map cert_row cs))
+within_rise n lo hi cs counted = rw (within_rows lo hi cs) (rise_within lo hi cs (certs_rise n cs counted))
+
+all_within : (P : Certificate → Type 0) (lo hi : ℕ) (cs : List Certificate) → AllByRecursion P cs
+    → AllByRecursion P (filter (is_within lo hi) cs)
+all_within P lo hi [] all = tt
+all_within P lo hi (c ∷ cs) all =
+    elim (is_within lo hi c) as (λ b. AllByRecursion P (cond b (c ∷ filter (is_within lo hi) cs) (filter (is_within lo hi) cs))) [
+      | true ↦ (all.0, all_within P lo hi cs all.1)
+      | false ↦ all_within P lo hi cs all.1
+    ]
+
+-- and they are read again
+pub within_again : (lo hi : ℕ) (cs : List Certificate) → AllByRecursion (λ c. IsCertificate c × IsSigned c) cs
+    → each certificate_in (filter (rows_within lo hi) (map cert_row cs)) ≡ Some (filter (is_within lo hi) cs)
+within_again lo hi cs all =
+    rw (within_rows lo hi cs) (certs_again (filter (is_within lo hi) cs) (all_within (λ c. IsCertificate c × IsSigned c) lo hi cs all))

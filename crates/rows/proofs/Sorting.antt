@@ -57,7 +57,7 @@ module _ {R X K : Type 0} (value : R → Option X) (of : Contents → List R) (k
 -- ---- key ids
 
 pub shows_key_ids : (old new : Connection) (r : Result (Vec (List ℕ) Global) Fault)
-    → Finds (λ k. k.revoked) old new r → Rises (λ k. k) (slice_cmp nat_cmp) old r → FailsBy HasCause old new r
+    → Finds (λ k. k.revoked) old new r → Rises (λ k. k) (slice_cmp nat_cmp) old new r → FailsBy HasCause old new r
     → Shows (λ s kept ids. ids.items ≡ s.revoked_key_ids) old new r
 shows_key_ids old new (Ok ids) finds sorted fault = λ s kept lawful means.
     let f = finds (contents_of s kept) means in (

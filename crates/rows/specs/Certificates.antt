@@ -1,5 +1,6 @@
 -- Certificates of rows.
-use Rattle.std.specs.Prelude.{◌≡◌, ℕ, suc, ◌==◌, ◌&&◌, List, [], ◌∷◌, length, Bool, if◌then◌else◌, IfSome, Option, Some, None}
+use Rattle.std.specs.Prelude.{◌≡◌, ℕ, suc, ◌==◌, ◌&&◌, nat_le, List, [], ◌∷◌, length, Bool, if◌then◌else◌, IfSome}
+use Rattle.std.specs.Prelude.{Option, Some, None}
 use Rattle.std.specs.Option.{option_and_then, option_map}
 use Rattle.std.specs.Result.{result_ok}
 use Rattle.std.specs.Str.{bytes_eq}
@@ -20,10 +21,16 @@ abbrev pub fits : CertRow → CertFields → Bool
 fits row fields = (fields.serial == row.serial) && (bytes_eq fields.key_id row.key_id && is_name row.department)
 
 abbrev pub certificate_with : CertRow → CertFields → Option Signature → Certificate
-certificate_with row fields signature = record { department = row.department; fields = fields; body = row.body; signature = signature }
+certificate_with row fields signature = record {
+  department = row.department;
+  fields = fields;
+  body = row.body;
+  signature = signature;
+}
 
 abbrev pub certificate_of : CertRow → CertFields → Option Certificate
-certificate_of row fields = if fits row fields then option_map (certificate_with row fields) (signature_in row.signature) else None
+certificate_of row fields =
+    if fits row fields then option_map (certificate_with row fields) (signature_in row.signature) else None
 
 -- the certificate of a row, if there is one
 abbrev pub certificate_in : CertRow → Option Certificate
@@ -37,3 +44,7 @@ IsSigned c = IfSome c.signature (λ s. length s.bytes ≡ 64)
 abbrev pub AreCounted : ℕ → List Certificate → Type 0
 AreCounted first [] = Unit {0}
 AreCounted first (c ∷ cs) = (c.fields.serial ≡ first) × AreCounted (suc first) cs
+
+-- its serial is from the one to the other
+abbrev pub is_within : (lo hi : ℕ) → Certificate → Bool
+is_within lo hi c = nat_le lo c.fields.serial && nat_le c.fields.serial hi

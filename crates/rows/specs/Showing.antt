@@ -1,5 +1,6 @@
 -- What a reading call shows of the tables of an office.
-use Rattle.std.specs.Prelude.{List, Result, Ok, Err}
+use Rattle.std.specs.Prelude.{◌≡◌, ℕ, List, filter, Result, Ok, Err, Vec}
+use Rattle.std.specs.declared.alloc.Global.{Global}
 use Rattle.sqlite.specs.State.{State as Connection, IsUnchanged}
 use Rattle.tables.specs.Contents.{Means}
 use Rattle.tables.specs.Calls.{Fails}
@@ -7,6 +8,8 @@ use Rattle.tables.specs.Faults.{HasCause}
 use Rattle.tables.specs.declared.fault.Fault.{Fault}
 use Rattle.office.specs.declared.arrival.Kept.{Kept}
 use Rattle.office.specs.State.{State}
+use Rattle.office.specs.declared.certificate.Certificate.{Certificate}
+use Rattle.rows.specs.Certificates.{is_within}
 use Rattle.rows.specs.Lawful.{IsLawful}
 use Rattle.rows.specs.Rows.{contents_of}
 
@@ -14,6 +17,12 @@ use Rattle.rows.specs.Rows.{contents_of}
 -- call fails, for want of memory or because the database failed.
 abbrev pub Shows : {X : Type 0} → (State → List Kept → X → Type 0) → Connection → Connection → Result X Fault → Type 0
 Shows Shown old new (Ok x) =
-    (s : State) (kept : List Kept) → IsLawful s → Means old.now (contents_of s kept) → Shown s kept x × IsUnchanged old new
+    (s : State) (kept : List Kept) → IsLawful s → Means old.now (contents_of s kept)
+    → Shown s kept x × IsUnchanged old new
 Shows Shown old new (Err f) =
-    (s : State) (kept : List Kept) → IsLawful s → Means old.now (contents_of s kept) → Fails old new × HasCause old new f
+    (s : State) (kept : List Kept) → IsLawful s → Means old.now (contents_of s kept)
+    → Fails old new × HasCause old new f
+
+-- the certificates whose serials are from the one to the other
+abbrev pub AreWithin : (lo hi : ℕ) → State → List Kept → Vec Certificate Global → Type 0
+AreWithin lo hi s kept rows = rows.items ≡ filter (is_within lo hi) s.certificates

@@ -1,5 +1,5 @@
 -- What a part of a transaction does to the connection, and what the whole of one does.
-use Rattle.std.specs.Prelude.{◌≡◌, false, true, IfErr, IsTrue, Result, Ok, Err}
+use Rattle.std.specs.Prelude.{◌≡◌, false, true, IfErr, IsTrue, OnErr, Result, Ok, Err}
 use Rattle.sqlite.specs.Tree.{Trees}
 use Rattle.sqlite.specs.Effect.{Database}
 use Rattle.sqlite.specs.State.{State, KeepsCommit, Shows}
@@ -85,8 +85,8 @@ Commits (Err e) old trees = ⊥
 
 -- ---- the whole
 
--- Of a database at rest that is as one of these says: what is due is answered, and the tables then hold what comes after
--- it; or all is as before. Only a failed disk shuts the connection, and a shut one answers nothing.
+-- Of a database at rest that is as one of these says: what is due is answered, and the tables then hold what comes
+-- after it; or all is as before. Only a failed disk shuts the connection, and a shut one answers nothing.
 abbrev pub Ends : {A X : Type 0} → (A → Database → Type 0) → (A → X → Type 0) → (A → Contents) → State → State
     → Result X Fault → Type 0
 Ends {A} Before Due after old new (Ok x) =
@@ -95,8 +95,8 @@ Ends {A} Before Due after old new (Ok x) =
 Ends {A} Before Due after old new (Err e) =
     IsTrue new.is_open → IsTrue old.is_open × ((a : A) → Rests (Before a) old → Rests (Before a) new)
 
--- of a database at rest that is as one of these says, if the connection is open, a fault of the whole is want of memory, or
--- a failure of the database, or this refusal
+-- of a database at rest that is as one of these says, if the connection is open, a fault of the whole is want of
+-- memory, or a failure of the database, or this refusal
 abbrev pub StopsFor : {A : Type 0} → (A → Database → Type 0) → (A → Type 0) → State → State → Fault → Type 0
 StopsFor {A} Before Refused old new f =
     (a : A) → (IsTrue old.is_open → Rests (Before a) old) → HasCauseOr (Refused a) old new f
@@ -111,7 +111,11 @@ pub record IsAsBefore (old new : State) : Type 0 where
   pub rest : IsTrue new.is_open → IsAtRest old → IsAtRest new
   pub same : IsTrue new.is_open → IsAtRest old → new.now ≡ old.now
 
--- what a crash in the midst of it may leave, beside what was there before: all that comes after it, where the connection
--- was open
+-- where it fails, all is as before
+abbrev pub KeepsOnErr : {X E : Type 0} → State → State → Result X E → Type 0
+KeepsOnErr old new r = OnErr r (IsAsBefore old new)
+
+-- what a crash in the midst of it may leave, beside what was there before: all that comes after it, where the
+-- connection was open
 abbrev pub Leaves : {A : Type 0} → (A → Database → Type 0) → (A → Contents) → State → Trees → Type 0
 Leaves {A} Before after old trees = IsTrue old.is_open × ((a : A) → Rests (Before a) old → Kept trees (after a))

@@ -1,9 +1,8 @@
 //! The CAs of the tables.
 
 ghost use Rattle.std.specs.Prelude.{◌≡◌};
-ghost use Rattle.sqlite.specs.Held.{state};
-ghost use Rattle.sqlite.specs.State.{HasCleanDisk, Survives};
 ghost use Rattle.tables.specs.Calls.{Never, OnlyReads};
+ghost use Rattle.tables.specs.Honest.{On, Outlives};
 ghost use Rattle.rows.specs.Showing.{Shows};
 
 use crate::reading::{OfRow, read_each};
@@ -31,11 +30,9 @@ impl OfRow<CaRow> for Ca {
 
 /// The CAs by number. `Damaged` where a row is that of no CA.
 pub fn read_cas<S: Alter>(alloc: Global, conn: &mut Connection<S>) -> Result<Vec<Ca>, Fault>
-    ensures shows { HasCleanDisk (state S.Store conn.new) → Shows (λ s kept cas. cas.items ≡ s.cas)
-        (state S.Store conn.old) (state S.Store conn.new) result }
-    ensures reads { HasCleanDisk (state S.Store conn.new)
-        → OnlyReads (state S.Store conn.old) (state S.Store conn.new) result }
-    ensures survives { Survives (state S.Store conn.old) (state S.Store conn.new) Never }
+    ensures shows { On S.Store (Shows (λ s kept cas. cas.items ≡ s.cas)) conn.old conn.new result }
+    ensures reads { On S.Store OnlyReads conn.old conn.new result }
+    ensures survives { Outlives S.Store Never conn.old conn.new }
 {
     match every_ca(alloc, conn) {
         Ok(rows) => read_each(alloc, rows.as_slice()),

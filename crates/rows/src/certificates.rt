@@ -1,17 +1,15 @@
 //! The certificates of the tables.
 
-ghost use Rattle.std.specs.Prelude.{◌≡◌};
-ghost use Rattle.sqlite.specs.Held.{state};
-ghost use Rattle.sqlite.specs.State.{HasCleanDisk, Survives};
 ghost use Rattle.tables.specs.Calls.{Never, OnlyReads};
-ghost use Rattle.rows.specs.Showing.{Shows};
+ghost use Rattle.tables.specs.Honest.{On, Outlives};
+ghost use Rattle.rows.specs.Showing.{AreWithin, Shows};
 
 use crate::cert_rows::read_certificate;
 use crate::reading::{OfRow, read_each};
 use office::Certificate;
 use sqlite::{Alter, Connection};
 use std::alloc::Global;
-use tables::{CertRow, Fault, every_cert};
+use tables::{CertRow, Fault, Number, certs_within};
 
 impl OfRow<CertRow> for Certificate {
     ghost use Rattle.rows.specs.Certificates.{certificate_in};
@@ -23,18 +21,19 @@ impl OfRow<CertRow> for Certificate {
     }
 }
 
-/// Every certificate, by serial. `Damaged` where a row is that of no lawful certificate.
+/// The certificates whose serials lie between these two, both included, by serial. `Damaged` where the row of one is
+/// that of no lawful certificate.
 pub fn read_certificates<S: Alter>(
     alloc: Global,
     conn: &mut Connection<S>,
+    lo: Number,
+    hi: Number,
 ) -> Result<Vec<Certificate>, Fault>
-    ensures shows { HasCleanDisk (state S.Store conn.new) → Shows (λ s kept rows. rows.items ≡ s.certificates)
-        (state S.Store conn.old) (state S.Store conn.new) result }
-    ensures reads { HasCleanDisk (state S.Store conn.new)
-        → OnlyReads (state S.Store conn.old) (state S.Store conn.new) result }
-    ensures survives { Survives (state S.Store conn.old) (state S.Store conn.new) Never }
+    ensures shows { On S.Store (Shows (AreWithin lo hi)) conn.old conn.new result }
+    ensures reads { On S.Store OnlyReads conn.old conn.new result }
+    ensures survives { Outlives S.Store Never conn.old conn.new }
 {
-    match every_cert(alloc, conn) {
+    match certs_within(alloc, conn, lo, hi) {
         Ok(rows) => read_each(alloc, rows.as_slice()),
         Err(fault) => Err(fault),
     }

@@ -1,9 +1,8 @@
 //! The departments of the tables.
 
 ghost use Rattle.std.specs.Prelude.{◌≡◌};
-ghost use Rattle.sqlite.specs.Held.{state};
-ghost use Rattle.sqlite.specs.State.{HasCleanDisk, Survives};
 ghost use Rattle.tables.specs.Calls.{Never, OnlyReads};
+ghost use Rattle.tables.specs.Honest.{On, Outlives};
 ghost use Rattle.office.specs.Publication.{departments_of};
 ghost use Rattle.rows.specs.Showing.{Shows};
 
@@ -29,11 +28,9 @@ pub fn read_departments<S: Alter>(
     alloc: Global,
     conn: &mut Connection<S>,
 ) -> Result<Vec<Department>, Fault>
-    ensures shows { HasCleanDisk (state S.Store conn.new) → Shows (λ s kept rows. rows.items ≡ departments_of s)
-        (state S.Store conn.old) (state S.Store conn.new) result }
-    ensures reads { HasCleanDisk (state S.Store conn.new)
-        → OnlyReads (state S.Store conn.old) (state S.Store conn.new) result }
-    ensures survives { Survives (state S.Store conn.old) (state S.Store conn.new) Never }
+    ensures shows { On S.Store (Shows (λ s kept rows. rows.items ≡ departments_of s)) conn.old conn.new result }
+    ensures reads { On S.Store OnlyReads conn.old conn.new result }
+    ensures survives { Outlives S.Store Never conn.old conn.new }
 {
     match every_department(alloc, conn) {
         Ok(rows) => read_each(alloc, rows.as_slice()),

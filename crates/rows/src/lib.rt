@@ -1,7 +1,7 @@
 //! Rows of the tables as values of the office, and values as rows.
 //!
-//! A row is read as a lawful value, or told damaged. What a reading call shows of tables that hold a lawful state is the
-//! state's, and a transaction ends whole or undone.
+//! A row is read as a lawful value, or told damaged. What a reading call shows of tables that hold a lawful state is
+//! the state's, and a transaction ends whole or undone.
 #![tactic(auto)]
 
 mod cas;

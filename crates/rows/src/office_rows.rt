@@ -1,9 +1,8 @@
 //! The row of the office.
 
 ghost use Rattle.std.specs.Prelude.{◌≡◌, IsTrue, length};
-ghost use Rattle.sqlite.specs.Held.{state};
-ghost use Rattle.sqlite.specs.State.{HasCleanDisk, Survives};
 ghost use Rattle.tables.specs.Calls.{Never, OnlyReads};
+ghost use Rattle.tables.specs.Honest.{On, Outlives};
 ghost use Rattle.office.specs.Openings.{IsOpening};
 ghost use Rattle.rows.specs.Reading.{IsRead};
 ghost use Rattle.rows.specs.Offices.{IsOfficeOf, is_opening, office_in, only_office};
@@ -83,11 +82,9 @@ fn only_office(alloc: Global, rows: &[OfficeRow]) -> Result<Office, Fault>
 
 /// The office's opening and its counters. `Damaged` where its table has not one row, or that is of no lawful office.
 pub fn read_office<S: Alter>(alloc: Global, conn: &mut Connection<S>) -> Result<Office, Fault>
-    ensures shows { HasCleanDisk (state S.Store conn.new) → Shows (λ s kept office. IsOfficeOf office s)
-        (state S.Store conn.old) (state S.Store conn.new) result }
-    ensures reads { HasCleanDisk (state S.Store conn.new)
-        → OnlyReads (state S.Store conn.old) (state S.Store conn.new) result }
-    ensures survives { Survives (state S.Store conn.old) (state S.Store conn.new) Never }
+    ensures shows { On S.Store (Shows (λ s kept office. IsOfficeOf office s)) conn.old conn.new result }
+    ensures reads { On S.Store OnlyReads conn.old conn.new result }
+    ensures survives { Outlives S.Store Never conn.old conn.new }
 {
     match every_office(alloc, conn) {
         Ok(rows) => only_office(alloc, rows.as_slice()),

@@ -1,17 +1,16 @@
 //! Transactions, each of which ends whole or undone.
 
 ghost use Rattle.std.specs.Prelude.{◌≡◌};
-ghost use Rattle.sqlite.specs.Held.{state};
-ghost use Rattle.sqlite.specs.State.{HasCleanDisk, Survives};
 ghost use Rattle.rows.specs.Transactions.{Closes, ClosesFor, Commits, Concludes, EndsFor, HasEnded};
+ghost use Rattle.tables.specs.Honest.{Between, On, Outlives, OutlivesBy};
 
 use sqlite::{Alter, Connection};
 use tables::{Fault, commit, rollback};
 
 /// Leaves no transaction open, and nothing of one that was.
 pub fn undo<S: Alter>(conn: &mut Connection<S>)
-    ensures ended { HasCleanDisk (state S.Store conn.new) → HasEnded (state S.Store conn.old) (state S.Store conn.new) }
-    ensures survives { Survives (state S.Store conn.old) (state S.Store conn.new) (λ _. ⊥) }
+    ensures ended { Between S.Store HasEnded conn.old conn.new }
+    ensures survives { Outlives S.Store (λ _. ⊥) conn.old conn.new }
 {
     if !conn.is_autocommit() {
         rollback(conn);
@@ -20,12 +19,9 @@ pub fn undo<S: Alter>(conn: &mut Connection<S>)
 
 /// Commits, or leaves nothing of the transaction. A commit fails for want of memory, or because the database failed.
 pub fn close<S: Alter>(conn: &mut Connection<S>) -> Result<(), Fault>
-    ensures closes { HasCleanDisk (state S.Store conn.new) →
-        Closes (state S.Store conn.old) (state S.Store conn.new) result }
-    ensures cause { HasCleanDisk (state S.Store conn.new) →
-        ClosesFor (state S.Store conn.old) (state S.Store conn.new) result }
-    ensures survives { Survives (state S.Store conn.old) (state S.Store conn.new)
-        (λ trees. trees ≡ (state S.Store conn.old).now.trees) }
+    ensures closes { On S.Store Closes conn.old conn.new result }
+    ensures cause { On S.Store ClosesFor conn.old conn.new result }
+    ensures survives { OutlivesBy S.Store (λ s trees. trees ≡ s.now.trees) conn.old conn.new }
 {
     match commit(conn) {
         Ok(()) => Ok(()),
@@ -41,12 +37,9 @@ pub fn conclude<S: Alter, T: Drop>(
     conn: &mut Connection<S>,
     answer: Result<T, Fault>,
 ) -> Result<T, Fault>
-    ensures concludes { HasCleanDisk (state S.Store conn.new) →
-        Concludes answer (state S.Store conn.old) (state S.Store conn.new) result }
-    ensures cause { HasCleanDisk (state S.Store conn.new) →
-        EndsFor answer (state S.Store conn.old) (state S.Store conn.new) result }
-    ensures survives { Survives (state S.Store conn.old) (state S.Store conn.new)
-        (Commits answer (state S.Store conn.old)) }
+    ensures concludes { On S.Store (Concludes answer) conn.old conn.new result }
+    ensures cause { On S.Store (EndsFor answer) conn.old conn.new result }
+    ensures survives { OutlivesBy S.Store (Commits answer) conn.old conn.new }
 {
     match answer {
         Ok(value) => match close(conn) {

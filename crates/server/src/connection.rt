@@ -7,7 +7,7 @@ use crate::fault::Fault;
 use crate::listener::{Connection, Listener};
 use office::Registry;
 use requests::Routes;
-use serving::serve_by;
+use serving::serve_one;
 use wire::Source;
 
 /// Accepts a connection, serves the one request on it, at the moment when it was accepted, and ends it.
@@ -35,7 +35,7 @@ pub(crate) fn serve_connection<R: AllocGlobal, L: Listener, S: Registry, N: Sour
         mut writer,
         moment,
     } = accepted;
-    let served = serve_by(
+    let served = serve_one(
         routes,
         &mut reader,
         &mut writer,

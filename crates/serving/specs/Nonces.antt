@@ -20,8 +20,8 @@ FailsBy (Err Store) failed failed' old new = failed' ≡ failed
 FailsBy (Err NoMemory) failed failed' old new = failed' ≡ failed
 FailsBy (Err Write) failed failed' old new = failed' ≡ failed
 
--- how much a call draws: a nonce, or nothing where no request came, or less where the source failed or ended. Memory can be
--- wanting before the nonce and behind it.
+-- how much a call draws: a nonce, or nothing where no request came, or less where the source failed or ended. Memory
+-- can be wanting before the nonce and behind it.
 abbrev pub IsDrawn : {A : Type 0} → Result A ServeFault → (drawn : List ℕ) → Type 0
 IsDrawn (Ok a) drawn = length drawn ≡ 32
 IsDrawn (Err Read) drawn = drawn ≡ []

@@ -6,8 +6,8 @@ use Rattle.office.specs.declared.arrival.Arrival.{Arrival}
 use Rattle.web.specs.Answers.{IsAnswered}
 use Rattle.serving.specs.Requests.{IsOneRequest}
 
--- Exactly one request and one nonce were taken of what the reader and the nonce source had left, and the response is the
--- one that is due to them. The register then means the history with the request's arrival, where it has one. Where
+-- Exactly one request and one nonce were taken of what the reader and the nonce source had left, and the response is
+-- the one that is due to them. The register then means the history with the request's arrival, where it has one. Where
 -- something was asked of the register, it keeps that history.
 pub record Served (reader reader' nonces nonces' : Option (List ℕ)) (moment : ℕ) (honest : Type 0)
     (before after keeps : Opening → List Arrival → Type 0) : Type 0 where
@@ -21,7 +21,8 @@ pub record Served (reader reader' nonces nonces' : Option (List ℕ)) (moment : 
   pub answered : honest → IsAnswered before after keeps request moment nonce response
 
 -- Exactly one request and one nonce were taken so, and the register was stopped in answering them.
-pub record Stopped (reader reader' nonces nonces' : Option (List ℕ)) (stops : (request nonce : List ℕ) → Type 0) : Type 0 where
+pub record Stopped (reader reader' nonces nonces' : Option (List ℕ)) (stops : (request nonce : List ℕ) → Type 0)
+    : Type 0 where
   pub request : List ℕ
   pub nonce : List ℕ
   pub taken : Consumes reader reader' request

@@ -9,4 +9,4 @@ mod serve;
 mod taking;
 
 pub use fault::ServeFault;
-pub use serve::{serve_by, serve_one};
+pub use serve::serve_one;

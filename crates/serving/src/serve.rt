@@ -5,6 +5,7 @@ ghost use Rattle.std.specs.Io.KnownBytes.{Appends};
 ghost use Rattle.wire.specs.Streams.{AppendsBeginning};
 ghost use Rattle.office.specs.declared.opening.Opening.{Opening};
 ghost use Rattle.office.specs.declared.arrival.Arrival.{Arrival};
+ghost use Rattle.office.specs.Registers.{MeansTheSame};
 ghost use Rattle.web.specs.Answers.{Keeps};
 ghost use Rattle.web.specs.Causes.{StopsAt};
 ghost use Rattle.serving.specs.Faults.{is_read, is_write, IfServed, IfUnserved};
@@ -26,58 +27,6 @@ use wire::{Failed, Sink, Source, write_all};
 /// `MAX_HEAD` bytes, or the end; then just the body that it asks for, and nothing of it where the head is refused. Each
 /// of the three is lent with fewer than 18446744073709551615 failures.
 pub fn serve_one<R: Source, W: Sink, S: Registry, N: Source>(
-    reader: &mut R,
-    writer: &mut W,
-    registry: &mut S,
-    alloc: Global,
-    moment: u64,
-    nonces: &mut N,
-) -> Result<(), ServeFault>
-    requires reads { R.failed reader.old < u64.MAX }
-    requires writes { W.failed writer.old < u64.MAX }
-    requires draws { N.failed nonces.old < u64.MAX }
-    ensures honest { S.is_honest registry.new → S.is_honest registry.old }
-    ensures was_open { S.is_honest registry.new → S.is_open registry.new → S.is_open registry.old }
-    ensures stays_open { S.is_honest registry.new → IfServed result (S.is_open registry.old → S.is_open registry.new) }
-
-    // One request and one nonce were taken, and the response that is due to them was written. Where something was asked
-    // of the register, it is open and so keeps the history.
-    ensures ok { OnOk result ((x : Served (R.remaining reader.old) (R.remaining reader.new) (N.remaining nonces.old)
-        (N.remaining nonces.new) moment (S.is_honest registry.new) (S.means registry.old) (S.means registry.new)
-        (Keeps S.means S.is_open registry.new)) × Appends (W.taken writer.old) (W.taken writer.new) x.response) }
-
-    // The same, but the writer failed after a beginning of the response.
-    ensures write { result ≡ Err ServeFault.Write → (x : Served (R.remaining reader.old) (R.remaining reader.new)
-        (N.remaining nonces.old) (N.remaining nonces.new) moment (S.is_honest registry.new) (S.means registry.old)
-        (S.means registry.new) (Keeps S.means S.is_open registry.new))
-        × AppendsBeginning (W.taken writer.old) (W.taken writer.new) x.response }
-
-    // After any other fault nothing was written, and the register means what it meant.
-    ensures unwritten { IfUnserved result (writer.new ≡ writer.old) }
-    ensures unchanged { S.is_honest registry.new → IfUnserved result ((o : Opening) (l : List Arrival)
-        → S.means registry.old o l → S.means registry.new o l) }
-
-    // The bytes that are drawn of the nonces are the next ones, whatever comes of the call: a nonce, or nothing where no
-    // request came, or less where the source failed or ended.
-    ensures drawn { Draws result (N.remaining nonces.old) (N.remaining nonces.new) }
-
-    // Each fault is answered only where what it names failed, `Nonces` also where the source ended, and `Store` also where
-    // the database refused what was to be kept of the request that was taken.
-    ensures store { S.is_honest registry.new → result ≡ Err ServeFault.Store → (o : Opening) (l : List Arrival)
-        → S.means registry.old o l → Stopped (R.remaining reader.old) (R.remaining reader.new)
-        (N.remaining nonces.old) (N.remaining nonces.new)
-        (λ request nonce. StopsAt S.means S.fails S.stops request moment nonce registry.old registry.new) }
-    ensures reader { R.failed reader.new ≡ (if is_read result then R.failed reader.old + 1 else R.failed reader.old) }
-    ensures writer { W.failed writer.new ≡ (if is_write result then W.failed writer.old + 1 else W.failed writer.old) }
-    ensures nonces { FailsBy result (N.failed nonces.old) (N.failed nonces.new)
-        (N.remaining nonces.old) (N.remaining nonces.new) }
-{
-    let routes = Routes::new(alloc)?;
-    serve_by(&routes, reader, writer, registry, alloc, moment, nonces)
-}
-
-/// As `serve_one`, by routes that were made before.
-pub fn serve_by<R: Source, W: Sink, S: Registry, N: Source>(
     routes: &Routes,
     reader: &mut R,
     writer: &mut W,
@@ -107,15 +56,14 @@ pub fn serve_by<R: Source, W: Sink, S: Registry, N: Source>(
 
     // After any other fault nothing was written, and the register means what it meant.
     ensures unwritten { IfUnserved result (writer.new ≡ writer.old) }
-    ensures unchanged { S.is_honest registry.new → IfUnserved result ((o : Opening) (l : List Arrival)
-        → S.means registry.old o l → S.means registry.new o l) }
+    ensures unchanged { S.is_honest registry.new → IfUnserved result (MeansTheSame S.means registry.old registry.new) }
 
-    // The bytes that are drawn of the nonces are the next ones, whatever comes of the call: a nonce, or nothing where no
-    // request came, or less where the source failed or ended.
+    // The bytes that are drawn of the nonces are the next ones, whatever comes of the call: a nonce, or nothing where
+    // no request came, or less where the source failed or ended.
     ensures drawn { Draws result (N.remaining nonces.old) (N.remaining nonces.new) }
 
-    // Each fault is answered only where what it names failed, `Nonces` also where the source ended, and `Store` also where
-    // the database refused what was to be kept of the request that was taken.
+    // Each fault is answered only where what it names failed, `Nonces` also where the source ended, and `Store` also
+    // where the database refused what was to be kept of the request that was taken.
     ensures store { S.is_honest registry.new → result ≡ Err ServeFault.Store → (o : Opening) (l : List Arrival)
         → S.means registry.old o l → Stopped (R.remaining reader.old) (R.remaining reader.new)
         (N.remaining nonces.old) (N.remaining nonces.new)

@@ -1,3 +1,2 @@
-pub mod Applying
-pub mod Checking
-pub mod Faults
+pub mod Words
+pub mod Asked

@@ -1,65 +1,64 @@
-//! The database of an office.
+//! Databases, opened and closed.
 
-ghost use Rattle.std.specs.Prelude.{◌≡◌, false, IfErr, IfOk, None};
+ghost use Rattle.std.specs.Prelude.{◌≡◌, ◌≤◌, false, IfErr, IfOk, None};
 ghost use Rattle.sqlite.specs.Files.{file_state};
-ghost use Rattle.sshoffice.specs.Faults.{IsOfADatabase};
+ghost use Rattle.sqlite.specs.Held.{IsNew};
+ghost use Rattle.jobs.specs.Faults.{IsOfADatabase};
+ghost use Rattle.jobs.specs.Jobs.{IsLawful};
 
-use crate::fault::JobFault;
-use office::StoreFault;
-use sqlite::{Connection, Error, ErrorCode, File, FileStore};
-use store::Store;
+use crate::asked::Service;
+use crate::files::open_file;
+use jobs::{Done, JobFault, OfficeJob, closed, database_fault, do_on, finish, serve_at_port};
+use sqlite::{Connection, File, FileStore};
+use std::io::Write;
 
 /// A connection to the file at a path.
-pub(crate) type FileConnection = Connection<FileStore<File>>;
+type FileConnection = Connection<FileStore<File>>;
 
-/// The tables in the file at a path.
-pub(crate) type FileOffice = Store<FileStore<File>>;
-
-fn fault_of(error: Error) -> JobFault
-    ensures { IsOfADatabase result }
-{
-    match error {
-        Error::SqliteFailure(ErrorCode::OutOfMemory) => JobFault::NoMemory,
-        _ => JobFault::Store(StoreFault::Device),
-    }
-}
-
-/// Opens the database at a path, or makes one without tables.
-pub(crate) fn open_database(rt: &HostRuntime, path: &str) -> Result<FileConnection, JobFault>
-    ensures rests { IfOk result (λ c. (file_state c).in_transaction ≡ false) }
-    ensures unlimited { IfOk result (λ c. (file_state c).step_limit ≡ None) }
+/// Opens the database at a path, or makes one without tables. Nothing is asked of it.
+fn open_database(rt: &HostRuntime, path: &str) -> Result<FileConnection, JobFault>
+    ensures new { IfOk result IsNew }
     ensures only { IfErr result IsOfADatabase }
 {
     match Connection::open(rt, path) {
         Ok(conn) => Ok(conn),
-        Err(error) => Err(fault_of(error)),
+        Err(error) => Err(database_fault(error)),
     }
 }
 
-/// Closes a database. What was done before is answered, or, where that went well, the fault of the closing.
-pub(crate) fn close_database(
-    conn: FileConnection,
-    done: Result<(), JobFault>,
-) -> Result<(), JobFault> {
-    match (conn.close(), done) {
-        (Err(error), Ok(())) => Err(fault_of(error)),
-        (_, done) => done,
-    }
-}
-
-/// Opens the office in the database at a path.
-pub(crate) fn open_office(rt: &HostRuntime, path: &str) -> Result<FileOffice, JobFault> {
+/// Does a job in the database at a path.
+pub(crate) fn do_in<O: Write>(
+    rt: &HostRuntime,
+    path: &str,
+    job: &OfficeJob<'_>,
+    out: &mut O,
+) -> Result<(), JobFault>
+    requires { IsLawful job.now }
+{
     let conn = open_database(rt, path)?;
-    match Store::open(rt.alloc(), conn) {
-        Ok(store) => Ok(store),
-        Err((fault, conn)) => {
-            let _ = conn.close();
-            Err(JobFault::from(fault))
-        }
-    }
+    let Done { outcome, conn, out } = do_on(rt.alloc(), conn, job, out);
+    finish(out, job, closed(outcome, conn.close()))
 }
 
-/// Closes an office's database, as `close_database`.
-pub(crate) fn close_office(store: FileOffice, done: Result<(), JobFault>) -> Result<(), JobFault> {
-    close_database(store.into_connection(), done)
+/// Serves the office in a database. Answers the status of the serving, which has told of its own faults.
+pub(crate) fn serve<O: Write, E: Write>(
+    rt: &HostRuntime,
+    service: &Service<'_>,
+    out: &mut O,
+    err: &mut E,
+) -> Result<u8, JobFault>
+    ensures { IfOk result (λ status. status ≤ 1) }
+{
+    let nonces = open_file(rt, service.nonces)?;
+    let conn = open_database(rt, service.db)?;
+    let (served, conn) = serve_at_port(
+        rt,
+        conn,
+        nonces,
+        service.port,
+        service.connections,
+        out,
+        err,
+    );
+    closed(served, conn.close())
 }

@@ -2,25 +2,19 @@
 
 ghost use Rattle.std.specs.Prelude.{◌≡◌, ◌≤◌, map, string_bytes};
 ghost use Rattle.words.specs.Answers.{AreBad};
+ghost use Rattle.sshoffice.specs.Words.{IsOfBadWords};
 
-use crate::applying::{apply_to_office, apply_to_trial};
-use crate::checking::check;
-use crate::fault::JobFault;
-use crate::files::read_exchange_file;
-use crate::founding::{Founding, found};
-use crate::loopback::{Service, serve, test_itself};
-use crate::migrating::migrate;
-use crate::output::write_out;
-use crate::reporting::{Report, print_list, print_report};
-use exchanges::read_exchanges;
+use crate::asked::{Service, asked_of, founding_of, service_of};
+use crate::database::{do_in, serve};
+use crate::files::{check, open_file, read_exchange_file, read_key_file};
+use jobs::{
+    Founding, JobFault, OfficeJob, apply_to_trial, flushed, opening_of, status_of, test_ended,
+    write_out,
+};
+use server::selftest;
 use std::io::{ErrorKind, Write};
+use trial::trial_office;
 use words::{Job, WordsFault, read_words};
-
-/// The status of a job that was done.
-pub const DONE: u8 = 0;
-
-/// The status where a fault was met.
-pub const FAULT: u8 = 1;
 
 /// The status of bad words.
 pub const BAD_WORDS: u8 = 2;
@@ -31,40 +25,43 @@ fn apply<O: Write>(
     file: &str,
     out: &mut O,
 ) -> Result<(), JobFault> {
-    let bytes = read_exchange_file(rt, file)?;
     let Some(db) = db else {
-        return apply_to_trial(rt.alloc(), bytes.as_slice(), out);
+        return apply_to_trial(rt.alloc(), open_file(rt, file)?, out);
     };
-    let exchanges = read_exchanges(rt.alloc(), bytes.as_slice())?;
-    apply_to_office(rt, db, exchanges.as_slice(), out)
+    let exchanges = read_exchange_file(rt, file)?;
+    do_in(rt, db, &OfficeJob::Apply(exchanges.as_slice()), out)
+}
+
+fn found<O: Write>(
+    rt: &HostRuntime,
+    db: &str,
+    ca: &str,
+    founding: &Founding<'_>,
+    out: &mut O,
+) -> Result<(), JobFault> {
+    let ca = read_key_file(rt, ca)?;
+    let opening = opening_of(rt.alloc(), ca.key, founding)?;
+    do_in(rt, db, &OfficeJob::Init(&opening), out)
+}
+
+/// Serves the trial office one request of its own, and prints that it was answered as is due.
+fn test_itself<O: Write>(rt: &HostRuntime, out: &mut O) -> Result<(), JobFault> {
+    let mut office = trial_office(rt.alloc())?;
+    let tested = selftest(rt, &mut office);
+    let _ = office.into_connection();
+    test_ended(out, tested)
 }
 
 // All but serving.
 fn done_by<O: Write>(rt: &HostRuntime, job: &Job, out: &mut O) -> Result<(), JobFault> {
+    if let Some((db, asked)) = asked_of(job) {
+        return do_in(rt, db, &asked, out);
+    }
+    if let Some((db, ca, founding)) = founding_of(job) {
+        return found(rt, db, ca, &founding, out);
+    }
     match job {
-        Job::Init {
-            db,
-            ca,
-            root,
-            station,
-            first,
-            last,
-        } => found(
-            rt,
-            &Founding {
-                db: db.as_str(),
-                ca: ca.as_str(),
-                root: root.as_str(),
-                station: station.as_str(),
-                first: *first,
-                last: *last,
-            },
-            out,
-        ),
         Job::Apply { db, file } => apply(rt, db.as_ref().map(|db| db.as_str()), file.as_str(), out),
-        Job::Krl { db } => print_list(rt, db.as_str(), out),
-        Job::Signers { db } => print_report(rt, db.as_str(), Report::Signers, out),
-        Job::Table { db } => print_report(rt, db.as_str(), Report::Table, out),
         Job::Check {
             ca,
             list,
@@ -78,31 +75,8 @@ fn done_by<O: Write>(rt: &HostRuntime, job: &Job, out: &mut O) -> Result<(), Job
             key_id.as_str(),
             out,
         ),
-        Job::Migrate { db } => migrate(rt, db.as_str(), out),
         Job::Selftest => test_itself(rt, out),
-        Job::Serve { .. } => Ok(()),
-    }
-}
-
-// What was done, once all is written.
-fn flushed<O: Write>(done: Result<(), JobFault>, out: &mut O) -> Result<(), JobFault> {
-    let flushed = out.flush().is_ok();
-    match done {
-        Ok(()) if !flushed => Err(JobFault::Write),
-        done => done,
-    }
-}
-
-// The status of what was done. A fault is printed by its name.
-fn status_of<E: Write>(done: Result<(), JobFault>, err: &mut E) -> u8
-    ensures { result ≤ FAULT }
-{
-    match done {
-        Ok(()) => DONE,
-        Err(fault) => {
-            let _ = writeln!(err, "sshoffice: {fault}");
-            FAULT
-        }
+        _ => Ok(()),
     }
 }
 
@@ -112,35 +86,41 @@ fn serve_by<O: Write, E: Write>(
     out: &mut O,
     err: &mut E,
 ) -> u8
-    ensures { result ≤ FAULT }
+    ensures { result ≤ 1 }
 {
     match serve(rt, service, out, err) {
         Ok(status) => status,
-        Err(fault) => status_of(Err(fault), err),
+        Err(fault) => status_of(err, Err(fault)),
     }
 }
 
 /// Does a job: what it gives is written to `out`, and the name of a fault to `err`. Answers the status.
 pub fn do_job<O: Write, E: Write>(rt: &HostRuntime, job: &Job, out: &mut O, err: &mut E) -> u8
-    ensures { result ≤ FAULT }
+    ensures { result ≤ 1 }
 {
-    if let Job::Serve {
-        db,
-        port,
-        connections,
-        nonces,
-    } = job
-    {
-        let service = Service {
-            db: db.as_str(),
-            port: *port,
-            connections: *connections,
-            nonces: nonces.as_str(),
-        };
+    if let Some(service) = service_of(job) {
         return serve_by(rt, &service, out, err);
     }
     let done = done_by(rt, job, out);
-    status_of(flushed(done, out), err)
+    status_of(err, flushed(out, done))
+}
+
+// What is answered to words that ask for no job: the text of clap, or a fault.
+fn answer_words<O: Write, E: Write>(fault: WordsFault, out: &mut O, err: &mut E) -> u8
+    ensures status { result ≤ BAD_WORDS }
+    ensures bad { result ≡ BAD_WORDS → IsOfBadWords fault }
+{
+    match fault {
+        WordsFault::Help(text) => {
+            let shown = write_out(out, text.as_bytes());
+            status_of(err, flushed(out, shown))
+        }
+        WordsFault::BadWords(text) => {
+            let _ = write_out(err, text.as_bytes());
+            BAD_WORDS
+        }
+        WordsFault::NoMemory => status_of(err, Err(JobFault::NoMemory)),
+    }
 }
 
 /// Does the job that the words ask for, or shows the text of clap. Answers the status.
@@ -155,15 +135,7 @@ pub fn do_words<O: Write, E: Write>(
 {
     match read_words(rt.alloc(), words) {
         Ok(job) => do_job(rt, &job, out, err),
-        Err(WordsFault::Help(text)) => {
-            let shown = write_out(out, text.as_bytes());
-            status_of(flushed(shown, out), err)
-        }
-        Err(WordsFault::BadWords(text)) => {
-            let _ = write_out(err, text.as_bytes());
-            BAD_WORDS
-        }
-        Err(WordsFault::NoMemory) => status_of(Err(JobFault::NoMemory), err),
+        Err(fault) => answer_words(fault, out, err),
     }
 }
 
@@ -172,7 +144,7 @@ pub fn do_no_words<E: Write>(fault: ErrorKind, err: &mut E) -> u8
     ensures { result ≤ BAD_WORDS }
 {
     if fault == ErrorKind::OutOfMemory {
-        return status_of(Err(JobFault::NoMemory), err);
+        return status_of(err, Err(JobFault::NoMemory));
     }
     let _ = write_out(err, b"error: a word is not UTF-8\n");
     BAD_WORDS

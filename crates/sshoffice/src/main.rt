@@ -1,20 +1,14 @@
-//! The program: words, files, printing, and the office over its tables.
+//! The program: words, files, databases and sockets.
 //!
-//! What is promised of the office over its tables stands in the crate `headline`, and of exchange files in `exchanges`.
-//! This crate calls both. Files, the console and sockets are the system's, and nothing is proved of them.
+//! What a job does stands in the crate `jobs`, over any connection, output, reader and listener. This crate reads the
+//! words, opens what they name, and closes it. Files, the console and sockets are the system's, and nothing is proved
+//! of them.
 #![tactic(auto)]
 
-mod applying;
-mod checking;
+mod asked;
 mod database;
-mod fault;
 mod files;
-mod founding;
 mod job;
-mod loopback;
-mod migrating;
-mod output;
-mod reporting;
 
 use std::io::BufWriter;
 use std::process::ExitCode;

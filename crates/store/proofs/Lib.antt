@@ -2,6 +2,7 @@ pub mod Accepted
 pub mod Answering
 pub mod Ascending
 pub mod Bare
+pub mod Batches
 pub mod Histories
 pub mod Lawful
 pub mod Limits

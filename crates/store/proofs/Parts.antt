@@ -9,9 +9,9 @@ use Rattle.office.specs.declared.publication.Revoked.{Revoked}
 use Rattle.office.specs.State.{State}
 use Rattle.office.specs.Parts.{AreParts, numbers}
 use Rattle.office.proofs.Parts.{AreIssued, parts_are_published}
-use Rattle.store.specs.declared.revocations.Revocations.{Revocations}
+use Rattle.office.specs.declared.listing.Revocations.{Revocations}
 use Rattle.store.specs.Parts.{AreShown, IsMadeOf, are_ordered}
-use Rattle.store.specs.Revocations.{AreRevokedOf}
+use Rattle.office.specs.Listing.{AreRevocations}
 
 -- ---- CAs in order
 
@@ -46,7 +46,7 @@ rise_ordered low (ca ∷ cas) first up =
 
 -- what is made of a state's revocations shows them
 pub made_shown : (revoked : Revoked) (head : KrlHead) (cas : List Ca) (r : Revocations) (s : State)
-    → IsMadeOf revoked head cas r → AreRevokedOf r s → AreIssued s → AreShown revoked head cas s
+    → IsMadeOf revoked head cas r → AreRevocations r s → AreIssued s → AreShown revoked head cas s
 made_shown revoked head cas r s is of issued = record {
   head = is.head;
   parts = λ same. parts_are_published s r.serials revoked.parts.items

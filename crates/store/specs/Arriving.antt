@@ -1,5 +1,6 @@
 -- One arrival more, in one transaction.
-use Rattle.std.specs.Prelude.{◌≡◌, ◌⊎◌, ◌<◌, false, nat_lt, Bool, List, [], ◌∷◌, ◌++◌, find, IsOkAnd, Option, Some, None, Result, Ok, Err}
+use Rattle.std.specs.Prelude.{◌≡◌, ◌⊎◌, ◌<◌, false, nat_lt, Bool, List, [], ◌∷◌, ◌++◌, find, IfErr, IsOkAnd, Option}
+use Rattle.std.specs.Prelude.{Some, None, Result, Ok, Err}
 use Rattle.std.specs.List.{list_any}
 use Rattle.profile.specs.declared.limits.TheConstants.{LATEST_MOMENT}
 use Rattle.sqlite.specs.Effect.{Database}
@@ -71,8 +72,8 @@ pub record IsAnswered (a : Arrival) (p : Past) (outcome : Outcome) : Type 0 wher
 abbrev pub contents_with : Arrival → Past → Contents
 contents_with a p = office_contents p.0 (p.1 ++ a ∷ [])
 
--- Of tables as these, inside a transaction: what is due to the arrival is answered, and they hold the rows of the office
--- with it; or, with an error, nothing is committed.
+-- Of tables as these, inside a transaction: what is due to the arrival is answered, and they hold the rows of the
+-- office with it; or, with an error, nothing is committed.
 abbrev pub Settles : Arrival → (Past → Type 0) → Connection → Connection → Result Outcome Fault → Type 0
 Settles a Known old new r = Answers (IsAfter Known) (IsAnswered a) (contents_with a) old new r
 
@@ -116,8 +117,8 @@ pub record IsAccepted (a : Arrival) (d : Decision) (serving : List Ca) (p : Past
 
 -- ---- why it fails
 
--- A row of the change is too long, or there is no room for one more. Runs, key ids and CAs are short, and whatever is put in
--- has a number and a key of its own.
+-- A row of the change is too long, or there is no room for one more. Runs, key ids and CAs are short, and whatever is
+-- put in has a number and a key of its own.
 abbrev pub IsTooMuchToChange : Change → Contents → Type 0
 IsTooMuchToChange change.Nothing c = ⊥
 IsTooMuchToChange (change.Department d) c = RefusesDepartment (department_row d) c
@@ -152,6 +153,10 @@ of_statement NoMemory = NoMemory
 -- of tables that tell a history, if the connection is open, a fault has its cause
 abbrev pub IsCaused : Arrival → Connection → Connection → Fault → Type 0
 IsCaused a old new f = StopsFor (IsAfter IsAny) (ExceedsTables a) old new f
+
+-- so it has where the call fails
+abbrev pub FailsAsCaused : Arrival → Connection → Connection → Result Outcome Fault → Type 0
+FailsAsCaused a old new r = IfErr r (IsCaused a old new)
 
 -- Of an honest disk and of tables that tell a history: the disk failed, or had failed before, or what is decided of the
 -- arrival is more than tables hold.

@@ -1,13 +1,19 @@
--- When an office can't be made.
-use Rattle.std.specs.Prelude.{◌⊎◌}
+-- How an office is made, and when it can't be.
+use Rattle.std.specs.Prelude.{◌⊎◌, [], IfErr, Result}
+use Rattle.sqlite.specs.Tree.{Trees}
+use Rattle.sqlite.specs.State.{State}
 use Rattle.office.specs.declared.opening.Opening.{Opening}
 use Rattle.office.specs.State.{first_ca, opened}
+use Rattle.tables.specs.declared.fault.Fault.{Fault}
+use Rattle.tables.specs.Calls.{IsBare}
+use Rattle.tables.specs.Schema.{no_schema}
 use Rattle.tables.specs.declared.cas.CaRow.{CaRow}
 use Rattle.tables.specs.declared.offices.OfficeRow.{OfficeRow}
-use Rattle.tables.specs.Changes.{with_office}
+use Rattle.tables.specs.Changes.{with_ca, with_office}
 use Rattle.tables.specs.Contents.{Contents, no_contents}
-use Rattle.tables.specs.Refusals.{RefusesCa, RefusesOffice}
-use Rattle.rows.specs.Rows.{ca_row, office_row}
+use Rattle.tables.specs.Refusals.{HasCauseOr, RefusesCa, RefusesOffice}
+use Rattle.rows.specs.Rows.{ca_row, office_contents, office_row}
+use Rattle.rows.specs.Transactions.{Ends, FailsFor, Leaves, Makes, Rests, Waits}
 
 -- the row of the office is refused, or then that of its CA
 abbrev pub RefusesFirst : OfficeRow → CaRow → Contents → Type 0
@@ -16,3 +22,45 @@ RefusesFirst office ca c = RefusesOffice office c ⊎ RefusesCa ca (with_office 
 -- the rules of the tables refuse, of empty tables, what an office begins with
 abbrev pub RefusesOpening : Opening → Type 0
 RefusesOpening o = RefusesFirst (office_row (opened o)) (ca_row 1 (first_ca o)) no_contents
+
+-- of a database without tables, a fault of the whole has its cause, or is this refusal
+abbrev pub FailsOnBlank : Type 0 → State → State → Result (Unit {0}) Fault → Type 0
+FailsOnBlank refused old new r = Rests (IsBare no_schema) old → IfErr r (HasCauseOr refused old new)
+
+-- ---- with these rows
+
+-- the tables are made, and have these two rows
+abbrev pub MakesFirst : OfficeRow → CaRow → State → State → Result (Unit {0}) Fault → Type 0
+MakesFirst office ca old new r =
+    Makes (λ _. IsBare no_schema) (λ (_ : Unit {0}). with_ca ca (with_office office no_contents)) old new r
+
+-- a fault has its cause, or the tables refuse one of these two rows
+abbrev pub FailsFirst : OfficeRow → CaRow → State → State → Result (Unit {0}) Fault → Type 0
+FailsFirst office ca old new r =
+    FailsFor (λ (_ : Unit {0}). IsBare no_schema) (λ _. RefusesFirst office ca no_contents) old new r
+
+-- a crash in its midst commits nothing
+abbrev pub WaitsFirst : State → Trees → Type 0
+WaitsFirst old trees = Waits (λ (_ : Unit {0}). IsBare no_schema) old trees
+
+-- in a transaction of its own they are made, or all is as before
+abbrev pub EndsFirst : OfficeRow → CaRow → State → State → Result (Unit {0}) Fault → Type 0
+EndsFirst office ca old new r =
+    Ends (λ _. IsBare no_schema) (λ _ _. Unit {0})
+    (λ (_ : Unit {0}). with_ca ca (with_office office no_contents)) old new r
+
+-- a crash then leaves no table, or all of them with these two rows
+abbrev pub LeavesFirst : OfficeRow → CaRow → State → Trees → Type 0
+LeavesFirst office ca old trees =
+    Leaves (λ _. IsBare no_schema) (λ (_ : Unit {0}). with_ca ca (with_office office no_contents)) old trees
+
+-- ---- with what an office begins with
+
+-- the tables have the rows of the office of this opening, in which nothing has happened; or all is as before
+abbrev pub EndsOpening : Opening → State → State → Result (Unit {0}) Fault → Type 0
+EndsOpening o old new r =
+    Ends (λ _. IsBare no_schema) (λ _ _. Unit {0}) (λ (_ : Unit {0}). office_contents o []) old new r
+
+-- a crash leaves no table, or all of them with the rows of that office
+abbrev pub LeavesOpening : Opening → State → Trees → Type 0
+LeavesOpening o old trees = Leaves (λ _. IsBare no_schema) (λ (_ : Unit {0}). office_contents o []) old trees

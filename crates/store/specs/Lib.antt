@@ -1,6 +1,7 @@
 pub mod Meaning
+pub mod Register
 pub mod Showing
-pub mod Revocations
+pub mod Batches
 pub mod Parts
 pub mod Arriving
 pub mod Creating

@@ -1,5 +1,6 @@
 -- What the tables mean.
-use Rattle.std.specs.Prelude.{◌≡◌, ◌⊎◌, false, List, [], ◌∷◌, ◌++◌, length, ◌==◌, if◌then◌else◌, IsTrue, None, Result, Ok, Err}
+use Rattle.std.specs.Prelude.{◌≡◌, ◌⊎◌, false, List, [], ◌∷◌, ◌++◌, length, ◌==◌, if◌then◌else◌, IsTrue, None, Result}
+use Rattle.std.specs.Prelude.{Ok, Err}
 use Rattle.std.specs.List.{AllByRecursion}
 use Rattle.sqlite_disk.specs.Disk.{MoreFaults}
 use Rattle.sqlite.specs.Tree.{Trees}
@@ -10,7 +11,7 @@ use Rattle.office.specs.declared.fault.StoreFault.{StoreFault}
 use Rattle.office.specs.declared.fault.StoreFault.TheVariants.{Device, NoMemory, NotAnOffice, WrongSchema}
 use Rattle.office.specs.Shows.{IsOffice}
 use Rattle.tables.specs.declared.offices.OfficeRow.{OfficeRow}
-use Rattle.tables.specs.Contents.{Kept}
+use Rattle.tables.specs.Contents.{HasOffices, Kept}
 use Rattle.tables.specs.declared.fault.Fault.{Fault}
 use Rattle.tables.specs.declared.fault.Fault.TheVariants as table_fault
 use Rattle.text.specs.declared.memory.NoMemory as text
@@ -33,13 +34,17 @@ abbrev pub IsLeft : Opening → List Arrival → Trees → Type 0
 IsLeft o l trees = Kept trees (office_contents o l) ⊎ ((a : Arrival) × Kept trees (office_contents o (l ++ a ∷ [])))
 
 -- No query has a limit on its steps, no transaction is open, and the tables hold the rows of the office of this opening
--- after this history. Of the tables of a connection that a failed disk has shut that isn't said; but what a crash leaves
--- are these rows, or those after the one arrival more whose commit failed.
+-- after this history. Of the tables of a connection that a failed disk has shut that isn't said; but what a crash
+-- leaves are these rows, or those after the one arrival more whose commit failed.
 pub record Tells (s : State) (o : Opening) (l : List Arrival) : Type 0 where
   pub history : IsHistory o l
   pub unlimited : s.step_limit ≡ None
   pub rows : IsTrue s.is_open → Rests (Has (office_contents o l)) s
   pub left : (trees : Trees) → s.may_leave trees → IsLeft o l trees
+
+-- the tables tell each history that they told
+abbrev pub KeepsTelling : State → State → Type 0
+KeepsTelling old new = (o : Opening) (l : List Arrival) → Tells old o l → Tells new o l
 
 -- the disk failed during the call, or an earlier failure has shut the connection
 abbrev pub DiskFailed : State → State → Type 0
@@ -81,6 +86,10 @@ Looks rows failed (Ok x) = opened_by rows ≡ Ok x
 Looks rows failed (Err NoMemory) = Unit {0}
 Looks rows failed (Err Device) = failed
 Looks rows failed (Err e) = opened_by rows ≡ Err e
+
+-- so it is of each table of the office, where this is the failure of the database
+abbrev pub LooksUnless : (State → State → Type 0) → State → State → Result (Unit {0}) StoreFault → Type 0
+LooksUnless Failed old new r = (rows : List OfficeRow) → HasOffices rows old.now → Looks rows (Failed old new) r
 
 -- what is made where memory allows, as an answer of the tables
 abbrev pub made : {X : Type 0} → Result X text.NoMemory → Result X Fault

@@ -10,7 +10,7 @@ use Rattle.office.specs.Parts.{AreParts, numbers}
 use Rattle.office.specs.Publication.{published_parts}
 use Rattle.tables.specs.declared.fault.Fault.{Fault}
 use Rattle.tables.specs.declared.fault.Fault.TheVariants.{Damaged, Device, NoMemory}
-use Rattle.store.specs.declared.revocations.Revocations.{Revocations}
+use Rattle.office.specs.declared.listing.Revocations.{Revocations}
 
 -- none serves from below this serial, nor from below the one before it
 abbrev pub are_ordered : ℕ → List Ca → Bool

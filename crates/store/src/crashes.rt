@@ -14,8 +14,8 @@ pub fn a_crash_leaves_the_history<S: Alter>(store: &Store<S>)
     let _ = store;
 }
 
-/// What tells a history, and is open, stores it: a crash at any moment between two calls leaves just its tables. After an
-/// answer the register is open, so what was answered is stored.
+/// What tells a history, and is open, stores it: a crash at any moment between two calls leaves just its tables. After
+/// an answer the register is open, so what was answered is stored.
 pub fn what_is_open_is_stored<S: Alter>(store: &Store<S>)
     ensures { StoresWhereOpen (state S.Store store.now.conn) }
 {

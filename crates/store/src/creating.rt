@@ -1,18 +1,16 @@
 //! The tables of an office in which nothing has happened yet.
 
-ghost use Rattle.std.specs.Prelude.{◌≡◌, ◌∷◌, [], ◌<◌, ◌^◌, IfOk, IfErr, false, OnErr};
-ghost use Rattle.sqlite.specs.Held.{state};
-ghost use Rattle.sqlite.specs.State.{HasCleanDisk, Survives};
-ghost use Rattle.tables.specs.Schema.{no_schema};
+ghost use Rattle.std.specs.Prelude.{◌≡◌, ◌∷◌, [], ◌<◌, ◌^◌, IfOk};
 ghost use Rattle.tables.specs.Contents.{no_contents};
-ghost use Rattle.tables.specs.Calls.{IsBare, Stays};
+ghost use Rattle.tables.specs.Calls.{Stays};
+ghost use Rattle.tables.specs.Honest.{On, OutlivesBy};
 ghost use Rattle.tables.specs.Changes.{with_ca, with_office};
-ghost use Rattle.tables.specs.Refusals.{HasCauseOr};
 ghost use Rattle.office.specs.Openings.{IsOpening};
 ghost use Rattle.office.specs.State.{first_ca, opened};
-ghost use Rattle.rows.specs.Rows.{ca_row, office_contents, office_row};
-ghost use Rattle.rows.specs.Transactions.{Ends, FailsFor, Has, IsAsBefore, Leaves, Makes, Rests, Waits};
-ghost use Rattle.store.specs.Creating.{RefusesFirst, RefusesOpening};
+ghost use Rattle.rows.specs.Rows.{ca_row, office_row};
+ghost use Rattle.rows.specs.Transactions.{FailsFor, Has, KeepsOnErr, Makes, Waits};
+ghost use Rattle.store.specs.Creating.{EndsFirst, EndsOpening, FailsFirst, FailsOnBlank, LeavesFirst, LeavesOpening};
+ghost use Rattle.store.specs.Creating.{MakesFirst, RefusesFirst, RefusesOpening, WaitsFirst};
 
 use lines::key_blob_of;
 use office::Opening;
@@ -55,13 +53,10 @@ fn ca_row(alloc: Global, opening: &Opening) -> Result<CaRow, NoMemory>
 }
 
 fn fill<S: Alter>(conn: &mut Connection<S>, office: &OfficeRow, ca: &CaRow) -> Result<(), Fault>
-    ensures makes { HasCleanDisk (state S.Store conn.new) → Makes Has (λ c. with_ca ca.now (with_office office.now c))
-        (state S.Store conn.old) (state S.Store conn.new) result }
-    ensures fails { HasCleanDisk (state S.Store conn.new) → FailsFor Has (RefusesFirst office.now ca.now)
-        (state S.Store conn.old) (state S.Store conn.new) result }
-    ensures stays { HasCleanDisk (state S.Store conn.new)
-        → Stays (state S.Store conn.old) (state S.Store conn.new) result }
-    ensures survives { Survives (state S.Store conn.old) (state S.Store conn.new) (Waits Has (state S.Store conn.old)) }
+    ensures makes { On S.Store (Makes Has (λ c. with_ca ca.now (with_office office.now c))) conn.old conn.new result }
+    ensures fails { On S.Store (FailsFor Has (RefusesFirst office.now ca.now)) conn.old conn.new result }
+    ensures stays { On S.Store Stays conn.old conn.new result }
+    ensures survives { OutlivesBy S.Store (Waits Has) conn.old conn.new }
 {
     match insert_office(conn, office) {
         Ok(()) => insert_ca(conn, ca),
@@ -70,16 +65,10 @@ fn fill<S: Alter>(conn: &mut Connection<S>, office: &OfficeRow, ca: &CaRow) -> R
 }
 
 fn make<S: Alter>(conn: &mut Connection<S>, office: &OfficeRow, ca: &CaRow) -> Result<(), Fault>
-    ensures makes { HasCleanDisk (state S.Store conn.new) →
-        Makes (λ _. IsBare no_schema) (λ (_ : Unit {0}). with_ca ca.now (with_office office.now no_contents))
-        (state S.Store conn.old) (state S.Store conn.new) result }
-    ensures fails { HasCleanDisk (state S.Store conn.new) →
-        FailsFor (λ (_ : Unit {0}). IsBare no_schema) (λ _. RefusesFirst office.now ca.now no_contents)
-        (state S.Store conn.old) (state S.Store conn.new) result }
-    ensures stays { HasCleanDisk (state S.Store conn.new)
-        → Stays (state S.Store conn.old) (state S.Store conn.new) result }
-    ensures survives { Survives (state S.Store conn.old) (state S.Store conn.new)
-        (Waits (λ (_ : Unit {0}). IsBare no_schema) (state S.Store conn.old)) }
+    ensures makes { On S.Store (MakesFirst office.now ca.now) conn.old conn.new result }
+    ensures fails { On S.Store (FailsFirst office.now ca.now) conn.old conn.new result }
+    ensures stays { On S.Store Stays conn.old conn.new result }
+    ensures survives { OutlivesBy S.Store WaitsFirst conn.old conn.new }
 {
     match create_tables(conn) {
         Ok(()) => fill(conn, office, ca),
@@ -92,17 +81,10 @@ fn make_whole<S: Alter>(
     office: &OfficeRow,
     ca: &CaRow,
 ) -> Result<(), Fault>
-    ensures ends { HasCleanDisk (state S.Store conn.new) →
-        Ends (λ _. IsBare no_schema) (λ _ _. Unit {0})
-        (λ (_ : Unit {0}). with_ca ca.now (with_office office.now no_contents))
-        (state S.Store conn.old) (state S.Store conn.new) result }
-    ensures cause { HasCleanDisk (state S.Store conn.new) → Rests (IsBare no_schema) (state S.Store conn.old)
-        → IfErr result (HasCauseOr (RefusesFirst office.now ca.now no_contents) (state S.Store conn.old) (state S.Store conn.new)) }
-    ensures before { HasCleanDisk (state S.Store conn.new)
-        → OnErr result (IsAsBefore (state S.Store conn.old) (state S.Store conn.new)) }
-    ensures survives { Survives (state S.Store conn.old) (state S.Store conn.new)
-        (Leaves (λ _. IsBare no_schema) (λ (_ : Unit {0}). with_ca ca.now (with_office office.now no_contents))
-        (state S.Store conn.old)) }
+    ensures ends { On S.Store (EndsFirst office.now ca.now) conn.old conn.new result }
+    ensures cause { On S.Store (FailsOnBlank (RefusesFirst office.now ca.now no_contents)) conn.old conn.new result }
+    ensures before { On S.Store KeepsOnErr conn.old conn.new result }
+    ensures survives { OutlivesBy S.Store (LeavesFirst office.now ca.now) conn.old conn.new }
 {
     match begin(conn) {
         Ok(()) => {
@@ -120,16 +102,10 @@ pub(crate) fn create<S: Alter>(
     opening: &Opening,
 ) -> Result<(), Fault>
     requires { IsOpening opening.now }
-    ensures ends { HasCleanDisk (state S.Store conn.new) →
-        Ends (λ _. IsBare no_schema) (λ _ _. Unit {0}) (λ (_ : Unit {0}). office_contents opening.now [])
-        (state S.Store conn.old) (state S.Store conn.new) result }
-    ensures cause { HasCleanDisk (state S.Store conn.new) → Rests (IsBare no_schema) (state S.Store conn.old)
-        → IfErr result (HasCauseOr (RefusesOpening opening.now) (state S.Store conn.old) (state S.Store conn.new)) }
-    ensures before { HasCleanDisk (state S.Store conn.new)
-        → OnErr result (IsAsBefore (state S.Store conn.old) (state S.Store conn.new)) }
-    ensures survives { Survives (state S.Store conn.old) (state S.Store conn.new)
-        (Leaves (λ _. IsBare no_schema) (λ (_ : Unit {0}). office_contents opening.now [])
-        (state S.Store conn.old)) }
+    ensures ends { On S.Store (EndsOpening opening.now) conn.old conn.new result }
+    ensures cause { On S.Store (FailsOnBlank (RefusesOpening opening.now)) conn.old conn.new result }
+    ensures before { On S.Store KeepsOnErr conn.old conn.new result }
+    ensures survives { OutlivesBy S.Store (LeavesOpening opening.now) conn.old conn.new }
 {
     let office = office_row(alloc, opening)?;
     let ca = ca_row(alloc, opening)?;

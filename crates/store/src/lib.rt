@@ -13,7 +13,6 @@ mod looking;
 mod publishing;
 mod register;
 mod registry;
-mod revocations;
 mod serials;
 mod settling;
 mod taking;

@@ -1,21 +1,19 @@
-//! Certificates, as they are listed.
+//! What is read for reports: what is revoked, and certificates in batches.
 
-ghost use Rattle.std.specs.Prelude.{◌≡◌, filter, map};
-ghost use Rattle.sqlite.specs.Held.{state};
-ghost use Rattle.sqlite.specs.State.{HasCleanDisk, Survives};
+ghost use Rattle.std.specs.Prelude.{◌≡◌, ◌+◌, min};
 ghost use Rattle.tables.specs.Calls.{Never, OnlyReads};
-ghost use Rattle.office.specs.Publication.{entries_of, entry_of, is_pending, pending_of, pending_row};
-ghost use Rattle.store.specs.Revocations.{AreRevokedOf, state_with};
+ghost use Rattle.rows.specs.Showing.{AreWithin};
+ghost use Rattle.tables.specs.Honest.{On, Outlives};
+ghost use Rattle.office.specs.Listing.{AreRevocations, batch_of};
+ghost use Rattle.store.specs.Batches.{numbered};
 ghost use Rattle.store.specs.Showing.{ShowsOffice};
 
-use crate::answer::made;
-use crate::revocations::Revocations;
 use krl::Runs;
-use office::{Entry, Pending};
-use rows::{read_certificates, read_key_ids};
+use office::{Certificate, Revocations};
+use rows::{number, read_certificates, read_key_ids, read_office};
 use sqlite::{Alter, Connection};
 use std::alloc::Global;
-use tables::Fault;
+use tables::{Fault, Number};
 use views::revoked_runs;
 
 fn with_key_ids<S: Alter>(
@@ -23,12 +21,10 @@ fn with_key_ids<S: Alter>(
     conn: &mut Connection<S>,
     serials: Runs,
 ) -> Result<Revocations, Fault>
-    ensures shows { HasCleanDisk (state S.Store conn.new)
-        → ShowsOffice (λ s kept r. (r.serials ≡ serials) × (r.key_ids.items ≡ s.revoked_key_ids))
-        (state S.Store conn.old) (state S.Store conn.new) result }
-    ensures reads { HasCleanDisk (state S.Store conn.new)
-        → OnlyReads (state S.Store conn.old) (state S.Store conn.new) result }
-    ensures survives { Survives (state S.Store conn.old) (state S.Store conn.new) Never }
+    ensures shows { On S.Store (ShowsOffice (λ s kept r. (r.serials ≡ serials) × (r.key_ids.items ≡ s.revoked_key_ids)))
+        conn.old conn.new result }
+    ensures reads { On S.Store OnlyReads conn.old conn.new result }
+    ensures survives { Outlives S.Store Never conn.old conn.new }
 {
     match read_key_ids(alloc, conn) {
         Ok(key_ids) => Ok(Revocations { serials, key_ids }),
@@ -41,11 +37,9 @@ pub(crate) fn read_revocations<S: Alter>(
     alloc: Global,
     conn: &mut Connection<S>,
 ) -> Result<Revocations, Fault>
-    ensures shows { HasCleanDisk (state S.Store conn.new) → ShowsOffice (λ s kept r. AreRevokedOf r s)
-        (state S.Store conn.old) (state S.Store conn.new) result }
-    ensures reads { HasCleanDisk (state S.Store conn.new)
-        → OnlyReads (state S.Store conn.old) (state S.Store conn.new) result }
-    ensures survives { Survives (state S.Store conn.old) (state S.Store conn.new) Never }
+    ensures shows { On S.Store (ShowsOffice (λ s kept r. AreRevocations r s)) conn.old conn.new result }
+    ensures reads { On S.Store OnlyReads conn.old conn.new result }
+    ensures survives { Outlives S.Store Never conn.old conn.new }
 {
     match revoked_runs(alloc, conn) {
         Ok(serials) => with_key_ids(alloc, conn, serials),
@@ -53,72 +47,41 @@ pub(crate) fn read_revocations<S: Alter>(
     }
 }
 
-fn pending_beside<S: Alter>(
-    alloc: Global,
-    conn: &mut Connection<S>,
-    revocations: &Revocations,
-) -> Result<Vec<Pending>, Fault>
-    ensures shows { HasCleanDisk (state S.Store conn.new)
-        → ShowsOffice (λ s kept rows. rows.items ≡ map pending_row (filter (is_pending (state_with revocations.now)) s.certificates))
-        (state S.Store conn.old) (state S.Store conn.new) result }
-    ensures reads { HasCleanDisk (state S.Store conn.new)
-        → OnlyReads (state S.Store conn.old) (state S.Store conn.new) result }
-    ensures survives { Survives (state S.Store conn.old) (state S.Store conn.new) Never }
+/// The number, as a column can hold it: the greatest that it holds in place of a greater one.
+fn column_number(value: u64) -> Number
+    ensures { result ≡ min value 9223372036854775807 }
 {
-    match read_certificates(alloc, conn) {
-        Ok(certificates) => made(revocations.pending_among(alloc, certificates.as_slice())),
-        Err(fault) => Err(fault),
-    }
+    number(value.min(9223372036854775807))
 }
 
-/// The certificates that are neither signed nor revoked, by serial.
-pub(crate) fn read_pending<S: Alter>(
+fn batch_from<S: Alter>(
     alloc: Global,
     conn: &mut Connection<S>,
-) -> Result<Vec<Pending>, Fault>
-    ensures shows { HasCleanDisk (state S.Store conn.new) → ShowsOffice (λ s kept rows. rows.items ≡ pending_of s)
-        (state S.Store conn.old) (state S.Store conn.new) result }
-    ensures reads { HasCleanDisk (state S.Store conn.new)
-        → OnlyReads (state S.Store conn.old) (state S.Store conn.new) result }
-    ensures survives { Survives (state S.Store conn.old) (state S.Store conn.new) Never }
+    first: u64,
+    place: u64,
+) -> Result<Vec<Certificate>, Fault>
+    ensures shows { On S.Store (ShowsOffice (AreWithin (numbered first place) (numbered first (place + 999))))
+        conn.old conn.new result }
+    ensures reads { On S.Store OnlyReads conn.old conn.new result }
+    ensures survives { Outlives S.Store Never conn.old conn.new }
 {
-    match read_revocations(alloc, conn) {
-        Ok(revocations) => pending_beside(alloc, conn, &revocations),
-        Err(fault) => Err(fault),
-    }
+    let lo = first.saturating_add(place);
+    let hi = lo.saturating_add(999);
+    read_certificates(alloc, conn, column_number(lo), column_number(hi))
 }
 
-fn entries_beside<S: Alter>(
+/// Certificates by serial, from the one at this place on, of many the first 1000. Their rows alone are read.
+pub(crate) fn read_batch<S: Alter>(
     alloc: Global,
     conn: &mut Connection<S>,
-    revocations: &Revocations,
-) -> Result<Vec<Entry>, Fault>
-    ensures shows { HasCleanDisk (state S.Store conn.new)
-        → ShowsOffice (λ s kept rows. rows.items ≡ map (entry_of (state_with revocations.now)) s.certificates)
-        (state S.Store conn.old) (state S.Store conn.new) result }
-    ensures reads { HasCleanDisk (state S.Store conn.new)
-        → OnlyReads (state S.Store conn.old) (state S.Store conn.new) result }
-    ensures survives { Survives (state S.Store conn.old) (state S.Store conn.new) Never }
+    place: u64,
+) -> Result<Vec<Certificate>, Fault>
+    ensures shows { On S.Store (ShowsOffice (λ s kept rows. rows.items ≡ batch_of s place)) conn.old conn.new result }
+    ensures reads { On S.Store OnlyReads conn.old conn.new result }
+    ensures survives { Outlives S.Store Never conn.old conn.new }
 {
-    match read_certificates(alloc, conn) {
-        Ok(certificates) => made(revocations.entries_of(alloc, certificates.as_slice())),
-        Err(fault) => Err(fault),
-    }
-}
-
-/// Every certificate, by serial.
-pub(crate) fn read_entries<S: Alter>(
-    alloc: Global,
-    conn: &mut Connection<S>,
-) -> Result<Vec<Entry>, Fault>
-    ensures shows { HasCleanDisk (state S.Store conn.new) → ShowsOffice (λ s kept rows. rows.items ≡ entries_of s)
-        (state S.Store conn.old) (state S.Store conn.new) result }
-    ensures reads { HasCleanDisk (state S.Store conn.new)
-        → OnlyReads (state S.Store conn.old) (state S.Store conn.new) result }
-    ensures survives { Survives (state S.Store conn.old) (state S.Store conn.new) Never }
-{
-    match read_revocations(alloc, conn) {
-        Ok(revocations) => entries_beside(alloc, conn, &revocations),
+    match read_office(alloc, conn) {
+        Ok(office) => batch_from(alloc, conn, office.opening.first, place),
         Err(fault) => Err(fault),
     }
 }

@@ -1,17 +1,13 @@
 //! A look at a database: is it an office's?
 
-ghost use Rattle.std.specs.Prelude.{◌≡◌, false, List, IfErr, IsTrue, OnOk};
+ghost use Rattle.std.specs.Prelude.{◌≡◌, false};
 ghost use Rattle.std.specs.List.{list_any};
-ghost use Rattle.sqlite.specs.Held.{state};
-ghost use Rattle.sqlite.specs.State.{HasCleanDisk, Survives};
 ghost use Rattle.tables.specs.Calls.{Never};
+ghost use Rattle.tables.specs.Honest.{Between, On, Outlives, tables_of};
 ghost use Rattle.tables.specs.Look.{is_office_table};
-ghost use Rattle.tables.specs.Contents.{HasOffices};
 ghost use Rattle.tables.specs.declared.offices.OfficeRow.{OfficeRow};
 ghost use Rattle.tables.specs.Faults.{HasFailed};
-ghost use Rattle.office.specs.declared.opening.Opening.{Opening};
-ghost use Rattle.office.specs.declared.arrival.Arrival.{Arrival};
-ghost use Rattle.store.specs.Meaning.{Looks, LooksOn, Tells, opened_by};
+ghost use Rattle.store.specs.Meaning.{KeepsTelling, LooksOn, LooksUnless, opened_by};
 
 use crate::creating::SCHEMA;
 use office::StoreFault;
@@ -37,16 +33,12 @@ fn opened_by(rows: &[OfficeRow]) -> Result<(), StoreFault>
 
 /// Whether the database has an office of this version.
 pub(crate) fn look<S: Alter>(alloc: Global, conn: &mut Connection<S>) -> Result<(), StoreFault>
-    ensures looks { HasCleanDisk (state S.Store conn.new) → (rows : List OfficeRow)
-        → HasOffices rows (state S.Store conn.old).now
-        → Looks rows (HasFailed (state S.Store conn.old) (state S.Store conn.new)) result }
-    ensures same { HasCleanDisk (state S.Store conn.new) → (o : Opening) (l : List Arrival)
-        → Tells (state S.Store conn.old) o l → Tells (state S.Store conn.new) o l }
-    ensures none { list_any is_office_table (state S.Store conn.old).now.schema.tables ≡ false
-        → (result ≡ Err StoreFault.NotAnOffice) × (conn.new ≡ conn.old) }
-    ensures still { HasCleanDisk (state S.Store conn.new)
-        → LooksOn (state S.Store conn.old) (state S.Store conn.new) result }
-    ensures survives { Survives (state S.Store conn.old) (state S.Store conn.new) Never }
+    ensures looks { On S.Store (LooksUnless HasFailed) conn.old conn.new result }
+    ensures same { Between S.Store KeepsTelling conn.old conn.new }
+    ensures none { list_any is_office_table (tables_of S.Store conn.old) ≡ false → (result ≡ Err StoreFault.NotAnOffice)
+        × (conn.new ≡ conn.old) }
+    ensures still { On S.Store LooksOn conn.old conn.new result }
+    ensures survives { Outlives S.Store Never conn.old conn.new }
 {
     if !has_office(conn) {
         return Err(StoreFault::NotAnOffice);

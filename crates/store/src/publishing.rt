@@ -2,9 +2,8 @@
 
 ghost use Rattle.std.specs.Prelude.{◌≡◌, IfOk};
 ghost use Rattle.std.specs.List.Sorted.{IsNonDecreasing};
-ghost use Rattle.sqlite.specs.Held.{state};
-ghost use Rattle.sqlite.specs.State.{HasCleanDisk, Survives};
 ghost use Rattle.tables.specs.Calls.{Never, OnlyReads};
+ghost use Rattle.tables.specs.Honest.{On, Outlives};
 ghost use Rattle.office.specs.Publication.{AreRevoked};
 ghost use Rattle.office.specs.Parts.{numbers};
 ghost use Rattle.store.specs.Parts.{AreOrdered, AreShown, IsMadeOf, are_ordered};
@@ -12,9 +11,8 @@ ghost use Rattle.store.specs.Showing.{ShowsOffice};
 
 use crate::answer::made;
 use crate::listing::read_revocations;
-use crate::revocations::Revocations;
 use krl::KrlHead;
-use office::{Ca, Revoked, parts_of};
+use office::{Ca, Revocations, Revoked, parts_of};
 use rows::{read_cas, read_office};
 use sqlite::{Alter, Connection};
 use std::alloc::Global;
@@ -46,13 +44,10 @@ fn ordered(cas: Vec<Ca>) -> Result<Vec<Ca>, Fault>
 
 /// The CAs by number, of which none serves from an earlier serial on than the one before it.
 fn read_serving_cas<S: Alter>(alloc: Global, conn: &mut Connection<S>) -> Result<Vec<Ca>, Fault>
-    ensures shows { HasCleanDisk (state S.Store conn.new)
-        → ShowsOffice (λ s kept cas. cas.items ≡ s.cas)
-        (state S.Store conn.old) (state S.Store conn.new) result }
+    ensures shows { On S.Store (ShowsOffice (λ s kept cas. cas.items ≡ s.cas)) conn.old conn.new result }
     ensures ordered { IfOk result (λ cas. IsNonDecreasing (numbers cas.items)) }
-    ensures reads { HasCleanDisk (state S.Store conn.new)
-        → OnlyReads (state S.Store conn.old) (state S.Store conn.new) result }
-    ensures survives { Survives (state S.Store conn.old) (state S.Store conn.new) Never }
+    ensures reads { On S.Store OnlyReads conn.old conn.new result }
+    ensures survives { Outlives S.Store Never conn.old conn.new }
 {
     match read_cas(alloc, conn) {
         Ok(cas) => ordered(cas),
@@ -84,12 +79,10 @@ fn revoked_under<S: Alter>(
     cas: &[Ca],
 ) -> Result<Revoked, Fault>
     requires { IsNonDecreasing (numbers cas.now) }
-    ensures shows { HasCleanDisk (state S.Store conn.new)
-        → ShowsOffice (λ s kept revoked. AreShown revoked head cas.now s)
-        (state S.Store conn.old) (state S.Store conn.new) result }
-    ensures reads { HasCleanDisk (state S.Store conn.new)
-        → OnlyReads (state S.Store conn.old) (state S.Store conn.new) result }
-    ensures survives { Survives (state S.Store conn.old) (state S.Store conn.new) Never }
+    ensures shows { On S.Store (ShowsOffice (λ s kept revoked. AreShown revoked head cas.now s))
+        conn.old conn.new result }
+    ensures reads { On S.Store OnlyReads conn.old conn.new result }
+    ensures survives { Outlives S.Store Never conn.old conn.new }
 {
     match read_revocations(alloc, conn) {
         Ok(revocations) => made(revoked_of(alloc, head, cas, revocations)),
@@ -102,12 +95,10 @@ fn revoked_with<S: Alter>(
     conn: &mut Connection<S>,
     head: KrlHead,
 ) -> Result<Revoked, Fault>
-    ensures shows { HasCleanDisk (state S.Store conn.new)
-        → ShowsOffice (λ s kept revoked. AreShown revoked head s.cas s)
-        (state S.Store conn.old) (state S.Store conn.new) result }
-    ensures reads { HasCleanDisk (state S.Store conn.new)
-        → OnlyReads (state S.Store conn.old) (state S.Store conn.new) result }
-    ensures survives { Survives (state S.Store conn.old) (state S.Store conn.new) Never }
+    ensures shows { On S.Store (ShowsOffice (λ s kept revoked. AreShown revoked head s.cas s))
+        conn.old conn.new result }
+    ensures reads { On S.Store OnlyReads conn.old conn.new result }
+    ensures survives { Outlives S.Store Never conn.old conn.new }
 {
     match read_serving_cas(alloc, conn) {
         Ok(cas) => revoked_under(alloc, conn, head, cas.as_slice()),
@@ -120,11 +111,9 @@ pub(crate) fn read_revoked<S: Alter>(
     alloc: Global,
     conn: &mut Connection<S>,
 ) -> Result<Revoked, Fault>
-    ensures shows { HasCleanDisk (state S.Store conn.new) → ShowsOffice (λ s kept revoked. AreRevoked revoked s)
-        (state S.Store conn.old) (state S.Store conn.new) result }
-    ensures reads { HasCleanDisk (state S.Store conn.new)
-        → OnlyReads (state S.Store conn.old) (state S.Store conn.new) result }
-    ensures survives { Survives (state S.Store conn.old) (state S.Store conn.new) Never }
+    ensures shows { On S.Store (ShowsOffice (λ s kept revoked. AreRevoked revoked s)) conn.old conn.new result }
+    ensures reads { On S.Store OnlyReads conn.old conn.new result }
+    ensures survives { Outlives S.Store Never conn.old conn.new }
 {
     match read_office(alloc, conn) {
         Ok(office) => revoked_with(

@@ -1,21 +1,22 @@
 //! The tables are a register.
 
-ghost use Rattle.std.specs.Prelude.{IsTrue, List};
+ghost use Rattle.std.specs.Prelude.{IsTrue};
 ghost use Rattle.sqlite.specs.Held.{state};
 ghost use Rattle.sqlite.specs.State.{HasCleanDisk};
-ghost use Rattle.office.specs.declared.opening.Opening.{Opening};
 ghost use Rattle.office.specs.declared.arrival.Arrival.{Arrival};
 ghost use Rattle.rows.specs.Transactions.{IsAsBefore};
 ghost use Rattle.store.specs.Meaning.{HasFailed, Tells};
 ghost use Rattle.store.specs.Arriving.{IsStopped};
 
-use crate::listing::{read_entries, read_pending};
+use crate::listing::{read_batch, read_revocations};
 use crate::publishing::read_revoked;
 use crate::register::Store;
 use crate::serials::{read_body_of, read_issued};
 use crate::taking::take;
 use message::Department;
-use office::{Arrival, Ca, Entry, Issued, Outcome, Pending, Registry, Revoked, StoreFault};
+use office::{
+    Arrival, Ca, Certificate, Issued, Outcome, Registry, Revocations, Revoked, StoreFault,
+};
 use rows::{read_cas, read_departments, told};
 use sqlite::Alter;
 use std::alloc::Global;
@@ -42,10 +43,6 @@ impl<S: Alter> Registry for Store<S> {
         told(read_cas(alloc, &mut self.conn))
     }
 
-    fn pending(&mut self, alloc: Global) -> Result<Vec<Pending>, StoreFault> {
-        told(read_pending(alloc, &mut self.conn))
-    }
-
     fn body(&mut self, alloc: Global, serial: u64) -> Result<Option<Text>, StoreFault> {
         told(read_body_of(alloc, &mut self.conn, serial))
     }
@@ -62,8 +59,12 @@ impl<S: Alter> Registry for Store<S> {
         told(read_departments(alloc, &mut self.conn))
     }
 
-    fn certificates(&mut self, alloc: Global) -> Result<Vec<Entry>, StoreFault> {
-        told(read_entries(alloc, &mut self.conn))
+    fn revocations(&mut self, alloc: Global) -> Result<Revocations, StoreFault> {
+        told(read_revocations(alloc, &mut self.conn))
+    }
+
+    fn certificates(&mut self, alloc: Global, place: u64) -> Result<Vec<Certificate>, StoreFault> {
+        told(read_batch(alloc, &mut self.conn, place))
     }
 
     ghost lawful = { λ s o l m. m.history.office };

@@ -2,9 +2,8 @@
 
 ghost use Rattle.std.specs.Prelude.{◌≡◌, IfOk};
 ghost use Rattle.std.specs.Option.{option_map};
-ghost use Rattle.sqlite.specs.Held.{state};
-ghost use Rattle.sqlite.specs.State.{HasCleanDisk, Survives};
 ghost use Rattle.tables.specs.Calls.{Never, OnlyReads};
+ghost use Rattle.tables.specs.Honest.{On, Outlives};
 ghost use Rattle.office.specs.State.{body_of};
 ghost use Rattle.office.specs.Publication.{issued_of, issued_row};
 ghost use Rattle.store.specs.Showing.{ShowsOffice};
@@ -32,11 +31,9 @@ pub(crate) fn read_body_of<S: Alter>(
     conn: &mut Connection<S>,
     serial: u64,
 ) -> Result<Option<Text>, Fault>
-    ensures shows { HasCleanDisk (state S.Store conn.new) → ShowsOffice (λ s kept body. body ≡ body_of s serial)
-        (state S.Store conn.old) (state S.Store conn.new) result }
-    ensures reads { HasCleanDisk (state S.Store conn.new)
-        → OnlyReads (state S.Store conn.old) (state S.Store conn.new) result }
-    ensures survives { Survives (state S.Store conn.old) (state S.Store conn.new) Never }
+    ensures shows { On S.Store (ShowsOffice (λ s kept body. body ≡ body_of s serial)) conn.old conn.new result }
+    ensures reads { On S.Store OnlyReads conn.old conn.new result }
+    ensures survives { Outlives S.Store Never conn.old conn.new }
 {
     match find_certificate(alloc, conn, serial) {
         Ok(found) => Ok(body_in(found)),
@@ -59,11 +56,9 @@ pub(crate) fn read_issued<S: Alter>(
     conn: &mut Connection<S>,
     serial: u64,
 ) -> Result<Option<Issued>, Fault>
-    ensures shows { HasCleanDisk (state S.Store conn.new) → ShowsOffice (λ s kept issued. issued ≡ issued_of s serial)
-        (state S.Store conn.old) (state S.Store conn.new) result }
-    ensures reads { HasCleanDisk (state S.Store conn.new)
-        → OnlyReads (state S.Store conn.old) (state S.Store conn.new) result }
-    ensures survives { Survives (state S.Store conn.old) (state S.Store conn.new) Never }
+    ensures shows { On S.Store (ShowsOffice (λ s kept issued. issued ≡ issued_of s serial)) conn.old conn.new result }
+    ensures reads { On S.Store OnlyReads conn.old conn.new result }
+    ensures survives { Outlives S.Store Never conn.old conn.new }
 {
     match find_certificate(alloc, conn, serial) {
         Ok(found) => made(issued_in(alloc, found)),

@@ -1,14 +1,14 @@
 //! What an arrival is answered, inside a transaction.
 
 ghost use Rattle.std.specs.Prelude.{◌≡◌, IsTrue, length};
-ghost use Rattle.sqlite.specs.Held.{state};
-ghost use Rattle.sqlite.specs.State.{HasCleanDisk, Survives};
 ghost use Rattle.tables.specs.Calls.{Stays};
+ghost use Rattle.tables.specs.Honest.{On, OnOpen, OutlivesBy};
 ghost use Rattle.message.specs.Values.{is_message};
 ghost use Rattle.office.specs.Decided.{IsLawfulChange};
 ghost use Rattle.rows.specs.Transactions.{Waits};
 ghost use Rattle.views.specs.Concerning.{AreLawful};
-ghost use Rattle.store.specs.Arriving.{FailsAt, IsAccepted, IsAfter, IsAny, IsAsked, IsFound, IsNew, IsWeighed, Settles, stopped};
+ghost use Rattle.store.specs.Arriving.{FailsAt, IsAccepted, IsAfter, IsAny, IsAsked, IsFound, IsNew, IsWeighed};
+ghost use Rattle.store.specs.Arriving.{Settles, stopped};
 
 use message::{Message, MessageFault, read_message};
 use office::{Arrival, Ca, Decision, Kept, Outcome, Stop, decide};
@@ -32,16 +32,13 @@ fn accept<S: Alter>(
 ) -> Result<Outcome, Fault>
     requires lawful { IsLawfulChange decision.now.change }
     requires nonce { length arrival.now.nonce ≡ 32 }
-    ensures settles { HasCleanDisk (state S.Store conn.new)
-        → Settles arrival.now (IsAccepted arrival.now decision.now cas.now)
-        (state S.Store conn.old) (state S.Store conn.new) result }
-    ensures fails { HasCleanDisk (state S.Store conn.new)
-        → FailsAt arrival.now (IsAccepted arrival.now decision.now cas.now)
-        (state S.Store conn.old) (state S.Store conn.new) result }
-    ensures stays { HasCleanDisk (state S.Store conn.new)
-        → Stays (state S.Store conn.old) (state S.Store conn.new) result }
-    ensures survives { Survives (state S.Store conn.old) (state S.Store conn.new)
-        (Waits (IsAfter (IsAccepted arrival.now decision.now cas.now)) (state S.Store conn.old)) }
+    ensures settles { On S.Store (Settles arrival.now (IsAccepted arrival.now decision.now cas.now))
+        conn.old conn.new result }
+    ensures fails { On S.Store (FailsAt arrival.now (IsAccepted arrival.now decision.now cas.now))
+        conn.old conn.new result }
+    ensures stays { On S.Store Stays conn.old conn.new result }
+    ensures survives { OutlivesBy S.Store (Waits (IsAfter (IsAccepted arrival.now decision.now cas.now)))
+        conn.old conn.new }
 {
     let Ok(reply) = decision.reply.copied(alloc) else {
         return Err(Fault::NoMemory);
@@ -72,16 +69,13 @@ fn weigh<S: Alter>(
     requires message { IsTrue (is_message message.now) }
     requires rows { AreLawful rows.now }
     requires nonce { length arrival.now.nonce ≡ 32 }
-    ensures settles { HasCleanDisk (state S.Store conn.new) → IsTrue (state S.Store conn.old).is_open
-        → Settles arrival.now (IsWeighed arrival.now message.now rows.now)
-        (state S.Store conn.old) (state S.Store conn.new) result }
-    ensures fails { HasCleanDisk (state S.Store conn.new)
-        → FailsAt arrival.now (IsWeighed arrival.now message.now rows.now)
-        (state S.Store conn.old) (state S.Store conn.new) result }
-    ensures stays { HasCleanDisk (state S.Store conn.new)
-        → Stays (state S.Store conn.old) (state S.Store conn.new) result }
-    ensures survives { Survives (state S.Store conn.old) (state S.Store conn.new)
-        (Waits (IsAfter (IsWeighed arrival.now message.now rows.now)) (state S.Store conn.old)) }
+    ensures settles { OnOpen S.Store (Settles arrival.now (IsWeighed arrival.now message.now rows.now))
+        conn.old conn.new result }
+    ensures fails { On S.Store (FailsAt arrival.now (IsWeighed arrival.now message.now rows.now))
+        conn.old conn.new result }
+    ensures stays { On S.Store Stays conn.old conn.new result }
+    ensures survives { OutlivesBy S.Store (Waits (IsAfter (IsWeighed arrival.now message.now rows.now)))
+        conn.old conn.new }
 {
     let view = rows.view();
     if LAST_VERSION < view.version {
@@ -114,16 +108,10 @@ fn consider<S: Alter>(
 ) -> Result<Outcome, Fault>
     requires message { IsTrue (is_message message.now) }
     requires nonce { length arrival.now.nonce ≡ 32 }
-    ensures settles { HasCleanDisk (state S.Store conn.new)
-        → Settles arrival.now (IsNew arrival.now message.now)
-        (state S.Store conn.old) (state S.Store conn.new) result }
-    ensures fails { HasCleanDisk (state S.Store conn.new)
-        → FailsAt arrival.now (IsNew arrival.now message.now)
-        (state S.Store conn.old) (state S.Store conn.new) result }
-    ensures stays { HasCleanDisk (state S.Store conn.new)
-        → Stays (state S.Store conn.old) (state S.Store conn.new) result }
-    ensures survives { Survives (state S.Store conn.old) (state S.Store conn.new)
-        (Waits (IsAfter (IsNew arrival.now message.now)) (state S.Store conn.old)) }
+    ensures settles { On S.Store (Settles arrival.now (IsNew arrival.now message.now)) conn.old conn.new result }
+    ensures fails { On S.Store (FailsAt arrival.now (IsNew arrival.now message.now)) conn.old conn.new result }
+    ensures stays { On S.Store Stays conn.old conn.new result }
+    ensures survives { OutlivesBy S.Store (Waits (IsAfter (IsNew arrival.now message.now))) conn.old conn.new }
 {
     match concerned_rows(alloc, conn, message) {
         Ok(rows) => weigh(alloc, conn, arrival, message, &rows),
@@ -139,16 +127,10 @@ fn judge<S: Alter>(
     is_known: bool,
 ) -> Result<Outcome, Fault>
     requires { length arrival.now.nonce ≡ 32 }
-    ensures settles { HasCleanDisk (state S.Store conn.new) → IsTrue (state S.Store conn.old).is_open
-        → Settles arrival.now (IsAsked arrival.now is_known)
-        (state S.Store conn.old) (state S.Store conn.new) result }
-    ensures fails { HasCleanDisk (state S.Store conn.new)
-        → FailsAt arrival.now (IsAsked arrival.now is_known)
-        (state S.Store conn.old) (state S.Store conn.new) result }
-    ensures stays { HasCleanDisk (state S.Store conn.new)
-        → Stays (state S.Store conn.old) (state S.Store conn.new) result }
-    ensures survives { Survives (state S.Store conn.old) (state S.Store conn.new)
-        (Waits (IsAfter (IsAsked arrival.now is_known)) (state S.Store conn.old)) }
+    ensures settles { OnOpen S.Store (Settles arrival.now (IsAsked arrival.now is_known)) conn.old conn.new result }
+    ensures fails { On S.Store (FailsAt arrival.now (IsAsked arrival.now is_known)) conn.old conn.new result }
+    ensures stays { On S.Store Stays conn.old conn.new result }
+    ensures survives { OutlivesBy S.Store (Waits (IsAfter (IsAsked arrival.now is_known))) conn.old conn.new }
 {
     let message = match read_message(alloc, arrival.bytes.as_slice()) {
         Ok(message) => message,
@@ -172,16 +154,10 @@ fn settle_beside<S: Alter>(
     found: Option<Kept>,
 ) -> Result<Outcome, Fault>
     requires { length arrival.now.nonce ≡ 32 }
-    ensures settles { HasCleanDisk (state S.Store conn.new) → IsTrue (state S.Store conn.old).is_open
-        → Settles arrival.now (IsFound arrival.now found)
-        (state S.Store conn.old) (state S.Store conn.new) result }
-    ensures fails { HasCleanDisk (state S.Store conn.new)
-        → FailsAt arrival.now (IsFound arrival.now found)
-        (state S.Store conn.old) (state S.Store conn.new) result }
-    ensures stays { HasCleanDisk (state S.Store conn.new)
-        → Stays (state S.Store conn.old) (state S.Store conn.new) result }
-    ensures survives { Survives (state S.Store conn.old) (state S.Store conn.new)
-        (Waits (IsAfter (IsFound arrival.now found)) (state S.Store conn.old)) }
+    ensures settles { OnOpen S.Store (Settles arrival.now (IsFound arrival.now found)) conn.old conn.new result }
+    ensures fails { On S.Store (FailsAt arrival.now (IsFound arrival.now found)) conn.old conn.new result }
+    ensures stays { On S.Store Stays conn.old conn.new result }
+    ensures survives { OutlivesBy S.Store (Waits (IsAfter (IsFound arrival.now found))) conn.old conn.new }
 {
     let Some(kept) = found else {
         return judge(alloc, conn, arrival, false);
@@ -199,15 +175,10 @@ pub(crate) fn settle<S: Alter>(
     arrival: &Arrival,
 ) -> Result<Outcome, Fault>
     requires { length arrival.now.nonce ≡ 32 }
-    ensures settles { HasCleanDisk (state S.Store conn.new) → Settles arrival.now IsAny
-        (state S.Store conn.old) (state S.Store conn.new) result }
-    ensures fails { HasCleanDisk (state S.Store conn.new)
-        → FailsAt arrival.now IsAny
-        (state S.Store conn.old) (state S.Store conn.new) result }
-    ensures stays { HasCleanDisk (state S.Store conn.new)
-        → Stays (state S.Store conn.old) (state S.Store conn.new) result }
-    ensures survives { Survives (state S.Store conn.old) (state S.Store conn.new)
-        (Waits (IsAfter IsAny) (state S.Store conn.old)) }
+    ensures settles { On S.Store (Settles arrival.now IsAny) conn.old conn.new result }
+    ensures fails { On S.Store (FailsAt arrival.now IsAny) conn.old conn.new result }
+    ensures stays { On S.Store Stays conn.old conn.new result }
+    ensures survives { OutlivesBy S.Store (Waits (IsAfter IsAny)) conn.old conn.new }
 {
     match kept_for(
         alloc,

@@ -1,10 +1,9 @@
 //! One arrival, in one transaction.
 
-ghost use Rattle.std.specs.Prelude.{◌≡◌, IfErr, length, OnErr};
-ghost use Rattle.sqlite.specs.Held.{state};
-ghost use Rattle.sqlite.specs.State.{HasCleanDisk, Survives};
-ghost use Rattle.rows.specs.Transactions.{Ends, IsAsBefore, Leaves};
-ghost use Rattle.store.specs.Arriving.{IsAfter, IsAnswered, IsAny, IsCaused, contents_with, of_statement};
+ghost use Rattle.std.specs.Prelude.{◌≡◌, length};
+ghost use Rattle.rows.specs.Transactions.{Ends, KeepsOnErr, Leaves};
+ghost use Rattle.store.specs.Arriving.{FailsAsCaused, IsAfter, IsAnswered, IsAny, contents_with, of_statement};
+ghost use Rattle.tables.specs.Honest.{On, OutlivesBy};
 
 use crate::settling::settle;
 use office::{Arrival, Outcome};
@@ -30,17 +29,13 @@ pub(crate) fn take<S: Alter>(
     arrival: &Arrival,
 ) -> Result<Outcome, Fault>
     requires { length arrival.now.nonce ≡ 32 }
-    ensures ends { HasCleanDisk (state S.Store conn.new) →
-        Ends (IsAfter IsAny) (IsAnswered arrival.now) (contents_with arrival.now)
-        (state S.Store conn.old) (state S.Store conn.new) result }
-    ensures cause { HasCleanDisk (state S.Store conn.new) →
-        IfErr result (IsCaused arrival.now (state S.Store conn.old) (state S.Store conn.new)) }
-    ensures before { HasCleanDisk (state S.Store conn.new)
-        → OnErr result (IsAsBefore (state S.Store conn.old) (state S.Store conn.new)) }
+    ensures ends { On S.Store (Ends (IsAfter IsAny) (IsAnswered arrival.now) (contents_with arrival.now))
+        conn.old conn.new result }
+    ensures cause { On S.Store (FailsAsCaused arrival.now) conn.old conn.new result }
+    ensures before { On S.Store KeepsOnErr conn.old conn.new result }
 
     // A crash in its midst leaves the tables as they were, or with the arrival.
-    ensures survives { Survives (state S.Store conn.old) (state S.Store conn.new)
-        (Leaves (IsAfter IsAny) (contents_with arrival.now) (state S.Store conn.old)) }
+    ensures survives { OutlivesBy S.Store (Leaves (IsAfter IsAny) (contents_with arrival.now)) conn.old conn.new }
 {
     match begin(conn) {
         Ok(()) => {

@@ -1,8 +1,8 @@
 //! The tests of what only calls can show of `wire`, `lines`, `cert` and `krl`.
 //!
 //! They call what any crate can call: readers and writers that end and fail, and the names of faults that no command
-//! prints. Expected values come from outside. What the built programs can show of texts, bodies, key lines and lists they
-//! show, in `interop/messages`, `interop/bodies`, `interop/checking` and `interop/specifications`.
+//! prints. Expected values come from outside. What the built programs can show of texts, bodies, key lines and lists
+//! they show, in `interop/messages`, `interop/bodies`, `interop/checking` and `interop/specifications`.
 #![tactic(auto)]
 
 #[cfg(test)]

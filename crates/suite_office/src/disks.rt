@@ -4,13 +4,14 @@ ghost use Rattle.office.specs.Openings.{IsOpening};
 
 use crate::asking::{Asked, exchanges};
 use crate::messages::DEPARTMENT;
-use crate::row_texts::rows_of;
+use crate::row_texts::given_and_rows;
 use office::Opening;
 use sqlite::{Alter, Connection, FileStore, Files, Options};
 use sqlite_disk::{Crash, Disk, Fuse, Memory};
 use std::alloc::Global;
 use std::test::Fail;
 use store::Store;
+use text::NoMemory;
 use trial::opening_of;
 use web::{Exchange, Given, run};
 
@@ -131,19 +132,26 @@ fn office_on(alloc: Global, disks: Disks) -> Result<FusedOffice, Disks> {
     }
 }
 
-// Runs exchanges over an office, and closes it.
-fn run_and_closed(alloc: Global, office: FusedOffice, exchanges: &[Exchange]) -> Option<Met> {
+// What exchanges are given by an office, and its database.
+fn given_and_left<S: Alter>(
+    alloc: Global,
+    office: Store<S>,
+    exchanges: &[Exchange],
+) -> (Result<Vec<Given>, NoMemory>, Connection<S>) {
     let mut office = office;
     let given = run(&mut office, alloc, exchanges);
-    let (is_whole, disks) = closed(office.into_connection());
-    match given {
-        Ok(given) => Some(Met {
-            given,
-            is_whole,
-            disks,
-        }),
-        Err(_) => None,
-    }
+    (given, office.into_connection())
+}
+
+// Runs exchanges over an office, and closes it.
+fn run_and_closed(alloc: Global, office: FusedOffice, exchanges: &[Exchange]) -> Option<Met> {
+    let (given, conn) = given_and_left(alloc, office, exchanges);
+    let (is_whole, disks) = closed(conn);
+    Some(Met {
+        given: given.ok()?,
+        is_whole,
+        disks,
+    })
 }
 
 /// Runs exchanges over the office on the disks, and closes it.
@@ -195,17 +203,27 @@ pub fn founded(alloc: Global) -> Result<Saved, Fail> {
     Ok(saved_on(alloc, &met.disks).ok_or("memory")?)
 }
 
+// What exchanges are given by an office, each of its rows, and its database.
+fn seen_and_left<S: Alter>(
+    alloc: Global,
+    office: Store<S>,
+    exchanges: &[Exchange],
+) -> (Result<(Vec<Given>, String), Fail>, Connection<S>) {
+    let mut office = office;
+    let seen = given_and_rows(&mut office, alloc, exchanges);
+    (seen, office.into_connection())
+}
+
 // What exchanges are given by the office on the disks, and each of its rows.
 fn seen_on(
     alloc: Global,
     disks: Disks,
     exchanges: &[Exchange],
-) -> Result<(Vec<Given>, Vec<u8>), Fail> {
-    let mut office = office_on(alloc, disks).ok().ok_or("the office")?;
-    let given = run(&mut office, alloc, exchanges)?;
-    let rows = rows_of(&mut office, alloc)?;
-    let _ = closed(office.into_connection());
-    Ok((given, rows))
+) -> Result<(Vec<Given>, String), Fail> {
+    let office = office_on(alloc, disks).ok().ok_or("the office")?;
+    let (seen, conn) = seen_and_left(alloc, office, exchanges);
+    let _ = closed(conn);
+    seen
 }
 
 /// What exchanges are given by a new office in files; what others are given once the files were closed and opened, and
@@ -215,7 +233,7 @@ pub fn given_in_files(
     opening: &Opening,
     asked: &[Exchange],
     then: &[Exchange],
-) -> Result<(Vec<Given>, Vec<Given>, Vec<u8>), Fail>
+) -> Result<(Vec<Given>, Vec<Given>, String), Fail>
     requires { IsOpening opening.now }
 {
     let office = founded_on(alloc, opening).ok_or("the office")?;

@@ -3,12 +3,13 @@
 use crate::asking::{Asked, exchanges};
 use crate::disks::{ALL, Calls, FOUNDED, Met, Saved, both_saved, disks_of, founded, met_on};
 use crate::messages::{DELIVERY, ISSUE};
-use crate::registers::{are_same, is_accepted, is_same};
+use crate::registers::{are_same, is_accepted, response};
+use office::{Registry, StoreFault};
 use plain::PlainStore;
 use std::alloc::Global;
 use std::process::Abort;
 use std::test::Fail;
-use text::Text;
+use text::NoMemory;
 use trial::opening_of;
 use web::{Exchange, Given, answer, run};
 
@@ -36,12 +37,11 @@ const TELLING: [Asked; 9] = [
     ("/v1/krl", 4000, 0x35, ""),
 ];
 
-/// An office in its files, exchanges with what the plain store gives to them, and what tells a history.
+/// An office in its files, exchanges that are accepted, and what tells a history.
 #[derive(Drop)]
 struct Play {
     saved: Saved,
     exchanges: Vec<Exchange>,
-    due: Vec<Given>,
     telling: Vec<Exchange>,
 }
 
@@ -49,14 +49,13 @@ impl Play {
     fn new(alloc: Global) -> Result<Play, Fail> {
         let asked = exchanges(alloc, FIVE.as_slice())?;
         let mut plain = founded_plain(alloc)?;
-        let due = run(&mut plain, alloc, asked.as_slice())?;
+        let due = given_by(&mut plain, alloc, asked.as_slice())?;
         if !due.iter().all(is_accepted) {
             return Err(Fail::from("one of the five is refused"));
         }
         Ok(Play {
             saved: founded(alloc)?,
             exchanges: asked,
-            due,
             telling: exchanges(alloc, TELLING.as_slice())?,
         })
     }
@@ -78,76 +77,90 @@ fn founded_plain(alloc: Global) -> Result<PlainStore, Fail> {
     let opening = opening_of(alloc, 1, 9223372036854775806)?;
     let department = exchanges(alloc, FOUNDED.as_slice())?;
     let mut plain = PlainStore::new(alloc, opening)?;
-    let _ = run(&mut plain, alloc, department.as_slice())?;
+    let _ = given_by(&mut plain, alloc, department.as_slice())?;
     Ok(plain)
 }
 
-fn given_by(plain: &mut PlainStore, alloc: Global, exchange: &Exchange) -> Given {
+fn answered<R: Registry>(
+    registry: &mut R,
+    alloc: Global,
+    exchange: &Exchange,
+) -> Result<Vec<u8>, StoreFault> {
     let request = exchange.request.as_slice();
-    match answer(plain, alloc, request, exchange.moment, &exchange.nonce) {
-        Ok(response) => Given::Answer(Text::from_vec(response)),
-        Err(_) => Given::Fault,
-    }
+    answer(registry, alloc, request, exchange.moment, &exchange.nonce)
 }
 
-// Whether the plain store gives the exchanges that were answered the same answers. It meets these alone, and the one
-// at a place.
-fn meets(
-    plain: &mut PlainStore,
+fn given_by<R: Registry>(
+    registry: &mut R,
     alloc: Global,
     exchanges: &[Exchange],
+) -> Result<Vec<Given>, NoMemory> {
+    run(registry, alloc, exchanges)
+}
+
+// The plain store after the exchanges that were answered alone. It answers them likewise.
+fn met_plain(
+    rt: &impl Abort,
+    what: &str,
+    play: &Play,
+    alloc: Global,
     given: &[Given],
-    with: Option<usize>,
-) -> bool {
-    let mut is_due = true;
-    for (place, exchange) in exchanges.iter().enumerate() {
-        let one = given.get(place);
-        let is_answered = matches!(one, Some(Given::Answer(_)));
-        if is_answered || with == Some(place) {
-            let due = given_by(plain, alloc, exchange);
-            let is_so = one.is_some_and(|one| is_same(one, &due));
-            is_due = is_due && (is_so || !is_answered);
+) -> Result<PlainStore, Fail> {
+    let mut plain = founded_plain(alloc)?;
+    for (exchange, one) in play.exchanges.iter().zip(given) {
+        if let Given::Answer(response) = one {
+            let due = answered(&mut plain, alloc, exchange)?;
+            assert_eq!(rt; response.as_slice(), due.as_slice(), "{what}");
         }
     }
-    is_due
+    Ok(plain)
 }
 
-// Whether this is what tells the history of the exchanges that were answered, and of the one at a place.
-fn is_told(
-    alloc: Global,
+fn is_told(told: &[Given], due: &[Given]) -> bool {
+    told.iter()
+        .zip(due)
+        .all(|(one, other)| response(one) == response(other))
+}
+
+// The files tell the history of the answered exchanges, perhaps with the first that stayed without an answer.
+fn is_lawful(
+    rt: &impl Abort,
+    what: &str,
     play: &Play,
+    alloc: Global,
     given: &[Given],
-    with: Option<usize>,
-    told: &[Given],
-) -> Result<bool, Fail> {
-    let mut plain = founded_plain(alloc)?;
-    let is_due = meets(&mut plain, alloc, play.exchanges.as_slice(), given, with);
-    let due = run(&mut plain, alloc, play.telling.as_slice())?;
-    Ok(is_due && are_same(told, due.as_slice()))
-}
-
-// Whether the files tell the history of the answered exchanges, perhaps with the first that stayed without an answer.
-fn is_lawful(alloc: Global, play: &Play, given: &[Given], saved: &Saved) -> Result<bool, Fail> {
+    saved: &Saved,
+) -> Result<(), Fail> {
     let disks = disks_of(alloc, saved, ALL).ok_or("the disks")?;
     let again = met_on(alloc, disks, play.telling.as_slice()).ok_or("memory")?;
+    assert!(rt;
+        again.is_whole,
+        "{what}: the files are not opened, or not closed"
+    );
     let told = again.given.as_slice();
-    if !again.is_whole {
-        return Ok(false);
+    let mut plain = met_plain(rt, what, play, alloc, given)?;
+    let due = given_by(&mut plain, alloc, play.telling.as_slice())?;
+    let next = unanswered(given).and_then(|place| play.exchanges.get(place));
+    match next {
+        Some(exchange) if !is_told(told, due.as_slice()) => {
+            let mut plain = met_plain(rt, what, play, alloc, given)?;
+            let _ = answered(&mut plain, alloc, exchange)?;
+            let due = given_by(&mut plain, alloc, play.telling.as_slice())?;
+            are_same(rt, what, told, due.as_slice());
+        }
+        _ => are_same(rt, what, told, due.as_slice()),
     }
-    Ok(
-        is_told(alloc, play, given, None, told)?
-            || is_told(alloc, play, given, unanswered(given), told)?,
-    )
+    Ok(())
 }
 
-/// What came of a run over disks that pass so many calls on.
-#[derive(Clone, Copy, Debug)]
-struct Outcome {
-    is_lawful: bool,
-    has_faults: bool,
-}
-
-fn outcome_of(alloc: Global, play: &Play, calls: Calls) -> Result<Outcome, Fail> {
+// Whether a run over disks that pass so many calls on meets a fault. What the files then tell is lawful.
+fn has_faults(
+    rt: &impl Abort,
+    what: &str,
+    play: &Play,
+    alloc: Global,
+    calls: Calls,
+) -> Result<bool, Fail> {
     let disks = disks_of(alloc, &play.saved, calls).ok_or("the disks")?;
     let Met {
         given,
@@ -155,11 +168,13 @@ fn outcome_of(alloc: Global, play: &Play, calls: Calls) -> Result<Outcome, Fail>
         disks,
     } = met_on(alloc, disks, play.exchanges.as_slice()).ok_or("memory")?;
     let (seen, synced) = both_saved(alloc, disks).ok_or("memory")?;
-    let given = given.as_slice();
-    Ok(Outcome {
-        is_lawful: is_lawful(alloc, play, given, &seen)? && is_lawful(alloc, play, given, &synced)?,
-        has_faults: !is_whole || !are_same(given, play.due.as_slice()),
-    })
+    is_lawful(rt, what, play, alloc, given.as_slice(), &seen)?;
+    is_lawful(rt, what, play, alloc, given.as_slice(), &synced)?;
+    Ok(
+        !is_whole
+            || given.len() < play.exchanges.len()
+            || given.iter().any(|one| response(one).is_none()),
+    )
 }
 
 /// The file whose disk fails.
@@ -182,9 +197,8 @@ impl File {
 fn calls_needed<R: AllocGlobal + Abort>(rt: &R, file: File) -> Result<u64, Fail> {
     let play = Play::new(rt.alloc())?;
     for count in 0..MOST_CALLS {
-        let outcome = outcome_of(rt.alloc(), &play, file.calls(count))?;
-        assert!(rt; outcome.is_lawful, "{count} calls to the {file:?}");
-        if !outcome.has_faults {
+        let what = format!(in rt.alloc(); "{count} calls to the {file:?}")?;
+        if !has_faults(rt, what.as_str(), &play, rt.alloc(), file.calls(count))? {
             return Ok(count);
         }
     }

@@ -2,7 +2,7 @@
 
 use crate::asking::{Asked, exchanges};
 use crate::disks::given_in_files;
-use crate::row_texts::rows_of;
+use crate::row_texts::given_and_rows;
 use crate::thousand::{EXCHANGES, LAST_SERIAL, mixed_twice};
 use office::Registry;
 use plain::PlainStore;
@@ -26,21 +26,28 @@ const SHOWN: [Asked; 5] = [
 struct Seen {
     given: Vec<Given>,
     shown: Vec<Given>,
-    rows: Vec<u8>,
+    rows: String,
 }
 
-/// Whether both are the same answer.
-pub fn is_same(one: &Given, other: &Given) -> bool {
-    match (one, other) {
-        (Given::Answer(one), Given::Answer(other)) => one.is(other.as_slice()),
-        _ => false,
+/// The bytes of a response, or nothing of a fault.
+pub fn response(given: &Given) -> Option<&[u8]> {
+    match given {
+        Given::Answer(response) => Some(response.as_slice()),
+        Given::Fault => None,
     }
 }
 
-/// Whether the same answers were given.
-pub fn are_same(some: &[Given], others: &[Given]) -> bool {
-    let mut pairs = some.iter().zip(others);
-    some.len() == others.len() && pairs.all(|(one, other)| is_same(one, other))
+/// The same responses were given, and none is a fault.
+pub fn are_same(rt: &impl Abort, what: &str, given: &[Given], due: &[Given]) {
+    for (place, (one, other)) in given.iter().zip(due).enumerate() {
+        assert_ne!(rt; response(other), None, "{what}: exchange {place}, from 0");
+        assert_eq!(rt;
+            response(one),
+            response(other),
+            "{what}: exchange {place}, from 0"
+        );
+    }
+    assert_eq!(rt; given.len(), due.len(), "{what}");
 }
 
 fn seen_of<R: Registry>(
@@ -49,40 +56,29 @@ fn seen_of<R: Registry>(
     asked: &[Exchange],
     then: &[Exchange],
 ) -> Result<Seen, Fail> {
-    Ok(Seen {
-        given: run(registry, alloc, asked)?,
-        shown: run(registry, alloc, then)?,
-        rows: rows_of(registry, alloc)?,
-    })
+    let given = run(registry, alloc, asked)?;
+    let (shown, rows) = given_and_rows(registry, alloc, then)?;
+    Ok(Seen { given, shown, rows })
 }
 
 // The same was given, the same is shown, and each row is the same.
-fn are_met(rt: &impl Abort, seen: &Seen, due: &Seen) {
-    let pairs = seen.given.iter().zip(due.given.as_slice());
-    for (place, (one, other)) in pairs.enumerate() {
-        assert!(rt; is_same(one, other), "exchange {place}, from 0");
+fn are_met(rt: &impl Abort, what: &str, seen: &Seen, due: &Seen) {
+    are_same(rt, what, seen.given.as_slice(), due.given.as_slice());
+    are_same(rt, what, seen.shown.as_slice(), due.shown.as_slice());
+    for (one, other) in seen.rows.lines().zip(due.rows.lines()) {
+        assert_eq!(rt; one, other, "{what}");
     }
-    assert!(rt; seen.given.len() == due.given.len());
-    assert!(rt; are_same(seen.shown.as_slice(), due.shown.as_slice()));
-    assert!(rt; seen.rows.as_slice() == due.rows.as_slice());
+    assert_eq!(rt; seen.rows.len(), due.rows.len(), "{what}");
+}
+
+// How many were accepted, repeated or shown.
+fn accepted(given: &[Given]) -> usize {
+    given.iter().filter(|one| is_accepted(one)).count()
 }
 
 /// Whether something was accepted, repeated or shown.
 pub fn is_accepted(one: &Given) -> bool {
-    match one {
-        Given::Answer(response) => response.as_slice().starts_with(b"HTTP/1.1 200 "),
-        Given::Fault => false,
-    }
-}
-
-fn accepted(given: &[Given]) -> u64 {
-    let mut accepted = 0_u64;
-    for one in given {
-        if is_accepted(one) {
-            accepted = accepted.saturating_add(1);
-        }
-    }
-    accepted
+    response(one).is_some_and(|response| response.starts_with(b"HTTP/1.1 200 "))
 }
 
 // The second office's files are closed and opened before it shows anything. The repeats see the rows of requests.
@@ -98,8 +94,8 @@ fn three_registers_are_alike(rt: HostRuntime) -> Result<(), Fail> {
     let (given, shown, rows) = given_in_files(alloc, &opening, asked.as_slice(), then.as_slice())?;
     let mut plain = PlainStore::new(alloc, opening)?;
     let due = seen_of(&mut plain, alloc, asked.as_slice(), then.as_slice())?;
-    are_met(&rt, &seen, &due);
-    are_met(&rt, &Seen { given, shown, rows }, &due);
+    are_met(&rt, "tables in memory", &seen, &due);
+    are_met(&rt, "tables in files", &Seen { given, shown, rows }, &due);
     assert_eq!(rt; due.given.len() as u64, 2 * EXCHANGES);
     // An office in Python accepts, repeats or shows as many.
     assert_eq!(rt; accepted(due.given.as_slice()), 1130);

@@ -117,11 +117,15 @@ fn filled(alloc: Global, text: &str, round: u64) -> Result<String, Fail> {
 }
 
 // The delivery of the first certificate that waits, or of none.
-fn delivery(alloc: Global, plain: &mut PlainStore) -> Result<String, Fail> {
-    let pending = plain.pending(alloc)?;
-    let Some(first) = pending.first() else {
+fn delivery<R: Registry>(alloc: Global, registry: &mut R) -> Result<String, Fail> {
+    let revocations = registry.revocations(alloc)?;
+    let certificates = registry.certificates(alloc, 0)?;
+    let mut waiting = certificates.iter().filter(|certificate| certificate.signature.is_none()
+        && !revocations.has(certificate));
+    let Some(first) = waiting.next() else {
         return Ok(String::from_str(alloc, "deliver 9\n")?);
     };
+    let first = first.pending_row();
     let digest = str::from_utf8(first.digest.as_slice())
         .ok()
         .ok_or("no digest")?;
@@ -137,9 +141,9 @@ fn replaced(alloc: Global, delivery: &str, some: &str, others: &str) -> Result<S
 }
 
 // An exchange by its place, from 0. The moment and the nonce are other ones each time.
-fn exchange_at(
+fn exchange_at<R: Registry>(
     alloc: Global,
-    plain: &mut PlainStore,
+    registry: &mut R,
     delivered: &mut String,
     place: u64,
 ) -> Result<Exchange, Fail> {
@@ -149,7 +153,7 @@ fn exchange_at(
     let message = match message {
         "astray" => replaced(alloc, DELIVERY, "82e0", "92e0")?,
         "deliver" => {
-            *delivered = delivery(alloc, plain)?;
+            *delivered = delivery(alloc, registry)?;
             String::from_str(alloc, delivered.as_str())?
         }
         "other" => replaced(alloc, delivered.as_str(), "QERE", "QEVE")?,
@@ -164,15 +168,14 @@ fn exchange_at(
     })
 }
 
-// A thousand exchanges, of which the plain store tells which certificates wait.
-fn mixed(alloc: Global) -> Result<Vec<Exchange>, Fail> {
-    let mut plain = PlainStore::new(alloc, opening_of(alloc, 1, LAST_SERIAL)?)?;
+// A thousand exchanges, of which the register tells which certificates wait.
+fn mixed<R: Registry>(alloc: Global, registry: &mut R) -> Result<Vec<Exchange>, Fail> {
     let mut delivered = String::new(alloc);
     let mut mixed = Vec::new(alloc);
     for place in 0..EXCHANGES {
-        let one = exchange_at(alloc, &mut plain, &mut delivered, place)?;
+        let one = exchange_at(alloc, registry, &mut delivered, place)?;
         let request = one.request.as_slice();
-        let _ = answer(&mut plain, alloc, request, one.moment, &one.nonce)?;
+        let _ = answer(registry, alloc, request, one.moment, &one.nonce)?;
         mixed.push(one)?;
     }
     Ok(mixed)
@@ -189,7 +192,8 @@ fn repeated(alloc: Global, one: &Exchange) -> Result<Exchange, Fail> {
 
 /// A thousand exchanges, and then each of these again.
 pub fn mixed_twice(alloc: Global) -> Result<Vec<Exchange>, Fail> {
-    let mut all = mixed(alloc)?;
+    let mut plain = PlainStore::new(alloc, opening_of(alloc, 1, LAST_SERIAL)?)?;
+    let mut all = mixed(alloc, &mut plain)?;
     for place in 0..EXCHANGES {
         let one = all.get(place as usize).ok_or("so many exchanges")?;
         let again = repeated(alloc, one)?;

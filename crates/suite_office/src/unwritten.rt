@@ -1,91 +1,77 @@
 //! Writers that fail within a response, and what a repeat then gets.
 
-use crate::asking::request_of;
-use crate::messages::ISSUE;
+use office::{Registry, StoreFault};
+use requests::Routes;
 use serving::{ServeFault, serve_one};
 use std::alloc::Global;
-use std::io::Write;
-use std::test::Fail;
-use trial::{MemoryOffice, trial_office};
+use std::process::Abort;
+use trial::trial_office;
 use wire::{Ending, Pace, ScriptedNonces, ScriptedReader, ScriptedWriter};
 
-// What the issue is given: the response of `examples/rows/repeat-gets-the-kept-reply.expected`, 165 bytes
-const ISSUED: &str = "HTTP/1.1 200 OK\r
-content-type: text/plain\r
-content-length: 81\r
-connection: close\r
-\r
-issued 1
-digest 82e0c34fe67da3fc3dc1be6682073994ec021449271b641cdd36180e95572e79
-";
+const ISSUE: &[u8] = b"POST /v1/callers/ana/requests/i1 HTTP/1.1\r\ncontent-length: 162\r\n\r\n\
+issue web\nkeyid web/alice\nkey ssh-ed25519 \
+AAAAC3NzaC1lZDI1NTE5AAAAICIiIiIiIiIiIiIiIiIiIiIiIiIiIiIiIiIiIiIiIiIi\n\
+principals alice\nafter 1000\nbefore 2000\nextensions\n";
+
+// What the issue is given: the response of `examples/rows/repeat-gets-the-kept-reply.expected`
+const ISSUED: &[u8; 165] = b"HTTP/1.1 200 OK\r\ncontent-type: text/plain\r\n\
+content-length: 81\r\nconnection: close\r\n\r\n\
+issued 1\ndigest 82e0c34fe67da3fc3dc1be6682073994ec021449271b641cdd36180e95572e79\n";
+
+const TABLE: &[u8] = b"GET /v1/table HTTP/1.1\r\n\r\n";
 
 // What the table then is: that of `examples/rows/the-table-has-each-certificate.expected`
-const LISTED: &str = "HTTP/1.1 200 OK\r
-content-type: text/plain\r
-content-length: 92\r
-connection: close\r
-\r
-                  1  user  pending          1000          2000  web/alice
-total 1 version 0
-";
+const LISTED: &[u8] = b"HTTP/1.1 200 OK\r\ncontent-type: text/plain\r\n\
+content-length: 92\r\nconnection: close\r\n\r\n\x20                 \
+1  user  pending          1000          2000  web/alice\ntotal 1 version 0\n";
 
-/// More bytes than any of the responses has.
-const ROOM: usize = 1000;
+/// How serving ended, and what was written.
+type Ended = (Result<(), ServeFault>, Vec<u8>);
 
-// What is written of the response to a request, by a writer that takes so many bytes.
-fn served(
+// A request served at a moment, with a nonce of one byte, by a writer that takes so many bytes.
+fn served<R: Registry>(
     alloc: Global,
-    office: &mut MemoryOffice,
+    office: &mut R,
     request: &[u8],
     moment: u64,
     nonce: u8,
     room: usize,
-) -> (Result<(), ServeFault>, Vec<u8>) {
+) -> Ended {
     let mut reader = ScriptedReader::new(request, Pace::Whole, Ending::Ends);
     let mut nonces = ScriptedNonces::new(nonce, 32, Ending::Ends);
     let mut writer = ScriptedWriter::new(alloc, Pace::Whole, room);
-    let done = serve_one(&mut reader, &mut writer, office, alloc, moment, &mut nonces);
+    let done = match Routes::new(alloc) {
+        Ok(routes) => serve_one(
+            &routes,
+            &mut reader,
+            &mut writer,
+            office,
+            alloc,
+            moment,
+            &mut nonces,
+        ),
+        Err(_) => Err(ServeFault::NoMemory),
+    };
     let ScriptedWriter { taken, .. } = writer;
     (done, taken)
 }
 
-// Whether the whole response is written.
-fn is_served(
-    alloc: Global,
-    office: &mut MemoryOffice,
-    request: &[u8],
-    moment: u64,
-    nonce: u8,
-    response: &[u8],
-) -> bool {
-    let (done, written) = served(alloc, office, request, moment, nonce, ROOM);
-    done == Ok(()) && written.as_slice() == response
-}
-
-// Whether a writer that takes so many bytes of the response is a fault, and a repeat is answered whole.
-fn is_repeated(alloc: Global, office: &mut MemoryOffice, room: usize) -> Result<bool, Fail> {
-    let issue = request_of(alloc, "ana/i1", ISSUE)?;
-    let table = request_of(alloc, "/v1/table", "")?;
-    let (issue, table) = (issue.as_slice(), table.as_slice());
-    let issued = ISSUED.as_bytes();
-    let (done, written) = served(alloc, office, issue, 1000, 0x33, room);
-    Ok(
-        done == Err(ServeFault::Write)
-            && issued.get(..room) == Some(written.as_slice())
-            && is_served(alloc, office, issue, 1999, 0x34, issued)
-            && is_served(alloc, office, table, 2000, 0x35, LISTED.as_bytes()),
-    )
+fn ends(rt: &impl Abort, ended: Ended, wanted: Result<(), ServeFault>, written: &[u8]) {
+    assert_eq!(rt; ended.0, wanted, "{} bytes written", written.len());
+    assert_eq!(rt; ended.1.as_slice(), written);
 }
 
 #[test]
-fn a_repeat_gets_what_was_not_written(rt: HostRuntime) -> Result<(), Fail> {
-    let alloc = rt.alloc();
-    assert_eq!(rt; ISSUED.len(), 165);
-    for room in 0..165 {
-        let mut office = trial_office(alloc)?;
-        let is_repeated = is_repeated(alloc, &mut office, room);
+fn a_repeat_gets_what_was_not_written(rt: HostRuntime) -> Result<(), StoreFault> {
+    for room in 0..ISSUED.len() {
+        let mut office = trial_office(rt.alloc())?;
+        let cut = served(rt.alloc(), &mut office, ISSUE, 1000, 0x33, room);
+        let again = served(rt.alloc(), &mut office, ISSUE, 1999, 0x34, 1000);
+        let table = served(rt.alloc(), &mut office, TABLE, 2000, 0x35, 1000);
         let _ = office.into_connection();
-        assert!(rt; is_repeated?, "{room} bytes written");
+        ends(&rt, cut, Err(ServeFault::Write), &ISSUED[..room]);
+        ends(&rt, again, Ok(()), ISSUED);
+        ends(&rt, table, Ok(()), LISTED);
     }
     Ok(())
 }

@@ -3,6 +3,7 @@
 mod register;
 
 use register::Register;
+use requests::Routes;
 use serving::{ServeFault, serve_one};
 use std::alloc::{AllocError, Global};
 use wire::{Ending, Pace, ScriptedNonces, ScriptedReader, ScriptedWriter};
@@ -50,7 +51,18 @@ fn serve(
     reader.failures = 0;
     let mut source = ScriptedNonces::new(0x33, nonces, Ending::Ends);
     let mut writer = ScriptedWriter::new(alloc, Pace::Whole, room);
-    let done = serve_one(reader, &mut writer, register, alloc, 1000, &mut source);
+    let done = match Routes::new(alloc) {
+        Ok(routes) => serve_one(
+            &routes,
+            reader,
+            &mut writer,
+            register,
+            alloc,
+            1000,
+            &mut source,
+        ),
+        Err(_) => Err(ServeFault::NoMemory),
+    };
     let ScriptedWriter { taken, .. } = writer;
     (
         (done, reader.rest.len(), source.left, register.applied),

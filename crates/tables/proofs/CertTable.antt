@@ -1,5 +1,5 @@
 -- The statements on the table of certificates.
-use Rattle.std.proofs.Common.{◌≡◌, ℕ, pos, List, [], ◌∷◌, codes, map, true, false, Option, None, Ok, refl, ap, subst, ◌∙◌, inl, inr}
+use Rattle.std.proofs.Common.{◌≡◌, ℕ, pos, List, [], ◌∷◌, codes, map, true, false, Option, None, Ok, refl, ap, ap₂, ◌∙◌, inl, inr, Bool}
 use Rattle.std.specs.Prelude.{◌&&◌}
 use Rattle.std.specs.List.Sorted.{IsPermutation}
 use Rattle.std.proofs.Math.Bool.{and-true}
@@ -10,7 +10,7 @@ use Rattle.sqlite_value.specs.Keys.{ascending}
 use Rattle.sqlite.specs.Term.{Term, lit, col, op2}
 use Rattle.sqlite.specs.Ops.{binary, is_true}
 use Rattle.sqlite_sql.specs.declared.ops.BinaryOp.TheVariants.{Compare}
-use Rattle.sqlite_sql.specs.declared.ops.CompareOp.TheVariants.{Eq}
+use Rattle.sqlite_sql.specs.declared.ops.CompareOp.TheVariants.{Eq, Ge, Le}
 use Rattle.sqlite.specs.Collation.TheVariants.{Binary}
 use Rattle.sqlite.specs.Query.{Query, IsAnswer}
 use Rattle.sqlite.specs.Program.{overlay}
@@ -30,21 +30,20 @@ use Rattle.sqlite.proofs.Callers.{IsPlain, command_of, statement_of}
 use Rattle.tables.specs.Schema.{whole, cert_at}
 use Rattle.tables.specs.Cells.{cert_cells}
 use Rattle.tables.specs.Contents.{Contents, Holds, Means, at_places, cert_places}
-use Rattle.tables.specs.Changes.{has_serial, certs_numbered, signed, with_cert, with_signature}
-use Rattle.tables.specs.declared.sql.TheConstants.{INSERT_CERT, FIND_CERT, EVERY_CERT, SIGN_CERT}
+use Rattle.tables.specs.Changes.{has_serial, certs_numbered, certs_within, is_within, signed, with_cert, with_signature}
+use Rattle.tables.specs.declared.sql.TheConstants.{INSERT_CERT, FIND_CERT, CERTS_WITHIN, SIGN_CERT}
 use Rattle.tables.specs.declared.certs.CertRow.{CertRow}
 use Rattle.tables.proofs.Apart.{cert_apart}
 use Rattle.tables.proofs.CallLemmas.{Write, Find}
-use Rattle.tables.proofs.Edits.{keep_all}
 use Rattle.tables.proofs.Elsewhere.{spares, in_cert}
 use Rattle.tables.proofs.FaultLemmas.{IsWhole, none_overflows}
 use Rattle.tables.proofs.Inserts.{no_works}
 use Rattle.tables.proofs.Inserts as insert
-use Rattle.tables.proofs.Queries.{on_table, in_order, selected, chosen, int_test}
+use Rattle.tables.proofs.Queries.{on_table, in_order, selected, chosen, int_test, int_le_test, int_ge_test}
 use Rattle.tables.proofs.Rows.{cast_int}
 use Rattle.tables.proofs.Statements.{mode, updates}
 use Rattle.tables.proofs.Rising.{AscendBy}
-use Rattle.tables.proofs.Numbers.{same_number}
+use Rattle.tables.proofs.Numbers.{same_number, le_number, ge_number}
 use Rattle.tables.proofs.Updates.{lists_changed}
 
 -- ---- INSERT
@@ -106,40 +105,62 @@ find serial = record {
   answers = find_answers serial;
 }
 
--- ---- SELECT of all
+-- ---- SELECT of those between two serials
 
-abbrev every_sql : List ℕ
-every_sql = EVERY_CERT.now
+abbrev within_sql : List ℕ
+within_sql = CERTS_WITHIN.now
 
-abbrev every_query : Query
-every_query = on_table 3 [] (col 1 0 ∷ col 1 2 ∷ col 1 3 ∷ col 1 4 ∷ col 1 5 ∷ []) ((col 1 0, ascending Binary) ∷ [])
+abbrev within_tests : List Term
+within_tests = op2 (Compare Ge Binary) (col 1 0) (col 0 0) ∷ op2 (Compare Le Binary) (col 1 0) (col 0 1) ∷ []
 
-every_is : (command_of (understood whole every_sql) ≡ Select (record { lets = []; body = every_query }) (codes "serial" ∷ codes "department" ∷ codes "keyid" ∷ codes "body" ∷ codes "signature" ∷ [])) × (reads_listing whole every_sql ≡ false)
-    × IsPlain (understood whole every_sql) × IsWhole every_sql 0 (understood whole every_sql)
+abbrev within_query : Query
+within_query = on_table 3 within_tests (col 1 0 ∷ col 1 2 ∷ col 1 3 ∷ col 1 4 ∷ col 1 5 ∷ [])
+    ((col 1 0, ascending Binary) ∷ [])
+
+within_is : (command_of (understood whole within_sql) ≡ Select (record { lets = []; body = within_query }) (codes "serial" ∷ codes "department" ∷ codes "keyid" ∷ codes "body" ∷ codes "signature" ∷ [])) × (reads_listing whole within_sql ≡ false)
+    × IsPlain (understood whole within_sql) × IsWhole within_sql 2 (understood whole within_sql)
 unfolding understood everything
-every_is = (refl, refl, (refl, refl), (refl, refl))
+within_is = (refl, refl, (refl, refl), (refl, refl))
 
-every_answers : (trees : Trees) (rows : List Row) (c : Contents) → Holds trees c
-    → IsAnswer every_query (overlay trees []) ([]) rows → IsPermutation (map cert_cells c.certs) rows
-every_answers trees rows c h answer =
-    subst (λ xs. IsPermutation (map cert_cells xs) rows) (keep_all c.certs)
-    (chosen cert_cells cert_cells (λ x. true) cert_places (λ v. true)
-    (λ v. column v 0 ∷ column v 1 ∷ column v 2 ∷ column v 3 ∷ column v 4 ∷ []) (λ x. refl) (λ x. refl) (trees 3)
-    rows c.certs h.certs (selected 3 _ _ _ trees [] rows refl answer))
+module _ (lo hi : ℕ) where
+  abbrev ends : Row
+  ends = Int (pos lo) ∷ Int (pos hi) ∷ []
 
-pub every : Find every_sql ([]) cert_cells (λ c. c.certs)
-every = record {
-  query = every_query;
-  names = codes "serial" ∷ codes "department" ∷ codes "keyid" ∷ codes "body" ∷ codes "signature" ∷ [];
-  is = every_is.0;
-  unlisted = every_is.1;
-  plain = every_is.2;
-  one = every_is.3;
-  typed = refl;
-  sure = λ trees h. elim h [ inl over ↦ over | inr fold ↦ none_overflows _ fold ];
-  apart = cert_apart;
-  answers = every_answers;
-}
+  abbrev passes : Row → Bool
+  passes v = is_true (binary (Compare Ge Binary) (column v 0) (Int (pos lo))) &&
+      (is_true (binary (Compare Le Binary) (column v 0) (Int (pos hi))) && true)
+
+  passes_is : (x : CertRow) → passes (cert_cells x) ≡ is_within lo hi x
+  passes_is x = ap₂ ◌&&◌ (int_ge_test (pos x.serial) (pos lo) ∙ ge_number x.serial lo)
+      (and-true _ ∙ int_le_test (pos x.serial) (pos hi) ∙ le_number x.serial hi)
+
+  within_answers : (trees : Trees) (rows : List Row) (c : Contents) → Holds trees c
+      → IsAnswer within_query (overlay trees []) ends rows → IsPermutation (map cert_cells (certs_within lo hi c)) rows
+  within_answers trees rows c h answer =
+      chosen cert_cells cert_cells (is_within lo hi) cert_places passes
+      (λ v. column v 0 ∷ column v 1 ∷ column v 2 ∷ column v 3 ∷ column v 4 ∷ []) passes_is (λ x. refl) (trees 3)
+      rows c.certs h.certs (selected 3 _ _ _ trees ends rows refl answer)
+
+  pub within : Find within_sql ends cert_cells (certs_within lo hi)
+  within = record {
+    query = within_query;
+    names = codes "serial" ∷ codes "department" ∷ codes "keyid" ∷ codes "body" ∷ codes "signature" ∷ [];
+    is = within_is.0;
+    unlisted = within_is.1;
+    plain = within_is.2;
+    one = within_is.3;
+    typed = refl;
+    sure = λ trees h. elim h [ inl over ↦ over | inr fold ↦ none_overflows _ fold ];
+    apart = cert_apart;
+    answers = within_answers;
+  }
+
+  pub within_rises : (trees : Trees) (rows : List Row) → IsAnswer within.query (overlay trees []) ends rows
+      → AscendBy 0 rows
+  unfolding within
+  within_rises trees rows answer =
+      in_order 3 within_tests (col 1 0 ∷ col 1 2 ∷ col 1 3 ∷ col 1 4 ∷ col 1 5 ∷ []) ((col 1 0, ascending Binary) ∷ [])
+      trees ends rows (λ v. column v 0 ∷ []) (λ r. refl) refl answer
 
 -- ---- UPDATE of the signature
 
@@ -204,10 +225,3 @@ module _ (serial : ℕ) (signature : List ℕ) where
     on_rows = tt;
     does = sign_does;
   }
-
-pub every_rises : (trees : Trees) (rows : List Row) → IsAnswer every.query (overlay trees []) ([]) rows
-    → AscendBy 0 rows
-unfolding every
-every_rises trees rows answer =
-    in_order 3 [] (col 1 0 ∷ col 1 2 ∷ col 1 3 ∷ col 1 4 ∷ col 1 5 ∷ []) ((col 1 0, ascending Binary) ∷ []) trees ([])
-    rows (λ v. column v 0 ∷ []) (λ r. refl) refl answer

@@ -50,7 +50,7 @@ pub find_sorted : {X K : Type 0} {sql : List ℕ} {params : Row} {cells : X → 
     → ((x y : X) → value_cmp (column (cells x) k) (column (cells y) k) ≡ cmp (key x) (key y))
     → (old new : State) (answer : Result (Vec Row Global) Error)
     → IfOk answer (λ rows. Shown sql params old new rows.items) → (r : Result (Vec X Global) Fault)
-    → IsRead cells answer r → Rises key cmp old r
+    → IsRead cells answer r → Rises key cmp old new r
 find_sorted {X} {K} {sql} {params} {cells} {of} f k key cmp rises told old new (Ok rows) ok (Ok xs) read = λ c means.
     let answered = (reads_as sql params old new whole means.schema _ f.is f.plain f.unlisted rows.items ok).answer
     Null in

@@ -1,5 +1,6 @@
 -- What a call on the tables does to the connection.
-use Rattle.std.specs.Prelude.{◌≡◌, ◌⊎◌, true, false, if◌then◌else◌, List, [], ◌∷◌, IsPermutation, IsSortedByKey, IsTrue, IfErr, Option, Some, None, Result, Ok, Err, Vec}
+use Rattle.std.specs.Prelude.{◌≡◌, ◌⊎◌, true, false, if◌then◌else◌, List, [], ◌∷◌, IsPermutation, IsSortedByKey, IsTrue}
+use Rattle.std.specs.Prelude.{IfErr, Option, Some, None, Result, Ok, Err, Vec}
 use Rattle.std.specs.declared.cmp.Ordering.{Ordering}
 use Rattle.std.specs.declared.alloc.Global.{Global}
 use Rattle.std.specs.List.{AllByRecursion}
@@ -11,6 +12,7 @@ use Rattle.sqlite.specs.Change.{created, next_tree, KeepsRows}
 use Rattle.sqlite.specs.State.{State, IsUnchanged, IsRolledBack, KeepsCommit, Shows}
 use Rattle.tables.specs.declared.fault.Fault.{Fault}
 use Rattle.tables.specs.declared.fault.Fault.TheVariants.{Damaged}
+use Rattle.tables.specs.Faults.{HasCause}
 use Rattle.tables.specs.Contents.{Contents, Means, MeansWithoutCa, Kept, no_contents}
 
 -- the connection shows these contents; a transaction goes on, and outside one they are committed
@@ -31,8 +33,8 @@ abbrev pub Changes : {X E : Type 0} → (Contents → Contents) → State → St
 Changes after old new (Ok x) = (c : Contents) → Means old.now c → Steps old new (after c)
 Changes after old new (Err e) = Fails old new
 
--- of a database that is as one of these says: what is found is what that has, in some order, and nothing has changed; or the
--- call fails
+-- of a database that is as one of these says: what is found is what that has, in some order, and nothing has changed;
+-- or the call fails
 abbrev pub FindsIn : {A X E : Type 0} → (A → Database → Type 0) → (A → List X) → State → State
     → Result (Vec X Global) E → Type 0
 FindsIn {A} Has of old new (Ok found) = (a : A) → Has a old.now → IsUnchanged old new × IsPermutation (of a) found.items
@@ -53,12 +55,12 @@ FindsOne of old new (Ok found) = (c : Contents) → Means old.now c → IsUnchan
 FindsOne of old new (Err e) = (c : Contents) → Means old.now c → Fails old new
 
 -- what is found ascends by its key
-abbrev pub Rises : {X K E : Type 0} → (X → K) → (K → K → Ordering) → State → Result (Vec X Global) E → Type 0
-Rises key cmp old (Ok found) = (c : Contents) → Means old.now c → IsSortedByKey key cmp found.items
-Rises key cmp old (Err e) = Unit {0}
+abbrev pub Rises : {X K E : Type 0} → (X → K) → (K → K → Ordering) → State → State → Result (Vec X Global) E → Type 0
+Rises key cmp old new (Ok found) = (c : Contents) → Means old.now c → IsSortedByKey key cmp found.items
+Rises key cmp old new (Err e) = Unit {0}
 
--- Of any tables: where something is answered the connection was open, and nothing has changed; or the call fails, and where
--- it tells damage nothing has changed either.
+-- Of any tables: where something is answered the connection was open, and nothing has changed; or the call fails, and
+-- where it tells damage nothing has changed either.
 abbrev pub OnlyReads : {X : Type 0} → State → State → Result X Fault → Type 0
 OnlyReads old new (Ok x) = IsUnchanged old new
 OnlyReads old new (Err f) = Fails old new × (f ≡ Damaged → IsUnchanged old new)
@@ -86,6 +88,10 @@ abbrev pub Commits : {X E : Type 0} → State → State → Result X E → Type 
 Commits old new (Ok x) = Shows old new old.now old.now false
 Commits old new (Err e) = Fails old new
 
+-- a transaction that is open is undone
+abbrev pub Undoes : State → State → Type 0
+Undoes old new = IsTrue old.in_transaction → IsRolledBack old new
+
 -- of a database that is as one of these says, a fault has its cause
 abbrev pub FailsIn : {A X : Type 0} → (A → Database → Type 0) → (State → State → Fault → Type 0) → State → State
     → Result X Fault → Type 0
@@ -94,6 +100,10 @@ FailsIn {A} Has Cause old new r = IfErr r (λ f. (a : A) → Has a old.now → C
 -- so it has of a call on tables that mean something
 abbrev pub FailsBy : {X : Type 0} → (State → State → Fault → Type 0) → State → State → Result X Fault → Type 0
 FailsBy Cause old new r = FailsIn (λ c db. Means db c) Cause old new r
+
+-- where this holds before the call, a fault has its cause
+abbrev pub FailsWhere : {X : Type 0} → (State → Type 0) → State → State → Result X Fault → Type 0
+FailsWhere Holds old new r = Holds old → IfErr r (HasCause old new)
 
 -- ---- the tables themselves
 

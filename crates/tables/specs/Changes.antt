@@ -1,5 +1,5 @@
 -- What each write makes of the contents.
-use Rattle.std.specs.Prelude.{ℕ, Bool, not, cond, ◌&&◌, ◌==◌, List, ◌∷◌, map, filter, Some, bytes_eq}
+use Rattle.std.specs.Prelude.{ℕ, Bool, not, cond, ◌&&◌, ◌==◌, nat_le, List, ◌∷◌, map, filter, Some, bytes_eq}
 use Rattle.tables.specs.declared.offices.OfficeRow.{OfficeRow}
 use Rattle.tables.specs.declared.offices.Counters.{Counters}
 use Rattle.tables.specs.declared.departments.DepartmentRow.{DepartmentRow}
@@ -48,6 +48,13 @@ has_serial serial c = c.serial == serial
 
 abbrev pub certs_numbered : ℕ → Contents → List CertRow
 certs_numbered serial c = filter (has_serial serial) c.certs
+
+-- its serial is from the one to the other
+abbrev pub is_within : (lo hi : ℕ) → CertRow → Bool
+is_within lo hi c = nat_le lo c.serial && nat_le c.serial hi
+
+abbrev pub certs_within : (lo hi : ℕ) → Contents → List CertRow
+certs_within lo hi c = filter (is_within lo hi) c.certs
 
 abbrev pub with_cert : CertRow → Contents → Contents
 with_cert cert c = record c { certs = cert ∷ c.certs }

@@ -13,7 +13,8 @@ use Rattle.tables.specs.declared.certs.CertRow.{CertRow}
 use Rattle.tables.specs.declared.requests.RequestRow.{RequestRow}
 use Rattle.tables.specs.declared.runs.RunRow.{RunRow}
 use Rattle.tables.specs.declared.cas.CaRow.{CaRow}
-use Rattle.tables.specs.Cells.{office_cells, department_cells, cert_cells, request_cells, run_cells, key_id_cells, ca_cells}
+use Rattle.tables.specs.Cells.{office_cells, department_cells, cert_cells, request_cells, run_cells, key_id_cells}
+use Rattle.tables.specs.Cells.{ca_cells}
 use Rattle.tables.specs.Schema.{office_at, whole, without_ca}
 
 -- the structs of all rows

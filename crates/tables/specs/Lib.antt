@@ -4,6 +4,7 @@ pub mod Schema
 pub mod Cells
 pub mod Contents
 pub mod Changes
+pub mod Honest
 pub mod Calls
 pub mod Runs
 pub mod Done

@@ -9,14 +9,14 @@ use Rattle.tables.specs.Schema.{office_at, whole, without_ca, no_schema}
 abbrev pub is_office_name : Table → Bool
 is_office_name t =
     same_name t.name (codes "office") || (same_name t.name (codes "department") || (same_name t.name (codes "cert")
-    || (same_name t.name (codes "request") || (same_name t.name (codes "run") || (same_name t.name (codes "revoked_keyid")
-    || same_name t.name (codes "ca"))))))
+    || (same_name t.name (codes "request") || (same_name t.name (codes "run")
+    || (same_name t.name (codes "revoked_keyid") || same_name t.name (codes "ca"))))))
 
 -- the columns of the table of the office
 abbrev pub office_columns : List (List ℕ)
 office_columns =
-    codes "id" ∷ codes "schema" ∷ codes "ca" ∷ codes "root" ∷ codes "station" ∷ codes "first" ∷ codes "last" ∷ codes "next"
-    ∷ codes "version" ∷ codes "date" ∷ []
+    codes "id" ∷ codes "schema" ∷ codes "ca" ∷ codes "root" ∷ codes "station" ∷ codes "first" ∷ codes "last"
+    ∷ codes "next" ∷ codes "version" ∷ codes "date" ∷ []
 
 -- whether a table has just the columns of that of the office, by their names
 abbrev pub has_columns : Table → Bool

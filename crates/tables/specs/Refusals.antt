@@ -20,8 +20,8 @@ use Rattle.tables.specs.Faults.{HasFailed}
 
 -- ---- what a table can't hold
 
--- A row of these values is over a billion bytes, where each counts 18 more than its text or bytes, and so does the number
--- of the row.
+-- A row of these values is over a billion bytes, where each counts 18 more than its text or bytes, and so does the
+-- number of the row.
 abbrev pub IsTooLong : Row → Type 0
 IsTooLong values = 10 ^ 9 < 18 + sum_by (λ v. 18 + length (bytes v)) values
 
@@ -51,7 +51,8 @@ RefusesCert cert c =
 
 -- the certificate of this serial is too long with the signature
 abbrev pub RefusesSignature : (serial : ℕ) → (signature : List ℕ) → Contents → Type 0
-RefusesSignature serial signature c = HasOne (λ d. (d.serial ≡ serial) × IsTooLong (cert_cells (signed signature d))) c.certs
+RefusesSignature serial signature c =
+    HasOne (λ d. (d.serial ≡ serial) × IsTooLong (cert_cells (signed signature d))) c.certs
 
 -- its caller has used its key, or it is too long, or there is no room for one more
 abbrev pub RefusesRequest : RequestRow → Contents → Type 0

@@ -56,15 +56,16 @@ by_key name columns places = record (keyless name columns)
 
 abbrev pub office : Table
 office = by_number (codes "office") (
-    optional (codes "id") Integer ∷ required (codes "schema") Integer ∷ required (codes "ca") Blob ∷ required (codes "root") Text
-    ∷ required (codes "station") Text ∷ required (codes "first") Integer ∷ required (codes "last") Integer
-    ∷ required (codes "next") Integer ∷ required (codes "version") Integer ∷ required (codes "date") Integer ∷ [])
+    optional (codes "id") Integer ∷ required (codes "schema") Integer ∷ required (codes "ca") Blob
+    ∷ required (codes "root") Text ∷ required (codes "station") Text ∷ required (codes "first") Integer
+    ∷ required (codes "last") Integer ∷ required (codes "next") Integer
+    ∷ required (codes "version") Integer ∷ required (codes "date") Integer ∷ [])
 
 abbrev pub department : Table
 department = by_key (codes "department") (
-    required (codes "name") Text ∷ required (codes "kind") Integer ∷ required (codes "admins") Text ∷ required (codes "rules") Text
-    ∷ required (codes "options") Text ∷ required (codes "extensions") Text ∷ required (codes "maxlife") Integer
-    ∷ required (codes "namespaces") Text ∷ []) (1 ∷ [])
+    required (codes "name") Text ∷ required (codes "kind") Integer ∷ required (codes "admins") Text
+    ∷ required (codes "rules") Text ∷ required (codes "options") Text ∷ required (codes "extensions") Text
+    ∷ required (codes "maxlife") Integer ∷ required (codes "namespaces") Text ∷ []) (1 ∷ [])
 
 -- REFERENCES department, on the column at this place
 abbrev pub to_department : ℕ → Reference
@@ -79,12 +80,13 @@ to_department place = record {
 
 abbrev pub cert : Table
 cert = record (by_number (codes "cert") (
-    optional (codes "serial") Integer ∷ required (codes "department") Text ∷ required (codes "keyid") Text ∷ required (codes "body") Blob
-    ∷ optional (codes "signature") Blob ∷ [])) { references = to_department 2 ∷ [] }
+    optional (codes "serial") Integer ∷ required (codes "department") Text ∷ required (codes "keyid") Text
+    ∷ required (codes "body") Blob ∷ optional (codes "signature") Blob ∷ [])) { references = to_department 2 ∷ [] }
 
 abbrev pub request : Table
 request = by_key (codes "request") (
-    required (codes "caller") Text ∷ required (codes "key") Text ∷ required (codes "message") Blob ∷ required (codes "reply") Text ∷ []) (1 ∷ 2 ∷ [])
+    required (codes "caller") Text ∷ required (codes "key") Text ∷ required (codes "message") Blob
+    ∷ required (codes "reply") Text ∷ []) (1 ∷ 2 ∷ [])
 
 abbrev pub run : Table
 run = by_number (codes "run") (optional (codes "lo") Integer ∷ required (codes "hi") Integer ∷ [])
@@ -93,7 +95,8 @@ abbrev pub revoked_keyid : Table
 revoked_keyid = by_key (codes "revoked_keyid") (required (codes "keyid") Text ∷ []) (1 ∷ [])
 
 abbrev pub ca : Table
-ca = record (by_number (codes "ca") (optional (codes "number") Integer ∷ required (codes "ca") Blob ∷ required (codes "since") Integer ∷ []))
+ca = record (by_number (codes "ca") (
+    optional (codes "number") Integer ∷ required (codes "ca") Blob ∷ required (codes "since") Integer ∷ []))
     { uniques = (2 ∷ []) ∷ []; orders = plain ∷ [] }
 
 abbrev pub no_schema : Schema

@@ -1,13 +1,12 @@
 //! The table of certificates.
 
-ghost use Rattle.std.specs.Prelude.{◌≡◌, ◌∷◌, [], pos};
+ghost use Rattle.std.specs.Prelude.{◌≡◌, ◌∷◌, []};
 ghost use Rattle.std.specs.Ordering.{nat_cmp};
-ghost use Rattle.sqlite.specs.Held.{state};
-ghost use Rattle.sqlite.specs.State.{HasCleanDisk, Survives};
-ghost use Rattle.sqlite.specs.declared.types.Value.TheVariants.{Int, Blob};
+ghost use Rattle.sqlite.specs.declared.types.Value.TheVariants.{Blob};
 ghost use Rattle.tables.specs.Cells.{cert_cells};
-ghost use Rattle.tables.specs.Changes.{certs_numbered, with_cert, with_signature};
-ghost use Rattle.tables.specs.Calls.{Changes, FailsBy, Finds, FindsOne, Leaves, Never, Rises, Stays, OnlyReads};
+ghost use Rattle.tables.specs.Changes.{certs_numbered, certs_within, with_cert, with_signature};
+ghost use Rattle.tables.specs.Calls.{Changes, FailsBy, Finds, FindsOne, Leaves, Never, OnlyReads, Rises, Stays};
+ghost use Rattle.tables.specs.Honest.{On, Outlives, OutlivesBy};
 ghost use Rattle.tables.specs.Faults.{HasCause};
 ghost use Rattle.tables.specs.Refusals.{RefusedFor, RefusesCert, RefusesSignature};
 
@@ -15,7 +14,7 @@ use crate::columns::{Columns, found, found_first};
 use crate::fault::{Fault, done};
 use crate::kind::{Kind, blob_at, is_row_of, number_at, optional_blob, optional_blob_at, text_at};
 use crate::number::Number;
-use crate::sql::{EVERY_CERT, FIND_CERT, INSERT_CERT, SIGN_CERT};
+use crate::sql::{CERTS_WITHIN, FIND_CERT, INSERT_CERT, SIGN_CERT};
 use sqlite::types::ValueRef;
 use sqlite::{Alter, Connection, Row};
 use std::alloc::Global;
@@ -91,15 +90,10 @@ impl Columns for CertRow {
 
 /// Keeps a certificate. `Device` also where its serial is taken, its department is missing, or the row is too long.
 pub fn insert_cert<S: Alter>(conn: &mut Connection<S>, cert: &CertRow) -> Result<(), Fault>
-    ensures changes { HasCleanDisk (state S.Store conn.new) →
-        Changes (with_cert cert.now) (state S.Store conn.old) (state S.Store conn.new) result }
-    ensures fault { HasCleanDisk (state S.Store conn.new) →
-        RefusedFor (RefusesCert cert.now) (state S.Store conn.old)
-        (state S.Store conn.new) result }
-    ensures stays { HasCleanDisk (state S.Store conn.new)
-        → Stays (state S.Store conn.old) (state S.Store conn.new) result }
-    ensures survives { Survives (state S.Store conn.old) (state S.Store conn.new)
-        (Leaves (with_cert cert.now) (state S.Store conn.old)) }
+    ensures changes { On S.Store (Changes (with_cert cert.now)) conn.old conn.new result }
+    ensures fault { On S.Store (RefusedFor (RefusesCert cert.now)) conn.old conn.new result }
+    ensures stays { On S.Store Stays conn.old conn.new result }
+    ensures survives { OutlivesBy S.Store (Leaves (with_cert cert.now)) conn.old conn.new }
 {
     done(conn.execute(INSERT_CERT, &cert.values()))
 }
@@ -110,30 +104,32 @@ pub fn find_cert<S: Alter>(
     conn: &mut Connection<S>,
     serial: Number,
 ) -> Result<Option<CertRow>, Fault>
-    ensures finds { HasCleanDisk (state S.Store conn.new) →
-        FindsOne (certs_numbered serial) (state S.Store conn.old) (state S.Store conn.new) result }
-    ensures reads { HasCleanDisk (state S.Store conn.new)
-        → OnlyReads (state S.Store conn.old) (state S.Store conn.new) result }
-    ensures fault { HasCleanDisk (state S.Store conn.new) →
-        FailsBy HasCause (state S.Store conn.old) (state S.Store conn.new) result }
-    ensures survives { Survives (state S.Store conn.old) (state S.Store conn.new) Never }
+    ensures finds { On S.Store (FindsOne (certs_numbered serial)) conn.old conn.new result }
+    ensures reads { On S.Store OnlyReads conn.old conn.new result }
+    ensures fault { On S.Store (FailsBy HasCause) conn.old conn.new result }
+    ensures survives { Outlives S.Store Never conn.old conn.new }
 {
     found_first(alloc, conn.query_all(FIND_CERT, &[serial.value()]))
 }
 
-/// Each certificate, by serial. `Damaged` where a row has another form.
-pub fn every_cert<S: Alter>(alloc: Global, conn: &mut Connection<S>) -> Result<Vec<CertRow>, Fault>
-    ensures finds { HasCleanDisk (state S.Store conn.new) →
-        Finds (λ c. c.certs) (state S.Store conn.old) (state S.Store conn.new) result }
-    ensures sorted { HasCleanDisk (state S.Store conn.new)
-        → Rises (λ c. c.serial) (nat_cmp) (state S.Store conn.old) result }
-    ensures reads { HasCleanDisk (state S.Store conn.new)
-        → OnlyReads (state S.Store conn.old) (state S.Store conn.new) result }
-    ensures fault { HasCleanDisk (state S.Store conn.new) →
-        FailsBy HasCause (state S.Store conn.old) (state S.Store conn.new) result }
-    ensures survives { Survives (state S.Store conn.old) (state S.Store conn.new) Never }
+/// The certificates whose serials lie between these two, both included, by serial. `Damaged` where a row of one has
+/// another form. It reads those rows alone.
+pub fn certs_within<S: Alter>(
+    alloc: Global,
+    conn: &mut Connection<S>,
+    lo: Number,
+    hi: Number,
+) -> Result<Vec<CertRow>, Fault>
+    ensures finds { On S.Store (Finds (certs_within lo hi)) conn.old conn.new result }
+    ensures sorted { On S.Store (Rises (λ c. c.serial) nat_cmp) conn.old conn.new result }
+    ensures reads { On S.Store OnlyReads conn.old conn.new result }
+    ensures fault { On S.Store (FailsBy HasCause) conn.old conn.new result }
+    ensures survives { Outlives S.Store Never conn.old conn.new }
 {
-    found(alloc, conn.query_all(EVERY_CERT, &[]))
+    found(
+        alloc,
+        conn.query_all(CERTS_WITHIN, &[lo.value(), hi.value()]),
+    )
 }
 
 /// Keeps the signature of the certificate of this serial, if it is there. `Device` also where its row is then too long.
@@ -142,15 +138,10 @@ pub fn update_signature<S: Alter>(
     serial: Number,
     signature: &[u8],
 ) -> Result<(), Fault>
-    ensures changes { HasCleanDisk (state S.Store conn.new) →
-        Changes (with_signature serial signature.now) (state S.Store conn.old) (state S.Store conn.new) result }
-    ensures fault { HasCleanDisk (state S.Store conn.new) →
-        RefusedFor (RefusesSignature serial signature.now) (state S.Store conn.old)
-        (state S.Store conn.new) result }
-    ensures stays { HasCleanDisk (state S.Store conn.new)
-        → Stays (state S.Store conn.old) (state S.Store conn.new) result }
-    ensures survives { Survives (state S.Store conn.old) (state S.Store conn.new)
-        (Leaves (with_signature serial signature.now) (state S.Store conn.old)) }
+    ensures changes { On S.Store (Changes (with_signature serial signature.now)) conn.old conn.new result }
+    ensures fault { On S.Store (RefusedFor (RefusesSignature serial signature.now)) conn.old conn.new result }
+    ensures stays { On S.Store Stays conn.old conn.new result }
+    ensures survives { OutlivesBy S.Store (Leaves (with_signature serial signature.now)) conn.old conn.new }
 {
     done(conn.execute(SIGN_CERT, &[serial.value(), ValueRef::Blob(signature)]))
 }

@@ -1,11 +1,11 @@
 //! The tables themselves.
 
 ghost use Rattle.std.specs.Prelude.{◌≡◌, IfErr};
-ghost use Rattle.sqlite.specs.Held.{state};
-ghost use Rattle.sqlite.specs.State.{HasCleanDisk, Survives};
-ghost use Rattle.tables.specs.Schema.{no_schema, with_office, with_department, with_cert, with_request, with_run, without_ca, office, department, cert, request, run, revoked_keyid, ca};
-ghost use Rattle.tables.specs.Faults.{HasCause, IsOfStatement};
-ghost use Rattle.tables.specs.Calls.{AddsCa, Completes, Creates, IsBare, Stays, Waits};
+ghost use Rattle.tables.specs.Schema.{no_schema, with_office, with_department, with_cert, with_request, with_run};
+ghost use Rattle.tables.specs.Schema.{without_ca, office, department, cert, request, run, revoked_keyid, ca};
+ghost use Rattle.tables.specs.Faults.{IsOfStatement};
+ghost use Rattle.tables.specs.Calls.{AddsCa, Completes, Creates, FailsWhere, IsBare, Stays, Waits};
+ghost use Rattle.tables.specs.Honest.{On, OutlivesBy};
 
 use crate::fault::{Fault, done};
 use crate::sql::{
@@ -15,192 +15,140 @@ use crate::sql::{
 use sqlite::{Alter, Connection};
 
 fn create_office<S: Alter>(conn: &mut Connection<S>) -> Result<(), Fault>
-    ensures creates { HasCleanDisk (state S.Store conn.new) →
-        Creates no_schema office (state S.Store conn.old) (state S.Store conn.new) result }
-    ensures fault { HasCleanDisk (state S.Store conn.new) → (state S.Store conn.old).now.schema ≡ no_schema
-        → IfErr result (HasCause (state S.Store conn.old) (state S.Store conn.new)) }
+    ensures creates { On S.Store (Creates no_schema office) conn.old conn.new result }
+    ensures fault { On S.Store (FailsWhere (λ s. s.now.schema ≡ no_schema)) conn.old conn.new result }
     ensures undamaged { IfErr result IsOfStatement }
-    ensures stays { HasCleanDisk (state S.Store conn.new)
-        → Stays (state S.Store conn.old) (state S.Store conn.new) result }
-    ensures survives { Survives (state S.Store conn.old) (state S.Store conn.new)
-        (Waits no_schema (state S.Store conn.old)) }
+    ensures stays { On S.Store Stays conn.old conn.new result }
+    ensures survives { OutlivesBy S.Store (Waits no_schema) conn.old conn.new }
 {
     done(conn.execute(CREATE_OFFICE, &[]))
 }
 
 fn create_department<S: Alter>(conn: &mut Connection<S>) -> Result<(), Fault>
-    ensures creates { HasCleanDisk (state S.Store conn.new) →
-        Creates with_office department (state S.Store conn.old) (state S.Store conn.new) result }
-    ensures fault { HasCleanDisk (state S.Store conn.new) → (state S.Store conn.old).now.schema ≡ with_office
-        → IfErr result (HasCause (state S.Store conn.old) (state S.Store conn.new)) }
+    ensures creates { On S.Store (Creates with_office department) conn.old conn.new result }
+    ensures fault { On S.Store (FailsWhere (λ s. s.now.schema ≡ with_office)) conn.old conn.new result }
     ensures undamaged { IfErr result IsOfStatement }
-    ensures stays { HasCleanDisk (state S.Store conn.new)
-        → Stays (state S.Store conn.old) (state S.Store conn.new) result }
-    ensures survives { Survives (state S.Store conn.old) (state S.Store conn.new)
-        (Waits with_office (state S.Store conn.old)) }
+    ensures stays { On S.Store Stays conn.old conn.new result }
+    ensures survives { OutlivesBy S.Store (Waits with_office) conn.old conn.new }
 {
     done(conn.execute(CREATE_DEPARTMENT, &[]))
 }
 
 fn create_cert<S: Alter>(conn: &mut Connection<S>) -> Result<(), Fault>
-    ensures creates { HasCleanDisk (state S.Store conn.new) →
-        Creates with_department cert (state S.Store conn.old) (state S.Store conn.new) result }
-    ensures fault { HasCleanDisk (state S.Store conn.new) → (state S.Store conn.old).now.schema ≡ with_department
-        → IfErr result (HasCause (state S.Store conn.old) (state S.Store conn.new)) }
+    ensures creates { On S.Store (Creates with_department cert) conn.old conn.new result }
+    ensures fault { On S.Store (FailsWhere (λ s. s.now.schema ≡ with_department)) conn.old conn.new result }
     ensures undamaged { IfErr result IsOfStatement }
-    ensures stays { HasCleanDisk (state S.Store conn.new)
-        → Stays (state S.Store conn.old) (state S.Store conn.new) result }
-    ensures survives { Survives (state S.Store conn.old) (state S.Store conn.new)
-        (Waits with_department (state S.Store conn.old)) }
+    ensures stays { On S.Store Stays conn.old conn.new result }
+    ensures survives { OutlivesBy S.Store (Waits with_department) conn.old conn.new }
 {
     done(conn.execute(CREATE_CERT, &[]))
 }
 
 fn create_request<S: Alter>(conn: &mut Connection<S>) -> Result<(), Fault>
-    ensures creates { HasCleanDisk (state S.Store conn.new) →
-        Creates with_cert request (state S.Store conn.old) (state S.Store conn.new) result }
-    ensures fault { HasCleanDisk (state S.Store conn.new) → (state S.Store conn.old).now.schema ≡ with_cert
-        → IfErr result (HasCause (state S.Store conn.old) (state S.Store conn.new)) }
+    ensures creates { On S.Store (Creates with_cert request) conn.old conn.new result }
+    ensures fault { On S.Store (FailsWhere (λ s. s.now.schema ≡ with_cert)) conn.old conn.new result }
     ensures undamaged { IfErr result IsOfStatement }
-    ensures stays { HasCleanDisk (state S.Store conn.new)
-        → Stays (state S.Store conn.old) (state S.Store conn.new) result }
-    ensures survives { Survives (state S.Store conn.old) (state S.Store conn.new)
-        (Waits with_cert (state S.Store conn.old)) }
+    ensures stays { On S.Store Stays conn.old conn.new result }
+    ensures survives { OutlivesBy S.Store (Waits with_cert) conn.old conn.new }
 {
     done(conn.execute(CREATE_REQUEST, &[]))
 }
 
 fn create_run<S: Alter>(conn: &mut Connection<S>) -> Result<(), Fault>
-    ensures creates { HasCleanDisk (state S.Store conn.new) →
-        Creates with_request run (state S.Store conn.old) (state S.Store conn.new) result }
-    ensures fault { HasCleanDisk (state S.Store conn.new) → (state S.Store conn.old).now.schema ≡ with_request
-        → IfErr result (HasCause (state S.Store conn.old) (state S.Store conn.new)) }
+    ensures creates { On S.Store (Creates with_request run) conn.old conn.new result }
+    ensures fault { On S.Store (FailsWhere (λ s. s.now.schema ≡ with_request)) conn.old conn.new result }
     ensures undamaged { IfErr result IsOfStatement }
-    ensures stays { HasCleanDisk (state S.Store conn.new)
-        → Stays (state S.Store conn.old) (state S.Store conn.new) result }
-    ensures survives { Survives (state S.Store conn.old) (state S.Store conn.new)
-        (Waits with_request (state S.Store conn.old)) }
+    ensures stays { On S.Store Stays conn.old conn.new result }
+    ensures survives { OutlivesBy S.Store (Waits with_request) conn.old conn.new }
 {
     done(conn.execute(CREATE_RUN, &[]))
 }
 
 fn create_revoked<S: Alter>(conn: &mut Connection<S>) -> Result<(), Fault>
-    ensures creates { HasCleanDisk (state S.Store conn.new) →
-        Creates with_run revoked_keyid (state S.Store conn.old) (state S.Store conn.new) result }
-    ensures fault { HasCleanDisk (state S.Store conn.new) → (state S.Store conn.old).now.schema ≡ with_run
-        → IfErr result (HasCause (state S.Store conn.old) (state S.Store conn.new)) }
+    ensures creates { On S.Store (Creates with_run revoked_keyid) conn.old conn.new result }
+    ensures fault { On S.Store (FailsWhere (λ s. s.now.schema ≡ with_run)) conn.old conn.new result }
     ensures undamaged { IfErr result IsOfStatement }
-    ensures stays { HasCleanDisk (state S.Store conn.new)
-        → Stays (state S.Store conn.old) (state S.Store conn.new) result }
-    ensures survives { Survives (state S.Store conn.old) (state S.Store conn.new)
-        (Waits with_run (state S.Store conn.old)) }
+    ensures stays { On S.Store Stays conn.old conn.new result }
+    ensures survives { OutlivesBy S.Store (Waits with_run) conn.old conn.new }
 {
     done(conn.execute(CREATE_REVOKED, &[]))
 }
 
 /// Makes the table of CAs beside the other tables, whose rows stay.
 pub fn create_ca<S: Alter>(conn: &mut Connection<S>) -> Result<(), Fault>
-    ensures creates { HasCleanDisk (state S.Store conn.new) →
-        Creates without_ca ca (state S.Store conn.old) (state S.Store conn.new) result }
-    ensures adds { HasCleanDisk (state S.Store conn.new)
-        → AddsCa (state S.Store conn.old) (state S.Store conn.new) result }
-    ensures fault { HasCleanDisk (state S.Store conn.new) → (state S.Store conn.old).now.schema ≡ without_ca
-        → IfErr result (HasCause (state S.Store conn.old) (state S.Store conn.new)) }
+    ensures creates { On S.Store (Creates without_ca ca) conn.old conn.new result }
+    ensures adds { On S.Store AddsCa conn.old conn.new result }
+    ensures fault { On S.Store (FailsWhere (λ s. s.now.schema ≡ without_ca)) conn.old conn.new result }
     ensures undamaged { IfErr result IsOfStatement }
-    ensures stays { HasCleanDisk (state S.Store conn.new)
-        → Stays (state S.Store conn.old) (state S.Store conn.new) result }
-    ensures survives { Survives (state S.Store conn.old) (state S.Store conn.new)
-        (Waits without_ca (state S.Store conn.old)) }
+    ensures stays { On S.Store Stays conn.old conn.new result }
+    ensures survives { OutlivesBy S.Store (Waits without_ca) conn.old conn.new }
 {
     done(conn.execute(CREATE_CA, &[]))
 }
 
 fn complete_revoked<S: Alter>(conn: &mut Connection<S>) -> Result<(), Fault>
-    ensures completes { HasCleanDisk (state S.Store conn.new) →
-        Completes with_run (state S.Store conn.old) (state S.Store conn.new) result }
-    ensures fault { HasCleanDisk (state S.Store conn.new) → IsBare with_run (state S.Store conn.old).now
-        → IfErr result (HasCause (state S.Store conn.old) (state S.Store conn.new)) }
+    ensures completes { On S.Store (Completes with_run) conn.old conn.new result }
+    ensures fault { On S.Store (FailsWhere (λ s. IsBare with_run s.now)) conn.old conn.new result }
     ensures undamaged { IfErr result IsOfStatement }
-    ensures stays { HasCleanDisk (state S.Store conn.new)
-        → Stays (state S.Store conn.old) (state S.Store conn.new) result }
-    ensures survives { Survives (state S.Store conn.old) (state S.Store conn.new)
-        (Waits with_run (state S.Store conn.old)) }
+    ensures stays { On S.Store Stays conn.old conn.new result }
+    ensures survives { OutlivesBy S.Store (Waits with_run) conn.old conn.new }
 {
     create_revoked(conn)?;
     create_ca(conn)
 }
 
 fn complete_run<S: Alter>(conn: &mut Connection<S>) -> Result<(), Fault>
-    ensures completes { HasCleanDisk (state S.Store conn.new) →
-        Completes with_request (state S.Store conn.old) (state S.Store conn.new) result }
-    ensures fault { HasCleanDisk (state S.Store conn.new) → IsBare with_request (state S.Store conn.old).now
-        → IfErr result (HasCause (state S.Store conn.old) (state S.Store conn.new)) }
+    ensures completes { On S.Store (Completes with_request) conn.old conn.new result }
+    ensures fault { On S.Store (FailsWhere (λ s. IsBare with_request s.now)) conn.old conn.new result }
     ensures undamaged { IfErr result IsOfStatement }
-    ensures stays { HasCleanDisk (state S.Store conn.new)
-        → Stays (state S.Store conn.old) (state S.Store conn.new) result }
-    ensures survives { Survives (state S.Store conn.old) (state S.Store conn.new)
-        (Waits with_request (state S.Store conn.old)) }
+    ensures stays { On S.Store Stays conn.old conn.new result }
+    ensures survives { OutlivesBy S.Store (Waits with_request) conn.old conn.new }
 {
     create_run(conn)?;
     complete_revoked(conn)
 }
 
 fn complete_request<S: Alter>(conn: &mut Connection<S>) -> Result<(), Fault>
-    ensures completes { HasCleanDisk (state S.Store conn.new) →
-        Completes with_cert (state S.Store conn.old) (state S.Store conn.new) result }
-    ensures fault { HasCleanDisk (state S.Store conn.new) → IsBare with_cert (state S.Store conn.old).now
-        → IfErr result (HasCause (state S.Store conn.old) (state S.Store conn.new)) }
+    ensures completes { On S.Store (Completes with_cert) conn.old conn.new result }
+    ensures fault { On S.Store (FailsWhere (λ s. IsBare with_cert s.now)) conn.old conn.new result }
     ensures undamaged { IfErr result IsOfStatement }
-    ensures stays { HasCleanDisk (state S.Store conn.new)
-        → Stays (state S.Store conn.old) (state S.Store conn.new) result }
-    ensures survives { Survives (state S.Store conn.old) (state S.Store conn.new)
-        (Waits with_cert (state S.Store conn.old)) }
+    ensures stays { On S.Store Stays conn.old conn.new result }
+    ensures survives { OutlivesBy S.Store (Waits with_cert) conn.old conn.new }
 {
     create_request(conn)?;
     complete_run(conn)
 }
 
 fn complete_cert<S: Alter>(conn: &mut Connection<S>) -> Result<(), Fault>
-    ensures completes { HasCleanDisk (state S.Store conn.new) →
-        Completes with_department (state S.Store conn.old) (state S.Store conn.new) result }
-    ensures fault { HasCleanDisk (state S.Store conn.new) → IsBare with_department (state S.Store conn.old).now
-        → IfErr result (HasCause (state S.Store conn.old) (state S.Store conn.new)) }
+    ensures completes { On S.Store (Completes with_department) conn.old conn.new result }
+    ensures fault { On S.Store (FailsWhere (λ s. IsBare with_department s.now)) conn.old conn.new result }
     ensures undamaged { IfErr result IsOfStatement }
-    ensures stays { HasCleanDisk (state S.Store conn.new)
-        → Stays (state S.Store conn.old) (state S.Store conn.new) result }
-    ensures survives { Survives (state S.Store conn.old) (state S.Store conn.new)
-        (Waits with_department (state S.Store conn.old)) }
+    ensures stays { On S.Store Stays conn.old conn.new result }
+    ensures survives { OutlivesBy S.Store (Waits with_department) conn.old conn.new }
 {
     create_cert(conn)?;
     complete_request(conn)
 }
 
 fn complete_department<S: Alter>(conn: &mut Connection<S>) -> Result<(), Fault>
-    ensures completes { HasCleanDisk (state S.Store conn.new) →
-        Completes with_office (state S.Store conn.old) (state S.Store conn.new) result }
-    ensures fault { HasCleanDisk (state S.Store conn.new) → IsBare with_office (state S.Store conn.old).now
-        → IfErr result (HasCause (state S.Store conn.old) (state S.Store conn.new)) }
+    ensures completes { On S.Store (Completes with_office) conn.old conn.new result }
+    ensures fault { On S.Store (FailsWhere (λ s. IsBare with_office s.now)) conn.old conn.new result }
     ensures undamaged { IfErr result IsOfStatement }
-    ensures stays { HasCleanDisk (state S.Store conn.new)
-        → Stays (state S.Store conn.old) (state S.Store conn.new) result }
-    ensures survives { Survives (state S.Store conn.old) (state S.Store conn.new)
-        (Waits with_office (state S.Store conn.old)) }
+    ensures stays { On S.Store Stays conn.old conn.new result }
+    ensures survives { OutlivesBy S.Store (Waits with_office) conn.old conn.new }
 {
     create_department(conn)?;
     complete_cert(conn)
 }
 
-/// Makes all tables of the office in a database that has none. Where that fails in a transaction, nothing of it is committed.
+/// Makes all tables of the office in a database that has none. Where that fails in a transaction, nothing of it is
+/// committed.
 pub fn create_tables<S: Alter>(conn: &mut Connection<S>) -> Result<(), Fault>
-    ensures completes { HasCleanDisk (state S.Store conn.new) →
-        Completes no_schema (state S.Store conn.old) (state S.Store conn.new) result }
-    ensures fault { HasCleanDisk (state S.Store conn.new) → IsBare no_schema (state S.Store conn.old).now
-        → IfErr result (HasCause (state S.Store conn.old) (state S.Store conn.new)) }
+    ensures completes { On S.Store (Completes no_schema) conn.old conn.new result }
+    ensures fault { On S.Store (FailsWhere (λ s. IsBare no_schema s.now)) conn.old conn.new result }
     ensures undamaged { IfErr result IsOfStatement }
-    ensures stays { HasCleanDisk (state S.Store conn.new)
-        → Stays (state S.Store conn.old) (state S.Store conn.new) result }
-    ensures survives { Survives (state S.Store conn.old) (state S.Store conn.new)
-        (Waits no_schema (state S.Store conn.old)) }
+    ensures stays { On S.Store Stays conn.old conn.new result }
+    ensures survives { OutlivesBy S.Store (Waits no_schema) conn.old conn.new }
 {
     create_office(conn)?;
     complete_department(conn)

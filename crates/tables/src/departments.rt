@@ -3,11 +3,10 @@
 ghost use Rattle.std.specs.Prelude.{◌≡◌, ◌∷◌, []};
 ghost use Rattle.std.specs.Ordering.{nat_cmp};
 ghost use Rattle.std.specs.Cmp.Lexicographic.{slice_cmp};
-ghost use Rattle.sqlite.specs.Held.{state};
-ghost use Rattle.sqlite.specs.State.{HasCleanDisk, Survives};
 ghost use Rattle.tables.specs.Cells.{department_cells};
 ghost use Rattle.tables.specs.Changes.{departments_named, with_department};
-ghost use Rattle.tables.specs.Calls.{Changes, FailsBy, Finds, FindsOne, Leaves, Never, Rises, Stays, OnlyReads};
+ghost use Rattle.tables.specs.Calls.{Changes, FailsBy, Finds, FindsOne, Leaves, Never, OnlyReads, Rises, Stays};
+ghost use Rattle.tables.specs.Honest.{On, Outlives, OutlivesBy};
 ghost use Rattle.tables.specs.Faults.{HasCause};
 ghost use Rattle.tables.specs.Refusals.{RefusedFor, RefusesDepartment};
 
@@ -98,21 +97,16 @@ impl Columns for DepartmentRow {
     }
 }
 
-/// Puts a department, in place of the one of its name if there is one. `Device` also where the row is too long, or there are
-/// as many rows as numbers for them.
+/// Puts a department, in place of the one of its name if there is one. `Device` also where the row is too long, or
+/// there are as many rows as numbers for them.
 pub fn put_department<S: Alter>(
     conn: &mut Connection<S>,
     department: &DepartmentRow,
 ) -> Result<(), Fault>
-    ensures changes { HasCleanDisk (state S.Store conn.new) →
-        Changes (with_department department.now) (state S.Store conn.old) (state S.Store conn.new) result }
-    ensures fault { HasCleanDisk (state S.Store conn.new) →
-        RefusedFor (RefusesDepartment department.now) (state S.Store conn.old)
-        (state S.Store conn.new) result }
-    ensures stays { HasCleanDisk (state S.Store conn.new)
-        → Stays (state S.Store conn.old) (state S.Store conn.new) result }
-    ensures survives { Survives (state S.Store conn.old) (state S.Store conn.new)
-        (Leaves (with_department department.now) (state S.Store conn.old)) }
+    ensures changes { On S.Store (Changes (with_department department.now)) conn.old conn.new result }
+    ensures fault { On S.Store (RefusedFor (RefusesDepartment department.now)) conn.old conn.new result }
+    ensures stays { On S.Store Stays conn.old conn.new result }
+    ensures survives { OutlivesBy S.Store (Leaves (with_department department.now)) conn.old conn.new }
 {
     done(conn.execute(PUT_DEPARTMENT, &department.values()))
 }
@@ -123,13 +117,10 @@ pub fn find_department<S: Alter>(
     conn: &mut Connection<S>,
     name: &[u8],
 ) -> Result<Option<DepartmentRow>, Fault>
-    ensures finds { HasCleanDisk (state S.Store conn.new) →
-        FindsOne (departments_named name.now) (state S.Store conn.old) (state S.Store conn.new) result }
-    ensures reads { HasCleanDisk (state S.Store conn.new)
-        → OnlyReads (state S.Store conn.old) (state S.Store conn.new) result }
-    ensures fault { HasCleanDisk (state S.Store conn.new) →
-        FailsBy HasCause (state S.Store conn.old) (state S.Store conn.new) result }
-    ensures survives { Survives (state S.Store conn.old) (state S.Store conn.new) Never }
+    ensures finds { On S.Store (FindsOne (departments_named name.now)) conn.old conn.new result }
+    ensures reads { On S.Store OnlyReads conn.old conn.new result }
+    ensures fault { On S.Store (FailsBy HasCause) conn.old conn.new result }
+    ensures survives { Outlives S.Store Never conn.old conn.new }
 {
     found_first(
         alloc,
@@ -142,15 +133,11 @@ pub fn every_department<S: Alter>(
     alloc: Global,
     conn: &mut Connection<S>,
 ) -> Result<Vec<DepartmentRow>, Fault>
-    ensures finds { HasCleanDisk (state S.Store conn.new) →
-        Finds (λ c. c.departments) (state S.Store conn.old) (state S.Store conn.new) result }
-    ensures sorted { HasCleanDisk (state S.Store conn.new)
-        → Rises (λ d. d.name) (slice_cmp nat_cmp) (state S.Store conn.old) result }
-    ensures reads { HasCleanDisk (state S.Store conn.new)
-        → OnlyReads (state S.Store conn.old) (state S.Store conn.new) result }
-    ensures fault { HasCleanDisk (state S.Store conn.new) →
-        FailsBy HasCause (state S.Store conn.old) (state S.Store conn.new) result }
-    ensures survives { Survives (state S.Store conn.old) (state S.Store conn.new) Never }
+    ensures finds { On S.Store (Finds (λ c. c.departments)) conn.old conn.new result }
+    ensures sorted { On S.Store (Rises (λ d. d.name) (slice_cmp nat_cmp)) conn.old conn.new result }
+    ensures reads { On S.Store OnlyReads conn.old conn.new result }
+    ensures fault { On S.Store (FailsBy HasCause) conn.old conn.new result }
+    ensures survives { Outlives S.Store Never conn.old conn.new }
 {
     found(alloc, conn.query_all(EVERY_DEPARTMENT, &[]))
 }

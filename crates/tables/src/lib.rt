@@ -1,12 +1,12 @@
 //! The tables of the office, and one function for each SQL text.
 //!
-//! Rows go in and come out as structs of their columns, and a contract says what each call makes of the structs that the
-//! tables hold: all of it, or nothing, outside and inside of a transaction. What is found is what the tables hold, and a
-//! fault has its cause. Only this crate names SQL, and the layers above see the structs alone.
+//! Rows go in and come out as structs of their columns, and a contract says what each call makes of the structs that
+//! the tables hold: all of it, or nothing, outside and inside of a transaction. What is found is what the tables hold,
+//! and a fault has its cause. Only this crate names SQL, and the layers above see the structs alone.
 //!
 //! A call that fails answers `NoMemory` where a growth was refused, `Device` where the database failed or was shut, and
-//! beside these what its own comment says. The rows are then as they were, or the transaction that was open is undone. A row
-//! is too long where it takes more than a billion bytes.
+//! beside these what its own comment says. The rows are then as they were, or the transaction that was open is undone.
+//! A row is too long where it takes more than a billion bytes.
 #![tactic(auto)]
 
 mod cas;
@@ -26,7 +26,7 @@ mod sql;
 mod transaction;
 
 pub use cas::{CaRow, every_ca, insert_ca};
-pub use certs::{CertRow, every_cert, find_cert, insert_cert, update_signature};
+pub use certs::{CertRow, certs_within, find_cert, insert_cert, update_signature};
 pub use creation::{create_ca, create_tables};
 pub use departments::{DepartmentRow, every_department, find_department, put_department};
 pub use fault::Fault;

@@ -3,8 +3,8 @@
 ghost use Rattle.std.specs.Prelude.{◌≡◌};
 ghost use Rattle.std.specs.Str.{bytes_eq};
 ghost use Rattle.std.specs.List.{list_any, list_all, zip};
-ghost use Rattle.sqlite.specs.Held.{state};
 ghost use Rattle.tables.specs.Look.{has_columns, is_ca_name, is_office_name, is_office_table};
+ghost use Rattle.tables.specs.Honest.{tables_of};
 
 use sqlite::{Alter, Connection};
 use sqlite_schema::names::same_name;
@@ -25,7 +25,7 @@ fn has_office_name(table: &Table) -> bool
 
 /// Whether the database has a table of the name of one of the office's.
 pub fn has_any_table<S: Alter>(conn: &Connection<S>) -> bool
-    ensures { result ≡ list_any is_office_name (state S.Store conn.now).now.schema.tables }
+    ensures { result ≡ list_any is_office_name (tables_of S.Store conn.now) }
 {
     conn.schema()
         .tables
@@ -63,7 +63,7 @@ fn is_office(table: &Table) -> bool
 
 /// Whether the database has the table of the office, with its columns.
 pub fn has_office<S: Alter>(conn: &Connection<S>) -> bool
-    ensures { result ≡ list_any is_office_table (state S.Store conn.now).now.schema.tables }
+    ensures { result ≡ list_any is_office_table (tables_of S.Store conn.now) }
 {
     conn.schema()
         .tables
@@ -80,7 +80,7 @@ fn has_ca_name(table: &Table) -> bool
 
 /// Whether the database has a table of the name of that of the CAs.
 pub fn has_ca_table<S: Alter>(conn: &Connection<S>) -> bool
-    ensures { result ≡ list_any is_ca_name (state S.Store conn.now).now.schema.tables }
+    ensures { result ≡ list_any is_ca_name (tables_of S.Store conn.now) }
 {
     conn.schema()
         .tables

@@ -1,14 +1,12 @@
 //! The table of the office.
 
-ghost use Rattle.std.specs.Prelude.{◌≡◌, ◌∷◌, [], pos};
+ghost use Rattle.std.specs.Prelude.{◌≡◌, ◌∷◌, []};
 ghost use Rattle.std.specs.Ordering.{nat_cmp};
 ghost use Rattle.sqlite.specs.Effect.{Database};
-ghost use Rattle.sqlite.specs.Held.{state};
-ghost use Rattle.sqlite.specs.State.{HasCleanDisk, Survives};
-ghost use Rattle.sqlite.specs.declared.types.Value.TheVariants.{Int};
 ghost use Rattle.tables.specs.Cells.{office_cells, counter_cells};
 ghost use Rattle.tables.specs.Changes.{with_office, with_counters, with_schema};
-ghost use Rattle.tables.specs.Calls.{Changes, FailsIn, FindsIn, Leaves, Never, Rises, Stays, OnlyReads};
+ghost use Rattle.tables.specs.Calls.{Changes, FailsIn, FindsIn, Leaves, Never, OnlyReads, Rises, Stays};
+ghost use Rattle.tables.specs.Honest.{On, Outlives, OutlivesBy};
 ghost use Rattle.tables.specs.Contents.{Contents, HasOffices, Means, MeansWithoutCa};
 ghost use Rattle.tables.specs.Faults.{HasCause};
 ghost use Rattle.tables.specs.Refusals.{RefusedFor, RefusesCounters, RefusesNumber, RefusesOffice};
@@ -141,15 +139,10 @@ impl Columns for OfficeRow {
 
 /// Puts the row of an office. `Device` also where its id is taken, or the row is too long.
 pub fn insert_office<S: Alter>(conn: &mut Connection<S>, office: &OfficeRow) -> Result<(), Fault>
-    ensures changes { HasCleanDisk (state S.Store conn.new) →
-        Changes (with_office office.now) (state S.Store conn.old) (state S.Store conn.new) result }
-    ensures fault { HasCleanDisk (state S.Store conn.new) →
-        RefusedFor (RefusesOffice office.now) (state S.Store conn.old)
-        (state S.Store conn.new) result }
-    ensures stays { HasCleanDisk (state S.Store conn.new)
-        → Stays (state S.Store conn.old) (state S.Store conn.new) result }
-    ensures survives { Survives (state S.Store conn.old) (state S.Store conn.new)
-        (Leaves (with_office office.now) (state S.Store conn.old)) }
+    ensures changes { On S.Store (Changes (with_office office.now)) conn.old conn.new result }
+    ensures fault { On S.Store (RefusedFor (RefusesOffice office.now)) conn.old conn.new result }
+    ensures stays { On S.Store Stays conn.old conn.new result }
+    ensures survives { OutlivesBy S.Store (Leaves (with_office office.now)) conn.old conn.new }
 {
     done(conn.execute(INSERT_OFFICE, &office.values()))
 }
@@ -160,15 +153,11 @@ pub fn every_office<S: Alter>(
     conn: &mut Connection<S>,
 ) -> Result<Vec<OfficeRow>, Fault>
     // Of any tables, of which that of the office is the first.
-    ensures finds { HasCleanDisk (state S.Store conn.new) →
-        FindsIn HasOffices (λ rows. rows) (state S.Store conn.old) (state S.Store conn.new) result }
-    ensures sorted { HasCleanDisk (state S.Store conn.new)
-        → Rises (λ o. o.id) (nat_cmp) (state S.Store conn.old) result }
-    ensures reads { HasCleanDisk (state S.Store conn.new)
-        → OnlyReads (state S.Store conn.old) (state S.Store conn.new) result }
-    ensures fault { HasCleanDisk (state S.Store conn.new) →
-        FailsIn HasOffices HasCause (state S.Store conn.old) (state S.Store conn.new) result }
-    ensures survives { Survives (state S.Store conn.old) (state S.Store conn.new) Never }
+    ensures finds { On S.Store (FindsIn HasOffices (λ rows. rows)) conn.old conn.new result }
+    ensures sorted { On S.Store (Rises (λ o. o.id) nat_cmp) conn.old conn.new result }
+    ensures reads { On S.Store OnlyReads conn.old conn.new result }
+    ensures fault { On S.Store (FailsIn HasOffices HasCause) conn.old conn.new result }
+    ensures survives { Outlives S.Store Never conn.old conn.new }
 {
     found(alloc, conn.query_all(EVERY_OFFICE, &[]))
 }
@@ -181,31 +170,21 @@ pub fn the_office_is_first()
 
 /// Moves the counters of the office, the row of id 1, if it is there. `Device` also where the row is then too long.
 pub fn update_office<S: Alter>(conn: &mut Connection<S>, counters: &Counters) -> Result<(), Fault>
-    ensures changes { HasCleanDisk (state S.Store conn.new) →
-        Changes (with_counters counters.now) (state S.Store conn.old) (state S.Store conn.new) result }
-    ensures fault { HasCleanDisk (state S.Store conn.new) →
-        RefusedFor (RefusesCounters counters.now) (state S.Store conn.old)
-        (state S.Store conn.new) result }
-    ensures stays { HasCleanDisk (state S.Store conn.new)
-        → Stays (state S.Store conn.old) (state S.Store conn.new) result }
-    ensures survives { Survives (state S.Store conn.old) (state S.Store conn.new)
-        (Leaves (with_counters counters.now) (state S.Store conn.old)) }
+    ensures changes { On S.Store (Changes (with_counters counters.now)) conn.old conn.new result }
+    ensures fault { On S.Store (RefusedFor (RefusesCounters counters.now)) conn.old conn.new result }
+    ensures stays { On S.Store Stays conn.old conn.new result }
+    ensures survives { OutlivesBy S.Store (Leaves (with_counters counters.now)) conn.old conn.new }
 {
     done(conn.execute(COUNT_OFFICE, &counters.values()))
 }
 
-/// Sets the number of the schema in the office, the row of id 1, if it is there. `Device` also where the row is then too
-/// long.
+/// Sets the number of the schema in the office, the row of id 1, if it is there. `Device` also where the row is then
+/// too long.
 pub fn update_schema<S: Alter>(conn: &mut Connection<S>, schema: Number) -> Result<(), Fault>
-    ensures changes { HasCleanDisk (state S.Store conn.new) →
-        Changes (with_schema schema) (state S.Store conn.old) (state S.Store conn.new) result }
-    ensures fault { HasCleanDisk (state S.Store conn.new) →
-        RefusedFor (RefusesNumber schema) (state S.Store conn.old)
-        (state S.Store conn.new) result }
-    ensures stays { HasCleanDisk (state S.Store conn.new)
-        → Stays (state S.Store conn.old) (state S.Store conn.new) result }
-    ensures survives { Survives (state S.Store conn.old) (state S.Store conn.new)
-        (Leaves (with_schema schema) (state S.Store conn.old)) }
+    ensures changes { On S.Store (Changes (with_schema schema)) conn.old conn.new result }
+    ensures fault { On S.Store (RefusedFor (RefusesNumber schema)) conn.old conn.new result }
+    ensures stays { On S.Store Stays conn.old conn.new result }
+    ensures survives { OutlivesBy S.Store (Leaves (with_schema schema)) conn.old conn.new }
 {
     done(conn.execute(NUMBER_OFFICE, &[schema.value()]))
 }

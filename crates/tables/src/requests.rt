@@ -1,11 +1,10 @@
 //! The table of requests.
 
 ghost use Rattle.std.specs.Prelude.{◌≡◌, ◌∷◌, []};
-ghost use Rattle.sqlite.specs.Held.{state};
-ghost use Rattle.sqlite.specs.State.{HasCleanDisk, Survives};
 ghost use Rattle.tables.specs.Cells.{request_cells};
 ghost use Rattle.tables.specs.Changes.{requests_for, with_request};
-ghost use Rattle.tables.specs.Calls.{Changes, FailsBy, FindsOne, Leaves, Never, Stays, OnlyReads};
+ghost use Rattle.tables.specs.Calls.{Changes, FailsBy, FindsOne, Leaves, Never, OnlyReads, Stays};
+ghost use Rattle.tables.specs.Honest.{On, Outlives, OutlivesBy};
 ghost use Rattle.tables.specs.Faults.{HasCause};
 ghost use Rattle.tables.specs.Refusals.{RefusedFor, RefusesRequest};
 
@@ -69,18 +68,13 @@ impl Columns for RequestRow {
     }
 }
 
-/// Keeps a request that was accepted. `Device` also where its caller has used its key, the row is too long, or there are as
-/// many rows as numbers for them.
+/// Keeps a request that was accepted. `Device` also where its caller has used its key, the row is too long, or there
+/// are as many rows as numbers for them.
 pub fn insert_request<S: Alter>(conn: &mut Connection<S>, request: &RequestRow) -> Result<(), Fault>
-    ensures changes { HasCleanDisk (state S.Store conn.new) →
-        Changes (with_request request.now) (state S.Store conn.old) (state S.Store conn.new) result }
-    ensures fault { HasCleanDisk (state S.Store conn.new) →
-        RefusedFor (RefusesRequest request.now) (state S.Store conn.old)
-        (state S.Store conn.new) result }
-    ensures stays { HasCleanDisk (state S.Store conn.new)
-        → Stays (state S.Store conn.old) (state S.Store conn.new) result }
-    ensures survives { Survives (state S.Store conn.old) (state S.Store conn.new)
-        (Leaves (with_request request.now) (state S.Store conn.old)) }
+    ensures changes { On S.Store (Changes (with_request request.now)) conn.old conn.new result }
+    ensures fault { On S.Store (RefusedFor (RefusesRequest request.now)) conn.old conn.new result }
+    ensures stays { On S.Store Stays conn.old conn.new result }
+    ensures survives { OutlivesBy S.Store (Leaves (with_request request.now)) conn.old conn.new }
 {
     done(conn.execute(INSERT_REQUEST, &request.values()))
 }
@@ -92,13 +86,10 @@ pub fn find_request<S: Alter>(
     caller: &[u8],
     key: &[u8],
 ) -> Result<Option<RequestRow>, Fault>
-    ensures finds { HasCleanDisk (state S.Store conn.new) →
-        FindsOne (requests_for caller.now key.now) (state S.Store conn.old) (state S.Store conn.new) result }
-    ensures reads { HasCleanDisk (state S.Store conn.new)
-        → OnlyReads (state S.Store conn.old) (state S.Store conn.new) result }
-    ensures fault { HasCleanDisk (state S.Store conn.new) →
-        FailsBy HasCause (state S.Store conn.old) (state S.Store conn.new) result }
-    ensures survives { Survives (state S.Store conn.old) (state S.Store conn.new) Never }
+    ensures finds { On S.Store (FindsOne (requests_for caller.now key.now)) conn.old conn.new result }
+    ensures reads { On S.Store OnlyReads conn.old conn.new result }
+    ensures fault { On S.Store (FailsBy HasCause) conn.old conn.new result }
+    ensures survives { Outlives S.Store Never conn.old conn.new }
 {
     found_first(
         alloc,

@@ -2,11 +2,10 @@
 
 ghost use Rattle.std.specs.Ordering.{nat_cmp};
 ghost use Rattle.std.specs.Cmp.Lexicographic.{slice_cmp};
-ghost use Rattle.sqlite.specs.Held.{state};
-ghost use Rattle.sqlite.specs.State.{HasCleanDisk, Survives};
 ghost use Rattle.tables.specs.Cells.{key_id_cells};
 ghost use Rattle.tables.specs.Changes.{revoked_as, with_revoked};
-ghost use Rattle.tables.specs.Calls.{Changes, FailsBy, Finds, FindsOne, Leaves, Never, Rises, Stays, OnlyReads};
+ghost use Rattle.tables.specs.Calls.{Changes, FailsBy, Finds, FindsOne, Leaves, Never, OnlyReads, Rises, Stays};
+ghost use Rattle.tables.specs.Honest.{On, Outlives, OutlivesBy};
 ghost use Rattle.tables.specs.Faults.{HasCause};
 ghost use Rattle.tables.specs.Refusals.{RefusedFor, RefusesKeyId};
 
@@ -39,18 +38,13 @@ impl Columns for Text {
     }
 }
 
-/// Keeps a revoked key id. `Device` also where it is there, the row is too long, or there are as many rows as numbers for
-/// them.
+/// Keeps a revoked key id. `Device` also where it is there, the row is too long, or there are as many rows as numbers
+/// for them.
 pub fn insert_revoked<S: Alter>(conn: &mut Connection<S>, key_id: &[u8]) -> Result<(), Fault>
-    ensures changes { HasCleanDisk (state S.Store conn.new) →
-        Changes (with_revoked key_id.now) (state S.Store conn.old) (state S.Store conn.new) result }
-    ensures fault { HasCleanDisk (state S.Store conn.new) →
-        RefusedFor (RefusesKeyId key_id.now) (state S.Store conn.old)
-        (state S.Store conn.new) result }
-    ensures stays { HasCleanDisk (state S.Store conn.new)
-        → Stays (state S.Store conn.old) (state S.Store conn.new) result }
-    ensures survives { Survives (state S.Store conn.old) (state S.Store conn.new)
-        (Leaves (with_revoked key_id.now) (state S.Store conn.old)) }
+    ensures changes { On S.Store (Changes (with_revoked key_id.now)) conn.old conn.new result }
+    ensures fault { On S.Store (RefusedFor (RefusesKeyId key_id.now)) conn.old conn.new result }
+    ensures stays { On S.Store Stays conn.old conn.new result }
+    ensures survives { OutlivesBy S.Store (Leaves (with_revoked key_id.now)) conn.old conn.new }
 {
     done(conn.execute(INSERT_REVOKED, &[ValueRef::Text(key_id)]))
 }
@@ -61,13 +55,10 @@ pub fn find_revoked<S: Alter>(
     conn: &mut Connection<S>,
     key_id: &[u8],
 ) -> Result<Option<Text>, Fault>
-    ensures finds { HasCleanDisk (state S.Store conn.new) →
-        FindsOne (revoked_as key_id.now) (state S.Store conn.old) (state S.Store conn.new) result }
-    ensures reads { HasCleanDisk (state S.Store conn.new)
-        → OnlyReads (state S.Store conn.old) (state S.Store conn.new) result }
-    ensures fault { HasCleanDisk (state S.Store conn.new) →
-        FailsBy HasCause (state S.Store conn.old) (state S.Store conn.new) result }
-    ensures survives { Survives (state S.Store conn.old) (state S.Store conn.new) Never }
+    ensures finds { On S.Store (FindsOne (revoked_as key_id.now)) conn.old conn.new result }
+    ensures reads { On S.Store OnlyReads conn.old conn.new result }
+    ensures fault { On S.Store (FailsBy HasCause) conn.old conn.new result }
+    ensures survives { Outlives S.Store Never conn.old conn.new }
 {
     found_first(
         alloc,
@@ -77,15 +68,11 @@ pub fn find_revoked<S: Alter>(
 
 /// Each revoked key id, in byte order. `Damaged` where a row has another form.
 pub fn every_revoked<S: Alter>(alloc: Global, conn: &mut Connection<S>) -> Result<Vec<Text>, Fault>
-    ensures finds { HasCleanDisk (state S.Store conn.new) →
-        Finds (λ c. c.revoked) (state S.Store conn.old) (state S.Store conn.new) result }
-    ensures sorted { HasCleanDisk (state S.Store conn.new)
-        → Rises (λ k. k) (slice_cmp nat_cmp) (state S.Store conn.old) result }
-    ensures reads { HasCleanDisk (state S.Store conn.new)
-        → OnlyReads (state S.Store conn.old) (state S.Store conn.new) result }
-    ensures fault { HasCleanDisk (state S.Store conn.new) →
-        FailsBy HasCause (state S.Store conn.old) (state S.Store conn.new) result }
-    ensures survives { Survives (state S.Store conn.old) (state S.Store conn.new) Never }
+    ensures finds { On S.Store (Finds (λ c. c.revoked)) conn.old conn.new result }
+    ensures sorted { On S.Store (Rises (λ k. k) (slice_cmp nat_cmp)) conn.old conn.new result }
+    ensures reads { On S.Store OnlyReads conn.old conn.new result }
+    ensures fault { On S.Store (FailsBy HasCause) conn.old conn.new result }
+    ensures survives { Outlives S.Store Never conn.old conn.new }
 {
     found(alloc, conn.query_all(EVERY_REVOKED, &[]))
 }

@@ -2,12 +2,11 @@
 
 ghost use Rattle.std.specs.Prelude.{◌≡◌, ◌∷◌, []};
 ghost use Rattle.std.specs.Ordering.{nat_cmp};
-ghost use Rattle.sqlite.specs.Held.{state};
-ghost use Rattle.sqlite.specs.State.{HasCleanDisk, Survives};
 ghost use Rattle.tables.specs.Cells.{run_cells};
 ghost use Rattle.tables.specs.Changes.{with_run};
 ghost use Rattle.tables.specs.Runs.{FindsIts, last_run, without_runs};
-ghost use Rattle.tables.specs.Calls.{Changes, FailsBy, Finds, Leaves, Never, Rises, Stays, OnlyReads};
+ghost use Rattle.tables.specs.Calls.{Changes, FailsBy, Finds, Leaves, Never, OnlyReads, Rises, Stays};
+ghost use Rattle.tables.specs.Honest.{On, Outlives, OutlivesBy};
 ghost use Rattle.tables.specs.Faults.{HasCause};
 ghost use Rattle.tables.specs.Refusals.{RefusedFor, RefusesRun};
 
@@ -66,30 +65,21 @@ impl Columns for RunRow {
 
 /// Keeps a run. `Device` also where another begins with its first serial.
 pub fn insert_run<S: Alter>(conn: &mut Connection<S>, run: &RunRow) -> Result<(), Fault>
-    ensures changes { HasCleanDisk (state S.Store conn.new) →
-        Changes (with_run run.now) (state S.Store conn.old) (state S.Store conn.new) result }
-    ensures fault { HasCleanDisk (state S.Store conn.new) →
-        RefusedFor (RefusesRun run.now) (state S.Store conn.old) (state S.Store conn.new)
-        result }
-    ensures stays { HasCleanDisk (state S.Store conn.new)
-        → Stays (state S.Store conn.old) (state S.Store conn.new) result }
-    ensures survives { Survives (state S.Store conn.old) (state S.Store conn.new)
-        (Leaves (with_run run.now) (state S.Store conn.old)) }
+    ensures changes { On S.Store (Changes (with_run run.now)) conn.old conn.new result }
+    ensures fault { On S.Store (RefusedFor (RefusesRun run.now)) conn.old conn.new result }
+    ensures stays { On S.Store Stays conn.old conn.new result }
+    ensures survives { OutlivesBy S.Store (Leaves (with_run run.now)) conn.old conn.new }
 {
     done(conn.execute(INSERT_RUN, &run.values()))
 }
 
 /// Each run, ascending. `Damaged` where a row has another form.
 pub fn every_run<S: Alter>(alloc: Global, conn: &mut Connection<S>) -> Result<Vec<RunRow>, Fault>
-    ensures finds { HasCleanDisk (state S.Store conn.new) →
-        Finds (λ c. c.runs) (state S.Store conn.old) (state S.Store conn.new) result }
-    ensures sorted { HasCleanDisk (state S.Store conn.new)
-        → Rises (λ r. r.lo) (nat_cmp) (state S.Store conn.old) result }
-    ensures reads { HasCleanDisk (state S.Store conn.new)
-        → OnlyReads (state S.Store conn.old) (state S.Store conn.new) result }
-    ensures fault { HasCleanDisk (state S.Store conn.new) →
-        FailsBy HasCause (state S.Store conn.old) (state S.Store conn.new) result }
-    ensures survives { Survives (state S.Store conn.old) (state S.Store conn.new) Never }
+    ensures finds { On S.Store (Finds (λ c. c.runs)) conn.old conn.new result }
+    ensures sorted { On S.Store (Rises (λ r. r.lo) nat_cmp) conn.old conn.new result }
+    ensures reads { On S.Store OnlyReads conn.old conn.new result }
+    ensures fault { On S.Store (FailsBy HasCause) conn.old conn.new result }
+    ensures survives { Outlives S.Store Never conn.old conn.new }
 {
     found(alloc, conn.query_all(EVERY_RUN, &[]))
 }
@@ -101,28 +91,20 @@ pub fn last_run<S: Alter>(
     conn: &mut Connection<S>,
     serial: Number,
 ) -> Result<Option<RunRow>, Fault>
-    ensures finds { HasCleanDisk (state S.Store conn.new) →
-        FindsIts (last_run serial) (state S.Store conn.old) (state S.Store conn.new) result }
-    ensures reads { HasCleanDisk (state S.Store conn.new)
-        → OnlyReads (state S.Store conn.old) (state S.Store conn.new) result }
-    ensures fault { HasCleanDisk (state S.Store conn.new) →
-        FailsBy HasCause (state S.Store conn.old) (state S.Store conn.new) result }
-    ensures survives { Survives (state S.Store conn.old) (state S.Store conn.new) Never }
+    ensures finds { On S.Store (FindsIts (last_run serial)) conn.old conn.new result }
+    ensures reads { On S.Store OnlyReads conn.old conn.new result }
+    ensures fault { On S.Store (FailsBy HasCause) conn.old conn.new result }
+    ensures survives { Outlives S.Store Never conn.old conn.new }
 {
     found_first(alloc, conn.query_all(LAST_RUN, &[serial.value()]))
 }
 
 /// Takes out the runs that begin between these ends, both included. The tables never refuse that.
 pub fn delete_runs<S: Alter>(conn: &mut Connection<S>, ends: &RunRow) -> Result<(), Fault>
-    ensures changes { HasCleanDisk (state S.Store conn.new) →
-        Changes (without_runs ends.now) (state S.Store conn.old) (state S.Store conn.new) result }
-    ensures fault { HasCleanDisk (state S.Store conn.new) →
-        FailsBy HasCause (state S.Store conn.old) (state S.Store conn.new)
-        result }
-    ensures stays { HasCleanDisk (state S.Store conn.new)
-        → Stays (state S.Store conn.old) (state S.Store conn.new) result }
-    ensures survives { Survives (state S.Store conn.old) (state S.Store conn.new)
-        (Leaves (without_runs ends.now) (state S.Store conn.old)) }
+    ensures changes { On S.Store (Changes (without_runs ends.now)) conn.old conn.new result }
+    ensures fault { On S.Store (FailsBy HasCause) conn.old conn.new result }
+    ensures stays { On S.Store Stays conn.old conn.new result }
+    ensures survives { OutlivesBy S.Store (Leaves (without_runs ends.now)) conn.old conn.new }
 {
     done(conn.execute(DELETE_RUNS, &ends.values()))
 }

@@ -51,8 +51,8 @@ pub(crate) const INSERT_CERT: &str =
 pub(crate) const FIND_CERT: &str =
     "SELECT serial, department, keyid, body, signature FROM cert WHERE serial = ?1";
 
-pub(crate) const EVERY_CERT: &str =
-    "SELECT serial, department, keyid, body, signature FROM cert ORDER BY serial";
+pub(crate) const CERTS_WITHIN: &str = "SELECT serial, department, keyid, body, signature \
+    FROM cert WHERE serial >= ?1 AND serial <= ?2 ORDER BY serial";
 
 pub(crate) const SIGN_CERT: &str = "UPDATE cert SET signature = ?2 WHERE serial = ?1";
 

@@ -30,6 +30,10 @@ impl Text {
     }
 
     /// A copy of the bytes.
+    ///
+    /// # Errors
+    ///
+    /// `NoMemory`, where a growth was refused.
     pub fn from_slice(alloc: Global, bytes: &[u8]) -> Result<Text, NoMemory>
         ensures { IfOk result (λ t. t ≡ bytes.now) }
     {
@@ -53,6 +57,10 @@ impl Text {
     }
 
     /// A copy.
+    ///
+    /// # Errors
+    ///
+    /// `NoMemory`, where a growth was refused.
     pub fn copied(&self, alloc: Global) -> Result<Text, NoMemory>
         ensures { IfOk result (λ t. t ≡ self.now) }
     {

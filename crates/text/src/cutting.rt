@@ -13,6 +13,10 @@ fn pieces(alloc: Global, bytes: &[u8], at: u8) -> Result<Vec<&[u8]>, AllocError>
 }
 
 /// The pieces between the bytes that are `at`, one more than there are such bytes.
+///
+/// # Errors
+///
+/// `NoMemory`, where a growth was refused.
 pub fn cut(alloc: Global, bytes: &[u8], at: u8) -> Result<Vec<&[u8]>, NoMemory>
     ensures { IfOk result (λ v. map (λ x. x.now) v.items ≡ slice_split (λ b. b == at) bytes.now) }
 {

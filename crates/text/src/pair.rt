@@ -6,15 +6,21 @@ use crate::bytes::Text;
 use crate::memory::NoMemory;
 use std::alloc::Global;
 
-/// A name with its value. A flag's value has no bytes.
+/// A name with its value.
 #[derive(Debug, Drop)]
 pub struct Pair {
+    /// The bytes of the name.
     pub name: Text,
+    /// The bytes of the value. A flag's value has none.
     pub value: Text,
 }
 
 impl Pair {
     /// A copy.
+    ///
+    /// # Errors
+    ///
+    /// `NoMemory`, where a growth was refused.
     pub fn copied(&self, alloc: Global) -> Result<Pair, NoMemory>
         ensures { IfOk result (λ p. p ≡ self.now) }
     {

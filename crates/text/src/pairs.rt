@@ -41,7 +41,11 @@ impl Pairs {
         Pairs { items }
     }
 
-    /// One more pair at the end. A refusal leaves the list as it was.
+    /// One more pair at the end.
+    ///
+    /// # Errors
+    ///
+    /// `NoMemory`, where a growth was refused. The list is as it was.
     pub fn push(&mut self, pair: Pair) -> Result<(), NoMemory>
         ensures ok { OnOk result (self.new ≡ self.old ++ pair ∷ []) }
         ensures err { OnErr result (self.new ≡ self.old) }
@@ -51,6 +55,10 @@ impl Pairs {
     }
 
     /// A copy.
+    ///
+    /// # Errors
+    ///
+    /// `NoMemory`, where a growth was refused.
     pub fn copied(&self, alloc: Global) -> Result<Pairs, NoMemory>
         ensures { IfOk result (λ p. p ≡ self.now) }
     {

@@ -38,7 +38,11 @@ impl Texts {
         Texts { items }
     }
 
-    /// One more text at the end. A refusal leaves the list as it was.
+    /// One more text at the end.
+    ///
+    /// # Errors
+    ///
+    /// `NoMemory`, where a growth was refused. The list is as it was.
     pub fn push(&mut self, text: Text) -> Result<(), NoMemory>
         ensures ok { OnOk result (self.new ≡ self.old ++ text ∷ []) }
         ensures err { OnErr result (self.new ≡ self.old) }
@@ -48,6 +52,10 @@ impl Texts {
     }
 
     /// A copy.
+    ///
+    /// # Errors
+    ///
+    /// `NoMemory`, where a growth was refused.
     pub fn copied(&self, alloc: Global) -> Result<Texts, NoMemory>
         ensures { IfOk result (λ t. t ≡ self.now) }
     {

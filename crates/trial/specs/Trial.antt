@@ -1,12 +1,21 @@
 -- The trial office: an opening, and the arrival that comes first.
-use Rattle.std.specs.Prelude.{ℕ, codes}
+use Rattle.std.specs.Prelude.{ℕ, codes, ◌++◌, [], ◌∷◌, List, OnOk, Result}
+use Rattle.sqlite.specs.State.{State}
 use Rattle.office.specs.declared.opening.Opening.{Opening}
 use Rattle.office.specs.declared.arrival.Arrival.{Arrival}
+use Rattle.office.specs.declared.fault.StoreFault.{StoreFault}
+use Rattle.store.specs.Meaning.{Tells}
 use Rattle.trial.specs.declared.memory.TheConstants.{CA_KEY, MESSAGE, NO_NONCE}
 
 -- what an office of these serials begins with
 abbrev pub opening_of : ℕ → ℕ → Opening
-opening_of first last = record { ca = CA_KEY; root = codes "root"; station = codes "station"; first = first; last = last }
+opening_of first last = record {
+  ca = CA_KEY;
+  root = codes "root";
+  station = codes "station";
+  first = first;
+  last = last;
+}
 
 -- the department `web`, put by root
 abbrev pub trial_arrival : Arrival
@@ -17,3 +26,8 @@ trial_arrival = record {
   moment = 0;
   nonce = NO_NONCE;
 }
+
+-- after success the tables tell each history that they told, with that arrival
+abbrev pub TellsTrial : (old new : State) → Result (Unit {0}) StoreFault → Type 0
+TellsTrial old new r =
+    OnOk r ((o : Opening) (l : List Arrival) → Tells old o l → Tells new o (l ++ trial_arrival ∷ []))

@@ -1,6 +1,7 @@
 //! The trial office: an office in memory for exchanges that keep none, with one CA and one department.
 //!
-//! Its opening and the arrival that puts its department are constants, and what it tells is that opening and that arrival.
+//! Its opening and the arrival that puts its department are constants, and what it tells is that opening and that
+//! arrival.
 #![tactic(auto)]
 
 mod memory;

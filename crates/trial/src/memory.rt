@@ -1,14 +1,14 @@
 //! The trial office in memory.
 
-ghost use Rattle.std.specs.Prelude.{◌≡◌, ◌++◌, [], ◌∷◌, List, IfOk, OnOk};
+ghost use Rattle.std.specs.Prelude.{◌≡◌, ◌++◌, [], ◌∷◌, IfOk};
 ghost use Rattle.sqlite.specs.Held.{state};
-ghost use Rattle.sqlite.specs.State.{HasCleanDisk};
 ghost use Rattle.sqlite.specs.Steps.{over_memory};
+ghost use Rattle.tables.specs.Honest.{On};
 ghost use Rattle.office.specs.declared.opening.Opening.{Opening};
 ghost use Rattle.office.specs.declared.arrival.Arrival.{Arrival};
 ghost use Rattle.office.specs.Openings.{IsOpening};
 ghost use Rattle.store.specs.Meaning.{Tells};
-ghost use Rattle.trial.specs.Trial.{opening_of, trial_arrival};
+ghost use Rattle.trial.specs.Trial.{TellsTrial, opening_of, trial_arrival};
 
 use office::{Arrival, Opening, Outcome, Registry, StoreFault};
 use profile::LAST_SERIAL;
@@ -57,7 +57,7 @@ fn trial_arrival(alloc: Global) -> Result<Arrival, NoMemory>
 
 /// Puts the trial office's department.
 pub fn put_department<S: Alter>(store: &mut Store<S>, alloc: Global) -> Result<(), StoreFault>
-    ensures { HasCleanDisk (state S.Store store.new.conn) → OnOk result ((o : Opening) (l : List Arrival) → Tells (state S.Store store.old.conn) o l → Tells (state S.Store store.new.conn) o (l ++ trial_arrival ∷ [])) }
+    ensures { On S.Store TellsTrial store.old.conn store.new.conn result }
 {
     let arrival = trial_arrival(alloc)?;
     match store.apply(alloc, arrival)? {

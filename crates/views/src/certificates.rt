@@ -1,9 +1,8 @@
 //! The certificate of a serial.
 
 ghost use Rattle.std.specs.Prelude.{◌≡◌, IfOk, IfSome};
-ghost use Rattle.sqlite.specs.Held.{state};
-ghost use Rattle.sqlite.specs.State.{HasCleanDisk, Survives};
 ghost use Rattle.tables.specs.Calls.{Never, OnlyReads};
+ghost use Rattle.tables.specs.Honest.{On, Outlives};
 ghost use Rattle.office.specs.Certificates.{IsCertificate};
 ghost use Rattle.office.specs.State.{certificate_of};
 ghost use Rattle.rows.specs.Certificates.{certificate_in};
@@ -46,12 +45,10 @@ fn find_numbered<S: Alter>(
     conn: &mut Connection<S>,
     serial: Number,
 ) -> Result<Option<Certificate>, Fault>
-    ensures shows { HasCleanDisk (state S.Store conn.new) → Shows (λ s kept found. found ≡ certificate_of s serial)
-        (state S.Store conn.old) (state S.Store conn.new) result }
+    ensures shows { On S.Store (Shows (λ s kept found. found ≡ certificate_of s serial)) conn.old conn.new result }
     ensures lawful { IfOk result (λ found. IfSome found IsCertificate) }
-    ensures reads { HasCleanDisk (state S.Store conn.new)
-        → OnlyReads (state S.Store conn.old) (state S.Store conn.new) result }
-    ensures survives { Survives (state S.Store conn.old) (state S.Store conn.new) Never }
+    ensures reads { On S.Store OnlyReads conn.old conn.new result }
+    ensures survives { Outlives S.Store Never conn.old conn.new }
 {
     match find_cert(alloc, conn, serial) {
         Ok(found) => read_found(alloc, found),
@@ -65,13 +62,11 @@ pub fn find_certificate<S: Alter>(
     conn: &mut Connection<S>,
     serial: u64,
 ) -> Result<Option<Certificate>, Fault>
-    ensures shows { HasCleanDisk (state S.Store conn.new)
-        → Shows (λ s kept found. IsOfHistory s kept → found ≡ certificate_of s serial)
-        (state S.Store conn.old) (state S.Store conn.new) result }
+    ensures shows { On S.Store (Shows (λ s kept found. IsOfHistory s kept → found ≡ certificate_of s serial))
+        conn.old conn.new result }
     ensures lawful { IfOk result (λ found. IfSome found IsCertificate) }
-    ensures reads { HasCleanDisk (state S.Store conn.new)
-        → OnlyReads (state S.Store conn.old) (state S.Store conn.new) result }
-    ensures survives { Survives (state S.Store conn.old) (state S.Store conn.new) Never }
+    ensures reads { On S.Store OnlyReads conn.old conn.new result }
+    ensures survives { Outlives S.Store Never conn.old conn.new }
 {
     find_numbered(alloc, conn, asked_serial(serial))
 }

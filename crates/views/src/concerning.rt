@@ -1,19 +1,18 @@
 //! The rows that a message concerns, read together.
 
-ghost use Rattle.std.specs.Prelude.{◌≡◌, ◌<◌, ◌≤◌, IfOk, IsTrue};
-ghost use Rattle.sqlite.specs.Held.{state};
-ghost use Rattle.sqlite.specs.State.{HasCleanDisk, Survives};
+ghost use Rattle.std.specs.Prelude.{◌<◌, ◌≤◌, IfOk, IsTrue};
 ghost use Rattle.message.specs.declared.kinds.Message.{Message};
 ghost use Rattle.message.specs.Values.{is_message};
 ghost use Rattle.office.specs.Decided.{Agrees};
-ghost use Rattle.office.specs.Openings.{IsOpening};
 ghost use Rattle.office.specs.State.{State};
 ghost use Rattle.office.specs.Views.{IsView};
 ghost use Rattle.tables.specs.Calls.{Never, OnlyReads};
+ghost use Rattle.tables.specs.Honest.{On, OnOpen, Outlives};
 ghost use Rattle.rows.specs.Offices.{IsOfficeOf, if_office};
 ghost use Rattle.rows.specs.Reading.{IsRead};
 ghost use Rattle.rows.specs.Showing.{Shows};
-ghost use Rattle.views.specs.Concerning.{AreConcerned, AreLawful, IsLawfulOffice, IsLawfulSubject, IsSubject};
+ghost use Rattle.views.specs.Concerning.{AreConcerned, AreConcernedAt, AreConcernedBeside, AreConcernedUnder};
+ghost use Rattle.views.specs.Concerning.{AreLawful, IsLawfulOffice, IsLawfulSubject};
 ghost use Rattle.views.specs.Histories.{IsOfHistory};
 
 use crate::marks::{Marks, marks_of};
@@ -67,12 +66,10 @@ fn if_lawful(office: Office) -> Result<Office, Fault>
 }
 
 fn lawful_office<S: Alter>(alloc: Global, conn: &mut Connection<S>) -> Result<Office, Fault>
-    ensures shows { HasCleanDisk (state S.Store conn.new) → Shows (λ s kept office. IsOfficeOf office s)
-        (state S.Store conn.old) (state S.Store conn.new) result }
+    ensures shows { On S.Store (Shows (λ s kept office. IsOfficeOf office s)) conn.old conn.new result }
     ensures lawful { IfOk result IsLawfulOffice }
-    ensures reads { HasCleanDisk (state S.Store conn.new)
-        → OnlyReads (state S.Store conn.old) (state S.Store conn.new) result }
-    ensures survives { Survives (state S.Store conn.old) (state S.Store conn.new) Never }
+    ensures reads { On S.Store OnlyReads conn.old conn.new result }
+    ensures survives { Outlives S.Store Never conn.old conn.new }
 {
     match read_office(alloc, conn) {
         Ok(office) => if_lawful(office),
@@ -91,14 +88,11 @@ fn with_subject<S: Alter>(
     requires message { IsTrue (is_message message.now) }
     requires office { IsLawfulOffice office }
     requires subject { IsLawfulSubject subject }
-    ensures shows { HasCleanDisk (state S.Store conn.new) → IsTrue (state S.Store conn.old).is_open
-        → Shows (λ s kept rows. IsOfHistory s kept → IsOfficeOf office s → cas.items ≡ s.cas
-        → IsSubject subject s message.now → AreConcerned rows s message.now)
-        (state S.Store conn.old) (state S.Store conn.new) result }
+    ensures shows { OnOpen S.Store (Shows (AreConcernedBeside office cas.items subject message.now))
+        conn.old conn.new result }
     ensures lawful { IfOk result AreLawful }
-    ensures reads { HasCleanDisk (state S.Store conn.new) → IsTrue (state S.Store conn.old).is_open
-        → OnlyReads (state S.Store conn.old) (state S.Store conn.new) result }
-    ensures survives { Survives (state S.Store conn.old) (state S.Store conn.new) Never }
+    ensures reads { OnOpen S.Store OnlyReads conn.old conn.new result }
+    ensures survives { Outlives S.Store Never conn.old conn.new }
 {
     match marks_of(alloc, conn, message, subject.certificate.as_ref()) {
         Ok(marks) => Ok(Concerned {
@@ -120,13 +114,10 @@ fn with_cas<S: Alter>(
 ) -> Result<Concerned, Fault>
     requires message { IsTrue (is_message message.now) }
     requires office { IsLawfulOffice office }
-    ensures shows { HasCleanDisk (state S.Store conn.new) → IsTrue (state S.Store conn.old).is_open
-        → Shows (λ s kept rows. IsOfHistory s kept → IsOfficeOf office s → cas.items ≡ s.cas
-        → AreConcerned rows s message.now) (state S.Store conn.old) (state S.Store conn.new) result }
+    ensures shows { OnOpen S.Store (Shows (AreConcernedUnder office cas.items message.now)) conn.old conn.new result }
     ensures lawful { IfOk result AreLawful }
-    ensures reads { HasCleanDisk (state S.Store conn.new) → IsTrue (state S.Store conn.old).is_open
-        → OnlyReads (state S.Store conn.old) (state S.Store conn.new) result }
-    ensures survives { Survives (state S.Store conn.old) (state S.Store conn.new) Never }
+    ensures reads { OnOpen S.Store OnlyReads conn.old conn.new result }
+    ensures survives { Outlives S.Store Never conn.old conn.new }
 {
     match subject_of(alloc, conn, message) {
         Ok(subject) => with_subject(alloc, conn, message, office, cas, subject),
@@ -142,13 +133,10 @@ fn with_office<S: Alter>(
 ) -> Result<Concerned, Fault>
     requires message { IsTrue (is_message message.now) }
     requires office { IsLawfulOffice office }
-    ensures shows { HasCleanDisk (state S.Store conn.new)
-        → Shows (λ s kept rows. IsOfHistory s kept → IsOfficeOf office s → AreConcerned rows s message.now)
-        (state S.Store conn.old) (state S.Store conn.new) result }
+    ensures shows { On S.Store (Shows (AreConcernedAt office message.now)) conn.old conn.new result }
     ensures lawful { IfOk result AreLawful }
-    ensures reads { HasCleanDisk (state S.Store conn.new)
-        → OnlyReads (state S.Store conn.old) (state S.Store conn.new) result }
-    ensures survives { Survives (state S.Store conn.old) (state S.Store conn.new) Never }
+    ensures reads { On S.Store OnlyReads conn.old conn.new result }
+    ensures survives { Outlives S.Store Never conn.old conn.new }
 {
     match read_cas(alloc, conn) {
         Ok(cas) => with_cas(alloc, conn, message, office, cas),
@@ -164,13 +152,11 @@ pub fn concerned_rows<S: Alter>(
     message: &Message,
 ) -> Result<Concerned, Fault>
     requires { IsTrue (is_message message.now) }
-    ensures shows { HasCleanDisk (state S.Store conn.new)
-        → Shows (λ s kept rows. IsOfHistory s kept → AreConcerned rows s message.now)
-        (state S.Store conn.old) (state S.Store conn.new) result }
+    ensures shows { On S.Store (Shows (λ s kept rows. IsOfHistory s kept → AreConcerned rows s message.now))
+        conn.old conn.new result }
     ensures lawful { IfOk result AreLawful }
-    ensures reads { HasCleanDisk (state S.Store conn.new)
-        → OnlyReads (state S.Store conn.old) (state S.Store conn.new) result }
-    ensures survives { Survives (state S.Store conn.old) (state S.Store conn.new) Never }
+    ensures reads { On S.Store OnlyReads conn.old conn.new result }
+    ensures survives { Outlives S.Store Never conn.old conn.new }
 {
     match lawful_office(alloc, conn) {
         Ok(office) => with_office(alloc, conn, message, office),

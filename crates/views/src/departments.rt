@@ -1,9 +1,8 @@
 //! The department of a name.
 
 ghost use Rattle.std.specs.Prelude.{◌≡◌, IfOk, IfSome, IsTrue};
-ghost use Rattle.sqlite.specs.Held.{state};
-ghost use Rattle.sqlite.specs.State.{HasCleanDisk, Survives};
 ghost use Rattle.tables.specs.Calls.{Never, OnlyReads};
+ghost use Rattle.tables.specs.Honest.{On, Outlives};
 ghost use Rattle.message.specs.Values.{is_department};
 ghost use Rattle.office.specs.State.{department_named};
 ghost use Rattle.rows.specs.Departments.{department_in};
@@ -36,13 +35,10 @@ pub fn find_department<S: Alter>(
     conn: &mut Connection<S>,
     name: &[u8],
 ) -> Result<Option<Department>, Fault>
-    ensures shows { HasCleanDisk (state S.Store conn.new)
-        → Shows (λ s kept found. found ≡ department_named s name.now)
-        (state S.Store conn.old) (state S.Store conn.new) result }
+    ensures shows { On S.Store (Shows (λ s kept found. found ≡ department_named s name.now)) conn.old conn.new result }
     ensures lawful { IfOk result (λ found. IfSome found (λ d. IsTrue (is_department d))) }
-    ensures reads { HasCleanDisk (state S.Store conn.new)
-        → OnlyReads (state S.Store conn.old) (state S.Store conn.new) result }
-    ensures survives { Survives (state S.Store conn.old) (state S.Store conn.new) Never }
+    ensures reads { On S.Store OnlyReads conn.old conn.new result }
+    ensures survives { Outlives S.Store Never conn.old conn.new }
 {
     match find_row(alloc, conn, name) {
         Ok(found) => read_found(alloc, found),

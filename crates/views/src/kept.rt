@@ -2,9 +2,8 @@
 
 ghost use Rattle.std.specs.Prelude.{◌≡◌, find};
 ghost use Rattle.std.specs.Option.{option_map};
-ghost use Rattle.sqlite.specs.Held.{state};
-ghost use Rattle.sqlite.specs.State.{HasCleanDisk, Survives};
 ghost use Rattle.tables.specs.Calls.{Never, OnlyReads};
+ghost use Rattle.tables.specs.Honest.{On, Outlives};
 ghost use Rattle.rows.specs.Showing.{Shows};
 ghost use Rattle.views.specs.Finding.{kept_in};
 ghost use Rattle.views.specs.Histories.{IsOfHistory, is_for};
@@ -35,12 +34,10 @@ pub fn kept_for<S: Alter>(
     caller: &[u8],
     key: &[u8],
 ) -> Result<Option<Kept>, Fault>
-    ensures shows { HasCleanDisk (state S.Store conn.new)
-        → Shows (λ s kept found. IsOfHistory s kept → found ≡ find (is_for caller.now key.now) kept)
-        (state S.Store conn.old) (state S.Store conn.new) result }
-    ensures reads { HasCleanDisk (state S.Store conn.new)
-        → OnlyReads (state S.Store conn.old) (state S.Store conn.new) result }
-    ensures survives { Survives (state S.Store conn.old) (state S.Store conn.new) Never }
+    ensures shows { On S.Store (Shows
+        (λ s kept found. IsOfHistory s kept → found ≡ find (is_for caller.now key.now) kept)) conn.old conn.new result }
+    ensures reads { On S.Store OnlyReads conn.old conn.new result }
+    ensures survives { Outlives S.Store Never conn.old conn.new }
 {
     match find_request(alloc, conn, caller, key) {
         Ok(found) => Ok(kept_of(found)),

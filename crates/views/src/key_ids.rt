@@ -1,9 +1,8 @@
 //! Revoked key ids.
 
 ghost use Rattle.std.specs.Prelude.{◌≡◌};
-ghost use Rattle.sqlite.specs.Held.{state};
-ghost use Rattle.sqlite.specs.State.{HasCleanDisk, Survives};
 ghost use Rattle.tables.specs.Calls.{Never, OnlyReads};
+ghost use Rattle.tables.specs.Honest.{On, Outlives};
 ghost use Rattle.office.specs.State.{has_any, is_key_id_revoked};
 ghost use Rattle.rows.specs.Showing.{Shows};
 
@@ -18,12 +17,9 @@ pub fn is_key_id_revoked<S: Alter>(
     conn: &mut Connection<S>,
     key_id: &[u8],
 ) -> Result<bool, Fault>
-    ensures shows { HasCleanDisk (state S.Store conn.new)
-        → Shows (λ s kept is. is ≡ is_key_id_revoked s key_id.now)
-        (state S.Store conn.old) (state S.Store conn.new) result }
-    ensures reads { HasCleanDisk (state S.Store conn.new)
-        → OnlyReads (state S.Store conn.old) (state S.Store conn.new) result }
-    ensures survives { Survives (state S.Store conn.old) (state S.Store conn.new) Never }
+    ensures shows { On S.Store (Shows (λ s kept is. is ≡ is_key_id_revoked s key_id.now)) conn.old conn.new result }
+    ensures reads { On S.Store OnlyReads conn.old conn.new result }
+    ensures survives { Outlives S.Store Never conn.old conn.new }
 {
     match find_revoked(alloc, conn, key_id) {
         Ok(found) => Ok(found.is_some()),
@@ -33,11 +29,9 @@ pub fn is_key_id_revoked<S: Alter>(
 
 /// Whether any key id is revoked.
 pub fn has_revoked_key_ids<S: Alter>(alloc: Global, conn: &mut Connection<S>) -> Result<bool, Fault>
-    ensures shows { HasCleanDisk (state S.Store conn.new) → Shows (λ s kept has. has ≡ has_any s.revoked_key_ids)
-        (state S.Store conn.old) (state S.Store conn.new) result }
-    ensures reads { HasCleanDisk (state S.Store conn.new)
-        → OnlyReads (state S.Store conn.old) (state S.Store conn.new) result }
-    ensures survives { Survives (state S.Store conn.old) (state S.Store conn.new) Never }
+    ensures shows { On S.Store (Shows (λ s kept has. has ≡ has_any s.revoked_key_ids)) conn.old conn.new result }
+    ensures reads { On S.Store OnlyReads conn.old conn.new result }
+    ensures survives { Outlives S.Store Never conn.old conn.new }
 {
     match read_key_ids(alloc, conn) {
         Ok(ids) => Ok(!ids.is_empty()),

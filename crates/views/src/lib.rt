@@ -1,7 +1,7 @@
 //! The rows that a message concerns, found in the tables.
 //!
-//! Each call reads, and changes nothing: of tables that hold the rows of a lawful state it answers the state's, or fails
-//! for want of memory or because the database failed.
+//! Each call reads, and changes nothing: of tables that hold the rows of a lawful state it answers the state's, or
+//! fails for want of memory or because the database failed.
 #![tactic(auto)]
 
 mod certificates;

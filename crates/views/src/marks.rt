@@ -1,13 +1,12 @@
 //! What is revoked of what a message concerns.
 
-ghost use Rattle.std.specs.Prelude.{◌≡◌, IsTrue, option_copied};
-ghost use Rattle.sqlite.specs.Held.{state};
-ghost use Rattle.sqlite.specs.State.{HasCleanDisk, Survives};
+ghost use Rattle.std.specs.Prelude.{IsTrue, option_copied};
 ghost use Rattle.message.specs.Values.{is_message};
-ghost use Rattle.office.specs.Decided.{SaysAnyKeyIdRevoked, SaysKeyIdRevoked, SaysRevoked, certificate_concerned};
+ghost use Rattle.office.specs.Decided.{SaysAnyKeyIdRevoked, SaysRevoked};
 ghost use Rattle.tables.specs.Calls.{Never, OnlyReads};
+ghost use Rattle.views.specs.Concerning.{AreMarksBeside, AreMarksOf, AreMarksWith, SaysKeyIdBeside};
+ghost use Rattle.tables.specs.Honest.{OnOpen, Outlives};
 ghost use Rattle.rows.specs.Showing.{Shows};
-ghost use Rattle.views.specs.Concerning.{AreMarks};
 ghost use Rattle.views.specs.Histories.{IsOfHistory};
 
 use crate::key_ids::{has_revoked_key_ids, is_key_id_revoked};
@@ -35,12 +34,10 @@ fn is_revoked<S: Alter>(
     message: &Message,
 ) -> Result<bool, Fault>
     requires { IsTrue (is_message message.now) }
-    ensures shows { HasCleanDisk (state S.Store conn.new) → IsTrue (state S.Store conn.old).is_open
-        → Shows (λ s kept is. IsOfHistory s kept → SaysRevoked is s message.now)
-        (state S.Store conn.old) (state S.Store conn.new) result }
-    ensures reads { HasCleanDisk (state S.Store conn.new) → IsTrue (state S.Store conn.old).is_open
-        → OnlyReads (state S.Store conn.old) (state S.Store conn.new) result }
-    ensures survives { Survives (state S.Store conn.old) (state S.Store conn.new) Never }
+    ensures shows { OnOpen S.Store (Shows (λ s kept is. IsOfHistory s kept → SaysRevoked is s message.now))
+        conn.old conn.new result }
+    ensures reads { OnOpen S.Store OnlyReads conn.old conn.new result }
+    ensures survives { Outlives S.Store Never conn.old conn.new }
 {
     let concern = concerned(message);
     match (concern.serial, concern.range) {
@@ -56,12 +53,10 @@ fn is_concerned_key_id_revoked<S: Alter>(
     message: &Message,
     certificate: Option<&Certificate>,
 ) -> Result<bool, Fault>
-    ensures shows { HasCleanDisk (state S.Store conn.new) → IsTrue (state S.Store conn.old).is_open
-        → Shows (λ s kept is. option_copied certificate.entry ≡ certificate_concerned s message.now
-        → SaysKeyIdRevoked is s message.now) (state S.Store conn.old) (state S.Store conn.new) result }
-    ensures reads { HasCleanDisk (state S.Store conn.new) → IsTrue (state S.Store conn.old).is_open
-        → OnlyReads (state S.Store conn.old) (state S.Store conn.new) result }
-    ensures survives { Survives (state S.Store conn.old) (state S.Store conn.new) Never }
+    ensures shows { OnOpen S.Store (Shows (SaysKeyIdBeside (option_copied certificate.entry) message.now))
+        conn.old conn.new result }
+    ensures reads { OnOpen S.Store OnlyReads conn.old conn.new result }
+    ensures survives { Outlives S.Store Never conn.old conn.new }
 {
     match (certificate, concerned(message).key_id) {
         (Some(certificate), _) => {
@@ -77,12 +72,10 @@ fn is_any_key_id_revoked<S: Alter>(
     conn: &mut Connection<S>,
     message: &Message,
 ) -> Result<bool, Fault>
-    ensures shows { HasCleanDisk (state S.Store conn.new) → IsTrue (state S.Store conn.old).is_open
-        → Shows (λ s kept is. SaysAnyKeyIdRevoked is s message.now)
-        (state S.Store conn.old) (state S.Store conn.new) result }
-    ensures reads { HasCleanDisk (state S.Store conn.new) → IsTrue (state S.Store conn.old).is_open
-        → OnlyReads (state S.Store conn.old) (state S.Store conn.new) result }
-    ensures survives { Survives (state S.Store conn.old) (state S.Store conn.new) Never }
+    ensures shows { OnOpen S.Store (Shows (λ s kept is. SaysAnyKeyIdRevoked is s message.now))
+        conn.old conn.new result }
+    ensures reads { OnOpen S.Store OnlyReads conn.old conn.new result }
+    ensures survives { Outlives S.Store Never conn.old conn.new }
 {
     match message {
         Message::Rollover(_) => has_revoked_key_ids(alloc, conn),
@@ -97,12 +90,10 @@ fn with_any_key_id<S: Alter>(
     is_revoked: bool,
     is_key_id_revoked: bool,
 ) -> Result<Marks, Fault>
-    ensures shows { HasCleanDisk (state S.Store conn.new) → IsTrue (state S.Store conn.old).is_open
-        → Shows (λ s kept marks. SaysRevoked is_revoked s message.now → SaysKeyIdRevoked is_key_id_revoked s message.now
-        → AreMarks marks s message.now) (state S.Store conn.old) (state S.Store conn.new) result }
-    ensures reads { HasCleanDisk (state S.Store conn.new) → IsTrue (state S.Store conn.old).is_open
-        → OnlyReads (state S.Store conn.old) (state S.Store conn.new) result }
-    ensures survives { Survives (state S.Store conn.old) (state S.Store conn.new) Never }
+    ensures shows { OnOpen S.Store (Shows (AreMarksBeside is_revoked is_key_id_revoked message.now))
+        conn.old conn.new result }
+    ensures reads { OnOpen S.Store OnlyReads conn.old conn.new result }
+    ensures survives { Outlives S.Store Never conn.old conn.new }
 {
     match is_any_key_id_revoked(alloc, conn, message) {
         Ok(has_revoked_key_ids) => Ok(Marks {
@@ -121,13 +112,10 @@ fn with_key_ids<S: Alter>(
     certificate: Option<&Certificate>,
     is_revoked: bool,
 ) -> Result<Marks, Fault>
-    ensures shows { HasCleanDisk (state S.Store conn.new) → IsTrue (state S.Store conn.old).is_open
-        → Shows (λ s kept marks. option_copied certificate.entry ≡ certificate_concerned s message.now
-        → SaysRevoked is_revoked s message.now → AreMarks marks s message.now)
-        (state S.Store conn.old) (state S.Store conn.new) result }
-    ensures reads { HasCleanDisk (state S.Store conn.new) → IsTrue (state S.Store conn.old).is_open
-        → OnlyReads (state S.Store conn.old) (state S.Store conn.new) result }
-    ensures survives { Survives (state S.Store conn.old) (state S.Store conn.new) Never }
+    ensures shows { OnOpen S.Store (Shows (AreMarksWith (option_copied certificate.entry) is_revoked message.now))
+        conn.old conn.new result }
+    ensures reads { OnOpen S.Store OnlyReads conn.old conn.new result }
+    ensures survives { Outlives S.Store Never conn.old conn.new }
 {
     match is_concerned_key_id_revoked(alloc, conn, message, certificate) {
         Ok(is_key_id_revoked) => with_any_key_id(
@@ -149,12 +137,10 @@ pub(crate) fn marks_of<S: Alter>(
     certificate: Option<&Certificate>,
 ) -> Result<Marks, Fault>
     requires { IsTrue (is_message message.now) }
-    ensures shows { HasCleanDisk (state S.Store conn.new) → IsTrue (state S.Store conn.old).is_open
-        → Shows (λ s kept marks. IsOfHistory s kept → option_copied certificate.entry ≡ certificate_concerned s message.now
-        → AreMarks marks s message.now) (state S.Store conn.old) (state S.Store conn.new) result }
-    ensures reads { HasCleanDisk (state S.Store conn.new) → IsTrue (state S.Store conn.old).is_open
-        → OnlyReads (state S.Store conn.old) (state S.Store conn.new) result }
-    ensures survives { Survives (state S.Store conn.old) (state S.Store conn.new) Never }
+    ensures shows { OnOpen S.Store (Shows (AreMarksOf (option_copied certificate.entry) message.now))
+        conn.old conn.new result }
+    ensures reads { OnOpen S.Store OnlyReads conn.old conn.new result }
+    ensures survives { Outlives S.Store Never conn.old conn.new }
 {
     match is_revoked(alloc, conn, message) {
         Ok(is_revoked) => with_key_ids(alloc, conn, message, certificate, is_revoked),

@@ -1,10 +1,9 @@
 //! The runs of revoked serials.
 
 ghost use Rattle.std.specs.Prelude.{◌≡◌, ◌↔◌, ◌<◌, ◌≤◌, ◌^◌, All, IfOk, IsTrue};
-ghost use Rattle.sqlite.specs.Held.{state};
-ghost use Rattle.sqlite.specs.State.{HasCleanDisk, Survives};
 ghost use Rattle.krl.specs.Sets.{HasAll};
 ghost use Rattle.tables.specs.Calls.{Never, OnlyReads};
+ghost use Rattle.tables.specs.Honest.{On, Outlives};
 ghost use Rattle.rows.specs.Rows.{revoked_runs};
 ghost use Rattle.rows.specs.Showing.{Shows};
 ghost use Rattle.views.specs.Histories.{IsOfHistory};
@@ -51,11 +50,9 @@ fn read_runs(alloc: Global, rows: &[RunRow]) -> Result<Runs, Fault>
 }
 
 fn every_revoked_run<S: Alter>(alloc: Global, conn: &mut Connection<S>) -> Result<Runs, Fault>
-    ensures shows { HasCleanDisk (state S.Store conn.new) → Shows (λ s kept runs. runs ≡ revoked_runs s)
-        (state S.Store conn.old) (state S.Store conn.new) result }
-    ensures reads { HasCleanDisk (state S.Store conn.new)
-        → OnlyReads (state S.Store conn.old) (state S.Store conn.new) result }
-    ensures survives { Survives (state S.Store conn.old) (state S.Store conn.new) Never }
+    ensures shows { On S.Store (Shows (λ s kept runs. runs ≡ revoked_runs s)) conn.old conn.new result }
+    ensures reads { On S.Store OnlyReads conn.old conn.new result }
+    ensures survives { Outlives S.Store Never conn.old conn.new }
 {
     match every_run(alloc, conn) {
         Ok(rows) => read_runs(alloc, rows.as_slice()),
@@ -65,11 +62,9 @@ fn every_revoked_run<S: Alter>(alloc: Global, conn: &mut Connection<S>) -> Resul
 
 /// The maximal runs of the revoked serials. `Damaged` where the rows are no such runs.
 pub fn revoked_runs<S: Alter>(alloc: Global, conn: &mut Connection<S>) -> Result<Runs, Fault>
-    ensures shows { HasCleanDisk (state S.Store conn.new) → Shows (λ s kept runs. AreRevokedRuns runs s kept)
-        (state S.Store conn.old) (state S.Store conn.new) result }
-    ensures reads { HasCleanDisk (state S.Store conn.new)
-        → OnlyReads (state S.Store conn.old) (state S.Store conn.new) result }
-    ensures survives { Survives (state S.Store conn.old) (state S.Store conn.new) Never }
+    ensures shows { On S.Store (Shows (λ s kept runs. AreRevokedRuns runs s kept)) conn.old conn.new result }
+    ensures reads { On S.Store OnlyReads conn.old conn.new result }
+    ensures survives { Outlives S.Store Never conn.old conn.new }
 {
     every_revoked_run(alloc, conn)
 }
@@ -93,12 +88,10 @@ pub fn are_revoked<S: Alter>(
 ) -> Result<bool, Fault>
     requires order { lo ≤ hi }
     requires high { hi < 2 ^ 63 }
-    ensures shows { HasCleanDisk (state S.Store conn.new)
-        → Shows (λ s kept are. IsOfHistory s kept → (IsTrue are ↔ HasAll s.revoked lo hi))
-        (state S.Store conn.old) (state S.Store conn.new) result }
-    ensures reads { HasCleanDisk (state S.Store conn.new)
-        → OnlyReads (state S.Store conn.old) (state S.Store conn.new) result }
-    ensures survives { Survives (state S.Store conn.old) (state S.Store conn.new) Never }
+    ensures shows { On S.Store (Shows (λ s kept are. IsOfHistory s kept → (IsTrue are ↔ HasAll s.revoked lo hi)))
+        conn.old conn.new result }
+    ensures reads { On S.Store OnlyReads conn.old conn.new result }
+    ensures survives { Outlives S.Store Never conn.old conn.new }
 {
     match last_run(alloc, conn, number(lo)) {
         Ok(found) => Ok(reaches(found, hi)),

@@ -1,14 +1,13 @@
 //! The certificate and the department that a message concerns.
 
 ghost use Rattle.std.specs.Prelude.{◌≡◌, IfOk, IfSome, IsTrue, option_copied};
-ghost use Rattle.sqlite.specs.Held.{state};
-ghost use Rattle.sqlite.specs.State.{HasCleanDisk, Survives};
 ghost use Rattle.message.specs.Values.{is_department};
 ghost use Rattle.office.specs.Certificates.{IsCertificate};
-ghost use Rattle.office.specs.Decided.{certificate_concerned, department_concerned};
+ghost use Rattle.office.specs.Decided.{certificate_concerned};
 ghost use Rattle.tables.specs.Calls.{Never, OnlyReads};
+ghost use Rattle.tables.specs.Honest.{OnOpen, Outlives};
 ghost use Rattle.rows.specs.Showing.{Shows};
-ghost use Rattle.views.specs.Concerning.{IsLawfulSubject, IsSubject};
+ghost use Rattle.views.specs.Concerning.{IsDepartmentBeside, IsLawfulSubject, IsSubject};
 ghost use Rattle.views.specs.Histories.{IsOfHistory};
 
 use crate::certificates::find_certificate;
@@ -31,13 +30,11 @@ fn certificate_of<S: Alter>(
     conn: &mut Connection<S>,
     message: &Message,
 ) -> Result<Option<Certificate>, Fault>
-    ensures shows { HasCleanDisk (state S.Store conn.new) → IsTrue (state S.Store conn.old).is_open
-        → Shows (λ s kept found. IsOfHistory s kept → found ≡ certificate_concerned s message.now)
-        (state S.Store conn.old) (state S.Store conn.new) result }
+    ensures shows { OnOpen S.Store (Shows
+        (λ s kept found. IsOfHistory s kept → found ≡ certificate_concerned s message.now)) conn.old conn.new result }
     ensures lawful { IfOk result (λ found. IfSome found IsCertificate) }
-    ensures reads { HasCleanDisk (state S.Store conn.new) → IsTrue (state S.Store conn.old).is_open
-        → OnlyReads (state S.Store conn.old) (state S.Store conn.new) result }
-    ensures survives { Survives (state S.Store conn.old) (state S.Store conn.new) Never }
+    ensures reads { OnOpen S.Store OnlyReads conn.old conn.new result }
+    ensures survives { Outlives S.Store Never conn.old conn.new }
 {
     match concerned(message).serial {
         Some(serial) => find_certificate(alloc, conn, serial),
@@ -52,13 +49,11 @@ fn department_of<S: Alter>(
     message: &Message,
     certificate: Option<&Certificate>,
 ) -> Result<Option<Department>, Fault>
-    ensures shows { HasCleanDisk (state S.Store conn.new) → IsTrue (state S.Store conn.old).is_open
-        → Shows (λ s kept found. option_copied certificate.entry ≡ certificate_concerned s message.now
-        → found ≡ department_concerned s message.now) (state S.Store conn.old) (state S.Store conn.new) result }
+    ensures shows { OnOpen S.Store (Shows (IsDepartmentBeside (option_copied certificate.entry) message.now))
+        conn.old conn.new result }
     ensures lawful { IfOk result (λ found. IfSome found (λ d. IsTrue (is_department d))) }
-    ensures reads { HasCleanDisk (state S.Store conn.new) → IsTrue (state S.Store conn.old).is_open
-        → OnlyReads (state S.Store conn.old) (state S.Store conn.new) result }
-    ensures survives { Survives (state S.Store conn.old) (state S.Store conn.new) Never }
+    ensures reads { OnOpen S.Store OnlyReads conn.old conn.new result }
+    ensures survives { Outlives S.Store Never conn.old conn.new }
 {
     match (certificate, concerned(message).department) {
         (Some(certificate), _) => {
@@ -76,13 +71,11 @@ fn with_department<S: Alter>(
     certificate: Option<Certificate>,
 ) -> Result<Subject, Fault>
     requires { IfSome certificate IsCertificate }
-    ensures shows { HasCleanDisk (state S.Store conn.new) → IsTrue (state S.Store conn.old).is_open
-        → Shows (λ s kept subject. certificate ≡ certificate_concerned s message.now → IsSubject subject s message.now)
-        (state S.Store conn.old) (state S.Store conn.new) result }
+    ensures shows { OnOpen S.Store (Shows (λ s kept subject. certificate ≡ certificate_concerned s message.now
+        → IsSubject subject s message.now)) conn.old conn.new result }
     ensures lawful { IfOk result IsLawfulSubject }
-    ensures reads { HasCleanDisk (state S.Store conn.new) → IsTrue (state S.Store conn.old).is_open
-        → OnlyReads (state S.Store conn.old) (state S.Store conn.new) result }
-    ensures survives { Survives (state S.Store conn.old) (state S.Store conn.new) Never }
+    ensures reads { OnOpen S.Store OnlyReads conn.old conn.new result }
+    ensures survives { Outlives S.Store Never conn.old conn.new }
 {
     match department_of(alloc, conn, message, certificate.as_ref()) {
         Ok(department) => Ok(Subject {
@@ -99,13 +92,11 @@ pub(crate) fn subject_of<S: Alter>(
     conn: &mut Connection<S>,
     message: &Message,
 ) -> Result<Subject, Fault>
-    ensures shows { HasCleanDisk (state S.Store conn.new) → IsTrue (state S.Store conn.old).is_open
-        → Shows (λ s kept subject. IsOfHistory s kept → IsSubject subject s message.now)
-        (state S.Store conn.old) (state S.Store conn.new) result }
+    ensures shows { OnOpen S.Store (Shows (λ s kept subject. IsOfHistory s kept → IsSubject subject s message.now))
+        conn.old conn.new result }
     ensures lawful { IfOk result IsLawfulSubject }
-    ensures reads { HasCleanDisk (state S.Store conn.new) → IsTrue (state S.Store conn.old).is_open
-        → OnlyReads (state S.Store conn.old) (state S.Store conn.new) result }
-    ensures survives { Survives (state S.Store conn.old) (state S.Store conn.new) Never }
+    ensures reads { OnOpen S.Store OnlyReads conn.old conn.new result }
+    ensures survives { Outlives S.Store Never conn.old conn.new }
 {
     match certificate_of(alloc, conn, message) {
         Ok(certificate) => with_department(alloc, conn, message, certificate),

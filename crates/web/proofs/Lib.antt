@@ -2,3 +2,4 @@ pub mod Underway
 pub mod Replies
 pub mod Lists
 pub mod Answered
+pub mod Reported

@@ -4,7 +4,8 @@ use Rattle.profile.specs.declared.refusal.Refusal.TheVariants.{UnknownSerial, No
 use Rattle.lines.specs.CertLines.{certificate_line_text}
 use Rattle.krl.specs.Published.{fits}
 use Rattle.requests.specs.declared.resource.Resource.{Resource}
-use Rattle.requests.specs.declared.resource.Resource.TheVariants.{Pending, Certificate, Body, RevocationList, Signers, Table, Cas}
+use Rattle.requests.specs.declared.resource.Resource.TheVariants.{Pending, Certificate, Body, RevocationList, Signers}
+use Rattle.requests.specs.declared.resource.Resource.TheVariants.{Table, Cas}
 use Rattle.requests.specs.declared.response.MediaType.TheVariants.{PlainText, Bytes}
 use Rattle.requests.specs.Asks.{Ask, Asks, refused, get, post}
 use Rattle.requests.specs.Responses.{response_text, refusal_response}
@@ -32,7 +33,8 @@ body_response None = refusal_response UnknownSerial
 
 -- the line of a certificate, with its key id as comment, where it is signed
 abbrev pub signed_response : (key_id : List ℕ) → Option (List ℕ) → List ℕ
-signed_response key_id (Some certificate) = response_text 200 PlainText (certificate_line_text certificate key_id ++ 10 ∷ [])
+signed_response key_id (Some certificate) =
+    response_text 200 PlainText (certificate_line_text certificate key_id ++ 10 ∷ [])
 signed_response key_id None = refusal_response NotSigned
 
 abbrev pub issued_response : Issued → List ℕ
@@ -63,13 +65,15 @@ pub record MayList (o : Opening) (l : List Arrival) : Type 0 where
   pub fits : ListFits (state o l)
 
 abbrev pub arrival_by : (caller key message : List ℕ) → ℕ → List ℕ → Arrival
-arrival_by caller key message moment nonce = record { caller = caller; key = key; bytes = message; moment = moment; nonce = nonce }
+arrival_by caller key message moment nonce =
+    record { caller = caller; key = key; bytes = message; moment = moment; nonce = nonce }
 
 -- the response that is due after a history
 abbrev pub answer_text : Opening → List Arrival → Ask → ℕ → List ℕ → List ℕ
 answer_text o l (refused refusal) moment nonce = refusal_response refusal
 answer_text o l (get resource) moment nonce = resource_response (state o l) resource
-answer_text o l (post caller key message) moment nonce = outcome_response (due o l (arrival_by caller key message moment nonce))
+answer_text o l (post caller key message) moment nonce =
+    outcome_response (due o l (arrival_by caller key message moment nonce))
 
 -- the history with the arrival of what was asked, where it has one
 abbrev pub with_ask : List Arrival → Ask → ℕ → List ℕ → List Arrival
@@ -92,8 +96,9 @@ abbrev pub Keeps : {S : Type 0} → (means : S → Opening → List Arrival → 
     → S → Opening → List Arrival → Type 0
 Keeps means is_open s o l = means s o l × is_open s
 
--- The response is the one that is due to what the request asks, and the list is given only where it may be. The register
--- then means the history with the request's arrival. Where something was asked of the register, it keeps that history.
+-- The response is the one that is due to what the request asks, and the list is given only where it may be. The
+-- register then means the history with the request's arrival. Where something was asked of the register, it keeps that
+-- history.
 pub record Answers (o : Opening) (l : List Arrival) (request : List ℕ) (moment : ℕ) (nonce response : List ℕ)
     (means keeps : List Arrival → Type 0) : Type 0 where
   pub ask : Ask

@@ -9,14 +9,15 @@ use Rattle.office.specs.declared.fault.StoreFault.TheVariants.{Damaged, NoMemory
 use Rattle.web.specs.Answers.{arrival_by}
 
 -- the database failed in a call on a register that meant what it had meant before
-pub record FailsWithin {S : Type 0} (means : S → Opening → List Arrival → Type 0) (fails : S → S → Type 0) (old new : S) : Type 0 where
+pub record FailsWithin {S : Type 0} (means : S → Opening → List Arrival → Type 0) (fails : S → S → Type 0) (old new : S)
+    : Type 0 where
   pub before : S
   pub same : (o : Opening) (l : List Arrival) → means old o l → means before o l
   pub failed : fails before new
 
 -- so it did in answering this request, or its rules refused what was to be kept of the request's arrival
-abbrev pub StopsAt : {S : Type 0} → (S → Opening → List Arrival → Type 0) → (S → S → Type 0) → (S → S → Arrival → Type 0)
-    → (request : List ℕ) → ℕ → (nonce : List ℕ) → S → S → Type 0
+abbrev pub StopsAt : {S : Type 0} → (S → Opening → List Arrival → Type 0) → (S → S → Type 0)
+    → (S → S → Arrival → Type 0) → (request : List ℕ) → ℕ → (nonce : List ℕ) → S → S → Type 0
 StopsAt means fails stops request moment nonce old new =
     FailsWithin means fails old new
     ⊎ ((caller key message : List ℕ) × Asks request (post caller key message)

@@ -1,4 +1,5 @@
 pub mod Reports
+pub mod Batches
 pub mod Answers
 pub mod Causes
 pub mod Runs

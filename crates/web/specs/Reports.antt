@@ -1,5 +1,6 @@
 -- The texts that are given of an office's state.
-use Rattle.std.specs.Prelude.{ℕ, suc, List, [], ◌∷◌, ◌++◌, length, drop, map, Bool, true, false, ◌&&◌, nat_lt, codes, decimal, if◌then◌else◌}
+use Rattle.std.specs.Prelude.{ℕ, suc, List, [], ◌∷◌, ◌++◌, length, drop, map, Bool, true, false, ◌&&◌, nat_lt, codes}
+use Rattle.std.specs.Prelude.{decimal, if◌then◌else◌}
 use Rattle.std.specs.List.{flat_map}
 use Rattle.profile.specs.declared.kind.Kind.{Kind}
 use Rattle.profile.specs.declared.kind.Kind.TheVariants.{User, Host}

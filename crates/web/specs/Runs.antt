@@ -9,8 +9,8 @@ use Rattle.web.specs.declared.exchange.Given.{Given}
 use Rattle.web.specs.declared.exchange.Given.TheVariants.{Answer, Fault}
 use Rattle.web.specs.Answers.{AsksTheRegister, MayList, answer_text, with_ask}
 
--- Each exchange is given the response that is due after the arrivals before it that met no fault, or a fault, and the list
--- is given only where it may be. The last history is the first with the arrivals of all that met no fault.
+-- Each exchange is given the response that is due after the arrivals before it that met no fault, or a fault, and the
+-- list is given only where it may be. The last history is the first with the arrivals of all that met no fault.
 abbrev pub AllDue : Opening → List Arrival → List Exchange → List Given → List Arrival → Type 0
 AllDue o l (x ∷ xs) (Answer response ∷ given) last =
     (a : Ask) × Asks x.request a × (response ≡ answer_text o l a x.moment x.nonce)
@@ -29,8 +29,8 @@ HasAnswered so_far [] [] = so_far
 HasAnswered so_far (x ∷ xs) [] = ⊥
 HasAnswered so_far [] (g ∷ given) = ⊥
 
--- Whatever office the register meant before, all is due, and it then means the last history. Where it has answered since
--- the last fault, it keeps that history.
+-- Whatever office the register meant before, all is due, and it then means the last history. Where it has answered
+-- since the last fault, it keeps that history.
 abbrev pub Serves : (before after keeps : Opening → List Arrival → Type 0) → List Exchange → List Given → Type 0
 Serves before after keeps exchanges given = (o : Opening) (l : List Arrival) → before o l → (last : List Arrival)
     × AllDue o l exchanges given last × after o last × (HasAnswered ⊥ exchanges given → keeps o last)

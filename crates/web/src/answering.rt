@@ -1,12 +1,12 @@
 //! Arrivals answered.
 
-ghost use Rattle.std.specs.Prelude.{◌≡◌, ◌≤◌, ◌<◌, ◌++◌, [], ◌∷◌, List, IfOk, OnOk, OnErr, IfErr, length, vec_capacity};
+ghost use Rattle.std.specs.Prelude.{◌≡◌, ◌≤◌, ◌<◌, ◌++◌, [], ◌∷◌, IfOk, OnOk, OnErr, IfErr, length, vec_capacity};
 ghost use Rattle.requests.specs.declared.response.MediaType.TheVariants.{PlainText};
 ghost use Rattle.requests.specs.Responses.{response_text};
-ghost use Rattle.office.specs.declared.opening.Opening.{Opening};
 ghost use Rattle.office.specs.declared.arrival.Arrival.{Arrival};
 ghost use Rattle.office.specs.History.{due};
-ghost use Rattle.office.specs.Faults.{HasCause, IsOfARegister};
+ghost use Rattle.office.specs.Faults.{HasCause};
+ghost use Rattle.office.specs.Registers.{AnswersBy, FailsAsARegister, MeansOneMore, MeansTheSame};
 ghost use Rattle.web.specs.Answers.{outcome_response};
 
 use crate::room::{ROOM, room};
@@ -41,11 +41,12 @@ pub(crate) fn to_arrival<R: Registry>(
     ensures honest { R.is_honest registry.new → R.is_honest registry.old }
     ensures was_open { R.is_honest registry.new → R.is_open registry.new → R.is_open registry.old }
     ensures stays_open { R.is_honest registry.new → OnOk result (R.is_open registry.new) }
-    ensures due { R.is_honest registry.new → IfOk result (λ v. (o : Opening) (l : List Arrival) → R.means registry.old o l → v.items ≡ outcome_response (due o l arrival)) }
-    ensures next { R.is_honest registry.new → OnOk result ((o : Opening) (l : List Arrival) → R.means registry.old o l → R.means registry.new o (l ++ arrival ∷ [])) }
-    ensures fault { R.is_honest registry.new → OnErr result ((o : Opening) (l : List Arrival) → R.means registry.old o l → R.means registry.new o l) }
+    ensures due { R.is_honest registry.new → AnswersBy R.means registry.old result
+        (λ o l v. v.items ≡ outcome_response (due o l arrival)) }
+    ensures next { R.is_honest registry.new → OnOk result (MeansOneMore R.means arrival registry.old registry.new) }
+    ensures fault { R.is_honest registry.new → OnErr result (MeansTheSame R.means registry.old registry.new) }
     ensures cause { IfErr result (λ e. HasCause e (R.stops registry.old registry.new arrival)) }
-    ensures only { R.is_honest registry.new → IfErr result (λ e. (o : Opening) (l : List Arrival) → R.means registry.old o l → IsOfARegister e) }
+    ensures only { R.is_honest registry.new → FailsAsARegister R.means registry.old result }
 {
     let room = room(alloc, ROOM)?;
     match registry.apply(alloc, arrival)? {

@@ -1,19 +1,20 @@
 //! Certificates given.
 
-ghost use Rattle.std.specs.Prelude.{◌≡◌, ◌++◌, List, IfOk, OnOk, IfErr};
+ghost use Rattle.std.specs.Prelude.{◌≡◌, ◌++◌, IfOk, OnOk, IfErr};
 ghost use Rattle.requests.specs.declared.response.MediaType.TheVariants.{PlainText};
 ghost use Rattle.requests.specs.Responses.{response_text};
-ghost use Rattle.office.specs.declared.opening.Opening.{Opening};
-ghost use Rattle.office.specs.declared.arrival.Arrival.{Arrival};
 ghost use Rattle.office.specs.State.{body_of};
 ghost use Rattle.office.specs.Publication.{issued_of};
 ghost use Rattle.office.specs.History.{state};
-ghost use Rattle.office.specs.Faults.{HasCause, IsOfARegister};
+ghost use Rattle.office.specs.Faults.{HasCause};
+ghost use Rattle.office.specs.Registers.{AnswersBy, FailsAsARegister, MeansTheSame};
 ghost use Rattle.web.specs.Answers.{body_response, certificate_response, issued_response};
-ghost use Rattle.web.specs.Reports.{pending_line, pending_lines, pending_report};
+ghost use Rattle.web.specs.Reports.{pending_line, pending_report};
+ghost use Rattle.web.specs.Causes.{FailsWithin};
 
+use crate::batches::{Report, put_all};
 use crate::pieces::put_pieces;
-use crate::room::{to_body, to_refusal};
+use crate::room::{around, to_body, to_refusal};
 use lines::write_cert_line;
 use office::{Issued, Pending, Registry, StoreFault};
 use profile::{Refusal, put_decimal};
@@ -30,10 +31,11 @@ pub(crate) fn to_serial_body<R: Registry>(
     ensures honest { R.is_honest registry.new → R.is_honest registry.old }
     ensures was_open { R.is_honest registry.new → R.is_open registry.new → R.is_open registry.old }
     ensures stays_open { R.is_honest registry.new → OnOk result (R.is_open registry.new) }
-    ensures row { R.is_honest registry.new → IfOk result (λ v. (o : Opening) (l : List Arrival) → R.means registry.old o l → v.items ≡ body_response (body_of (state o l) serial)) }
-    ensures same { R.is_honest registry.new → (o : Opening) (l : List Arrival) → R.means registry.old o l → R.means registry.new o l }
+    ensures row { R.is_honest registry.new → AnswersBy R.means registry.old result
+        (λ o l v. v.items ≡ body_response (body_of (state o l) serial)) }
+    ensures same { R.is_honest registry.new → MeansTheSame R.means registry.old registry.new }
     ensures cause { IfErr result (λ e. HasCause e (R.fails registry.old registry.new)) }
-    ensures only { R.is_honest registry.new → IfErr result (λ e. (o : Opening) (l : List Arrival) → R.means registry.old o l → IsOfARegister e) }
+    ensures only { R.is_honest registry.new → FailsAsARegister R.means registry.old result }
 {
     match registry.body(alloc, serial)? {
         Some(body) => to_body(alloc, MediaType::Bytes, body.as_slice()),
@@ -65,10 +67,11 @@ pub(crate) fn to_certificate<R: Registry>(
     ensures honest { R.is_honest registry.new → R.is_honest registry.old }
     ensures was_open { R.is_honest registry.new → R.is_open registry.new → R.is_open registry.old }
     ensures stays_open { R.is_honest registry.new → OnOk result (R.is_open registry.new) }
-    ensures row { R.is_honest registry.new → IfOk result (λ v. (o : Opening) (l : List Arrival) → R.means registry.old o l → v.items ≡ certificate_response (issued_of (state o l) serial)) }
-    ensures same { R.is_honest registry.new → (o : Opening) (l : List Arrival) → R.means registry.old o l → R.means registry.new o l }
+    ensures row { R.is_honest registry.new → AnswersBy R.means registry.old result
+        (λ o l v. v.items ≡ certificate_response (issued_of (state o l) serial)) }
+    ensures same { R.is_honest registry.new → MeansTheSame R.means registry.old registry.new }
     ensures cause { IfErr result (λ e. HasCause e (R.fails registry.old registry.new)) }
-    ensures only { R.is_honest registry.new → IfErr result (λ e. (o : Opening) (l : List Arrival) → R.means registry.old o l → IsOfARegister e) }
+    ensures only { R.is_honest registry.new → FailsAsARegister R.means registry.old result }
 {
     match registry.certificate(alloc, serial)? {
         Some(issued) => to_line(alloc, &issued),
@@ -76,21 +79,12 @@ pub(crate) fn to_certificate<R: Registry>(
     }
 }
 
-fn put_pending(out: &mut Vec<u8>, row: &Pending) -> Result<(), NoMemory>
+/// Puts the line of a certificate that waits for its signature.
+pub(crate) fn put_pending(out: &mut Vec<u8>, row: &Pending) -> Result<(), NoMemory>
     ensures { OnOk result (out.new.items ≡ out.old.items ++ pending_line row.now) }
 {
     put_decimal(out, row.serial)?;
     put_pieces(out, &[b" ".as_slice(), row.digest.as_slice(), b"\n"])
-}
-
-fn pending_lines(alloc: Global, rows: &[Pending]) -> Result<Vec<u8>, NoMemory>
-    ensures { IfOk result (λ v. v.items ≡ pending_lines rows.now) }
-{
-    let mut out = Vec::new(alloc);
-    for row in rows {
-        put_pending(&mut out, row)?;
-    }
-    Ok(out)
 }
 
 /// The response with the certificates that wait for their signatures.
@@ -101,12 +95,15 @@ pub(crate) fn to_pending<R: Registry>(
     ensures honest { R.is_honest registry.new → R.is_honest registry.old }
     ensures was_open { R.is_honest registry.new → R.is_open registry.new → R.is_open registry.old }
     ensures stays_open { R.is_honest registry.new → OnOk result (R.is_open registry.new) }
-    ensures row { R.is_honest registry.new → IfOk result (λ v. (o : Opening) (l : List Arrival) → R.means registry.old o l → v.items ≡ response_text 200 PlainText (pending_report (state o l))) }
-    ensures same { R.is_honest registry.new → (o : Opening) (l : List Arrival) → R.means registry.old o l → R.means registry.new o l }
-    ensures cause { IfErr result (λ e. HasCause e (R.fails registry.old registry.new)) }
-    ensures only { R.is_honest registry.new → IfErr result (λ e. (o : Opening) (l : List Arrival) → R.means registry.old o l → IsOfARegister e) }
+    ensures row { R.is_honest registry.new → AnswersBy R.means registry.old result
+        (λ o l v. v.items ≡ response_text 200 PlainText (pending_report (state o l))) }
+    ensures same { R.is_honest registry.new → MeansTheSame R.means registry.old registry.new }
+    ensures cause { R.is_honest registry.new → IfErr result
+        (λ e. HasCause e (FailsWithin R.means R.fails registry.old registry.new)) }
+    ensures only { R.is_honest registry.new → FailsAsARegister R.means registry.old result }
 {
-    let rows = registry.pending(alloc)?;
-    let report = pending_lines(alloc, &rows)?;
-    to_body(alloc, MediaType::PlainText, &report)
+    let revocations = registry.revocations(alloc)?;
+    let mut report = Vec::new(alloc);
+    put_all(registry, alloc, Report::Pending, &revocations, &mut report)?;
+    around(report, MediaType::PlainText)
 }

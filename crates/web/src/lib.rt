@@ -7,6 +7,7 @@
 #![tactic(auto)]
 
 mod answering;
+mod batches;
 mod certificates;
 mod exchange;
 mod pieces;

@@ -1,22 +1,22 @@
 //! What is published: the key revocation list, the allowed signers and the CAs.
 
-ghost use Rattle.std.specs.Prelude.{◌≡◌, ◌++◌, List, length, IsTrue, IfOk, OnOk, IfErr};
+ghost use Rattle.std.specs.Prelude.{◌≡◌, ◌++◌, length, IsTrue, IfOk, OnOk, IfErr};
 ghost use Rattle.krl.specs.Published.{fits, published_text};
 ghost use Rattle.requests.specs.declared.response.MediaType.TheVariants.{PlainText, Bytes};
 ghost use Rattle.requests.specs.Responses.{response_text};
-ghost use Rattle.office.specs.declared.opening.Opening.{Opening};
-ghost use Rattle.office.specs.declared.arrival.Arrival.{Arrival};
 ghost use Rattle.office.specs.Publication.{published_list};
 ghost use Rattle.office.specs.History.{state};
-ghost use Rattle.office.specs.Faults.{HasCause, IsOfARegister};
+ghost use Rattle.office.specs.Faults.{HasCause};
+ghost use Rattle.office.specs.Registers.{AnswersBy, FailsAsARegister, MeansTheSame, WhereMeant};
 ghost use Rattle.lines.specs.Digests.{fingerprint_text};
 ghost use Rattle.lines.specs.Signers.{signers_text};
 ghost use Rattle.web.specs.Answers.{ListFits};
 ghost use Rattle.web.specs.Causes.{FailsWithin, IsOfAList};
-ghost use Rattle.web.specs.Reports.{ca_line, ca_lines, ca_report, is_signing, signer_row, signer_rows, signer_rows_of, signers_report};
+ghost use Rattle.web.specs.Reports.{ca_line, ca_lines, ca_report, is_signing, signer_row, signer_rows, signer_rows_of};
+ghost use Rattle.web.specs.Reports.{signers_report};
 
 use crate::pieces::put_pieces;
-use crate::room::{room, to_body};
+use crate::room::{around, room};
 use krl::{krl_len, write_krl};
 use lines::{KeyLine, SignerRow, fingerprint, write_signers};
 use message::Department;
@@ -30,7 +30,8 @@ use wire::VecSink;
 /// The response with a list, written from front to back into the room for it. A section too long for its length of 32
 /// bits counts as want of memory, and more parts than an office has CAs are damage.
 fn list_response(alloc: Global, revoked: &Revoked) -> Result<Vec<u8>, StoreFault>
-    ensures ok { IfOk result (λ v. v.items ≡ response_text 200 Bytes (published_text revoked.now.head revoked.now.parts.items revoked.now.key_ids)) }
+    ensures ok { IfOk result (λ v. v.items ≡ response_text 200 Bytes
+        (published_text revoked.now.head revoked.now.parts.items revoked.now.key_ids)) }
     ensures fits { OnOk result (IsTrue (fits revoked.now.parts.items revoked.now.key_ids)) }
     ensures err { IfErr result (IsOfAList (length revoked.now.parts.items)) }
 {
@@ -56,11 +57,13 @@ pub(crate) fn to_list<R: Registry>(registry: &mut R, alloc: Global) -> Result<Ve
     ensures honest { R.is_honest registry.new → R.is_honest registry.old }
     ensures was_open { R.is_honest registry.new → R.is_open registry.new → R.is_open registry.old }
     ensures stays_open { R.is_honest registry.new → OnOk result (R.is_open registry.new) }
-    ensures row { R.is_honest registry.new → IfOk result (λ v. (o : Opening) (l : List Arrival) → R.means registry.old o l → v.items ≡ response_text 200 Bytes (published_list (state o l))) }
-    ensures fits { R.is_honest registry.new → OnOk result ((o : Opening) (l : List Arrival) → R.means registry.old o l → ListFits (state o l)) }
-    ensures same { R.is_honest registry.new → (o : Opening) (l : List Arrival) → R.means registry.old o l → R.means registry.new o l }
+    ensures row { R.is_honest registry.new → AnswersBy R.means registry.old result
+        (λ o l v. v.items ≡ response_text 200 Bytes (published_list (state o l))) }
+    ensures fits { R.is_honest registry.new → OnOk result
+        (WhereMeant R.means registry.old (λ o l. ListFits (state o l))) }
+    ensures same { R.is_honest registry.new → MeansTheSame R.means registry.old registry.new }
     ensures cause { IfErr result (λ e. HasCause e (R.fails registry.old registry.new)) }
-    ensures only { R.is_honest registry.new → IfErr result (λ e. (o : Opening) (l : List Arrival) → R.means registry.old o l → IsOfARegister e) }
+    ensures only { R.is_honest registry.new → FailsAsARegister R.means registry.old result }
 {
     let revoked = registry.revoked(alloc)?;
     list_response(alloc, &revoked)
@@ -134,16 +137,18 @@ pub(crate) fn to_signers<R: Registry>(
     ensures honest { R.is_honest registry.new → R.is_honest registry.old }
     ensures was_open { R.is_honest registry.new → R.is_open registry.new → R.is_open registry.old }
     ensures stays_open { R.is_honest registry.new → OnOk result (R.is_open registry.new) }
-    ensures row { R.is_honest registry.new → IfOk result (λ v. (o : Opening) (l : List Arrival) → R.means registry.old o l → v.items ≡ response_text 200 PlainText (signers_report (state o l))) }
-    ensures same { R.is_honest registry.new → (o : Opening) (l : List Arrival) → R.means registry.old o l → R.means registry.new o l }
-    ensures cause { R.is_honest registry.new → IfErr result (λ e. HasCause e (FailsWithin R.means R.fails registry.old registry.new)) }
-    ensures only { R.is_honest registry.new → IfErr result (λ e. (o : Opening) (l : List Arrival) → R.means registry.old o l → IsOfARegister e) }
+    ensures row { R.is_honest registry.new → AnswersBy R.means registry.old result
+        (λ o l v. v.items ≡ response_text 200 PlainText (signers_report (state o l))) }
+    ensures same { R.is_honest registry.new → MeansTheSame R.means registry.old registry.new }
+    ensures cause { R.is_honest registry.new → IfErr result
+        (λ e. HasCause e (FailsWithin R.means R.fails registry.old registry.new)) }
+    ensures only { R.is_honest registry.new → FailsAsARegister R.means registry.old result }
 {
     let departments = registry.departments(alloc)?;
     let cas = registry.cas(alloc)?;
     let rows = signer_rows(alloc, &departments, &cas)?;
     let report = signers_text(alloc, &rows)?;
-    to_body(alloc, MediaType::PlainText, &report)
+    around(report, MediaType::PlainText)
 }
 
 fn fingerprint_of(ca: &Ca) -> [u8; 50]
@@ -184,12 +189,13 @@ pub(crate) fn to_cas<R: Registry>(registry: &mut R, alloc: Global) -> Result<Vec
     ensures honest { R.is_honest registry.new → R.is_honest registry.old }
     ensures was_open { R.is_honest registry.new → R.is_open registry.new → R.is_open registry.old }
     ensures stays_open { R.is_honest registry.new → OnOk result (R.is_open registry.new) }
-    ensures row { R.is_honest registry.new → IfOk result (λ v. (o : Opening) (l : List Arrival) → R.means registry.old o l → v.items ≡ response_text 200 PlainText (ca_report (state o l))) }
-    ensures same { R.is_honest registry.new → (o : Opening) (l : List Arrival) → R.means registry.old o l → R.means registry.new o l }
+    ensures row { R.is_honest registry.new → AnswersBy R.means registry.old result
+        (λ o l v. v.items ≡ response_text 200 PlainText (ca_report (state o l))) }
+    ensures same { R.is_honest registry.new → MeansTheSame R.means registry.old registry.new }
     ensures cause { IfErr result (λ e. HasCause e (R.fails registry.old registry.new)) }
-    ensures only { R.is_honest registry.new → IfErr result (λ e. (o : Opening) (l : List Arrival) → R.means registry.old o l → IsOfARegister e) }
+    ensures only { R.is_honest registry.new → FailsAsARegister R.means registry.old result }
 {
     let cas = registry.cas(alloc)?;
     let report = ca_lines(alloc, &cas)?;
-    to_body(alloc, MediaType::PlainText, &report)
+    around(report, MediaType::PlainText)
 }

@@ -1,19 +1,20 @@
 //! The table of certificates.
 
-ghost use Rattle.std.specs.Prelude.{◌≡◌, ◌++◌, List, IfOk, OnOk, IfErr};
+ghost use Rattle.std.specs.Prelude.{◌≡◌, ◌++◌, OnOk, IfErr};
 ghost use Rattle.requests.specs.declared.response.MediaType.TheVariants.{PlainText};
 ghost use Rattle.requests.specs.Responses.{response_text};
-ghost use Rattle.office.specs.declared.opening.Opening.{Opening};
-ghost use Rattle.office.specs.declared.arrival.Arrival.{Arrival};
 ghost use Rattle.office.specs.History.{state};
-ghost use Rattle.office.specs.Faults.{HasCause, IsOfARegister};
+ghost use Rattle.office.specs.Faults.{HasCause};
+ghost use Rattle.office.specs.Registers.{AnswersBy, FailsAsARegister, MeansTheSame};
 ghost use Rattle.web.specs.Causes.{FailsWithin};
 ghost use Rattle.message.specs.Texts.{kind_text};
-ghost use Rattle.web.specs.Reports.{entry_line, moment_places, serial_places, standing_word, table_lines, table_report, total_line};
+ghost use Rattle.web.specs.Reports.{entry_line, moment_places, serial_places, standing_word, table_report, total_line};
+ghost use Rattle.web.specs.Batches.{table_among};
 
+use crate::batches::{Report, put_all};
 use crate::pieces::{put_pieces, put_right};
-use crate::room::to_body;
-use office::{Entry, Registry, Standing, StoreFault};
+use crate::room::around;
+use office::{Entry, Registry, Revocations, Standing, StoreFault};
 use profile::{Kind, put_decimal};
 use requests::MediaType;
 use std::alloc::Global;
@@ -50,7 +51,8 @@ fn standing_word(standing: Standing) -> &'static [u8]
     }
 }
 
-fn put_entry(out: &mut Vec<u8>, entry: &Entry) -> Result<(), NoMemory>
+/// Puts the line of a certificate.
+pub(crate) fn put_entry(out: &mut Vec<u8>, entry: &Entry) -> Result<(), NoMemory>
     ensures { OnOk result (out.new.items ≡ out.old.items ++ entry_line entry.now) }
 {
     put_right(out, serial_places(), entry.serial)?;
@@ -78,15 +80,27 @@ fn put_total(out: &mut Vec<u8>, count: u64, version: u64) -> Result<(), NoMemory
     put_pieces(out, &[b"\n"])
 }
 
-fn table_lines(alloc: Global, entries: &[Entry], version: u64) -> Result<Vec<u8>, NoMemory>
-    ensures { IfOk result (λ v. v.items ≡ table_lines entries.now version) }
+/// The table, where these are revoked.
+fn table_beside<R: Registry>(
+    registry: &mut R,
+    alloc: Global,
+    revocations: &Revocations,
+    version: u64,
+) -> Result<Vec<u8>, StoreFault>
+    ensures honest { R.is_honest registry.new → R.is_honest registry.old }
+    ensures was_open { R.is_honest registry.new → R.is_open registry.new → R.is_open registry.old }
+    ensures stays_open { R.is_honest registry.new → OnOk result (R.is_open registry.new) }
+    ensures row { R.is_honest registry.new → AnswersBy R.means registry.old result
+        (λ o l v. v.items ≡ table_among revocations.now (state o l).certificates version) }
+    ensures same { R.is_honest registry.new → MeansTheSame R.means registry.old registry.new }
+    ensures cause { R.is_honest registry.new
+        → IfErr result (λ e. HasCause e (FailsWithin R.means R.fails registry.old registry.new)) }
+    ensures only { R.is_honest registry.new → FailsAsARegister R.means registry.old result }
 {
-    let mut out = Vec::new(alloc);
-    for entry in entries {
-        put_entry(&mut out, entry)?;
-    }
-    put_total(&mut out, entries.len() as u64, version)?;
-    Ok(out)
+    let mut report = Vec::new(alloc);
+    let count = put_all(registry, alloc, Report::Table, revocations, &mut report)?;
+    put_total(&mut report, count, version)?;
+    Ok(report)
 }
 
 /// The response with the table.
@@ -94,13 +108,15 @@ pub(crate) fn to_table<R: Registry>(registry: &mut R, alloc: Global) -> Result<V
     ensures honest { R.is_honest registry.new → R.is_honest registry.old }
     ensures was_open { R.is_honest registry.new → R.is_open registry.new → R.is_open registry.old }
     ensures stays_open { R.is_honest registry.new → OnOk result (R.is_open registry.new) }
-    ensures row { R.is_honest registry.new → IfOk result (λ v. (o : Opening) (l : List Arrival) → R.means registry.old o l → v.items ≡ response_text 200 PlainText (table_report (state o l))) }
-    ensures same { R.is_honest registry.new → (o : Opening) (l : List Arrival) → R.means registry.old o l → R.means registry.new o l }
-    ensures cause { R.is_honest registry.new → IfErr result (λ e. HasCause e (FailsWithin R.means R.fails registry.old registry.new)) }
-    ensures only { R.is_honest registry.new → IfErr result (λ e. (o : Opening) (l : List Arrival) → R.means registry.old o l → IsOfARegister e) }
+    ensures row { R.is_honest registry.new → AnswersBy R.means registry.old result
+        (λ o l v. v.items ≡ response_text 200 PlainText (table_report (state o l))) }
+    ensures same { R.is_honest registry.new → MeansTheSame R.means registry.old registry.new }
+    ensures cause { R.is_honest registry.new → IfErr result
+        (λ e. HasCause e (FailsWithin R.means R.fails registry.old registry.new)) }
+    ensures only { R.is_honest registry.new → FailsAsARegister R.means registry.old result }
 {
-    let entries = registry.certificates(alloc)?;
     let version = registry.revoked(alloc)?.head.version;
-    let report = table_lines(alloc, &entries, version)?;
-    to_body(alloc, MediaType::PlainText, &report)
+    let revocations = registry.revocations(alloc)?;
+    let report = table_beside(registry, alloc, &revocations, version)?;
+    around(report, MediaType::PlainText)
 }

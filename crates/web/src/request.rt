@@ -1,11 +1,11 @@
 //! What a request is answered.
 
-ghost use Rattle.std.specs.Prelude.{◌≡◌, List, IfOk, OnOk, OnErr, IfErr};
+ghost use Rattle.std.specs.Prelude.{◌≡◌, IfOk, OnOk, OnErr, IfErr};
 ghost use Rattle.requests.specs.declared.resource.Resource.TheVariants.{RevocationList};
-ghost use Rattle.office.specs.declared.opening.Opening.{Opening};
 ghost use Rattle.office.specs.declared.arrival.Arrival.{Arrival};
-ghost use Rattle.office.specs.Faults.{HasCause, IsOfARegister};
+ghost use Rattle.office.specs.Faults.{HasCause};
 ghost use Rattle.office.specs.History.{state};
+ghost use Rattle.office.specs.Registers.{AnswersBy, FailsAsARegister, MeansTheSame, WhereMeant};
 ghost use Rattle.web.specs.Answers.{IsAnswered, Keeps, ListFits, arrival_by, resource_response};
 ghost use Rattle.web.specs.Causes.{FailsWithin, StopsAt};
 
@@ -47,11 +47,14 @@ fn to_resource<R: Registry>(
     ensures honest { R.is_honest registry.new → R.is_honest registry.old }
     ensures was_open { R.is_honest registry.new → R.is_open registry.new → R.is_open registry.old }
     ensures stays_open { R.is_honest registry.new → OnOk result (R.is_open registry.new) }
-    ensures row { R.is_honest registry.new → IfOk result (λ v. (o : Opening) (l : List Arrival) → R.means registry.old o l → v.items ≡ resource_response (state o l) resource) }
-    ensures fits { R.is_honest registry.new → resource ≡ RevocationList → OnOk result ((o : Opening) (l : List Arrival) → R.means registry.old o l → ListFits (state o l)) }
-    ensures same { R.is_honest registry.new → (o : Opening) (l : List Arrival) → R.means registry.old o l → R.means registry.new o l }
-    ensures cause { R.is_honest registry.new → IfErr result (λ e. HasCause e (FailsWithin R.means R.fails registry.old registry.new)) }
-    ensures only { R.is_honest registry.new → IfErr result (λ e. (o : Opening) (l : List Arrival) → R.means registry.old o l → IsOfARegister e) }
+    ensures row { R.is_honest registry.new → AnswersBy R.means registry.old result
+        (λ o l v. v.items ≡ resource_response (state o l) resource) }
+    ensures fits { R.is_honest registry.new → resource ≡ RevocationList
+        → OnOk result (WhereMeant R.means registry.old (λ o l. ListFits (state o l))) }
+    ensures same { R.is_honest registry.new → MeansTheSame R.means registry.old registry.new }
+    ensures cause { R.is_honest registry.new → IfErr result
+        (λ e. HasCause e (FailsWithin R.means R.fails registry.old registry.new)) }
+    ensures only { R.is_honest registry.new → FailsAsARegister R.means registry.old result }
 {
     match resource {
         Resource::Pending => to_pending(registry, alloc),
@@ -78,9 +81,10 @@ pub fn answer_by<R: Registry>(
     ensures stays_open { R.is_honest registry.new → OnOk result (R.is_open registry.old → R.is_open registry.new) }
     ensures answered { R.is_honest registry.new → IfOk result (λ v. IsAnswered (R.means registry.old)
         (R.means registry.new) (Keeps R.means R.is_open registry.new) request.now moment nonce.now v.items) }
-    ensures fault { R.is_honest registry.new → OnErr result ((o : Opening) (l : List Arrival) → R.means registry.old o l → R.means registry.new o l) }
-    ensures cause { R.is_honest registry.new → IfErr result (λ e. HasCause e (StopsAt R.means R.fails R.stops request.now moment nonce.now registry.old registry.new)) }
-    ensures only { R.is_honest registry.new → IfErr result (λ e. (o : Opening) (l : List Arrival) → R.means registry.old o l → IsOfARegister e) }
+    ensures fault { R.is_honest registry.new → OnErr result (MeansTheSame R.means registry.old registry.new) }
+    ensures cause { R.is_honest registry.new → IfErr result
+        (λ e. HasCause e (StopsAt R.means R.fails R.stops request.now moment nonce.now registry.old registry.new)) }
+    ensures only { R.is_honest registry.new → FailsAsARegister R.means registry.old result }
 {
     match asks(routes, request) {
         Asked::Refused(refusal) => to_refusal(alloc, refusal),
@@ -99,9 +103,9 @@ pub fn answer_by<R: Registry>(
 /// The response to the bytes of a request (RFC 9112): the one that is due after the arrivals so far. Bytes after the
 /// request aren't looked at.
 ///
-/// The routes and room for a response are made before the register is asked, so after a fault nothing was applied. Where
-/// something was asked of the register and answered, the register is open, and so keeps what it means. A refusal that the
-/// bytes alone give asks nothing of it.
+/// The routes and room for a response are made before the register is asked, so after a fault nothing was applied.
+/// Where something was asked of the register and answered, the register is open, and so keeps what it means. A refusal
+/// that the bytes alone give asks nothing of it.
 ///
 /// # Errors
 ///
@@ -119,9 +123,10 @@ pub fn answer<R: Registry>(
     ensures stays_open { R.is_honest registry.new → OnOk result (R.is_open registry.old → R.is_open registry.new) }
     ensures answered { R.is_honest registry.new → IfOk result (λ v. IsAnswered (R.means registry.old)
         (R.means registry.new) (Keeps R.means R.is_open registry.new) request.now moment nonce.now v.items) }
-    ensures fault { R.is_honest registry.new → OnErr result ((o : Opening) (l : List Arrival) → R.means registry.old o l → R.means registry.new o l) }
-    ensures cause { R.is_honest registry.new → IfErr result (λ e. HasCause e (StopsAt R.means R.fails R.stops request.now moment nonce.now registry.old registry.new)) }
-    ensures only { R.is_honest registry.new → IfErr result (λ e. (o : Opening) (l : List Arrival) → R.means registry.old o l → IsOfARegister e) }
+    ensures fault { R.is_honest registry.new → OnErr result (MeansTheSame R.means registry.old registry.new) }
+    ensures cause { R.is_honest registry.new → IfErr result
+        (λ e. HasCause e (StopsAt R.means R.fails R.stops request.now moment nonce.now registry.old registry.new)) }
+    ensures only { R.is_honest registry.new → FailsAsARegister R.means registry.old result }
 {
     let routes = Routes::new(alloc)?;
     answer_by(&routes, registry, alloc, request, moment, nonce)

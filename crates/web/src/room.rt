@@ -5,7 +5,7 @@ ghost use Rattle.requests.specs.Responses.{response_text, refusal_response};
 
 use office::StoreFault;
 use profile::Refusal;
-use requests::{MAX_RESPONSE_HEAD, MediaType, refuse, respond};
+use requests::{MAX_RESPONSE_HEAD, MediaType, begin_response, refuse, respond};
 use std::alloc::Global;
 
 /// The room that is reserved for a response before anything is applied: it takes the longest reply and each refusal.
@@ -29,6 +29,22 @@ pub(crate) fn to_body(alloc: Global, media: MediaType, body: &[u8]) -> Result<Ve
 {
     let room = room(alloc, body.len().saturating_add(MAX_RESPONSE_HEAD))?;
     Ok(respond(room, media, body))
+}
+
+/// The response with a body, in the body's own memory: the head is put behind it, and both are turned.
+pub(crate) fn around(body: Vec<u8>, media: MediaType) -> Result<Vec<u8>, StoreFault>
+    ensures ok { IfOk result (λ v. v.items ≡ response_text 200 media body.items) }
+    ensures err { IfErr result (λ e. e ≡ StoreFault.NoMemory) }
+{
+    let size = body.len();
+    let mut response = body;
+    let Ok(()) = response.reserve(MAX_RESPONSE_HEAD) else {
+        return Err(StoreFault::NoMemory);
+    };
+    begin_response(&mut response, media, size);
+    let head = response.len() - size;
+    response.rotate_right(head);
+    Ok(response)
 }
 
 /// The response that says a refusal.

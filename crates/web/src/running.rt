@@ -22,9 +22,9 @@ pub fn run<R: Registry>(
     ensures honest { R.is_honest registry.new → R.is_honest registry.old }
     ensures was_open { R.is_honest registry.new → R.is_open registry.new → R.is_open registry.old }
 
-    // Each exchange is given the response that is due after the arrivals before it that met no fault, or a fault, and the
-    // list only where it may be given. The register then means the history with all arrivals that met none. Where it has
-    // answered since the last fault, it is open, and so keeps that history.
+    // Each exchange is given the response that is due after the arrivals before it that met no fault, or a fault, and
+    // the list only where it may be given. The register then means the history with all arrivals that met none. Where
+    // it has answered since the last fault, it is open, and so keeps that history.
     ensures serves { R.is_honest registry.new → IfOk result (λ given. Serves (R.means registry.old)
         (R.means registry.new) (Keeps R.means R.is_open registry.new) exchanges.now given.items) }
     ensures err { OnErr result (registry.new ≡ registry.old) }

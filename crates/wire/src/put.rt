@@ -9,7 +9,9 @@ use text::NoMemory;
 
 /// Puts a `uint32` of RFC 4251, section 5, at the end: 4 bytes, the most significant first.
 ///
-/// The one error is a growth that was refused, and then the vector is as it was.
+/// # Errors
+///
+/// `NoMemory`, where a growth was refused, so never within the vector's capacity. The vector is as it was.
 pub fn put_u32(out: &mut Vec<u8>, n: u32) -> Result<(), NoMemory>
     ensures ok { OnOk result (out.new.items ≡ out.old.items ++ u32_text n) }
     ensures err { OnErr result (out.new.items ≡ out.old.items) }
@@ -24,7 +26,9 @@ pub fn put_u32(out: &mut Vec<u8>, n: u32) -> Result<(), NoMemory>
 
 /// Puts a `uint64` of RFC 4251, section 5, at the end: 8 bytes, the most significant first.
 ///
-/// The one error is a growth that was refused, and then the vector is as it was.
+/// # Errors
+///
+/// `NoMemory`, where a growth was refused, so never within the vector's capacity. The vector is as it was.
 pub fn put_u64(out: &mut Vec<u8>, n: u64) -> Result<(), NoMemory>
     ensures ok { OnOk result (out.new.items ≡ out.old.items ++ u64_text n) }
     ensures err { OnErr result (out.new.items ≡ out.old.items) }
@@ -40,7 +44,9 @@ pub fn put_u64(out: &mut Vec<u8>, n: u64) -> Result<(), NoMemory>
 /// Puts a `string` of RFC 4251, section 5, at the end: a `uint32` that says how many bytes it has, and its bytes,
 /// of which there are at most 4294967295.
 ///
-/// The one error is a growth that was refused, and then the vector is as it was.
+/// # Errors
+///
+/// `NoMemory`, where a growth was refused, so never within the vector's capacity. The vector is as it was.
 pub fn put_string(out: &mut Vec<u8>, b: &[u8]) -> Result<(), NoMemory>
     requires { length b.now < 2 ^ 32 }
     ensures ok { OnOk result (out.new.items ≡ out.old.items ++ string_text b.now) }

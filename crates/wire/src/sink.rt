@@ -1,6 +1,7 @@
 //! Where bytes go.
 
-ghost use Rattle.std.specs.Prelude.{◌≡◌, ◌≤◌, ◌<◌, ◌+◌, ℕ, List, Option, None, length, IsOk, IfOk, OnOk, OnErr, if◌then◌else◌, is_ok};
+ghost use Rattle.std.specs.Prelude.{◌≡◌, ◌≤◌, ◌<◌, ◌+◌, ℕ, List, Option, None, length};
+ghost use Rattle.std.specs.Prelude.{IsOk, IfOk, OnOk, OnErr, if◌then◌else◌, is_ok};
 ghost use Rattle.std.specs.Io.KnownBytes.{Appends, WriteAppends};
 ghost use Rattle.wire.specs.Streams.{AppendsBeginning};
 
@@ -24,7 +25,11 @@ pub trait Sink {
         ensures { result ≡ failed self.now };
 
     /// Takes a beginning of `bytes`, and answers how many bytes that is: at least one where there is one.
-    /// A call that fails takes none.
+    ///
+    /// # Errors
+    ///
+    /// `Failed`. The call took no byte, and `failures` counts it. A piece of at least one byte that the writer has room
+    /// for never fails.
     fn write(&mut self, bytes: &[u8]) -> Result<usize, Failed>
         requires { failed self.old < u64.MAX }
         ensures bound { IfOk result (λ n. n ≤ length bytes.now) }
@@ -35,7 +40,12 @@ pub trait Sink {
         ensures room { IfOk result (λ n. room self.old ≤ room self.new + n) };
 }
 
-/// Writes all the bytes, in as many calls as it takes. After a failure the writer has taken a beginning of them.
+/// Writes all the bytes, in as many calls as it takes.
+///
+/// # Errors
+///
+/// `Failed`, exactly where the writer failed in this call. The writer has then taken a beginning of the bytes. Bytes
+/// that the writer has room for never fail.
 pub fn write_all<W: Sink>(sink: &mut W, bytes: &[u8]) -> Result<(), Failed>
     requires { W.failed sink.old < u64.MAX }
     ensures ok { OnOk result (Appends (W.taken sink.old) (W.taken sink.new) bytes.now) }

@@ -1,6 +1,7 @@
 //! Where bytes come from.
 
-ghost use Rattle.std.specs.Prelude.{◌≡◌, ◌≤◌, ◌<◌, ◌+◌, ℕ, List, Option, None, length, take, drop, IfOk, OnErr, if◌then◌else◌, is_ok};
+ghost use Rattle.std.specs.Prelude.{◌≡◌, ◌≤◌, ◌<◌, ◌+◌, ℕ, List, Option, None, length};
+ghost use Rattle.std.specs.Prelude.{take, drop, IfOk, OnErr, if◌then◌else◌, is_ok};
 ghost use Rattle.std.specs.Io.KnownBytes.{Consumes, Keeps, IsAtEnd, ReadConsumes};
 ghost use Rattle.wire.specs.Streams.{ConsumesBeginning};
 
@@ -21,7 +22,11 @@ pub trait Source {
         ensures { result ≡ failed self.now };
 
     /// Reads the next bytes into the front of `buf`, and answers how many they are. No byte for a `buf` that has room
-    /// says that nothing is left. A call that fails takes nothing from the reader.
+    /// says that nothing is left.
+    ///
+    /// # Errors
+    ///
+    /// `Failed`. The call took nothing from the reader, and `failures` counts it.
     fn read(&mut self, buf: &mut [u8]) -> Result<usize, Failed>
         requires { failed self.old < u64.MAX }
         ensures bound { IfOk result (λ n. n ≤ length buf.new) }
@@ -44,8 +49,12 @@ fn read_behind<S: Source>(source: &mut S, buf: &mut [u8], at: usize) -> Result<u
 }
 
 /// Reads until `buf` is full or nothing is left, in as many calls as it takes, and answers how many bytes came: all
-/// that fit, or fewer where nothing is left. A failure comes before `buf` is full, and what came until then has been
-/// taken from the reader.
+/// that fit, or fewer where nothing is left.
+///
+/// # Errors
+///
+/// `Failed`, exactly where the reader failed in this call. A failure comes before `buf` is full, and what came until
+/// then has been taken from the reader.
 pub fn read_full<S: Source>(source: &mut S, buf: &mut [u8]) -> Result<usize, Failed>
     requires { S.failed source.old < u64.MAX }
     ensures bound { IfOk result (λ n. n ≤ length buf.new) }

@@ -2,7 +2,9 @@
 
 ghost use Rattle.std.specs.Prelude.{◌≡◌, [], IfOk};
 ghost use Rattle.clap.specs.Words.{app_of};
-ghost use Rattle.words.specs.Command.{IsArgument, IsSubcommand, apply_command, check_command, first_half, init_command, number, number_word, office_command, on_database, optional, required, selftest_command, serve_command, subcommand, top_command, word};
+ghost use Rattle.words.specs.Command.{IsArgument, IsSubcommand, apply_command, check_command, first_half};
+ghost use Rattle.words.specs.Command.{init_command, number, number_word, office_command, on_database, optional};
+ghost use Rattle.words.specs.Command.{required, selftest_command, serve_command, subcommand, top_command, word};
 
 use crate::help;
 use clap::builder::ValueParser;

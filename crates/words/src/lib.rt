@@ -1,8 +1,8 @@
 //! The words of the command line.
 //!
-//! The words are read by clap's meaning of one command, which `specs/Command.antt` writes out as data. `read_words` gives a
-//! job only where the words have no mistake by that meaning and name that job with those values, and a fault only where
-//! they ask for help, have a mistake or name no job, or memory was refused.
+//! The words are read by clap's meaning of one command, which `specs/Command.antt` writes out as data. `read_words`
+//! gives a job only where the words have no mistake by that meaning and name that job with those values, and a fault
+//! only where they ask for help, have a mistake or name no job, or memory was refused.
 //! A number is what `u64` reads: decimal digits, perhaps behind a `+` or with leading zeros, within its limits.
 #![tactic(auto)]
 

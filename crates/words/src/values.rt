@@ -10,7 +10,7 @@ use crate::WordsFault;
 use clap::ArgMatches;
 use std::alloc::Global;
 
-/// What is said of a value that clap did not give, or let through.
+/// What is said of a value that clap did not give, or let through: `BadWords` with the name, or `NoMemory`.
 pub fn lack(alloc: Global, name: &str) -> WordsFault
     ensures { IsLackOfAny result }
 {
@@ -28,6 +28,10 @@ fn value_at<'a>(found: &ArgMatches<'a>, name: &str) -> Option<&'a str>
 }
 
 /// The value that was given for an option or word.
+///
+/// # Errors
+///
+/// `BadWords`, only where none was given. `NoMemory`, where a growth was refused.
 pub fn text_at(alloc: Global, found: &ArgMatches<'_>, name: &str) -> Result<String, WordsFault>
     ensures ok { IfOk result (λ text. first_of name.now (rows_of (found_of found.now)) ≡ Some (string_bytes text)) }
     ensures err { IfErr result (IsLack (first_of name.now (rows_of (found_of found.now)))) }
@@ -39,6 +43,10 @@ pub fn text_at(alloc: Global, found: &ArgMatches<'_>, name: &str) -> Result<Stri
 }
 
 /// The value of an option that may be left out.
+///
+/// # Errors
+///
+/// `NoMemory`, where a growth was refused.
 pub fn text_if_given(
     alloc: Global,
     found: &ArgMatches<'_>,
@@ -66,6 +74,10 @@ fn number_of(text: &str, low: u64, high: u64) -> Option<u64>
 }
 
 /// The number that was given for an option or word, from `low` to `high`.
+///
+/// # Errors
+///
+/// `BadWords`, only where no number within the limits was given. `NoMemory`, where a growth was refused.
 pub fn number_at(
     alloc: Global,
     found: &ArgMatches<'_>,

@@ -1,5 +1,6 @@
 -- A department put in place of the one of its name.
-use Rattle.std.proofs.Common.{◌≡◌, ℕ, List, [], ◌∷◌, map, Bool, true, false, refl, sym, ap, subst, ◌∙◌, ◌<◌, ◌^◌, arith, IsPermutation, Ordering, Less}
+use Rattle.std.proofs.Common.{◌≡◌, ℕ, List, [], ◌∷◌, map, Bool, true, false, refl, sym, ap}
+use Rattle.std.proofs.Common.{subst, ◌∙◌, ◌<◌, ◌^◌, arith, IsPermutation, Ordering, Less}
 use Rattle.std.specs.Prelude.{not, filter, ◌&&◌}
 use Rattle.std.specs.List.{AllByRecursion}
 use Rattle.std.specs.declared.cmp.Ordering.TheVariants.{Equal, Greater}
@@ -17,7 +18,8 @@ use Rattle.sqlite_trees.proofs.ListLemmas.{filter_all}
 use Rattle.sqlite.specs.Tree.{IsAscending}
 use Rattle.message.specs.declared.department.Department.{Department}
 use Rattle.profile.specs.Names.{is_name}
-use Rattle.message.specs.Values.{are_administrators, are_extension_names, are_namespaces, are_option_names, are_rules, fits_kind, is_department, is_longest_life}
+use Rattle.message.specs.Values.{are_administrators, are_extension_names, are_namespaces}
+use Rattle.message.specs.Values.{are_option_names, are_rules, fits_kind, is_department, is_longest_life}
 use Rattle.tables.specs.declared.departments.DepartmentRow.{DepartmentRow}
 use Rattle.tables.specs.Changes.{has_name}
 use Rattle.rows.specs.Rows.{department_row}

@@ -1,9 +1,11 @@
 -- The runs that touch or overlap an interval are one with it.
-use Rattle.std.proofs.Common.{◌≡◌, ℕ, ◌+◌, ◌-◌, ◌<◌, ◌≤◌, List, [], ◌∷◌, Bool, true, false, ◌&&◌, refl, ap, arith, inl, inr, IsPermutation}
+use Rattle.std.proofs.Common.{◌≡◌, ℕ, ◌+◌, ◌-◌, ◌<◌, ◌≤◌, List, [], ◌∷◌, Bool, true}
+use Rattle.std.proofs.Common.{false, ◌&&◌, refl, ap, arith, inl, inr, IsPermutation}
 use Rattle.std.specs.Prelude.{nat_lt, nat_le, not, min, max, filter}
 use Rattle.std.proofs.lemmas.Bool.{cases_lt, le-ltb}
 use Rattle.std.proofs.lemmas.Bool.Decides.{nat_tests}
-use Rattle.std.proofs.lemmas.List.Sorted.{IsPermutation-refl, IsPermutation-cons, IsPermutation-trans, IsPermutation-middle}
+use Rattle.std.proofs.lemmas.List.Sorted.{IsPermutation-refl, IsPermutation-cons}
+use Rattle.std.proofs.lemmas.List.Sorted.{IsPermutation-trans, IsPermutation-middle}
 use Rattle.krl.specs.declared.run.Run.{Run}
 use Rattle.krl.specs.Sets.{AreRunsFrom}
 use Rattle.krl.proofs.Booleans.{ltb-yes}

@@ -12,7 +12,8 @@ use Rattle.tables.specs.Cells.{key_id_cells}
 use Rattle.tables.specs.Contents.{Contents}
 use Rattle.tables.specs.Changes.{with_counters, with_request}
 use Rattle.tables.specs.Runs.{without_runs}
-use Rattle.tables.specs.Refusals.{IsFull, IsTooLong, RefusesCa, RefusesCert, RefusesCounters, RefusesDepartment, RefusesRequest, RefusesRun, RefusesSignature}
+use Rattle.tables.specs.Refusals.{IsFull, IsTooLong, RefusesCa, RefusesCert, RefusesCounters}
+use Rattle.tables.specs.Refusals.{RefusesDepartment, RefusesRequest, RefusesRun, RefusesSignature}
 use Rattle.rows.specs.Rows.{cert_row, department_row, request_row}
 use Rattle.writes.specs.Changing.{ca_from}
 use Rattle.writes.specs.Due.{counters_of, kept_of}
@@ -43,7 +44,8 @@ RefusesRecord k row c = RefusesCounters k c ⊎ RefusesRequest row (with_counter
 
 -- those are refused, or then the change
 abbrev pub RefusesRows : (number : ℕ) → Change → Counters → RequestRow → Contents → Type 0
-RefusesRows number change k row c = RefusesRecord k row c ⊎ RefusesChange number k.next change (with_request row (with_counters k c))
+RefusesRows number change k row c =
+    RefusesRecord k row c ⊎ RefusesChange number k.next change (with_request row (with_counters k c))
 
 -- what was decided of the arrival is refused, where these CAs are there
 abbrev pub RefusesDecision : Decision → Arrival → List Ca → Contents → Type 0

@@ -1,9 +1,8 @@
 //! One change of the tables.
 
-ghost use Rattle.std.specs.Prelude.{◌≡◌, ◌∷◌, [], IsTrue};
-ghost use Rattle.sqlite.specs.Held.{state};
-ghost use Rattle.sqlite.specs.State.{HasCleanDisk, Survives};
+ghost use Rattle.std.specs.Prelude.{◌∷◌, [], IsTrue};
 ghost use Rattle.tables.specs.Calls.{Stays};
+ghost use Rattle.tables.specs.Honest.{On, OnOpen, OutlivesBy};
 ghost use Rattle.message.specs.Values.{is_department};
 ghost use Rattle.office.specs.declared.view.Change.TheVariants as change;
 ghost use Rattle.office.specs.Certificates.{IsCertificate};
@@ -33,13 +32,12 @@ fn change_department<S: Alter>(
     department: &Department,
 ) -> Result<(), Fault>
     requires { IsTrue (is_department department.now) }
-    ensures makes { HasCleanDisk (state S.Store conn.new) → Makes Has (with_change 0 0 (change.Department department.now))
-        (state S.Store conn.old) (state S.Store conn.new) result }
-    ensures fault { HasCleanDisk (state S.Store conn.new) → FailsFor Has (RefusesDepartment (department_row department.now))
-        (state S.Store conn.old) (state S.Store conn.new) result }
-    ensures stays { HasCleanDisk (state S.Store conn.new)
-        → Stays (state S.Store conn.old) (state S.Store conn.new) result }
-    ensures survives { Survives (state S.Store conn.old) (state S.Store conn.new) (Waits Has (state S.Store conn.old)) }
+    ensures makes { On S.Store (Makes Has (with_change 0 0 (change.Department department.now)))
+        conn.old conn.new result }
+    ensures fault { On S.Store (FailsFor Has (RefusesDepartment (department_row department.now)))
+        conn.old conn.new result }
+    ensures stays { On S.Store Stays conn.old conn.new result }
+    ensures survives { OutlivesBy S.Store (Waits Has) conn.old conn.new }
 {
     let row = department_row(alloc, department)?;
     put_department(conn, &row)
@@ -51,26 +49,21 @@ fn add_certificate<S: Alter>(
     certificate: &Certificate,
 ) -> Result<(), Fault>
     requires { IsCertificate certificate.now }
-    ensures makes { HasCleanDisk (state S.Store conn.new) → Makes Has (with_change 0 0 (change.Certificate certificate.now))
-        (state S.Store conn.old) (state S.Store conn.new) result }
-    ensures fault { HasCleanDisk (state S.Store conn.new) → FailsFor Has (RefusesCert (cert_row certificate.now))
-        (state S.Store conn.old) (state S.Store conn.new) result }
-    ensures stays { HasCleanDisk (state S.Store conn.new)
-        → Stays (state S.Store conn.old) (state S.Store conn.new) result }
-    ensures survives { Survives (state S.Store conn.old) (state S.Store conn.new) (Waits Has (state S.Store conn.old)) }
+    ensures makes { On S.Store (Makes Has (with_change 0 0 (change.Certificate certificate.now)))
+        conn.old conn.new result }
+    ensures fault { On S.Store (FailsFor Has (RefusesCert (cert_row certificate.now))) conn.old conn.new result }
+    ensures stays { On S.Store Stays conn.old conn.new result }
+    ensures survives { OutlivesBy S.Store (Waits Has) conn.old conn.new }
 {
     let row = cert_row(alloc, certificate)?;
     insert_cert(conn, &row)
 }
 
 fn add_key_id<S: Alter>(alloc: Global, conn: &mut Connection<S>, key_id: &Text) -> Result<(), Fault>
-    ensures makes { HasCleanDisk (state S.Store conn.new) → Makes Has (with_key_id key_id.now)
-        (state S.Store conn.old) (state S.Store conn.new) result }
-    ensures fault { HasCleanDisk (state S.Store conn.new) → FailsFor Has (RefusesChange 0 0 (change.KeyId key_id.now))
-        (state S.Store conn.old) (state S.Store conn.new) result }
-    ensures stays { HasCleanDisk (state S.Store conn.new)
-        → Stays (state S.Store conn.old) (state S.Store conn.new) result }
-    ensures survives { Survives (state S.Store conn.old) (state S.Store conn.new) (Waits Has (state S.Store conn.old)) }
+    ensures makes { On S.Store (Makes Has (with_key_id key_id.now)) conn.old conn.new result }
+    ensures fault { On S.Store (FailsFor Has (RefusesChange 0 0 (change.KeyId key_id.now))) conn.old conn.new result }
+    ensures stays { On S.Store Stays conn.old conn.new result }
+    ensures survives { OutlivesBy S.Store (Waits Has) conn.old conn.new }
 {
     match find_revoked(alloc, conn, key_id.as_slice()) {
         Ok(None) => insert_revoked(conn, key_id.as_slice()),
@@ -86,13 +79,10 @@ fn add_ca<S: Alter>(
     since: Number,
     ca: &Ca,
 ) -> Result<(), Fault>
-    ensures makes { HasCleanDisk (state S.Store conn.new) → Makes Has (with_change number since (change.Ca ca.now))
-        (state S.Store conn.old) (state S.Store conn.new) result }
-    ensures fault { HasCleanDisk (state S.Store conn.new) → FailsFor Has (RefusesCa (ca_from number since ca.now))
-        (state S.Store conn.old) (state S.Store conn.new) result }
-    ensures stays { HasCleanDisk (state S.Store conn.new)
-        → Stays (state S.Store conn.old) (state S.Store conn.new) result }
-    ensures survives { Survives (state S.Store conn.old) (state S.Store conn.new) (Waits Has (state S.Store conn.old)) }
+    ensures makes { On S.Store (Makes Has (with_change number since (change.Ca ca.now))) conn.old conn.new result }
+    ensures fault { On S.Store (FailsFor Has (RefusesCa (ca_from number since ca.now))) conn.old conn.new result }
+    ensures stays { On S.Store Stays conn.old conn.new result }
+    ensures survives { OutlivesBy S.Store (Waits Has) conn.old conn.new }
 {
     let row = ca_row(alloc, number, since, ca)?;
     insert_ca(conn, &row)
@@ -107,13 +97,10 @@ pub(crate) fn make<S: Alter>(
     change: &Change,
 ) -> Result<(), Fault>
     requires { IsLawfulChange change.now }
-    ensures makes { HasCleanDisk (state S.Store conn.new) → IsTrue (state S.Store conn.old).is_open →
-        Makes Has (with_change number since change.now) (state S.Store conn.old) (state S.Store conn.new) result }
-    ensures fault { HasCleanDisk (state S.Store conn.new) → FailsFor Has (RefusesChange number since change.now)
-        (state S.Store conn.old) (state S.Store conn.new) result }
-    ensures stays { HasCleanDisk (state S.Store conn.new)
-        → Stays (state S.Store conn.old) (state S.Store conn.new) result }
-    ensures survives { Survives (state S.Store conn.old) (state S.Store conn.new) (Waits Has (state S.Store conn.old)) }
+    ensures makes { OnOpen S.Store (Makes Has (with_change number since change.now)) conn.old conn.new result }
+    ensures fault { On S.Store (FailsFor Has (RefusesChange number since change.now)) conn.old conn.new result }
+    ensures stays { On S.Store Stays conn.old conn.new result }
+    ensures survives { OutlivesBy S.Store (Waits Has) conn.old conn.new }
 {
     match change {
         Change::Nothing => Ok(()),

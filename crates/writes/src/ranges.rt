@@ -1,9 +1,8 @@
 //! Ranges of serials among the runs.
 
 ghost use Rattle.std.specs.Prelude.{◌≡◌, ◌<◌, ◌≤◌, ◌^◌, IsTrue};
-ghost use Rattle.sqlite.specs.Held.{state};
-ghost use Rattle.sqlite.specs.State.{HasCleanDisk, Survives};
 ghost use Rattle.tables.specs.Calls.{Stays};
+ghost use Rattle.tables.specs.Honest.{On, OutlivesBy};
 ghost use Rattle.message.specs.Values.{is_range};
 ghost use Rattle.rows.specs.Transactions.{FailsFor, Has, Makes, Waits};
 ghost use Rattle.writes.specs.Ranges.{joined_high, joined_low, run_from, with_joined, with_range};
@@ -44,13 +43,10 @@ fn joined_high(hi: u64, found: Option<RunRow>) -> Number
 }
 
 fn replace<S: Alter>(conn: &mut Connection<S>, run: &RunRow) -> Result<(), Fault>
-    ensures makes { HasCleanDisk (state S.Store conn.new) → Makes Has (with_joined run.now)
-        (state S.Store conn.old) (state S.Store conn.new) result }
-    ensures fault { HasCleanDisk (state S.Store conn.new) → FailsFor Has (RefusesJoined run.now)
-        (state S.Store conn.old) (state S.Store conn.new) result }
-    ensures stays { HasCleanDisk (state S.Store conn.new)
-        → Stays (state S.Store conn.old) (state S.Store conn.new) result }
-    ensures survives { Survives (state S.Store conn.old) (state S.Store conn.new) (Waits Has (state S.Store conn.old)) }
+    ensures makes { On S.Store (Makes Has (with_joined run.now)) conn.old conn.new result }
+    ensures fault { On S.Store (FailsFor Has (RefusesJoined run.now)) conn.old conn.new result }
+    ensures stays { On S.Store Stays conn.old conn.new result }
+    ensures survives { OutlivesBy S.Store (Waits Has) conn.old conn.new }
 {
     delete_runs(conn, run)?;
     insert_run(conn, run)
@@ -64,13 +60,10 @@ fn put_from<S: Alter>(
     lo: Number,
 ) -> Result<(), Fault>
     requires { IsTrue (is_range range) }
-    ensures makes { HasCleanDisk (state S.Store conn.new) → Makes Has (λ c. with_joined (run_from lo range c) c)
-        (state S.Store conn.old) (state S.Store conn.new) result }
-    ensures fault { HasCleanDisk (state S.Store conn.new) → FailsFor Has (λ c. RefusesJoined (run_from lo range c) c)
-        (state S.Store conn.old) (state S.Store conn.new) result }
-    ensures stays { HasCleanDisk (state S.Store conn.new)
-        → Stays (state S.Store conn.old) (state S.Store conn.new) result }
-    ensures survives { Survives (state S.Store conn.old) (state S.Store conn.new) (Waits Has (state S.Store conn.old)) }
+    ensures makes { On S.Store (Makes Has (λ c. with_joined (run_from lo range c) c)) conn.old conn.new result }
+    ensures fault { On S.Store (FailsFor Has (λ c. RefusesJoined (run_from lo range c) c)) conn.old conn.new result }
+    ensures stays { On S.Store Stays conn.old conn.new result }
+    ensures survives { OutlivesBy S.Store (Waits Has) conn.old conn.new }
 {
     match last_run(alloc, conn, number(range.hi + 1)) {
         Ok(found) => {
@@ -89,13 +82,10 @@ pub(crate) fn put_range<S: Alter>(
     range: SerialRange,
 ) -> Result<(), Fault>
     requires { IsTrue (is_range range) }
-    ensures makes { HasCleanDisk (state S.Store conn.new) → Makes Has (with_range range)
-        (state S.Store conn.old) (state S.Store conn.new) result }
-    ensures fault { HasCleanDisk (state S.Store conn.new) → FailsFor Has (RefusesRange range)
-        (state S.Store conn.old) (state S.Store conn.new) result }
-    ensures stays { HasCleanDisk (state S.Store conn.new)
-        → Stays (state S.Store conn.old) (state S.Store conn.new) result }
-    ensures survives { Survives (state S.Store conn.old) (state S.Store conn.new) (Waits Has (state S.Store conn.old)) }
+    ensures makes { On S.Store (Makes Has (with_range range)) conn.old conn.new result }
+    ensures fault { On S.Store (FailsFor Has (RefusesRange range)) conn.old conn.new result }
+    ensures stays { On S.Store Stays conn.old conn.new result }
+    ensures survives { OutlivesBy S.Store (Waits Has) conn.old conn.new }
 {
     match last_run(alloc, conn, number(range.lo)) {
         Ok(found) => put_from(alloc, conn, range, joined_low(range.lo, found)),

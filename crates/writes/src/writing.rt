@@ -1,9 +1,7 @@
 //! The whole of what was decided.
 
-ghost use Rattle.std.specs.Prelude.{◌≡◌};
-ghost use Rattle.sqlite.specs.Held.{state};
-ghost use Rattle.sqlite.specs.State.{HasCleanDisk, Survives};
 ghost use Rattle.tables.specs.Calls.{Stays};
+ghost use Rattle.tables.specs.Honest.{On, OutlivesBy};
 ghost use Rattle.office.specs.Decided.{IsLawfulChange};
 ghost use Rattle.tables.specs.Changes.{with_counters, with_request};
 ghost use Rattle.rows.specs.Rows.{contents_of};
@@ -25,14 +23,11 @@ fn record<S: Alter>(
     counters: &Counters,
     request: &RequestRow,
 ) -> Result<(), Fault>
-    ensures makes { HasCleanDisk (state S.Store conn.new) →
-        Makes Has (λ c. with_request request.now (with_counters counters.now c))
-        (state S.Store conn.old) (state S.Store conn.new) result }
-    ensures fault { HasCleanDisk (state S.Store conn.new) → FailsFor Has (RefusesRecord counters.now request.now)
-        (state S.Store conn.old) (state S.Store conn.new) result }
-    ensures stays { HasCleanDisk (state S.Store conn.new)
-        → Stays (state S.Store conn.old) (state S.Store conn.new) result }
-    ensures survives { Survives (state S.Store conn.old) (state S.Store conn.new) (Waits Has (state S.Store conn.old)) }
+    ensures makes { On S.Store (Makes Has (λ c. with_request request.now (with_counters counters.now c)))
+        conn.old conn.new result }
+    ensures fault { On S.Store (FailsFor Has (RefusesRecord counters.now request.now)) conn.old conn.new result }
+    ensures stays { On S.Store Stays conn.old conn.new result }
+    ensures survives { OutlivesBy S.Store (Waits Has) conn.old conn.new }
 {
     match update_office(conn, counters) {
         Ok(()) => insert_request(conn, request),
@@ -49,14 +44,12 @@ fn write_rows<S: Alter>(
     request: &RequestRow,
 ) -> Result<(), Fault>
     requires { IsLawfulChange change.now }
-    ensures makes { HasCleanDisk (state S.Store conn.new) → Makes Has
-        (λ c. with_change number counters.now.next change.now (with_request request.now (with_counters counters.now c)))
-        (state S.Store conn.old) (state S.Store conn.new) result }
-    ensures fault { HasCleanDisk (state S.Store conn.new) → FailsFor Has (RefusesRows number change.now counters.now request.now)
-        (state S.Store conn.old) (state S.Store conn.new) result }
-    ensures stays { HasCleanDisk (state S.Store conn.new)
-        → Stays (state S.Store conn.old) (state S.Store conn.new) result }
-    ensures survives { Survives (state S.Store conn.old) (state S.Store conn.new) (Waits Has (state S.Store conn.old)) }
+    ensures makes { On S.Store (Makes Has (λ c. with_change number counters.now.next change.now
+        (with_request request.now (with_counters counters.now c)))) conn.old conn.new result }
+    ensures fault { On S.Store (FailsFor Has (RefusesRows number change.now counters.now request.now))
+        conn.old conn.new result }
+    ensures stays { On S.Store Stays conn.old conn.new result }
+    ensures survives { OutlivesBy S.Store (Waits Has) conn.old conn.new }
 {
     match record(conn, counters, request) {
         Ok(()) => make(alloc, conn, number, counters.next, change),
@@ -66,6 +59,12 @@ fn write_rows<S: Alter>(
 
 /// Writes what was decided of an arrival, inside a transaction: the change, the counters and a row for the request.
 /// `cas` are the CAs that are there.
+///
+/// # Errors
+///
+/// `Device`, where the database failed or its rules refuse a row that is due. `NoMemory`, where memory was refused.
+/// `Damaged`, where a counter is 2^63 or more, or a row isn't of the form of its table. Tables that hold the rows of a
+/// lawful state, in which the decision has room, give no `Damaged`.
 pub fn write<S: Alter>(
     alloc: Global,
     conn: &mut Connection<S>,
@@ -77,20 +76,16 @@ pub fn write<S: Alter>(
 
     // Of tables that hold the rows of a lawful state those of the state with what was decided come out, and a row for
     // the arrival; or, with an error, nothing is committed.
-    ensures makes { HasCleanDisk (state S.Store conn.new) →
-        Makes (IsDue decision.now cas.now) (contents_after decision.now arrival.now)
-        (state S.Store conn.old) (state S.Store conn.new) result }
+    ensures makes { On S.Store (Makes (IsDue decision.now cas.now) (contents_after decision.now arrival.now))
+        conn.old conn.new result }
 
     // Of such tables a fault is want of memory, or the database failed, or its rules refuse a row that is due.
-    ensures fault { HasCleanDisk (state S.Store conn.new) → FailsFor (IsDue decision.now cas.now)
-        (λ x. RefusesDecision decision.now arrival.now cas.now (contents_of x.0 x.1))
-        (state S.Store conn.old) (state S.Store conn.new) result }
-    ensures stays { HasCleanDisk (state S.Store conn.new)
-        → Stays (state S.Store conn.old) (state S.Store conn.new) result }
+    ensures fault { On S.Store (FailsFor (IsDue decision.now cas.now)
+        (λ x. RefusesDecision decision.now arrival.now cas.now (contents_of x.0 x.1))) conn.old conn.new result }
+    ensures stays { On S.Store Stays conn.old conn.new result }
 
     // A crash in its midst commits nothing.
-    ensures survives { Survives (state S.Store conn.old) (state S.Store conn.new)
-        (Waits (IsDue decision.now cas.now) (state S.Store conn.old)) }
+    ensures survives { OutlivesBy S.Store (Waits (IsDue decision.now cas.now)) conn.old conn.new }
 {
     let Some(counters) = counters_of(decision) else {
         return Err(Fault::Damaged);

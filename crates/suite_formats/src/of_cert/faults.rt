@@ -4,8 +4,8 @@ use cert::{CertFault, read_body};
 use std::alloc::Global;
 use text::NoMemory;
 
-/// The body of a key of bytes 0x22, a nonce of 0x33 and a CA of 0x11: serial 1, a user, key id web/alice, principal alice,
-/// from 1000 to 2000.
+/// The body of a key of bytes 0x22, a nonce of 0x33 and a CA of 0x11: serial 1, a user, key id web/alice, principal
+/// alice, from 1000 to 2000.
 const PLAIN: &[u8; 229] =
     b"\x00\x00\x00 ssh-ed25519-cert-v01@openssh.com\x00\x00\x00 33333333333333333333333333333333\x00\x00\x00\
     \x20\"\"\"\"\"\"\"\"\"\"\"\"\"\"\"\"\"\"\"\"\"\"\"\"\"\"\"\"\"\"\"\"\x00\x00\x00\x00\x00\x00\x00\x01\

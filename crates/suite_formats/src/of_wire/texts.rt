@@ -4,8 +4,8 @@ use std::alloc::Global;
 use text::NoMemory;
 use wire::{Cursor, put_string, put_u32, put_u64};
 
-/// RFC 4251, section 5: 699921578 is stored as `29 b7 f4 aa`, and "testing" as `00 00 00 07 t e s t i n g`. PROTOCOL.krl:
-/// the magic number of a key revocation list spells the last eight bytes.
+/// RFC 4251, section 5: 699921578 is stored as `29 b7 f4 aa`, and "testing" as `00 00 00 07 t e s t i n g`.
+/// PROTOCOL.krl: the magic number of a key revocation list spells the last eight bytes.
 const EXAMPLES: &[u8] = b"\x29\xb7\xf4\xaa\x00\x00\x00\x07testingSSHKRL\n\0";
 
 const LIST_MAGIC: u64 = 0x5353_484b_524c_0a00;

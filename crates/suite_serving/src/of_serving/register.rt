@@ -2,9 +2,11 @@
 
 ghost use Rattle.std.specs.Prelude.{◌≡◌};
 
-use krl::KrlHead;
+use krl::{KrlHead, runs_of};
 use message::Department;
-use office::{Arrival, Ca, Entry, Issued, Outcome, Pending, Registry, Revoked, StoreFault};
+use office::{
+    Arrival, Ca, Certificate, Issued, Outcome, Registry, Revocations, Revoked, StoreFault,
+};
 use std::alloc::Global;
 use text::{Text, Texts};
 
@@ -46,10 +48,6 @@ impl Registry for Register {
         Ok(Vec::new(alloc))
     }
 
-    fn pending(&mut self, alloc: Global) -> Result<Vec<Pending>, StoreFault> {
-        Ok(Vec::new(alloc))
-    }
-
     fn body(&mut self, _alloc: Global, _serial: u64) -> Result<Option<Text>, StoreFault> {
         Ok(None)
     }
@@ -73,7 +71,14 @@ impl Registry for Register {
         Ok(Vec::new(alloc))
     }
 
-    fn certificates(&mut self, alloc: Global) -> Result<Vec<Entry>, StoreFault> {
+    fn revocations(&mut self, alloc: Global) -> Result<Revocations, StoreFault> {
+        Ok(Revocations {
+            serials: runs_of(alloc, &[])?,
+            key_ids: Vec::new(alloc),
+        })
+    }
+
+    fn certificates(&mut self, alloc: Global, _place: u64) -> Result<Vec<Certificate>, StoreFault> {
         Ok(Vec::new(alloc))
     }
 

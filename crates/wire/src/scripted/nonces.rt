@@ -1,6 +1,7 @@
 //! Nonce sources in memory.
 
-ghost use Rattle.std.specs.Prelude.{◌≡◌, ◌≤◌, ◌<◌, ◌+◌, ◌↔◌, Some, length, min, replicate, IfOk, IsErr, if◌then◌else◌, is_ok};
+ghost use Rattle.std.specs.Prelude.{◌≡◌, ◌≤◌, ◌<◌, ◌+◌, ◌↔◌, Some, length, min};
+ghost use Rattle.std.specs.Prelude.{replicate, IfOk, IsErr, if◌then◌else◌, is_ok};
 ghost use Rattle.std.specs.Io.KnownBytes.{ReadConsumes};
 
 use super::Ending;
@@ -10,9 +11,11 @@ use crate::source::Source;
 /// A nonce source that gives one byte again and again, and that ends or fails after so many.
 #[derive(Debug, Drop)]
 pub struct ScriptedNonces {
+    /// The byte that it gives.
     pub byte: u8,
     /// How many bytes it still gives.
     pub left: usize,
+    /// What it does once it has given them.
     pub ending: Ending,
     /// How many calls failed so far.
     pub failures: u64,

@@ -13,7 +13,9 @@ use crate::source::Source;
 pub struct ScriptedReader<'a> {
     /// The bytes that it still gives.
     pub rest: &'a [u8],
+    /// How many bytes a call gives.
     pub pace: Pace,
+    /// What it does once it has given them all.
     pub ending: Ending,
     /// How many calls failed so far.
     pub failures: u64,

@@ -1,6 +1,7 @@
 //! Writers in memory that fail after some bytes.
 
-ghost use Rattle.std.specs.Prelude.{◌≡◌, ◌≤◌, ◌<◌, ◌+◌, Some, [], length, min, IfOk, IsOk, OnErr, IsErr, if◌then◌else◌, is_ok, vec_len};
+ghost use Rattle.std.specs.Prelude.{◌≡◌, ◌≤◌, ◌<◌, ◌+◌, Some, [], length, min, IfOk};
+ghost use Rattle.std.specs.Prelude.{IsOk, OnErr, IsErr, if◌then◌else◌, is_ok, vec_len};
 ghost use Rattle.std.specs.Io.KnownBytes.{WriteAppends};
 ghost use Rattle.std.specs.Vec.{vec_capacity};
 ghost use Rattle.wire.specs.Scripts.{paced};
@@ -16,6 +17,7 @@ use std::alloc::Global;
 pub struct ScriptedWriter {
     /// The bytes that it took.
     pub taken: Vec<u8>,
+    /// How many bytes a call takes.
     pub pace: Pace,
     /// How many more bytes it takes.
     pub left: usize,

@@ -3,13 +3,13 @@ use Rattle.server.proofs.connection.serve_connection.Goals as goal
 
 pub returns-in-Ok-served-clause-visit : goal.returns-in-Ok-served-clause-visit
 returns-in-Ok-served-clause-visit g c =
-    let by = c.serve_by-served in
+    let by = c.serve_one-served in
     answered_visit _ _ g.S.Registry g.L.Writer.Sink.taken _ _ _ _ _ by.new.writer c.args.store.now by.new.registry _ _ _ _
     c.in-Ok.ensures.lawful c.in-Ok.ensures.ok c.end.ensures _ _ by.result c.in-Ok-served.is by.ensures.ok
 
 pub returns-in-Err-served-clause-visit : goal.returns-in-Err-served-clause-visit
 returns-in-Err-served-clause-visit g c =
-    let by = c.serve_by-served in
+    let by = c.serve_one-served in
     failed_visit _ _ g.S.Registry g.L.Writer.Sink.taken _ _ _ _ _ by.new.writer c.args.store.now by.new.registry _ _ _ _
     c.in-Ok.ensures.lawful c.in-Ok.ensures.ok c.end.ensures _ by.result c.in-Err-served.is by.ensures.write
     by.ensures.unwritten by.ensures.unchanged by.ensures.drawn

@@ -5,7 +5,7 @@ use Rattle.tables.proofs.Staying.{never_then, reads_then}
 use Rattle.tables.specs.Calls.{Never}
 use Rattle.krl.specs.declared.run.Run.{Run}
 use Rattle.krl.specs.Sets.{contains}
-use Rattle.store.specs.Revocations.{AreRevokedOf}
+use Rattle.office.specs.Listing.{AreRevocations}
 use Rattle.store.proofs.Histories.{shows_serials}
 use Rattle.store.proofs.Reading.{shows_then}
 use Rattle.store.proofs.listing.read_revocations.Goals as goal
@@ -18,7 +18,7 @@ returns-in-Ok-clause-shows g c clean =
     let still : HasCleanDisk mid = omega (arith, c.with_key_ids.ensures.survives.clean) in
     shows_then (λ s kept runs. (n : ℕ) → contains runs n ≡ s.revoked n)
     (λ s kept r. (r.serials ≡ c.in-Ok.serials) × (r.key_ids.items ≡ s.revoked_key_ids))
-    (λ s kept r. AreRevokedOf r s) old mid new c.in-Ok.serials c.with_key_ids.result Never
+    (λ s kept r. AreRevocations r s) old mid new c.in-Ok.serials c.with_key_ids.result Never
     c.revoked_runs.ensures.survives
     (λ o l r history first rest. record { serials = λ n. ap (λ (rs : List Run). contains rs n) rest.0 ∙ first n; key_ids = rest.1 })
     (shows_serials old mid (Ok c.in-Ok.serials) (c.in-Ok.ensures.shows still))

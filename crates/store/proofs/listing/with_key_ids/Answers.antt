@@ -2,7 +2,7 @@ use Rattle.std.proofs.Common.{◌≡◌, ℕ, List, Ok, Err, refl}
 use Rattle.std.specs.Prelude.{Vec}
 use Rattle.std.specs.declared.alloc.Global.{Global}
 use Rattle.sqlite.specs.Held.{state}
-use Rattle.store.specs.declared.revocations.Revocations.{Revocations}
+use Rattle.office.specs.declared.listing.Revocations.{Revocations}
 use Rattle.store.proofs.Reading.{shows_of, shows_office}
 use Rattle.store.proofs.listing.with_key_ids.Goals as goal
 

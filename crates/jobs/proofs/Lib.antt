@@ -1,0 +1,10 @@
+pub mod Applied
+pub mod Asking
+pub mod Bodies
+pub mod Carried
+pub mod Made
+pub mod Meeting
+pub mod Printed
+pub mod Reported
+pub mod Telling
+pub mod Told

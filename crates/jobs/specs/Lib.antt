@@ -1,0 +1,12 @@
+pub mod Faults
+pub mod Opening
+pub mod Applying
+pub mod Listing
+pub mod Reporting
+pub mod Making
+pub mod Jobs
+pub mod Ending
+pub mod Reading
+pub mod Serving
+pub mod Checking
+pub mod Trial

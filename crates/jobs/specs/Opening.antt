@@ -1,0 +1,37 @@
+-- A database opened as an office, and what faults leave.
+use Rattle.std.specs.Prelude.{◌≡◌, ℕ, List, IsTrue, Option, Ok, Err}
+use Rattle.sqlite.specs.State.{State}
+use Rattle.office.specs.declared.opening.Opening.{Opening}
+use Rattle.office.specs.declared.arrival.Arrival.{Arrival}
+use Rattle.office.specs.declared.fault.StoreFault.{StoreFault}
+use Rattle.office.specs.Faults.{IsOfARegister}
+use Rattle.tables.specs.declared.offices.OfficeRow.{OfficeRow}
+use Rattle.tables.specs.Contents.{HasOffices}
+use Rattle.rows.specs.Transactions.{IsAsBefore}
+use Rattle.migration.specs.Migrating.{IsExcused}
+use Rattle.store.specs.Meaning.{DiskFailed, Looks, Tells, opened_by}
+
+-- these tables tell each history that those told
+abbrev pub TellsOn : (old new : State) → Type 0
+TellsOn old new = (o : Opening) (l : List Arrival) → Tells old o l → Tells new o l
+
+-- The tables have the one row of an office of this schema. The connection is open, and nothing has changed.
+pub record IsOpened (old new : State) : Type 0 where
+  pub office : (rows : List OfficeRow) → HasOffices rows old.now → opened_by rows ≡ Ok tt
+  pub is_open : IsTrue new.is_open
+  pub before : IsAsBefore old new
+  pub tells : TellsOn old new
+
+-- For this fault it was not opened, and nothing has changed: the row says so, or the database failed.
+pub record IsUnopened (old new : State) (e : StoreFault) : Type 0 where
+  pub refused : (rows : List OfficeRow) → HasOffices rows old.now → Looks rows (DiskFailed old new) (Err e)
+  pub only : IsTrue old.is_open → (o : Opening) (l : List Arrival) → Tells old o l → IsExcused (DiskFailed old new) e
+  pub before : IsAsBefore old new
+  pub tells : TellsOn old new
+
+-- This fault was met before anything was printed. The tables tell what they told, and of those that told a history it
+-- is want of memory or `Device`.
+pub record IsLeft (old new : State) (held holds : Option (List ℕ)) (e : StoreFault) : Type 0 where
+  pub unprinted : holds ≡ held
+  pub tells : TellsOn old new
+  pub only : IsTrue old.is_open → (o : Opening) (l : List Arrival) → Tells old o l → IsOfARegister e

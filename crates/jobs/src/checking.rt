@@ -1,0 +1,45 @@
+//! A list asked about a certificate.
+
+ghost use Rattle.std.specs.Prelude.{◌≡◌, ℕ, Err, IfErr, IfSome, OnOk};
+ghost use Rattle.std.specs.Io.KnownBytes.{Appends};
+ghost use Rattle.krl.specs.Faults.{FirstFault};
+ghost use Rattle.krl.specs.declared.fault.KrlFault.{KrlFault};
+ghost use Rattle.jobs.specs.Checking.{Checks, verdict_text};
+
+use crate::fault::JobFault;
+use crate::output::write_out;
+use crate::reading::read_list;
+use std::alloc::Global;
+use std::io::{Read, Write};
+
+fn print_verdict<W: Write>(out: &mut W, revoked: bool) -> Result<(), JobFault>
+    ensures ok { OnOk result (Appends (W.contents out.old) (W.contents out.new) (verdict_text revoked)) }
+    ensures only { IfErr result (λ e. e ≡ JobFault.Write) }
+{
+    let verdict = if revoked { "revoked\n" } else { "clear\n" };
+    write_out(out, verdict.as_bytes())
+}
+
+/// Prints whether the list that a reader gives revokes the certificate of this serial and key id, under this CA.
+pub fn check_list<R: Read + Drop, W: Write>(
+    alloc: Global,
+    ca: &[u8; 32],
+    list: R,
+    serial: u64,
+    key_id: &[u8],
+    out: &mut W,
+) -> Result<(), JobFault>
+    // What is printed is the verdict of the list.
+    ensures ok { OnOk result (IfSome (R.remaining list) (λ bytes. Checks bytes ca.now serial key_id.now
+        (W.contents out.old) (W.contents out.new))) }
+
+    // The bytes are no list, and this is their first fault from the left.
+    ensures fault { (f : KrlFault) → result ≡ Err (JobFault.List f)
+        → IfSome (R.remaining list) (λ bytes. FirstFault bytes f) }
+{
+    let bytes = read_list(alloc, list)?;
+    match krl::check(bytes.as_slice(), ca, serial, key_id) {
+        Ok(revoked) => print_verdict(out, revoked),
+        Err(fault) => Err(JobFault::from(fault)),
+    }
+}

@@ -1,0 +1,83 @@
+//! What is asked of the office in a database, and its doing.
+
+ghost use Rattle.jobs.specs.Jobs.{Does, IsLawful};
+ghost use Rattle.tables.specs.Honest.{IsOutside, IsUnlimited, On};
+
+use crate::applying::apply_over;
+use crate::fault::JobFault;
+use crate::founding::make_over;
+use crate::listing::list_over;
+use crate::migrating::migrate_over;
+use crate::reporting::{Report, report_over};
+use office::Opening;
+use sqlite::{Alter, Connection};
+use std::alloc::Global;
+use std::io::Write;
+use web::Exchange;
+
+/// What is asked of the office in a database.
+#[derive(Clone, Copy)]
+pub enum OfficeJob<'a> {
+    /// Makes an office in a new database.
+    Init(&'a Opening),
+    /// Runs exchanges and prints the answers.
+    Apply(&'a [Exchange]),
+    /// Prints the revocation list.
+    Krl,
+    /// Prints the allowed signers.
+    Signers,
+    /// Prints the table of certificates.
+    Table,
+    /// Brings a database of schema 1 to schema 2.
+    Migrate,
+}
+
+/// What a job came to, with the connection and the output that it was given.
+pub struct Done<S: Alter, W> {
+    /// Whether it was done.
+    pub outcome: Result<(), JobFault>,
+    /// The connection.
+    pub conn: Connection<S>,
+    /// The output.
+    pub out: W,
+}
+
+/// Does a job over the connection to its database. No transaction may be open, and queries may have no limit on their
+/// steps.
+pub fn do_on<S: Alter, W: Write>(
+    alloc: Global,
+    conn: Connection<S>,
+    job: &OfficeJob<'_>,
+    out: W,
+) -> Done<S, W>
+    requires outside { IsOutside S.Store conn }
+    requires unlimited { IsUnlimited S.Store conn }
+    requires lawful { IsLawful job.now }
+    ensures { On S.Store (λ old new. Does job.now old new (W.contents out) (W.contents result.out))
+        conn result.conn result.outcome }
+{
+    let mut out = out;
+    match job {
+        OfficeJob::Init(opening) => {
+            let (outcome, conn) = make_over(alloc, conn, opening);
+            Done { outcome, conn, out }
+        }
+        OfficeJob::Apply(exchanges) => {
+            let (outcome, conn) = apply_over(alloc, conn, exchanges, &mut out);
+            Done { outcome, conn, out }
+        }
+        OfficeJob::Krl => list_over(alloc, conn, out),
+        OfficeJob::Signers => {
+            let (outcome, conn) = report_over(alloc, conn, Report::Signers, &mut out);
+            Done { outcome, conn, out }
+        }
+        OfficeJob::Table => {
+            let (outcome, conn) = report_over(alloc, conn, Report::Table, &mut out);
+            Done { outcome, conn, out }
+        }
+        OfficeJob::Migrate => {
+            let (outcome, conn) = migrate_over(alloc, conn);
+            Done { outcome, conn, out }
+        }
+    }
+}

@@ -1,0 +1,36 @@
+//! The jobs of the program, over any connection, output, reader and listener.
+//!
+//! `do_on` does what is asked of the office in a database, from the connection as it is given to that which is handed
+//! back: it makes an office, applies exchanges, prints the list or a report, or moves tables. `finish` then prints what
+//! is told once the database is closed, and `closed` keeps a fault of the job or tells one of the closing. `serve_over`
+//! serves an office, and `check_list` asks a list about a certificate. What is left to a program is to open and to
+//! close files, databases and sockets.
+#![tactic(auto)]
+
+mod applying;
+mod checking;
+mod ending;
+mod fault;
+mod founding;
+mod job;
+mod listing;
+mod migrating;
+mod opening;
+mod output;
+mod reading;
+mod reporting;
+mod served;
+
+pub use applying::{apply_over, apply_to_trial};
+pub use checking::check_list;
+pub use ending::{closed, database_fault, finish, flushed, status_of, test_ended};
+pub use fault::JobFault;
+pub use founding::{Founding, make_over, opening_of};
+pub use job::{Done, OfficeJob, do_on};
+pub use listing::list_over;
+pub use migrating::migrate_over;
+pub use opening::open_office;
+pub use output::write_out;
+pub use reading::{file_fault, read_exchanges_from, read_key, read_list};
+pub use reporting::{Report, report_over};
+pub use served::{serve_at_port, serve_over};

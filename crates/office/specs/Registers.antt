@@ -1,0 +1,31 @@
+-- What a call does to the office that a register means.
+use Rattle.std.specs.Prelude.{List, [], ◌∷◌, ◌++◌, IfOk, IfErr, Result}
+use Rattle.office.specs.declared.opening.Opening.{Opening}
+use Rattle.office.specs.declared.arrival.Arrival.{Arrival}
+use Rattle.office.specs.declared.fault.StoreFault.{StoreFault}
+use Rattle.office.specs.Faults.{IsOfARegister}
+
+-- so it is of each office and history that the register means
+abbrev pub WhereMeant : {S : Type 0} → (means : S → Opening → List Arrival → Type 0) → S
+    → (Opening → List Arrival → Type 0) → Type 0
+WhereMeant means old P = (o : Opening) (l : List Arrival) → means old o l → P o l
+
+-- whatever office and history the register meant before, the answer is so of these
+abbrev pub AnswersBy : {S X E : Type 0} → (means : S → Opening → List Arrival → Type 0) → S → Result X E
+    → (Opening → List Arrival → X → Type 0) → Type 0
+AnswersBy means old result P = IfOk result (λ x. (o : Opening) (l : List Arrival) → means old o l → P o l x)
+
+-- the register means what it meant before
+abbrev pub MeansTheSame : {S : Type 0} → (means : S → Opening → List Arrival → Type 0) → (old new : S) → Type 0
+MeansTheSame means old new = (o : Opening) (l : List Arrival) → means old o l → means new o l
+
+-- the register means what it meant before, and this arrival at the end
+abbrev pub MeansOneMore : {S : Type 0} → (means : S → Opening → List Arrival → Type 0) → Arrival → (old new : S)
+    → Type 0
+MeansOneMore means arrival old new = (o : Opening) (l : List Arrival) → means old o l → means new o (l ++ arrival ∷ [])
+
+-- a register that meant a history fails for want of memory or for a failure of the database, and for nothing else
+abbrev pub FailsAsARegister : {S X : Type 0} → (means : S → Opening → List Arrival → Type 0) → S → Result X StoreFault
+    → Type 0
+FailsAsARegister means old result =
+    IfErr result (λ e. (o : Opening) (l : List Arrival) → means old o l → IsOfARegister e)

@@ -1,0 +1,8 @@
+-- What words that ask for no job are answered with.
+use Rattle.words.specs.declared.fault.WordsFault.{WordsFault}
+use Rattle.words.specs.declared.fault.WordsFault.TheVariants.{BadWords}
+
+-- they have a mistake
+abbrev pub IsOfBadWords : WordsFault → Type 0
+IsOfBadWords (BadWords text) = Unit {0}
+IsOfBadWords other = ⊥

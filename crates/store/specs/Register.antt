@@ -1,0 +1,54 @@
+-- What becomes of a connection that a register is made of, with or without success.
+use Rattle.std.specs.Prelude.{[], List, IsTrue}
+use Rattle.sqlite.specs.State.{State}
+use Rattle.office.specs.declared.opening.Opening.{Opening}
+use Rattle.office.specs.declared.arrival.Arrival.{Arrival}
+use Rattle.office.specs.declared.fault.StoreFault.{StoreFault}
+use Rattle.tables.specs.Contents.{Contents}
+use Rattle.rows.specs.Transactions.{Has, Rests}
+use Rattle.migration.specs.Former.{Had, TellsBefore, migrated}
+use Rattle.migration.specs.Migrating.{IsExcused}
+use Rattle.store.specs.Meaning.{DiskFailed, IsBlank, IsHistory, Tells}
+
+-- the connection is open
+abbrev pub IsLeftOpen : State → State → Type 0
+IsLeftOpen old new = IsTrue new.is_open
+
+-- ---- a new office
+
+-- an empty database tells the opening, with nothing after it
+abbrev pub Founds : Opening → State → State → Type 0
+Founds opening old new = IsBlank old → Tells new opening []
+
+-- a database that was empty still is, where the connection is open
+abbrev pub StaysBlank : State → State → Type 0
+StaysBlank old new = IsBlank old → IsTrue new.is_open → IsBlank new
+
+-- of an empty database this fault is want of memory, or a failure of the disk
+abbrev pub IsExcusedOfBlank : State → State → StoreFault → Type 0
+IsExcusedOfBlank old new e = IsBlank old → IsExcused (DiskFailed old new) e
+
+-- ---- an office that is there
+
+-- of tables that tell a history this fault is want of memory, or a failure of the disk
+abbrev pub IsExcusedOfHistory : State → State → StoreFault → Type 0
+IsExcusedOfHistory old new e = (o : Opening) (l : List Arrival) → Tells old o l → IsExcused (DiskFailed old new) e
+
+-- ---- an office of schema 1
+
+-- the tables tell each history that they told in schema 1
+abbrev pub CarriesOn : State → State → Type 0
+CarriesOn old new = (o : Opening) (l : List Arrival) → IsHistory o l → TellsBefore old o l → Tells new o l
+
+-- the tables tell in schema 1 each history that they told so
+abbrev pub KeepsTellingBefore : State → State → Type 0
+KeepsTellingBefore old new = (o : Opening) (l : List Arrival) → TellsBefore old o l → TellsBefore new o l
+
+-- of tables of schema 1 that tell a history this fault is want of memory, or a failure of the disk
+abbrev pub IsExcusedOfFormer : State → State → StoreFault → Type 0
+IsExcusedOfFormer old new e =
+    (o : Opening) (l : List Arrival) → IsHistory o l → TellsBefore old o l → IsExcused (DiskFailed old new) e
+
+-- the tables of schema 1 become those of schema 2, row by row
+abbrev pub Moves : State → State → Type 0
+Moves old new = (c : Contents) → Rests (Had c) old → Rests (Has (migrated c)) new

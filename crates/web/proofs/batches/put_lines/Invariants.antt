@@ -1,0 +1,8 @@
+use Rattle.std.proofs.Common.{◌≡◌, ◌++◌, take}
+use Rattle.std.specs.List.{flat_map}
+use Rattle.web.specs.Batches.{line_among}
+use Rattle.web.proofs.batches.put_lines.Given as goal
+
+abbrev pub invariant-loop-certificate : goal.invariant-loop-certificate
+invariant-loop-certificate l =
+    l.out.items ≡ l.fn.out.items ++ flat_map (line_among l.report l.revocations) (take l.certificate-index l.certificates)

@@ -1,0 +1,20 @@
+use Rattle.std.proofs.Common.{ap}
+use Rattle.krl.specs.declared.krl_head.KrlHead.{KrlHead}
+use Rattle.office.specs.History.{state}
+use Rattle.web.specs.Reports.{table_report}
+use Rattle.web.proofs.Reported.{shows_report, whole_table}
+use Rattle.web.proofs.report.to_table.Goals as goal
+
+pub returns-clause-row : goal.returns-clause-row
+returns-clause-row g c h =
+    let second = c.table_beside.ensures.honest h in
+    let first = c.revocations.ensures.honest second in
+    let r = c.in_ok-revocations.revocations in
+    shows_report c.around.result c.in_ok-report.report.items table_report (g.R.Registry.means c.args.registry.now)
+    (λ o l m.
+    let found = c.revoked.ensures.same first o l m in
+    let version = ap (λ (head : KrlHead). head.version) (c.in_ok-version.ensures.row first o l m).head in
+    whole_table r (state o l) (c.in_ok-revocations.ensures.row second o l found) c.in_ok-version.field-0.head.version
+    c.in_ok-report.report.items version
+    (c.in_ok-report.ensures.row h o l (c.revocations.ensures.same second o l found)))
+    c.around.ensures.ok
