@@ -12,8 +12,8 @@ use Rattle.std.proofs.lemmas.Slice.Eq.{bytes_eq-Decides}
 use Rattle.std.proofs.lemmas.Map.Text.{is_eq-slice_cmp}
 use Rattle.std.proofs.lemmas.Map.Made.{length-le_from_is_member}
 use Rattle.text.specs.declared.pair.Pair.{Pair}
-use Rattle.profile.specs.Options.{is_known, known_names}
-use Rattle.profile.specs.declared.option_field.OptionField.{OptionField}
+use Rattle.values.specs.Options.{is_known, known_names}
+use Rattle.values.specs.declared.option_field.OptionField.{OptionField}
 use Rattle.cert.specs.Options.{comes_before, is_ascending, is_option}
 
 -- the names of the pairs

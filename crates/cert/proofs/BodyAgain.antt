@@ -8,9 +8,9 @@ use Rattle.wire.specs.Texts.{u32_text, u64_text, string_text}
 use Rattle.wire.proofs.Laws.{wide32, wide64, number_again, string_again}
 use Rattle.lines.specs.Keys.{key_blob}
 use Rattle.lines.proofs.Blobs.{length-key_blob, key_of_again}
-use Rattle.profile.specs.declared.option_field.OptionField.TheVariants.{CriticalOptions, Extensions}
+use Rattle.values.specs.declared.option_field.OptionField.TheVariants.{CriticalOptions, Extensions}
 use Rattle.cert.specs.Options.{options_text}
-use Rattle.profile.proofs.SerialLemmas.{serial_small}
+use Rattle.values.proofs.SerialLemmas.{serial_small}
 use Rattle.cert.specs.Bodies.{IsCertFields, cert_type, kind_number, principals_text, front, body_text, is_validity}
 use Rattle.cert.specs.Reading.{type_at, bytes_32_at, serial_at, kind_at, key_id_at, principals_at}
 use Rattle.cert.specs.Reading.{validity_at, options_at, reserved_at, ca_at, body_at}

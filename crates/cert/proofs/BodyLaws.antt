@@ -9,7 +9,7 @@ use Rattle.wire.proofs.Laws.{IsBytes, string_takes}
 use Rattle.lines.specs.Keys.{key_blob, key_of}
 use Rattle.cert.specs.Options.{options_text}
 use Rattle.lines.proofs.Blobs.{key_of_found}
-use Rattle.profile.specs.declared.option_field.OptionField.TheVariants.{CriticalOptions, Extensions}
+use Rattle.values.specs.declared.option_field.OptionField.TheVariants.{CriticalOptions, Extensions}
 use Rattle.cert.specs.Bodies.{IsCertFields, cert_type, front, body_text, is_validity, principals_text}
 use Rattle.cert.specs.Reading.{
   ◌>>=◌,

@@ -9,8 +9,8 @@ use Rattle.wire.specs.Reading.{u32_at, u64_at, string_at}
 use Rattle.wire.proofs.Laws.{IsBytes, wide32, wide64, number_takes, string_takes}
 use Rattle.lines.specs.Keys.{key_blob, key_of}
 use Rattle.lines.proofs.Blobs.{key_of_found, key_of_again}
-use Rattle.profile.specs.Names.{is_key_id}
-use Rattle.profile.specs.declared.option_field.OptionField.TheVariants.{CriticalOptions, Extensions}
+use Rattle.values.specs.Names.{is_key_id}
+use Rattle.values.specs.declared.option_field.OptionField.TheVariants.{CriticalOptions, Extensions}
 use Rattle.cert.specs.Options.{is_options, options_text}
 use Rattle.cert.specs.Bodies.{IsCertFields, are_principals, kind_number}
 use Rattle.cert.specs.Bodies.{principals_text, front, body_text, is_validity}

@@ -8,7 +8,7 @@ use Rattle.std.proofs.lemmas.Slice.Eq.{bytes_eq-Decides}
 use Rattle.wire.specs.Texts.{u64_text, string_text}
 use Rattle.wire.specs.Reading.{u64_at}
 use Rattle.wire.proofs.Laws.{IsBytes, wide64, number_takes}
-use Rattle.profile.specs.Serials.{is_serial}
+use Rattle.values.specs.Serials.{is_serial}
 use Rattle.cert.specs.Bodies.{IsCertFields, cert_type}
 use Rattle.cert.specs.Bodies.{front}
 use Rattle.cert.specs.Reading.{type_at, bytes_32_at, serial_at}

@@ -4,7 +4,7 @@ use Rattle.std.proofs.Common.{◌++◌, Option, Some, None, refl, sym, ap, ◌�
 use Rattle.std.specs.Option.{option_map}
 use Rattle.text.specs.declared.pair.Pair.{Pair}
 use Rattle.wire.specs.Reading.{string_at}
-use Rattle.profile.specs.declared.option_field.OptionField.{OptionField}
+use Rattle.values.specs.declared.option_field.OptionField.{OptionField}
 use Rattle.cert.specs.Reading.{strings_within, options_within, pair_at, comes_next}
 
 -- what was read so far, before what is read of the rest

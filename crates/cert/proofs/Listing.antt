@@ -16,12 +16,12 @@ use Rattle.std.proofs.lemmas.List.Sums.{fold_push}
 use Rattle.std.proofs.lemmas.Map.Text.{is_eq-slice_cmp}
 use Rattle.text.specs.declared.pair.Pair.{Pair}
 use Rattle.lines.proofs.Cases.{or_order}
-use Rattle.profile.specs.Options.{is_known, is_option_value}
-use Rattle.profile.specs.declared.option_field.OptionField.{OptionField}
+use Rattle.values.specs.Options.{is_known, is_option_value}
+use Rattle.values.specs.declared.option_field.OptionField.{OptionField}
 use Rattle.cert.specs.declared.option_fault.OptionFault.{OptionFault}
 use Rattle.cert.specs.declared.option_fault.OptionFault.TheVariants.{NotForHosts, Unknown, Twice, BadValue, NoMemory}
-use Rattle.profile.specs.declared.kind.Kind.{Kind}
-use Rattle.profile.specs.declared.kind.Kind.TheVariants.{User, Host}
+use Rattle.values.specs.declared.kind.Kind.{Kind}
+use Rattle.values.specs.declared.kind.Kind.TheVariants.{User, Host}
 use Rattle.std.proofs.lemmas.List.{take_more}
 use Rattle.cert.specs.Options.{comes_before, is_ascending, with_pair, listing, is_option, is_options, are_for_kind}
 use Rattle.cert.specs.OptionFaults.{pair_fault, first_fault, options_fault, fault_answered}

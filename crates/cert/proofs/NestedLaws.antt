@@ -14,10 +14,10 @@ use Rattle.text.specs.declared.pair.Pair.{Pair}
 use Rattle.wire.specs.Texts.{u32_text, string_text}
 use Rattle.wire.specs.Reading.{string_at}
 use Rattle.wire.proofs.Laws.{IsBytes, string_takes, string_again}
-use Rattle.profile.specs.Lists.{are_distinct}
-use Rattle.profile.specs.Names.{is_principal}
-use Rattle.profile.specs.Options.{is_flag, is_command, is_option_value}
-use Rattle.profile.specs.Networks.{are_networks}
+use Rattle.values.specs.Lists.{are_distinct}
+use Rattle.values.specs.Names.{is_principal}
+use Rattle.values.specs.Options.{is_flag, is_command, is_option_value}
+use Rattle.values.specs.Networks.{are_networks}
 use Rattle.cert.specs.Options.{option_data, option_text}
 use Rattle.cert.specs.Bodies.{are_principals, principals_text}
 use Rattle.cert.specs.Reading.{strings_within, principals_of, value_of, pair_of, pair_at}

@@ -22,14 +22,14 @@ use Rattle.std.specs.Str.{bytes_eq}
 use Rattle.std.proofs.lemmas.Fmt.{length-decimal-le}
 use Rattle.std.proofs.lemmas.List.Splits.{join_with_byte-slice_split}
 use Rattle.std.proofs.lemmas.List.{length-take, length-map}
-use Rattle.profile.specs.Decimals.{is_number_below, number_of}
-use Rattle.profile.proofs.DecimalLemmas.{decimal_below, value_below, number_found}
-use Rattle.profile.specs.Names.{is_key_id, is_key_id_end, is_name, is_principal, has_size, department_of}
-use Rattle.profile.specs.Networks.{is_network, are_networks, are_octets, address_of, is_block}
-use Rattle.profile.specs.Options.{is_option_value, is_known, is_flag, is_command, known_names}
-use Rattle.profile.specs.declared.option_field.OptionField.TheVariants.{CriticalOptions, Extensions}
-use Rattle.profile.specs.declared.kind.Kind.{Kind}
-use Rattle.profile.specs.declared.option_field.OptionField.{OptionField}
+use Rattle.values.specs.Decimals.{is_number_below, number_of}
+use Rattle.values.proofs.DecimalLemmas.{decimal_below, value_below, number_found}
+use Rattle.values.specs.Names.{is_key_id, is_key_id_end, is_name, is_principal, has_size, department_of}
+use Rattle.values.specs.Networks.{is_network, are_networks, are_octets, address_of, is_block}
+use Rattle.values.specs.Options.{is_option_value, is_known, is_flag, is_command, known_names}
+use Rattle.values.specs.declared.option_field.OptionField.TheVariants.{CriticalOptions, Extensions}
+use Rattle.values.specs.declared.kind.Kind.{Kind}
+use Rattle.values.specs.declared.option_field.OptionField.{OptionField}
 use Rattle.text.specs.declared.pair.Pair.{Pair}
 use Rattle.wire.specs.Texts.{string_text}
 use Rattle.cert.specs.Options.{

@@ -4,11 +4,11 @@ use Rattle.std.specs.Str.{bytes_eq}
 use Rattle.text.specs.declared.pair.Pair.{Pair}
 use Rattle.wire.specs.Reading.{u32_at, u64_at, string_at}
 use Rattle.lines.specs.Keys.{key_of}
-use Rattle.profile.specs.Names.{is_key_id}
-use Rattle.profile.specs.declared.kind.Kind.{Kind}
-use Rattle.profile.specs.declared.option_field.OptionField.{OptionField}
-use Rattle.profile.specs.declared.option_field.OptionField.TheVariants.{CriticalOptions, Extensions}
-use Rattle.profile.specs.Serials.{is_serial}
+use Rattle.values.specs.Names.{is_key_id}
+use Rattle.values.specs.declared.kind.Kind.{Kind}
+use Rattle.values.specs.declared.option_field.OptionField.{OptionField}
+use Rattle.values.specs.declared.option_field.OptionField.TheVariants.{CriticalOptions, Extensions}
+use Rattle.values.specs.Serials.{is_serial}
 use Rattle.cert.specs.Bodies.{cert_type, is_validity}
 use Rattle.cert.specs.Reading.{◌>>=◌, check, kind_of, principals_of, options_of, field_fault}
 use Rattle.cert.specs.Reading.{type_at, bytes_32_at, serial_at, kind_at, key_id_at, principals_at}

@@ -20,12 +20,12 @@ use Rattle.std.specs.Prelude.{
 use Rattle.std.specs.List.{flat_map, list_all}
 use Rattle.wire.specs.Texts.{u32_text, u64_text, string_text}
 use Rattle.lines.specs.Keys.{key_blob}
-use Rattle.profile.specs.Names.{is_principal, is_key_id}
-use Rattle.profile.specs.Lists.{are_distinct}
-use Rattle.profile.specs.Serials.{is_serial}
-use Rattle.profile.specs.declared.kind.Kind.{Kind}
-use Rattle.profile.specs.declared.kind.Kind.TheVariants.{User, Host}
-use Rattle.profile.specs.declared.option_field.OptionField.TheVariants.{CriticalOptions, Extensions}
+use Rattle.values.specs.Names.{is_principal, is_key_id}
+use Rattle.values.specs.Lists.{are_distinct}
+use Rattle.values.specs.Serials.{is_serial}
+use Rattle.values.specs.declared.kind.Kind.{Kind}
+use Rattle.values.specs.declared.kind.Kind.TheVariants.{User, Host}
+use Rattle.values.specs.declared.option_field.OptionField.TheVariants.{CriticalOptions, Extensions}
 use Rattle.cert.specs.Options.{is_options, options_text}
 use Rattle.cert.specs.declared.fields.CertFields.{CertFields}
 

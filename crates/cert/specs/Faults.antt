@@ -20,12 +20,12 @@ use Rattle.std.specs.Prelude.{
 }
 use Rattle.wire.specs.Reading.{u32_at, u64_at, string_at}
 use Rattle.lines.specs.Keys.{key_blob}
-use Rattle.profile.specs.Names.{is_key_id}
-use Rattle.profile.specs.declared.kind.Kind.{Kind}
-use Rattle.profile.specs.declared.option_field.OptionField.TheVariants.{CriticalOptions, Extensions}
+use Rattle.values.specs.Names.{is_key_id}
+use Rattle.values.specs.declared.kind.Kind.{Kind}
+use Rattle.values.specs.declared.option_field.OptionField.TheVariants.{CriticalOptions, Extensions}
 use Rattle.text.specs.declared.pair.Pair.{Pair}
 use Rattle.cert.specs.Options.{is_options, options_text}
-use Rattle.profile.specs.Serials.{is_serial}
+use Rattle.values.specs.Serials.{is_serial}
 use Rattle.cert.specs.Bodies.{
   IsCertFields,
   cert_type,

@@ -4,9 +4,9 @@ use Rattle.std.specs.List.{list_any}
 use Rattle.std.specs.Option.{option_or}
 use Rattle.std.specs.Str.{bytes_eq}
 use Rattle.text.specs.declared.pair.Pair.{Pair}
-use Rattle.profile.specs.Options.{is_known, is_option_value}
-use Rattle.profile.specs.declared.kind.Kind.{Kind}
-use Rattle.profile.specs.declared.option_field.OptionField.{OptionField}
+use Rattle.values.specs.Options.{is_known, is_option_value}
+use Rattle.values.specs.declared.kind.Kind.{Kind}
+use Rattle.values.specs.declared.option_field.OptionField.{OptionField}
 use Rattle.cert.specs.Options.{are_for_kind}
 use Rattle.cert.specs.declared.option_fault.OptionFault.{OptionFault}
 use Rattle.cert.specs.declared.option_fault.OptionFault.TheVariants.{NotForHosts, Unknown, Twice, BadValue, NoMemory}

@@ -6,10 +6,10 @@ use Rattle.std.specs.Ordering.{match_ordering, is_lt, nat_cmp}
 use Rattle.std.specs.Cmp.Lexicographic.{slice_cmp}
 use Rattle.text.specs.declared.pair.Pair.{Pair}
 use Rattle.wire.specs.Texts.{string_text}
-use Rattle.profile.specs.Options.{is_known, is_flag, is_option_value}
-use Rattle.profile.specs.declared.kind.Kind.{Kind}
-use Rattle.profile.specs.declared.kind.Kind.TheVariants.{User, Host}
-use Rattle.profile.specs.declared.option_field.OptionField.{OptionField}
+use Rattle.values.specs.Options.{is_known, is_flag, is_option_value}
+use Rattle.values.specs.declared.kind.Kind.{Kind}
+use Rattle.values.specs.declared.kind.Kind.TheVariants.{User, Host}
+use Rattle.values.specs.declared.option_field.OptionField.{OptionField}
 
 -- whether a name stands before another, byte by byte
 abbrev pub comes_before : List ℕ → List ℕ → Bool

@@ -26,15 +26,15 @@ use Rattle.std.specs.Str.{bytes_eq}
 use Rattle.text.specs.declared.pair.Pair.{Pair}
 use Rattle.wire.specs.Reading.{u32_at, u64_at, string_at}
 use Rattle.lines.specs.Keys.{key_of}
-use Rattle.profile.specs.Lists.{are_distinct}
-use Rattle.profile.specs.Names.{is_key_id, is_principal}
-use Rattle.profile.specs.Options.{is_flag}
-use Rattle.profile.specs.declared.kind.Kind.{Kind}
-use Rattle.profile.specs.declared.kind.Kind.TheVariants.{User, Host}
-use Rattle.profile.specs.declared.option_field.OptionField.{OptionField}
-use Rattle.profile.specs.declared.option_field.OptionField.TheVariants.{CriticalOptions, Extensions}
+use Rattle.values.specs.Lists.{are_distinct}
+use Rattle.values.specs.Names.{is_key_id, is_principal}
+use Rattle.values.specs.Options.{is_flag}
+use Rattle.values.specs.declared.kind.Kind.{Kind}
+use Rattle.values.specs.declared.kind.Kind.TheVariants.{User, Host}
+use Rattle.values.specs.declared.option_field.OptionField.{OptionField}
+use Rattle.values.specs.declared.option_field.OptionField.TheVariants.{CriticalOptions, Extensions}
 use Rattle.cert.specs.Options.{comes_before, is_option}
-use Rattle.profile.specs.Serials.{is_serial}
+use Rattle.values.specs.Serials.{is_serial}
 use Rattle.cert.specs.Bodies.{cert_type, is_validity}
 use Rattle.cert.specs.declared.fields.CertFields.{CertFields}
 use Rattle.cert.specs.declared.cert_fault.CertFault.{CertFault}

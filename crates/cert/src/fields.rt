@@ -1,8 +1,8 @@
 //! The fields of a certificate.
 
 use crate::options::Options;
-use profile::Kind;
 use text::{Text, Texts};
+use values::Kind;
 
 /// The fields of a certificate that its body holds (PROTOCOL.certkeys, ssh-ed25519-cert-v01@openssh.com).
 #[derive(Debug, Drop)]

@@ -3,7 +3,7 @@
 ghost use Rattle.std.specs.Prelude.{◌≡◌, ◌==◌, [], length, if◌then◌else◌, option_and_then, option_copied};
 ghost use Rattle.std.specs.Option.{option_map};
 ghost use Rattle.wire.specs.Reading.{string_at};
-ghost use Rattle.profile.specs.Names.{is_principal};
+ghost use Rattle.values.specs.Names.{is_principal};
 ghost use Rattle.cert.specs.declared.cert_fault.CertFault.TheVariants.{BadPrincipals};
 ghost use Rattle.cert.specs.Options.{is_option};
 ghost use Rattle.cert.specs.Reading.{
@@ -23,12 +23,12 @@ ghost use Rattle.cert.specs.Reading.{
 
 use crate::cert_fault::CertFault;
 use crate::options::comes_before;
-use profile::{
+use std::alloc::Global;
+use text::{Pair, Pairs, Text, Texts};
+use values::{
     Kind, MOST_PRINCIPALS, OptionField, are_distinct, is_flag, is_known, is_option_value,
     is_principal,
 };
-use std::alloc::Global;
-use text::{Pair, Pairs, Text, Texts};
 use wire::Cursor;
 
 // As many strings as a certificate may have principals.

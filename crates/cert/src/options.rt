@@ -8,11 +8,11 @@ ghost use Rattle.cert.specs.Options.{comes_before, is_ascending, is_options, lis
 ghost use Rattle.cert.specs.OptionFaults.{pair_fault, first_fault, options_fault, fault_answered};
 
 use crate::option_fault::OptionFault;
-use profile::{Kind, OptionField, is_known, is_option_value};
 use std::alloc::Global;
 use std::cmp::Ordering;
 use std::marker::Model;
 use text::{NoMemory, Pair, Pairs};
+use values::{Kind, OptionField, is_known, is_option_value};
 
 /// A field of critical options or of extensions. Contracts see it as its pairs, strictly ascending by name.
 #[derive(Debug, Drop)]

@@ -27,9 +27,9 @@ use crate::fields::CertFields;
 use crate::nested::{options_in, principals_in};
 use crate::options::Options;
 use lines::read_key_blob;
-use profile::{Kind, LATEST_MOMENT, OptionField, is_key_id, is_serial};
 use std::alloc::Global;
 use text::{Text, Texts};
+use values::{Kind, LATEST_MOMENT, OptionField, is_key_id, is_serial};
 use wire::Cursor;
 
 #[tactic(auto, unfolding(crate::specs::Reading::type_at))]

@@ -8,9 +8,9 @@ ghost use Rattle.cert.specs.Bodies.{IsCertFields, body_text, kind_number, princi
 
 use crate::fields::CertFields;
 use lines::key_blob_of;
-use profile::{Kind, is_flag};
 use std::alloc::Global;
 use text::{NoMemory, Pair, Text};
+use values::{Kind, is_flag};
 use wire::{put_string, put_u32, put_u64};
 
 /// SSH_CERT_TYPE_USER and SSH_CERT_TYPE_HOST.

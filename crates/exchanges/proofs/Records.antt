@@ -14,9 +14,9 @@ use Rattle.std.proofs.lemmas.Slice.Eq.{bytes_eq-Decides}
 use Rattle.hex.specs.Hex.{IsBytes, decode_sized, encode_lower, is_hex_digit}
 use Rattle.hex.specs.declared.error.FromHexError.{FromHexError}
 use Rattle.hex.proofs.HexLemmas.{decode_of-encode_lower, decode_of-ok, decode_sized-encode_lower, decode_sized-ok, decode_sized-twice}
-use Rattle.profile.specs.Decimals.{is_number_below, number_of}
-use Rattle.profile.proofs.DecimalLemmas.{number_found, number_of-decimal, value_below}
-use Rattle.profile.proofs.Lacking.{Lacks, after_first-append, before_first-append, decimal_lacks}
+use Rattle.values.specs.Decimals.{is_number_below, number_of}
+use Rattle.values.proofs.DecimalLemmas.{number_found, number_of-decimal, value_below}
+use Rattle.values.proofs.Lacking.{Lacks, after_first-append, before_first-append, decimal_lacks}
 use Rattle.web.specs.declared.exchange.Exchange.{Exchange}
 use Rattle.exchanges.specs.declared.reading.TheConstants.{MAX_REQUEST}
 use Rattle.exchanges.specs.Exchanges.{IsExchange, exchange_text}

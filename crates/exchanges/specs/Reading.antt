@@ -6,7 +6,7 @@ use Rattle.std.specs.Option.{option_and_then}
 use Rattle.std.specs.Result.{result_ok}
 use Rattle.std.specs.Str.{bytes_eq}
 use Rattle.hex.specs.Hex.{decode_sized, encode_lower}
-use Rattle.profile.specs.Decimals.{number_of}
+use Rattle.values.specs.Decimals.{number_of}
 use Rattle.web.specs.declared.exchange.Exchange.{Exchange}
 use Rattle.exchanges.specs.declared.reading.Record.{Record}
 use Rattle.exchanges.specs.declared.reading.TheConstants.{MAX_REQUEST}

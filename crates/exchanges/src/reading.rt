@@ -26,9 +26,9 @@ ghost use Rattle.web.specs.declared.exchange.Exchange.{Exchange};
 ghost use Rattle.exchanges.specs.Reading.{after, cut_of, exchange_at, exchange_of, nonce_of, number_up_to, request_in};
 ghost use Rattle.exchanges.specs.Exchanges.{AreExchanges, IsFault, TellsOf, exchanges_text};
 
-use profile::read_decimal;
 use std::alloc::Global;
 use text::{NoMemory, Text};
+use values::read_decimal;
 use web::Exchange;
 
 /// The most records of a file.

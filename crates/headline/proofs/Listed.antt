@@ -6,8 +6,8 @@ use Rattle.std.specs.Io.KnownBytes.{Appends}
 use Rattle.krl.specs.declared.ca_part.CaPart.{CaPart}
 use Rattle.krl.specs.declared.krl_head.KrlHead.{KrlHead}
 use Rattle.krl.specs.Published.{fits, published_text}
-use Rattle.requests.specs.declared.resource.Resource.TheVariants.{RevocationList}
-use Rattle.requests.specs.Asks.{Ask, Asks, get}
+use Rattle.http_requests.specs.declared.resource.Resource.TheVariants.{RevocationList}
+use Rattle.http_requests.specs.Asks.{Ask, Asks, get}
 use Rattle.office.specs.declared.opening.Opening.{Opening}
 use Rattle.office.specs.declared.arrival.Arrival.{Arrival}
 use Rattle.office.specs.declared.publication.Revoked.{Revoked}
@@ -15,7 +15,7 @@ use Rattle.office.specs.Faults.{IsOfARegister}
 use Rattle.office.specs.Shows.{IsOffice}
 use Rattle.office.specs.Publication.{AreRevoked, head_of, published_parts}
 use Rattle.office.specs.History.{state}
-use Rattle.laws.specs.Lists.{AreExactList}
+use Rattle.office_laws.specs.Lists.{AreExactList}
 use Rattle.web.specs.declared.exchange.Exchange.{Exchange}
 use Rattle.web.specs.declared.exchange.Given.{Given}
 use Rattle.web.specs.declared.exchange.Given.TheVariants.{Answer, Fault}

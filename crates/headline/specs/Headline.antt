@@ -6,10 +6,10 @@ use Rattle.std.specs.declared.alloc.Global.{Global}
 use Rattle.sqlite.specs.State.{State}
 use Rattle.lines.specs.Keys.{key_blob}
 use Rattle.krl.specs.Format.{RevocationList, revokes}
-use Rattle.requests.specs.declared.resource.Resource.TheVariants.{RevocationList as the_list}
-use Rattle.requests.specs.declared.response.MediaType.TheVariants.{Bytes}
-use Rattle.requests.specs.Asks.{Ask, Asks, get}
-use Rattle.requests.specs.Responses.{response_text}
+use Rattle.http_requests.specs.declared.resource.Resource.TheVariants.{RevocationList as the_list}
+use Rattle.http_requests.specs.declared.response.MediaType.TheVariants.{Bytes}
+use Rattle.http_requests.specs.Asks.{Ask, Asks, get}
+use Rattle.http_requests.specs.Responses.{response_text}
 use Rattle.office.specs.declared.opening.Opening.{Opening}
 use Rattle.office.specs.declared.arrival.Arrival.{Arrival}
 use Rattle.office.specs.declared.ca.Ca.{Ca}
@@ -20,11 +20,11 @@ use Rattle.office.specs.Faults.{IsOfARegister}
 use Rattle.office.specs.State.{body_of, certificate_of}
 use Rattle.office.specs.Publication as publication
 use Rattle.office.specs.History.{state}
-use Rattle.laws.specs.Bodies.{IsBodyFor}
-use Rattle.laws.specs.Lists.{AreExactList, IsExact}
-use Rattle.laws.specs.Signers.{signer_of}
+use Rattle.office_laws.specs.Bodies.{IsBodyFor}
+use Rattle.office_laws.specs.Lists.{AreExactList, IsExact}
+use Rattle.office_laws.specs.Signers.{signer_of}
 use Rattle.store.specs.Arriving.{IsStopped}
-use Rattle.rows.specs.Transactions.{IsAsBefore}
+use Rattle.store_rows.specs.Transactions.{IsAsBefore}
 use Rattle.store.specs.Meaning.{HasFailed, KeepsTelling, Stores, Tells}
 use Rattle.web.specs.declared.exchange.Exchange.{Exchange}
 use Rattle.web.specs.declared.exchange.Given.{Given}

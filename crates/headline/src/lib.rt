@@ -16,13 +16,13 @@ ghost use Rattle.std.specs.Io.KnownBytes.{Appends};
 ghost use Rattle.krl.specs.Published.{fits, published_text};
 ghost use Rattle.sqlite.specs.Held.{state};
 ghost use Rattle.sqlite.specs.State.{HasCleanDisk};
-ghost use Rattle.tables.specs.Honest.{Between, On, StaysClean};
+ghost use Rattle.store_sql.specs.Honest.{Between, On, StaysClean};
 ghost use Rattle.office.specs.declared.opening.Opening.{Opening};
 ghost use Rattle.office.specs.declared.arrival.Arrival.{Arrival};
 ghost use Rattle.office.specs.Faults.{HasCause};
 ghost use Rattle.store.specs.Meaning.{HasFailed, KeepsTelling, StoresWhereOpen};
 ghost use Rattle.web.specs.Causes.{IsOfAList};
-ghost use Rattle.laws.specs.Counting.{CountsUp};
+ghost use Rattle.office_laws.specs.Counting.{CountsUp};
 ghost use Rattle.headline.specs.Headline.{AnswersDue, AnswersList, BodiesNameTheirSigners, BodiesStay};
 ghost use Rattle.headline.specs.Headline.{EqualVersionsAreEqualLists, FailsAsRegister, IsAsBeforeWhereOpen};
 ghost use Rattle.headline.specs.Headline.{KeepsTellingOnErr, ListsForgetNothing, OfStore, OfficeStops, PrintsDue};
@@ -78,11 +78,11 @@ pub fn replay<S: Alter, W: Write>(
     ensures bodies { BodiesStay }
     ensures signers { BodiesNameTheirSigners }
 {
-    laws::serials_count_up();
-    laws::a_body_stays();
-    laws::a_body_names_its_signer();
-    laws::the_list_is_exact();
-    requests::one_ask();
+    office_laws::serials_count_up();
+    office_laws::a_body_stays();
+    office_laws::a_body_names_its_signer();
+    office_laws::the_list_is_exact();
+    http_requests::one_ask();
     let printed = apply_exchanges(store, alloc, exchanges, out);
     what_is_open_is_stored(store);
     printed
@@ -120,10 +120,10 @@ pub fn respond<S: Alter>(
     ensures forgets { ListsForgetNothing }
     ensures versions { EqualVersionsAreEqualLists }
 {
-    laws::the_list_is_exact();
-    laws::a_later_list_revokes_as_much();
-    laws::equal_versions_are_equal_lists();
-    requests::one_ask();
+    office_laws::the_list_is_exact();
+    office_laws::a_later_list_revokes_as_much();
+    office_laws::equal_versions_are_equal_lists();
+    http_requests::one_ask();
     let response = answer(store, alloc, request, moment, nonce);
     what_is_open_is_stored(store);
     response
@@ -185,7 +185,7 @@ pub fn publish<S: Alter, W: Sink>(
     ensures cause { IfErr result (OfStore (λ e. HasCause e (HasFailed (state S.Store store.old.conn)
         (state S.Store store.new.conn)))) }
 {
-    laws::the_list_is_exact();
+    office_laws::the_list_is_exact();
     let found = store.revoked(alloc);
     what_is_open_is_stored(store);
     let revoked = found?;

@@ -1,7 +1,7 @@
 -- What is printed for a file, from what is given to its exchanges.
 use Rattle.std.proofs.Common.{◌≡◌, ℕ, List, [], ◌∷◌, Bool, Option, Result, Ok, Err, refl, sym, ap, subst, ◌∙◌}
 use Rattle.std.specs.Prelude.{IfSome, OnOk, Some, None}
-use Rattle.profile.specs.declared.limits.TheConstants.{LAST_SERIAL}
+use Rattle.values.specs.declared.limits.TheConstants.{LAST_SERIAL}
 use Rattle.office.specs.declared.opening.Opening.{Opening}
 use Rattle.office.specs.declared.arrival.Arrival.{Arrival}
 use Rattle.web.specs.declared.exchange.Exchange.{Exchange}

@@ -3,9 +3,9 @@ use Rattle.std.proofs.Common.{◌≡◌, ◌<◌, inr, ℕ, true, List, [], leng
 use Rattle.std.specs.List.{list_all}
 use Rattle.std.proofs.lemmas.List.Sums.{AllPass-from_list_all}
 use Rattle.httparse.specs.Grammar.{RequestHead, IsField, IsRequestHead, crlf, is_token_byte, is_uri_byte, print_request}
-use Rattle.requests.specs.declared.resource.Resource.TheVariants.{Signers, Table}
-use Rattle.requests.specs.Asks.{Asks, get}
-use Rattle.requests.specs.Paths.{resource}
+use Rattle.http_requests.specs.declared.resource.Resource.TheVariants.{Signers, Table}
+use Rattle.http_requests.specs.Asks.{Asks, get}
+use Rattle.http_requests.specs.Paths.{resource}
 
 -- GET of this target, without header lines
 abbrev head_of : List ℕ → RequestHead

@@ -2,9 +2,9 @@
 use Rattle.std.proofs.Common.{◌≡◌, ◌<◌, ◌^◌, ℕ, List, ◌∷◌, ◌++◌, length, codes, decimal, Option, Some, None, eqb, refl, ap, ◌∙◌, append_assoc, arith, length-append, option_map}
 use Rattle.std.specs.List.{after_first, before_first}
 use Rattle.std.proofs.lemmas.Bool.{cond-true, lt-ltb}
-use Rattle.requests.specs.declared.response.MediaType.TheVariants.{PlainText}
-use Rattle.requests.specs.Responses.{phrase, response_text}
-use Rattle.profile.proofs.Lacking.{after_first-append, before_first-append, decimal_lacks}
+use Rattle.http_requests.specs.declared.response.MediaType.TheVariants.{PlainText}
+use Rattle.http_requests.specs.Responses.{phrase, response_text}
+use Rattle.values.proofs.Lacking.{after_first-append, before_first-append, decimal_lacks}
 use Rattle.exchanges.specs.Reading.{after, cut_of}
 
 -- what stands before the digits of the body's length

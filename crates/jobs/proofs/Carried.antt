@@ -8,8 +8,8 @@ use Rattle.office.specs.Faults.{IsOfARegister}
 use Rattle.web.specs.declared.exchange.Exchange.{Exchange}
 use Rattle.exchanges.specs.declared.running.RunFault.{RunFault}
 use Rattle.exchanges.specs.declared.running.RunFault.TheVariants as run
-use Rattle.rows.specs.Transactions.{IsAsBefore}
-use Rattle.migration.specs.Migrating.{IsExcused}
+use Rattle.store_rows.specs.Transactions.{IsAsBefore}
+use Rattle.store_migration.specs.Migrating.{IsExcused}
 use Rattle.store.specs.Meaning.{DiskFailed}
 use Rattle.headline.specs.Headline.{OfficePrints, OfficeRuns}
 use Rattle.jobs.specs.declared.fault.JobFault.{JobFault}

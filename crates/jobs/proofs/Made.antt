@@ -5,8 +5,8 @@ use Rattle.sqlite.specs.State.{State}
 use Rattle.office.specs.declared.opening.Opening.{Opening}
 use Rattle.office.specs.declared.fault.StoreFault.{StoreFault}
 use Rattle.office.specs.declared.fault.StoreFault.TheVariants as store
-use Rattle.rows.specs.Transactions.{IsAsBefore}
-use Rattle.migration.specs.Migrating.{IsExcused}
+use Rattle.store_rows.specs.Transactions.{IsAsBefore}
+use Rattle.store_migration.specs.Migrating.{IsExcused}
 use Rattle.store.specs.Meaning.{DiskFailed, IsBlank}
 use Rattle.jobs.specs.declared.fault.JobFault.{JobFault}
 use Rattle.jobs.specs.Faults.{of_store}

@@ -8,7 +8,7 @@ use Rattle.office.specs.declared.arrival.Arrival.{Arrival}
 use Rattle.office.specs.declared.fault.StoreFault.{StoreFault}
 use Rattle.office.specs.declared.fault.StoreFault.TheVariants as store
 use Rattle.office.specs.Faults.{IsOfARegister}
-use Rattle.rows.specs.Transactions.{IsAsBefore}
+use Rattle.store_rows.specs.Transactions.{IsAsBefore}
 use Rattle.store.specs.Meaning.{Stores, Tells}
 use Rattle.headline.specs.declared.fault.PublishFault.{PublishFault}
 use Rattle.headline.specs.declared.fault.PublishFault.TheVariants as publish

@@ -3,9 +3,9 @@ use Rattle.std.proofs.Common.{◌≡◌, ◌<◌, ◌+◌, ◌^◌, ℕ, List, l
 use Rattle.std.specs.Prelude.{IfErr, OnOk}
 use Rattle.std.specs.Io.KnownBytes.{Appends}
 use Rattle.sqlite.specs.State.{State}
-use Rattle.requests.specs.Asks.{Ask, Asks, get}
-use Rattle.requests.specs.declared.response.MediaType.TheVariants.{PlainText}
-use Rattle.requests.specs.Responses.{response_head, response_text}
+use Rattle.http_requests.specs.Asks.{Ask, Asks, get}
+use Rattle.http_requests.specs.declared.response.MediaType.TheVariants.{PlainText}
+use Rattle.http_requests.specs.Responses.{response_head, response_text}
 use Rattle.office.specs.declared.opening.Opening.{Opening}
 use Rattle.office.specs.declared.arrival.Arrival.{Arrival}
 use Rattle.office.specs.declared.fault.StoreFault.TheVariants as store

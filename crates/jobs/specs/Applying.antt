@@ -3,7 +3,7 @@ use Rattle.std.specs.Prelude.{◌≡◌, ℕ, List, Option, Result, Ok, Err, tru
 use Rattle.sqlite.specs.State.{State}
 use Rattle.office.specs.declared.fault.StoreFault.TheVariants as store
 use Rattle.web.specs.declared.exchange.Exchange.{Exchange}
-use Rattle.rows.specs.Transactions.{IsAsBefore}
+use Rattle.store_rows.specs.Transactions.{IsAsBefore}
 use Rattle.headline.specs.Headline.{OfficePrints, OfficeRuns}
 use Rattle.jobs.specs.declared.fault.JobFault.{JobFault}
 use Rattle.jobs.specs.declared.fault.JobFault.TheVariants.{Fault, NoMemory, Store, Write}

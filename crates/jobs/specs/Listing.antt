@@ -5,7 +5,7 @@ use Rattle.sqlite.specs.State.{State}
 use Rattle.office.specs.declared.opening.Opening.{Opening}
 use Rattle.office.specs.declared.arrival.Arrival.{Arrival}
 use Rattle.office.specs.declared.fault.StoreFault.TheVariants as store
-use Rattle.rows.specs.Transactions.{IsAsBefore}
+use Rattle.store_rows.specs.Transactions.{IsAsBefore}
 use Rattle.store.specs.Meaning.{Stores, Tells}
 use Rattle.headline.specs.Headline.{IsList}
 use Rattle.jobs.specs.declared.fault.JobFault.{JobFault}

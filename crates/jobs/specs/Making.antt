@@ -6,13 +6,13 @@ use Rattle.office.specs.declared.opening.Opening.{Opening}
 use Rattle.office.specs.declared.arrival.Arrival.{Arrival}
 use Rattle.office.specs.declared.fault.StoreFault.{StoreFault}
 use Rattle.office.specs.declared.fault.StoreFault.TheVariants as store
-use Rattle.tables.specs.Schema.{no_schema}
-use Rattle.tables.specs.Calls.{IsBare}
-use Rattle.tables.specs.Contents.{Contents}
-use Rattle.rows.specs.Rows.{office_contents}
-use Rattle.rows.specs.Transactions.{Has, IsAsBefore, Leaves, Rests}
-use Rattle.migration.specs.Former.{Had, TellsBefore, ca_of, migrated}
-use Rattle.migration.specs.Migrating.{HasStopped, IsExcused, Judges}
+use Rattle.store_sql.specs.Schema.{no_schema}
+use Rattle.store_sql.specs.Calls.{IsBare}
+use Rattle.store_sql.specs.Contents.{Contents}
+use Rattle.store_rows.specs.Rows.{office_contents}
+use Rattle.store_rows.specs.Transactions.{Has, IsAsBefore, Leaves, Rests}
+use Rattle.store_migration.specs.Former.{Had, TellsBefore, ca_of, migrated}
+use Rattle.store_migration.specs.Migrating.{HasStopped, IsExcused, Judges}
 use Rattle.store.specs.Meaning.{DiskFailed, IsBlank, IsHistory, Tells}
 use Rattle.jobs.specs.declared.fault.JobFault.{JobFault}
 use Rattle.jobs.specs.declared.fault.JobFault.TheVariants.{NoMemory, Store}

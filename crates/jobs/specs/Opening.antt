@@ -5,10 +5,10 @@ use Rattle.office.specs.declared.opening.Opening.{Opening}
 use Rattle.office.specs.declared.arrival.Arrival.{Arrival}
 use Rattle.office.specs.declared.fault.StoreFault.{StoreFault}
 use Rattle.office.specs.Faults.{IsOfARegister}
-use Rattle.tables.specs.declared.offices.OfficeRow.{OfficeRow}
-use Rattle.tables.specs.Contents.{HasOffices}
-use Rattle.rows.specs.Transactions.{IsAsBefore}
-use Rattle.migration.specs.Migrating.{IsExcused}
+use Rattle.store_sql.specs.declared.offices.OfficeRow.{OfficeRow}
+use Rattle.store_sql.specs.Contents.{HasOffices}
+use Rattle.store_rows.specs.Transactions.{IsAsBefore}
+use Rattle.store_migration.specs.Migrating.{IsExcused}
 use Rattle.store.specs.Meaning.{DiskFailed, Looks, Tells, opened_by}
 
 -- these tables tell each history that those told

@@ -1,7 +1,7 @@
 -- What `apply` prints for a file of exchanges.
 use Rattle.std.specs.Prelude.{◌≡◌, ℕ, List, [], ◌∷◌, Bool, Option}
 use Rattle.std.specs.Io.KnownBytes.{Appends}
-use Rattle.profile.specs.declared.limits.TheConstants.{LAST_SERIAL}
+use Rattle.values.specs.declared.limits.TheConstants.{LAST_SERIAL}
 use Rattle.office.specs.declared.arrival.Arrival.{Arrival}
 use Rattle.web.specs.declared.exchange.Exchange.{Exchange}
 use Rattle.web.specs.declared.exchange.Given.{Given}

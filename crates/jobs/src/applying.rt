@@ -5,7 +5,7 @@ ghost use Rattle.exchanges.specs.Exchanges.{IsBadRecord};
 ghost use Rattle.jobs.specs.Applying.{Applies};
 ghost use Rattle.jobs.specs.Faults.{run_result};
 ghost use Rattle.jobs.specs.Trial.{AppliesToTrial};
-ghost use Rattle.tables.specs.Honest.{IsOutside, IsUnlimited, On};
+ghost use Rattle.store_sql.specs.Honest.{IsOutside, IsUnlimited, On};
 
 use crate::fault::JobFault;
 use crate::opening::open_office;

@@ -2,8 +2,8 @@
 
 ghost use Rattle.std.specs.Prelude.{◌≡◌, Err, IfErr, IfOk, IsTrue, Ok};
 ghost use Rattle.std.specs.List.{list_any};
-ghost use Rattle.tables.specs.Look.{is_office_name};
-ghost use Rattle.tables.specs.Honest.{IsOutside, IsUnlimited, On, tables_of};
+ghost use Rattle.store_sql.specs.Look.{is_office_name};
+ghost use Rattle.store_sql.specs.Honest.{IsOutside, IsUnlimited, On, tables_of};
 ghost use Rattle.office.specs.Openings.{IsOpening, made_opening};
 ghost use Rattle.jobs.specs.Faults.{IsOfAnOpening};
 ghost use Rattle.jobs.specs.Making.{Makes};

@@ -1,7 +1,7 @@
 //! What is asked of the office in a database, and its doing.
 
 ghost use Rattle.jobs.specs.Jobs.{Does, IsLawful};
-ghost use Rattle.tables.specs.Honest.{IsOutside, IsUnlimited, On};
+ghost use Rattle.store_sql.specs.Honest.{IsOutside, IsUnlimited, On};
 
 use crate::applying::apply_over;
 use crate::fault::JobFault;

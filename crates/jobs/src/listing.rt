@@ -3,7 +3,7 @@
 ghost use Rattle.std.specs.Prelude.{◌≡◌};
 ghost use Rattle.jobs.specs.Faults.{publish_result};
 ghost use Rattle.jobs.specs.Listing.{Lists};
-ghost use Rattle.tables.specs.Honest.{IsOutside, IsUnlimited, On};
+ghost use Rattle.store_sql.specs.Honest.{IsOutside, IsUnlimited, On};
 
 use crate::fault::JobFault;
 use crate::job::Done;

@@ -2,8 +2,8 @@
 
 ghost use Rattle.std.specs.Prelude.{◌≡◌, Err, false, true};
 ghost use Rattle.std.specs.List.{list_any};
-ghost use Rattle.tables.specs.Look.{is_ca_name, is_office_table};
-ghost use Rattle.tables.specs.Honest.{IsOutside, IsUnlimited, On, tables_of};
+ghost use Rattle.store_sql.specs.Look.{is_ca_name, is_office_table};
+ghost use Rattle.store_sql.specs.Honest.{IsOutside, IsUnlimited, On, tables_of};
 ghost use Rattle.jobs.specs.Making.{Migrates};
 
 use crate::fault::JobFault;

@@ -2,7 +2,7 @@
 
 ghost use Rattle.std.specs.Prelude.{IfErr, IfOk};
 ghost use Rattle.jobs.specs.Opening.{IsOpened, IsUnopened};
-ghost use Rattle.tables.specs.Honest.{Between, IsOutside, IsUnlimited, On};
+ghost use Rattle.store_sql.specs.Honest.{Between, IsOutside, IsUnlimited, On};
 
 use office::StoreFault;
 use sqlite::{Alter, Connection};

@@ -2,12 +2,12 @@
 
 ghost use Rattle.std.specs.Prelude.{◌≡◌, ◌==◌, ◌<◌, ◌^◌, ℕ, List, length, None, Some, option_copied, option_map};
 ghost use Rattle.std.specs.Prelude.{position};
-ghost use Rattle.requests.specs.declared.response.MediaType.TheVariants.{PlainText};
-ghost use Rattle.requests.specs.Asks.{Asks, get};
-ghost use Rattle.requests.specs.Responses.{response_text};
+ghost use Rattle.http_requests.specs.declared.response.MediaType.TheVariants.{PlainText};
+ghost use Rattle.http_requests.specs.Asks.{Asks, get};
+ghost use Rattle.http_requests.specs.Responses.{response_text};
 ghost use Rattle.exchanges.specs.Reading.{after, cut_of};
 ghost use Rattle.jobs.specs.Reporting.{Reports, resource_of};
-ghost use Rattle.tables.specs.Honest.{IsOutside, IsUnlimited, On, StaysClean};
+ghost use Rattle.store_sql.specs.Honest.{IsOutside, IsUnlimited, On, StaysClean};
 
 use crate::fault::JobFault;
 use crate::opening::open_office;
@@ -100,7 +100,7 @@ fn report_in<S: Alter, W: Write>(
         store.old.conn store.new.conn result }
     ensures honest { StaysClean S.Store store.old.conn store.new.conn }
 {
-    requests::one_ask();
+    http_requests::one_ask();
     match respond(store, alloc, report.request(), 0, &[0; 32]) {
         Ok(response) => match body_of(response.as_slice()) {
             Some(body) => write_out(out, body),

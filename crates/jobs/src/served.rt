@@ -2,7 +2,7 @@
 
 ghost use Rattle.std.specs.Prelude.{◌≡◌, ◌≤◌, ◌+◌, IfOk};
 ghost use Rattle.sqlite.specs.Held.{state};
-ghost use Rattle.tables.specs.Honest.{Between, IsOutside, IsUnlimited, On, StaysClean};
+ghost use Rattle.store_sql.specs.Honest.{Between, IsOutside, IsUnlimited, On, StaysClean};
 ghost use Rattle.server.specs.Connections.{Extends};
 ghost use Rattle.store.specs.Meaning.{Tells};
 ghost use Rattle.jobs.specs.Serving.{MeetsOver, Serves};

@@ -3,14 +3,14 @@ use Rattle.std.proofs.Common.{◌≡◌, ℕ, List, replicate, true, refl, ap}
 use Rattle.std.specs.Prelude.{codes}
 use Rattle.std.proofs.lemmas.Bool.{and_from, and_parts}
 use Rattle.lines.specs.declared.signature.Signature.{Signature}
-use Rattle.profile.proofs.Lacking.{Lacks, lacks_from}
-use Rattle.profile.specs.Serials.{is_serial}
+use Rattle.values.proofs.Lacking.{Lacks, lacks_from}
+use Rattle.values.specs.Serials.{is_serial}
 use Rattle.message.specs.Values.{is_delivery, is_digest, is_lower_hex, is_signature}
 use Rattle.message.specs.Texts.{delivery_lines}
 use Rattle.message.specs.Reading.{delivery_in}
 use Rattle.message.specs.declared.delivery.Delivery.{Delivery}
 use Rattle.message.proofs.Fields.{lacks_by, text_field}
-use Rattle.profile.proofs.SerialLemmas.{serial_small}
+use Rattle.values.proofs.SerialLemmas.{serial_small}
 use Rattle.message.proofs.Numbers.{number_field}
 use Rattle.message.proofs.Signatures.{signature_field}
 use Rattle.message.proofs.Readings.{IsReading}

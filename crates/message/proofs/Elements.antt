@@ -7,16 +7,16 @@ use Rattle.std.specs.Str.{bytes_eq}
 use Rattle.std.proofs.lemmas.Bool.{and_parts, or_cases, eqb-true}
 use Rattle.std.proofs.lemmas.List.Elements.{All-append, All-cons}
 use Rattle.std.proofs.lemmas.Slice.Eq.{bytes_eq-Decides}
-use Rattle.profile.specs.Names.{is_name, is_name_byte, is_principal, is_principal_byte, is_rule, is_suffix_rule}
-use Rattle.profile.specs.Names.{is_key_id, is_key_id_byte, is_key_id_end, is_namespace, department_of}
-use Rattle.profile.specs.Options.{is_known, known_names}
-use Rattle.profile.specs.declared.option_field.OptionField.{OptionField}
-use Rattle.profile.specs.declared.option_field.OptionField.TheVariants.{CriticalOptions, Extensions}
+use Rattle.values.specs.Names.{is_name, is_name_byte, is_principal, is_principal_byte, is_rule, is_suffix_rule}
+use Rattle.values.specs.Names.{is_key_id, is_key_id_byte, is_key_id_end, is_namespace, department_of}
+use Rattle.values.specs.Options.{is_known, known_names}
+use Rattle.values.specs.declared.option_field.OptionField.{OptionField}
+use Rattle.values.specs.declared.option_field.OptionField.TheVariants.{CriticalOptions, Extensions}
 use Rattle.message.specs.Values.{are_administrators, are_rules, are_principals}
 use Rattle.message.specs.Values.{are_option_names, are_extension_names, are_namespaces}
-use Rattle.profile.proofs.Lacking.{Lacks, lacks_from}
+use Rattle.values.proofs.Lacking.{Lacks, lacks_from}
 use Rattle.message.proofs.Fields.{lacks_by, AllLack, all_lack}
-use Rattle.profile.proofs.NameLemmas.{department_cut}
+use Rattle.values.proofs.NameLemmas.{department_cut}
 
 pub name_lacks : (byte : ℕ) → is_name_byte byte ≡ false → (t : List ℕ) → is_name t ≡ true → Lacks byte t
 name_lacks byte off t is = lacks_from is_name_byte byte t off (and_parts _ _ is).1

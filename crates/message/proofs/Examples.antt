@@ -2,7 +2,7 @@
 use Rattle.std.proofs.Common.{◌≡◌, [], ◌∷◌, ◌++◌, codes, replicate, refl, None, Some}
 use Rattle.std.specs.Fmt.{digits}
 use Rattle.base64.proofs.OnLiterals.{base64_on_literals}
-use Rattle.profile.specs.declared.kind.Kind.TheVariants.{User}
+use Rattle.values.specs.declared.kind.Kind.TheVariants.{User}
 use Rattle.message.specs.Texts.{message_text}
 use Rattle.message.specs.declared.kinds.Message.TheVariants as message
 

@@ -18,7 +18,7 @@ use Rattle.std.proofs.lemmas.List.Sums.{AllPass-from_list_all}
 use Rattle.std.proofs.lemmas.Option.{option_and_then_some, same_Some}
 use Rattle.std.proofs.lemmas.Slice.Eq.{bytes_eq-Decides}
 use Rattle.base64.specs.GeneralPurpose.{IsBytes}
-use Rattle.profile.proofs.Lacking.{Lacks}
+use Rattle.values.proofs.Lacking.{Lacks}
 use Rattle.lines.proofs.Base64.{IsBytes-drop}
 use Rattle.message.specs.Texts.{list_line}
 use Rattle.message.specs.Reading.{after, passing, listed}

@@ -3,7 +3,7 @@ use Rattle.std.proofs.Common.{◌≡◌, List, [], ◌∷◌, true, refl, sym, a
 use Rattle.std.specs.Prelude.{codes}
 use Rattle.std.proofs.lemmas.Bool.{and_parts, and_from, leb-true, le-leb}
 use Rattle.text.specs.declared.pair.Pair.{Pair}
-use Rattle.profile.specs.Names.{is_name, is_key_id}
+use Rattle.values.specs.Names.{is_name, is_key_id}
 use Rattle.lines.specs.KeyLines.{is_key_line}
 use Rattle.message.specs.declared.issue.Issue.{Issue}
 use Rattle.message.specs.Values.{are_principals, are_options, is_end, is_issue}

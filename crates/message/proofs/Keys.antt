@@ -7,7 +7,7 @@ use Rattle.std.proofs.lemmas.List.Elements.{All-append, All-cons, All-nil, All-r
 use Rattle.base64.specs.Engines.{standard}
 use Rattle.base64.specs.GeneralPurpose.{encode_of}
 use Rattle.base64.specs.Rfc4648.{encode_symbols, padding_len}
-use Rattle.profile.proofs.Lacking.{lacks_from}
+use Rattle.values.proofs.Lacking.{lacks_from}
 use Rattle.lines.specs.Keys.{key_blob}
 use Rattle.lines.specs.KeyLines.{
   is_key_line,

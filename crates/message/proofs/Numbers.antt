@@ -2,9 +2,9 @@
 use Rattle.std.proofs.Common.{◌≡◌, ℕ, ◌<◌, ◌≤◌, ◌^◌, List, [], ◌++◌, Bool, true, None, refl, arith, leb}
 use Rattle.std.specs.Fmt.{decimal}
 use Rattle.std.proofs.lemmas.Bool.{and_parts, leb-true}
-use Rattle.profile.specs.Decimals.{number_of}
-use Rattle.profile.proofs.DecimalLemmas.{number_of-decimal, number_spelled}
-use Rattle.profile.proofs.Lacking.{decimal_lacks}
+use Rattle.values.specs.Decimals.{number_of}
+use Rattle.values.proofs.DecimalLemmas.{number_of-decimal, number_spelled}
+use Rattle.values.proofs.Lacking.{decimal_lacks}
 use Rattle.message.specs.Values.{is_longest_life, is_end}
 use Rattle.message.specs.Reading.{after, number_after}
 use Rattle.message.proofs.Fields.{field_passing}

@@ -12,13 +12,13 @@ use Rattle.std.proofs.lemmas.List.Elements.{All-append, All-cons, recursion_from
 use Rattle.std.proofs.lemmas.List.Folds.{list_any-append}
 use Rattle.std.proofs.lemmas.Option.{same_Some}
 use Rattle.text.specs.declared.pair.Pair.{Pair}
-use Rattle.profile.specs.Lists.{are_distinct}
-use Rattle.profile.specs.Networks.{Network, IsNetwork, network_text, are_networks}
-use Rattle.profile.specs.Options.{is_flag, is_option_value, is_command}
-use Rattle.profile.specs.declared.option_field.OptionField.TheVariants.{CriticalOptions}
-use Rattle.profile.proofs.Lacking.{Lacks, lacks_from}
-use Rattle.profile.proofs.NetworkLaws.{network_lacks, networks_found}
-use Rattle.profile.proofs.OptionLemmas.{critical_cases}
+use Rattle.values.specs.Lists.{are_distinct}
+use Rattle.values.specs.Networks.{Network, IsNetwork, network_text, are_networks}
+use Rattle.values.specs.Options.{is_flag, is_option_value, is_command}
+use Rattle.values.specs.declared.option_field.OptionField.TheVariants.{CriticalOptions}
+use Rattle.values.proofs.Lacking.{Lacks, lacks_from}
+use Rattle.values.proofs.NetworkLaws.{network_lacks, networks_found}
+use Rattle.values.proofs.OptionLemmas.{critical_cases}
 use Rattle.lines.specs.KeyLines.{comment_text}
 use Rattle.lines.specs.Reading.{word_of, comment_of}
 use Rattle.lines.proofs.Words.{word_of-text, comment_of-text, text_is}

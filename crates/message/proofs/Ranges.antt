@@ -7,9 +7,9 @@ use Rattle.std.proofs.lemmas.Bool.{and_parts}
 use Rattle.std.proofs.lemmas.List.Elements.{All-append, All-cons, recursion_from_All}
 use Rattle.std.proofs.lemmas.Option.{option_and_then_some, same_Some}
 use Rattle.base64.specs.GeneralPurpose.{IsBytes}
-use Rattle.profile.specs.Decimals.{number_of}
-use Rattle.profile.proofs.DecimalLemmas.{number_of-decimal}
-use Rattle.profile.proofs.Lacking.{decimal_lacks}
+use Rattle.values.specs.Decimals.{number_of}
+use Rattle.values.proofs.DecimalLemmas.{number_of-decimal}
+use Rattle.values.proofs.Lacking.{decimal_lacks}
 use Rattle.lines.specs.KeyLines.{comment_text}
 use Rattle.lines.specs.Reading.{comment_of, word_of}
 use Rattle.lines.proofs.Words.{comment_of-text, text_is, word_of-text}
@@ -19,8 +19,8 @@ use Rattle.message.specs.Reading.{after, range_after, range_between, range_of}
 use Rattle.message.specs.declared.serial_range.SerialRange.{SerialRange}
 use Rattle.message.proofs.Readings.{IsField, IsLine}
 use Rattle.message.proofs.Fields.{field_passing}
-use Rattle.profile.proofs.DecimalLemmas.{number_spelled}
-use Rattle.profile.proofs.SerialLemmas.{serial_small}
+use Rattle.values.proofs.DecimalLemmas.{number_spelled}
+use Rattle.values.proofs.SerialLemmas.{serial_small}
 
 -- two numbers that make a range
 between_found : (lo hi : Option ℕ) (r : SerialRange) → range_between lo hi ≡ Some r → (lo ≡ Some r.lo) × (hi ≡ Some r.hi)

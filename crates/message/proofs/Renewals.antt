@@ -2,13 +2,13 @@
 use Rattle.std.proofs.Common.{◌≡◌, true, refl, ap}
 use Rattle.std.specs.Prelude.{codes}
 use Rattle.std.proofs.lemmas.Bool.{and_from, and_parts}
-use Rattle.profile.specs.Serials.{is_serial}
+use Rattle.values.specs.Serials.{is_serial}
 use Rattle.message.specs.Values.{is_end, is_renewal}
 use Rattle.message.specs.Texts.{renewal_lines}
 use Rattle.message.specs.Reading.{renewal_in}
 use Rattle.message.specs.declared.renewal.Renewal.{Renewal}
 use Rattle.message.proofs.Fields.{lacks_by}
-use Rattle.profile.proofs.SerialLemmas.{serial_small}
+use Rattle.values.proofs.SerialLemmas.{serial_small}
 use Rattle.message.proofs.Numbers.{end_small, number_field}
 use Rattle.message.proofs.Readings.{IsReading}
 use Rattle.message.proofs.FirstLines.{line_then}

@@ -2,15 +2,15 @@
 use Rattle.std.proofs.Common.{◌≡◌, [], ◌∷◌, true, refl}
 use Rattle.std.specs.Prelude.{codes}
 use Rattle.std.specs.Fmt.{decimal}
-use Rattle.profile.specs.Names.{is_key_id}
-use Rattle.profile.specs.Serials.{is_serial}
+use Rattle.values.specs.Names.{is_key_id}
+use Rattle.values.specs.Serials.{is_serial}
 use Rattle.message.specs.Values.{is_range}
 use Rattle.message.specs.Texts.{line, range_text}
 use Rattle.message.specs.Reading.{key_id_after, number_after, one_line_in, range_after}
 use Rattle.message.proofs.Elements.{key_id_line}
 use Rattle.message.proofs.Ends.{one_line}
 use Rattle.message.proofs.Fields.{lacks_by, text_field}
-use Rattle.profile.proofs.SerialLemmas.{serial_small}
+use Rattle.values.proofs.SerialLemmas.{serial_small}
 use Rattle.message.proofs.Numbers.{number_field}
 use Rattle.message.proofs.Ranges.{range_field}
 use Rattle.message.proofs.Readings.{IsReading}

@@ -6,11 +6,11 @@ use Rattle.std.specs.Option.{option_and_then, option_map, is_some}
 use Rattle.std.specs.Result.{result_ok}
 use Rattle.std.specs.Str.{bytes_eq}
 use Rattle.text.specs.declared.pair.Pair.{Pair}
-use Rattle.profile.specs.declared.kind.Kind.{Kind}
-use Rattle.profile.specs.declared.kind.Kind.TheVariants.{User, Host}
-use Rattle.profile.specs.Decimals.{number_of}
-use Rattle.profile.specs.Names.{is_name, is_key_id}
-use Rattle.profile.specs.Options.{is_flag}
+use Rattle.values.specs.declared.kind.Kind.{Kind}
+use Rattle.values.specs.declared.kind.Kind.TheVariants.{User, Host}
+use Rattle.values.specs.Decimals.{number_of}
+use Rattle.values.specs.Names.{is_name, is_key_id}
+use Rattle.values.specs.Options.{is_flag}
 use Rattle.base64.specs.Engines.{standard}
 use Rattle.base64.specs.GeneralPurpose.{decode_of}
 use Rattle.lines.specs.Keys.{signature_of}
@@ -26,7 +26,7 @@ use Rattle.message.specs.declared.kinds.Message.{Message}
 use Rattle.message.specs.declared.kinds.Message.TheVariants as message
 use Rattle.message.specs.declared.renewal.Renewal.{Renewal}
 use Rattle.message.specs.declared.serial_range.SerialRange.{SerialRange}
-use Rattle.profile.specs.Serials.{is_serial}
+use Rattle.values.specs.Serials.{is_serial}
 use Rattle.message.specs.Values.{
   are_administrators,
   are_rules,

@@ -2,13 +2,13 @@
 use Rattle.std.specs.Prelude.{ℕ, List, length, map, Bool, true, ◌&&◌, ◌||◌, ◌==◌, nat_le, nat_lt}
 use Rattle.std.specs.List.{list_all}
 use Rattle.text.specs.declared.pair.Pair.{Pair}
-use Rattle.profile.specs.declared.kind.Kind.{Kind}
-use Rattle.profile.specs.declared.kind.Kind.TheVariants.{User, Host}
-use Rattle.profile.specs.declared.option_field.OptionField.TheVariants.{CriticalOptions, Extensions}
-use Rattle.profile.specs.Names.{is_name, is_rule, is_principal, is_key_id, is_namespace}
-use Rattle.profile.specs.Lists.{are_distinct}
-use Rattle.profile.specs.Options.{is_known, is_option_value}
-use Rattle.profile.specs.Serials.{is_serial}
+use Rattle.values.specs.declared.kind.Kind.{Kind}
+use Rattle.values.specs.declared.kind.Kind.TheVariants.{User, Host}
+use Rattle.values.specs.declared.option_field.OptionField.TheVariants.{CriticalOptions, Extensions}
+use Rattle.values.specs.Names.{is_name, is_rule, is_principal, is_key_id, is_namespace}
+use Rattle.values.specs.Lists.{are_distinct}
+use Rattle.values.specs.Options.{is_known, is_option_value}
+use Rattle.values.specs.Serials.{is_serial}
 use Rattle.lines.specs.KeyLines.{is_key_line}
 use Rattle.lines.specs.declared.signature.Signature.{Signature}
 use Rattle.message.specs.declared.delivery.Delivery.{Delivery}

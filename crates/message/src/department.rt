@@ -17,9 +17,9 @@ use crate::line::{ends_after, line, list_after, name_after, number_after};
 use crate::lists::{
     are_administrators, are_extension_names, are_namespaces, are_option_names, are_rules,
 };
-use profile::{Kind, LONGEST_LIFE};
 use std::alloc::Global;
 use text::{NoMemory, Text, Texts};
+use values::{Kind, LONGEST_LIFE};
 
 /// A department with its profile of what may be issued.
 #[derive(Debug, Drop)]

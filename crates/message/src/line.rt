@@ -2,13 +2,13 @@
 
 ghost use Rattle.std.specs.Prelude.{◌≡◌, ◌≤◌, map, IfOk, option_copied};
 ghost use Rattle.std.specs.Option.{option_and_then};
-ghost use Rattle.profile.specs.Decimals.{number_of};
+ghost use Rattle.values.specs.Decimals.{number_of};
 ghost use Rattle.message.specs.Reading.{Gives, after, ends_after, line_of, listed, name_after, or_bad};
 
 use crate::fault::MessageFault;
-use profile::{is_name, read_decimal};
 use std::alloc::Global;
 use text::{NoMemory, Text, Texts, cut};
+use values::{is_name, read_decimal};
 
 /// Line `n` from 1. A line that is missing, or whose line feed is, is no bytes, which fit nothing.
 pub(crate) fn line<'a>(pieces: &[&'a [u8]], n: usize) -> &'a [u8]

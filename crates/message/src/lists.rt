@@ -2,8 +2,8 @@
 
 ghost use Rattle.std.specs.Prelude.{◌≡◌, ◌≤◌, ◌&&◌, codes, map, nat_le, length};
 ghost use Rattle.std.specs.List.{list_all};
-ghost use Rattle.profile.specs.Names.{is_name, is_namespace, is_principal, is_rule};
-ghost use Rattle.profile.specs.Options.{is_known};
+ghost use Rattle.values.specs.Names.{is_name, is_namespace, is_principal, is_rule};
+ghost use Rattle.values.specs.Options.{is_known};
 ghost use Rattle.message.specs.Reading.{Gives, line_of, list_after, or_bad};
 ghost use Rattle.message.specs.Values.{
   are_administrators,
@@ -17,12 +17,12 @@ ghost use Rattle.message.specs.Values.{
 
 use crate::fault::MessageFault;
 use crate::line::{line, list_after};
-use profile::{
+use std::alloc::Global;
+use text::{Text, Texts};
+use values::{
     MOST_ADMINISTRATORS, MOST_NAMESPACES, MOST_PRINCIPALS, MOST_RULES, OptionField, are_distinct,
     is_known, is_name, is_namespace, is_principal, is_rule,
 };
-use std::alloc::Global;
-use text::{Text, Texts};
 
 fn all_names(texts: &[Text]) -> bool
     ensures { result ≡ list_all is_name texts.now }

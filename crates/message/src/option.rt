@@ -6,9 +6,9 @@ ghost use Rattle.message.specs.Values.{is_option};
 
 use crate::line::after;
 use lines::word_and_rest;
-use profile::{OptionField, is_flag, is_known, is_option_value};
 use std::alloc::Global;
 use text::{NoMemory, Pair, Pairs, Text};
+use values::{OptionField, is_flag, is_known, is_option_value};
 
 fn copied(alloc: Global, name: &[u8], value: &[u8]) -> Result<Pair, NoMemory>
     ensures name { IfOk result (λ p. p.name ≡ name.now) }

@@ -9,7 +9,7 @@ ghost use Rattle.message.specs.Reading.{
   one_line_in,
   range_after,
 };
-ghost use Rattle.profile.specs.Serials.{is_serial};
+ghost use Rattle.values.specs.Serials.{is_serial};
 
 use crate::fault::MessageFault;
 use crate::line::{ends_after, line};

@@ -15,7 +15,7 @@ ghost use Rattle.message.specs.Reading.{
   signature_after,
   signature_at,
 };
-ghost use Rattle.profile.specs.Serials.{is_serial};
+ghost use Rattle.values.specs.Serials.{is_serial};
 ghost use Rattle.message.specs.Values.{is_digest, is_end, is_lower_hex, is_range};
 
 use crate::fault::MessageFault;
@@ -23,9 +23,9 @@ use crate::line::{after, line, number_after};
 use crate::serial_range::SerialRange;
 use base64::engine::general_purpose::STANDARD;
 use lines::{KeyLine, LineFault, Signature, read_key_line, read_signature_blob, word_and_rest};
-use profile::{LATEST_MOMENT, is_key_id, is_serial, read_decimal};
 use std::alloc::Global;
 use text::Text;
+use values::{LATEST_MOMENT, is_key_id, is_serial, read_decimal};
 
 /// The key id behind these bytes on line `n`.
 pub(crate) fn key_id_after(

@@ -25,9 +25,9 @@ use crate::renewal::Renewal;
 use crate::serial_range::SerialRange;
 use base64::engine::general_purpose::STANDARD;
 use lines::{KeyLine, Signature, put_key_line, signature_blob_of};
-use profile::{Kind, is_flag, put_decimal};
 use std::alloc::Global;
 use text::{NoMemory, Pair, Text};
+use values::{Kind, is_flag, put_decimal};
 
 /// Puts a line of two parts.
 fn put_line(out: &mut Vec<u8>, head: &[u8], value: &[u8]) -> Result<(), NoMemory>

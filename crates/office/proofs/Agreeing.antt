@@ -7,7 +7,7 @@ use Rattle.krl.specs.Sets.{HasAll}
 use Rattle.message.specs.declared.serial_range.SerialRange.{SerialRange}
 use Rattle.message.specs.declared.kinds.Message.{Message}
 use Rattle.message.specs.declared.kinds.Message.TheVariants as message
-use Rattle.profile.specs.Serials.{is_serial}
+use Rattle.values.specs.Serials.{is_serial}
 use Rattle.message.specs.Values.{is_message}
 use Rattle.office.specs.declared.certificate.Certificate.{Certificate}
 use Rattle.office.specs.State.{State, certificate_of, department_named, has_any, is_key_id_revoked, is_range_revoked}

@@ -3,8 +3,8 @@ use Rattle.std.proofs.Common.{◌≡◌, ℕ, ◌≤◌, List, [], ◌∷◌, Bo
 use Rattle.std.specs.List.{fold}
 use Rattle.std.proofs.lemmas.Bool.{ltb-false}
 use Rattle.std.proofs.lemmas.List.Sums.{fold_push}
-use Rattle.profile.specs.declared.limits.TheConstants.{LATEST_MOMENT}
-use Rattle.profile.specs.declared.refusal.Refusal.{Refusal}
+use Rattle.values.specs.declared.limits.TheConstants.{LATEST_MOMENT}
+use Rattle.values.specs.declared.refusal.Refusal.{Refusal}
 use Rattle.message.specs.declared.kinds.Message.{Message}
 use Rattle.message.specs.declared.kinds.Message.TheVariants as message
 use Rattle.office.specs.declared.opening.Opening.{Opening}

@@ -2,8 +2,8 @@
 use Rattle.std.proofs.Common.{◌≡◌, [], ◌∷◌, map, refl, false, Some, None}
 use Rattle.std.specs.Prelude.{codes}
 use Rattle.std.specs.Option.{option_map}
-use Rattle.profile.specs.declared.kind.Kind.TheVariants.{User, Host}
-use Rattle.profile.specs.declared.refusal.Refusal.TheVariants.{NotAllowed, NoDepartment, KindFixed, BadKeyId, NotPermitted, AlreadyEnded, KeyIdRevoked, UnknownSerial, Revoked, NotSigned, SerialsExhausted, CaInUse}
+use Rattle.values.specs.declared.kind.Kind.TheVariants.{User, Host}
+use Rattle.values.specs.declared.refusal.Refusal.TheVariants.{NotAllowed, NoDepartment, KindFixed, BadKeyId, NotPermitted, AlreadyEnded, KeyIdRevoked, UnknownSerial, Revoked, NotSigned, SerialsExhausted, CaInUse}
 use Rattle.message.specs.declared.department.Department.{Department}
 use Rattle.message.specs.declared.issue.Issue.{Issue}
 use Rattle.lines.specs.declared.key_line.KeyLine.{KeyLine}

@@ -4,7 +4,7 @@ use Rattle.std.specs.List.{fold}
 use Rattle.std.specs.Option.{option_and_then}
 use Rattle.std.proofs.lemmas.Bool.{and_parts}
 use Rattle.std.proofs.lemmas.List.Sums.{fold_push}
-use Rattle.profile.specs.declared.refusal.Refusal.{Refusal}
+use Rattle.values.specs.declared.refusal.Refusal.{Refusal}
 use Rattle.message.specs.declared.kinds.Message.{Message}
 use Rattle.message.specs.Values.{is_message}
 use Rattle.message.specs.Reading.{message_of}

@@ -7,13 +7,13 @@ use Rattle.std.proofs.lemmas.Cmp.{nat_list_eq_equiv}
 use Rattle.std.proofs.lemmas.Slice.Eq.{bytes_eq-Decides}
 use Rattle.std.proofs.lemmas.List.{nil_from_length}
 use Rattle.text.specs.declared.pair.Pair.{Pair}
-use Rattle.profile.specs.Names.{is_key_id, is_name, is_principal}
-use Rattle.profile.specs.Lists.{are_distinct}
-use Rattle.profile.specs.Options.{is_known, known_names, is_option_value}
-use Rattle.profile.specs.declared.kind.Kind.{Kind}
-use Rattle.profile.specs.declared.kind.Kind.TheVariants.{User, Host}
-use Rattle.profile.specs.declared.option_field.OptionField.{OptionField}
-use Rattle.profile.specs.declared.option_field.OptionField.TheVariants.{CriticalOptions, Extensions}
+use Rattle.values.specs.Names.{is_key_id, is_name, is_principal}
+use Rattle.values.specs.Lists.{are_distinct}
+use Rattle.values.specs.Options.{is_known, known_names, is_option_value}
+use Rattle.values.specs.declared.kind.Kind.{Kind}
+use Rattle.values.specs.declared.kind.Kind.TheVariants.{User, Host}
+use Rattle.values.specs.declared.option_field.OptionField.{OptionField}
+use Rattle.values.specs.declared.option_field.OptionField.TheVariants.{CriticalOptions, Extensions}
 use Rattle.cert.specs.Options.{is_option, are_for_kind}
 use Rattle.lines.specs.KeyLines.{is_key, is_key_line, is_comment_or_none}
 use Rattle.cert.specs.Bodies.{IsCertFields}
@@ -22,7 +22,7 @@ use Rattle.cert.specs.OptionFaults.{first_fault, options_fault}
 use Rattle.message.specs.declared.department.Department.{Department}
 use Rattle.message.specs.declared.issue.Issue.{Issue}
 use Rattle.message.specs.declared.renewal.Renewal.{Renewal}
-use Rattle.profile.specs.Serials.{is_serial}
+use Rattle.values.specs.Serials.{is_serial}
 use Rattle.message.specs.Values.{fits_kind, is_department, is_issue, are_principals, are_administrators, are_rules, are_option_names, are_extension_names, are_namespaces, is_longest_life, are_options, is_end}
 use Rattle.office.specs.declared.certificate.Certificate.{Certificate}
 use Rattle.office.specs.declared.view.View.{View}

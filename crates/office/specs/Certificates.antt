@@ -1,9 +1,9 @@
 -- The certificates that are made.
 use Rattle.std.specs.Prelude.{◌≡◌, ℕ, List, [], map, IsTrue, Option, Some, None}
 use Rattle.text.specs.declared.pair.Pair.{Pair}
-use Rattle.profile.specs.Names.{is_name}
-use Rattle.profile.specs.declared.kind.Kind.{Kind}
-use Rattle.profile.specs.declared.kind.Kind.TheVariants.{User}
+use Rattle.values.specs.Names.{is_name}
+use Rattle.values.specs.declared.kind.Kind.{Kind}
+use Rattle.values.specs.declared.kind.Kind.TheVariants.{User}
 use Rattle.cert.specs.declared.fields.CertFields.{CertFields}
 use Rattle.cert.specs.Options.{listing}
 use Rattle.cert.specs.Bodies.{IsCertFields, body_text}

@@ -1,6 +1,6 @@
 -- What a message writes of departments, serials and key ids.
 use Rattle.std.specs.Prelude.{ℕ, List, Option, Some, None}
-use Rattle.profile.specs.Names.{department_of}
+use Rattle.values.specs.Names.{department_of}
 use Rattle.message.specs.declared.serial_range.SerialRange.{SerialRange}
 use Rattle.message.specs.declared.kinds.Message.{Message}
 use Rattle.message.specs.declared.kinds.Message.TheVariants as message

@@ -2,9 +2,9 @@
 use Rattle.std.specs.Prelude.{◌≡◌, ℕ, ◌<◌, ◌≤◌, List, length, Bool, IsTrue, IsSome, Option, None, option_copied, Result}
 use Rattle.std.specs.Prelude.{Ok, Err}
 use Rattle.std.specs.Option.{option_and_then}
-use Rattle.profile.specs.Names.{department_of, is_key_id}
+use Rattle.values.specs.Names.{department_of, is_key_id}
 use Rattle.message.specs.declared.department.Department.{Department}
-use Rattle.profile.specs.Serials.{is_serial}
+use Rattle.values.specs.Serials.{is_serial}
 use Rattle.message.specs.Values.{is_department, is_signature, is_range}
 use Rattle.message.specs.declared.kinds.Message.{Message}
 use Rattle.message.specs.declared.kinds.Message.TheVariants as message

@@ -4,9 +4,9 @@ use Rattle.std.specs.Prelude.{None, Result, Ok, Err}
 use Rattle.std.specs.List.{list_any}
 use Rattle.std.specs.Option.{option_map}
 use Rattle.std.specs.Str.{bytes_eq}
-use Rattle.profile.specs.declared.limits.TheConstants.{LATEST_MOMENT}
-use Rattle.profile.specs.declared.refusal.Refusal.{Refusal}
-use Rattle.profile.specs.declared.refusal.Refusal.TheVariants.{BadMessage, BadMoment, KeyReused}
+use Rattle.values.specs.declared.limits.TheConstants.{LATEST_MOMENT}
+use Rattle.values.specs.declared.refusal.Refusal.{Refusal}
+use Rattle.values.specs.declared.refusal.Refusal.TheVariants.{BadMessage, BadMoment, KeyReused}
 use Rattle.message.specs.declared.kinds.Message.{Message}
 use Rattle.office.specs.Messages.{message_with_text}
 use Rattle.office.specs.declared.opening.Opening.{Opening}

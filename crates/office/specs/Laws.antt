@@ -1,7 +1,7 @@
 -- What the laws of every state and every history speak of.
 use Rattle.std.specs.Prelude.{ℕ, ◌+◌, ◌≤◌, List, [], ◌∷◌, length, Bool, true, ◌&&◌, nat_le}
-use Rattle.profile.specs.declared.refusal.Refusal.{Refusal}
-use Rattle.profile.specs.Refusals.{refusal_number}
+use Rattle.values.specs.declared.refusal.Refusal.{Refusal}
+use Rattle.values.specs.Refusals.{refusal_number}
 use Rattle.office.specs.declared.arrival.Outcome.{Outcome}
 use Rattle.office.specs.declared.arrival.Outcome.TheVariants.{Accepted, Repeated, Refused}
 

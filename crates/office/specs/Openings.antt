@@ -2,8 +2,8 @@
 use Rattle.std.specs.Prelude.{◌≡◌, ℕ, List, length, Bool, false, ◌&&◌, not, nat_le, if◌then◌else◌, IsTrue, Result, Ok}
 use Rattle.std.specs.Prelude.{Err}
 use Rattle.std.specs.Str.{bytes_eq}
-use Rattle.profile.specs.Names.{is_name}
-use Rattle.profile.specs.declared.limits.TheConstants.{LAST_SERIAL}
+use Rattle.values.specs.Names.{is_name}
+use Rattle.values.specs.declared.limits.TheConstants.{LAST_SERIAL}
 use Rattle.office.specs.declared.opening.Opening.{Opening}
 use Rattle.office.specs.declared.opening.OpeningFault.{OpeningFault}
 use Rattle.office.specs.declared.opening.OpeningFault.TheVariants.{BadName, SameName, BadSerials}

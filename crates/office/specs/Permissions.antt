@@ -3,7 +3,7 @@ use Rattle.std.specs.Prelude.{ℕ, ◌-◌, List, Bool, false, ◌&&◌, ◌||�
 use Rattle.std.specs.List.{list_any, list_all}
 use Rattle.std.specs.Str.{bytes_eq}
 use Rattle.text.specs.declared.pair.Pair.{Pair}
-use Rattle.profile.specs.Names.{meets}
+use Rattle.values.specs.Names.{meets}
 use Rattle.message.specs.declared.department.Department.{Department}
 use Rattle.message.specs.declared.issue.Issue.{Issue}
 use Rattle.message.specs.declared.renewal.Renewal.{Renewal}

@@ -5,11 +5,11 @@ use Rattle.std.specs.Option.{option_map_or}
 use Rattle.std.specs.Str.{bytes_eq}
 use Rattle.lines.specs.declared.signature.Signature.{Signature}
 use Rattle.lines.specs.Digests.{digest_text}
-use Rattle.profile.specs.Names.{department_of}
-use Rattle.profile.specs.declared.kind.Kind.{Kind}
-use Rattle.profile.specs.declared.kind.Kind.TheVariants.{User, Host}
-use Rattle.profile.specs.declared.refusal.Refusal.{Refusal}
-use Rattle.profile.specs.declared.refusal.Refusal.TheVariants.{
+use Rattle.values.specs.Names.{department_of}
+use Rattle.values.specs.declared.kind.Kind.{Kind}
+use Rattle.values.specs.declared.kind.Kind.TheVariants.{User, Host}
+use Rattle.values.specs.declared.refusal.Refusal.{Refusal}
+use Rattle.values.specs.declared.refusal.Refusal.TheVariants.{
   NotAllowed,
   NoDepartment,
   KindFixed,

@@ -1,7 +1,7 @@
 //! What comes in, and what is answered.
 
-use profile::Refusal;
 use text::Text;
+use values::Refusal;
 
 /// A message with its caller, its request key, its moment and its nonce.
 ///

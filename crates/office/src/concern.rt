@@ -5,7 +5,7 @@ ghost use Rattle.std.specs.Option.{option_copied};
 ghost use Rattle.office.specs.Concerns.{named_department, named_serial, named_range, named_key_id};
 
 use message::{Message, SerialRange};
-use profile::department_of;
+use values::department_of;
 
 /// What a message writes of departments, serials and key ids, borrowed from it.
 #[derive(Debug, Drop)]

@@ -17,8 +17,8 @@ use crate::revoking::{decide_key_id, decide_range, decide_serial};
 use crate::rolling::decide_rollover;
 use crate::view::{Change, Decision, Stop, View};
 use message::{Department, Issue, Message};
-use profile::Refusal;
 use std::alloc::Global;
+use values::Refusal;
 
 /// A department, new or with another profile.
 fn decide_department(

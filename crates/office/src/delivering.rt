@@ -13,8 +13,8 @@ use crate::replies::to_delivery;
 use crate::view::{Change, Decision, Stop, View};
 use lines::{Signature, body_digest};
 use message::Delivery;
-use profile::Refusal;
 use std::alloc::Global;
+use values::Refusal;
 
 /// Whether a signature is kept, and another one.
 fn is_other(signature: &Signature, kept: Option<&Signature>) -> bool

@@ -11,9 +11,9 @@ use crate::certificate::Certificate;
 use crate::view::View;
 use cert::{CertFields, OptionFault, Options, write_body};
 use message::{Department, Issue};
-use profile::{Kind, OptionField};
 use std::alloc::Global;
 use text::{NoMemory, Pair, Text};
+use values::{Kind, OptionField};
 
 /// Options of pairs that have no fault.
 fn options_of(

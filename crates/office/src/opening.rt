@@ -3,8 +3,8 @@
 ghost use Rattle.std.specs.Prelude.{◌≡◌, IfOk, string_bytes};
 ghost use Rattle.office.specs.Openings.{IsOpening, made_opening};
 
-use profile::{LAST_SERIAL, is_name};
 use text::Text;
+use values::{LAST_SERIAL, is_name};
 
 /// What an office begins with and keeps for good.
 #[derive(Debug, Drop)]

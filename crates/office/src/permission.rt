@@ -3,7 +3,7 @@
 ghost use Rattle.std.specs.Prelude.{◌≡◌};
 ghost use Rattle.std.specs.List.{list_any, list_all};
 ghost use Rattle.std.specs.Option.{option_copied};
-ghost use Rattle.profile.specs.Names.{meets};
+ghost use Rattle.values.specs.Names.{meets};
 ghost use Rattle.office.specs.Permissions.{
   administers,
   are_listed,
@@ -18,8 +18,8 @@ ghost use Rattle.office.specs.Permissions.{
 use crate::certificate::Certificate;
 use crate::opening::Opening;
 use message::{Department, Issue, Renewal};
-use profile::meets;
 use text::{Pair, Text, Texts};
+use values::meets;
 
 fn administers(caller: &[u8], department: Option<&Department>) -> bool
     ensures { result ≡ administers caller.now (option_copied department.entry) }

@@ -1,8 +1,8 @@
 //! What a register shows of its office.
 
 use krl::{CaPart, KrlHead};
-use profile::Kind;
 use text::{Text, Texts};
+use values::Kind;
 
 /// A certificate that waits for its signature.
 #[derive(Debug, Drop)]

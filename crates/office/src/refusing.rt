@@ -1,7 +1,7 @@
 //! What is refused of departments and issues.
 
 ghost use Rattle.std.specs.Prelude.{◌≡◌, ◌≤◌, ℕ, None, IfSome, IsSome, IsTrue, option_copied};
-ghost use Rattle.profile.specs.declared.kind.Kind.{Kind};
+ghost use Rattle.values.specs.declared.kind.Kind.{Kind};
 ghost use Rattle.message.specs.declared.kinds.Message.TheVariants as message;
 ghost use Rattle.office.specs.State.{State};
 ghost use Rattle.office.specs.Permissions.{is_permitted};
@@ -11,7 +11,7 @@ ghost use Rattle.office.specs.Decided.{Agrees};
 use crate::permission::{is_permitted, may_administer};
 use crate::view::View;
 use message::{Department, Issue};
-use profile::{Kind, Refusal, department_of};
+use values::{Kind, Refusal, department_of};
 
 fn is_same_kind(kind: Kind, other: Kind) -> bool
     ensures { result ≡ same_kind kind other }

@@ -16,9 +16,9 @@ use crate::replies::to_issue;
 use crate::view::{Change, Decision, Stop, View};
 use cert::{CertFields, write_body};
 use message::Renewal;
-use profile::Refusal;
 use std::alloc::Global;
 use text::{NoMemory, Text};
+use values::Refusal;
 
 /// The refusal of a renewal with the least number.
 fn refusal_of_renewal(view: &View, caller: &[u8], renewal: &Renewal, moment: u64) -> Option<Refusal>

@@ -4,9 +4,9 @@ ghost use Rattle.std.specs.Prelude.{◌≡◌, IfOk};
 ghost use Rattle.office.specs.Replies.{delivery_reply, department_reply, issue_reply, revocation_reply, rollover_reply};
 
 use lines::body_digest;
-use profile::put_decimal;
 use std::alloc::Global;
 use text::{NoMemory, Text};
+use values::put_decimal;
 
 /// `department NAME`.
 pub(crate) fn to_department(alloc: Global, name: &[u8]) -> Result<Text, NoMemory>

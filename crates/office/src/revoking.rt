@@ -1,8 +1,8 @@
 //! Revocations.
 
 ghost use Rattle.std.specs.Prelude.{◌≡◌, ◌<◌, ◌≤◌, ◌+◌, ℕ, List, None, IfOk, IsSome, IsTrue, option_copied};
-ghost use Rattle.profile.specs.Names.{is_key_id};
-ghost use Rattle.profile.specs.Serials.{is_serial};
+ghost use Rattle.values.specs.Names.{is_key_id};
+ghost use Rattle.values.specs.Serials.{is_serial};
 ghost use Rattle.message.specs.Values.{is_range};
 ghost use Rattle.message.specs.declared.kinds.Message.TheVariants as message;
 ghost use Rattle.office.specs.State.{State};
@@ -17,9 +17,9 @@ use crate::permission::may_administer;
 use crate::replies::to_revocation;
 use crate::view::{Change, Decision, Stop, View};
 use message::SerialRange;
-use profile::Refusal;
 use std::alloc::Global;
 use text::{NoMemory, Text};
+use values::Refusal;
 
 fn refusal_of_serial(view: &View, caller: &[u8], serial: u64) -> Option<Refusal>
     ensures least { (s : State) → Agrees view.now s (message.RevokeSerial serial)

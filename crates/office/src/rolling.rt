@@ -12,8 +12,8 @@ use crate::decision::{published, unpublished};
 use crate::replies::to_rollover;
 use crate::view::{Change, Decision, Stop, View};
 use lines::KeyLine;
-use profile::Refusal;
 use std::alloc::Global;
+use values::Refusal;
 
 fn is_ca(cas: &[Ca], key: &[u8]) -> bool
     ensures { result ≡ is_ca cas.now key.now }

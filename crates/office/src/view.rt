@@ -8,8 +8,8 @@ use crate::certificate::Certificate;
 use crate::opening::Opening;
 use lines::Signature;
 use message::{Department, SerialRange};
-use profile::Refusal;
 use text::Text;
+use values::Refusal;
 
 /// The rows that a message concerns, as `concerned` names them, and the office's own row.
 #[derive(Debug, Drop)]

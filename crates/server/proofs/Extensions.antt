@@ -6,8 +6,8 @@ use Rattle.std.proofs.lemmas.List.Elements.{All-append, All-cons, All-nil}
 use Rattle.office.specs.declared.opening.Opening.{Opening}
 use Rattle.office.specs.declared.arrival.Arrival.{Arrival}
 use Rattle.office.specs.declared.registry.Registry.{Ghosts}
-use Rattle.requests.specs.Asks.{Ask, refused, get, post}
-use Rattle.profile.specs.declared.limits.TheConstants.{LATEST_MOMENT}
+use Rattle.http_requests.specs.Asks.{Ask, refused, get, post}
+use Rattle.values.specs.declared.limits.TheConstants.{LATEST_MOMENT}
 use Rattle.web.specs.Answers.{arrival_by, with_ask}
 use Rattle.web.specs.Runs.{AllDue}
 use Rattle.server.specs.declared.fault.Fault.{Fault}

@@ -2,10 +2,10 @@
 use Rattle.std.proofs.Common.{◌≡◌, ◌≤◌, inl, inr, ℕ, List, [], ◌∷◌, ◌++◌, take, Option, None, Some, Result, Ok, Err, OnOk, refl, sym, subst, ap, ◌∙◌}
 use Rattle.std.specs.Io.KnownBytes.{Consumes, Appends}
 use Rattle.std.proofs.KnownBytes.{Consumes-nil}
-use Rattle.profile.specs.declared.limits.TheConstants.{LATEST_MOMENT}
+use Rattle.values.specs.declared.limits.TheConstants.{LATEST_MOMENT}
 use Rattle.wire.specs.Streams.{AppendsBeginning}
-use Rattle.requests.specs.Asks.{Ask}
-use Rattle.requests.proofs.OneAsk.{one_of}
+use Rattle.http_requests.specs.Asks.{Ask}
+use Rattle.http_requests.proofs.OneAsk.{one_of}
 use Rattle.office.specs.declared.opening.Opening.{Opening}
 use Rattle.office.specs.declared.arrival.Arrival.{Arrival}
 use Rattle.office.specs.declared.registry.Registry.{Ghosts}

@@ -1,7 +1,8 @@
 -- What connections do to a listener, to a nonce source and to a register.
-use Rattle.std.specs.Prelude.{◌≡◌, ◌≤◌, ℕ, List, [], ◌∷◌, ◌++◌, length, take, map, flat_map, All, Option, Some, Result, Ok, Err}
+use Rattle.std.specs.Prelude.{◌≡◌, ◌≤◌, ℕ, List, [], ◌∷◌, ◌++◌, length, take, map, flat_map}
+use Rattle.std.specs.Prelude.{All, Option, Some, Result, Ok, Err}
 use Rattle.std.specs.Io.KnownBytes.{Consumes}
-use Rattle.profile.specs.declared.limits.TheConstants.{LATEST_MOMENT}
+use Rattle.values.specs.declared.limits.TheConstants.{LATEST_MOMENT}
 use Rattle.office.specs.declared.opening.Opening.{Opening}
 use Rattle.office.specs.declared.arrival.Arrival.{Arrival}
 use Rattle.office.specs.declared.registry.Registry.{Ghosts}
@@ -25,8 +26,8 @@ pub record Talk : Type 0 where
   pub lawful : exchange.moment ≤ LATEST_MOMENT
   pub size : length exchange.nonce ≡ 32
 
--- A fault after which nothing was written, and what was drawn of the nonces before it. `Write` comes behind a beginning of
--- the response.
+-- A fault after which nothing was written, and what was drawn of the nonces before it. `Write` comes behind a beginning
+-- of the response.
 abbrev pub IsSilent : Fault → (drawn : List ℕ) → Type 0
 IsSilent Socket drawn = drawn ≡ []
 IsSilent Clock drawn = drawn ≡ []
@@ -71,7 +72,8 @@ pub record IsHeld (talk : Talk) (written : List ℕ) (old new : Book) : Type 0 w
   pub one : IsOneRequest (Some left) talk.exchange.request
   pub met : IsMet old new (record { sent = talk.exchange.request ++ left; moment = talk.exchange.moment }) written
 
--- What the listener tells of a connection on which nothing was written. It tells the moments too, so its clock doesn't fail.
+-- What the listener tells of a connection on which nothing was written. The listener tells the moments too, so its clock
+-- doesn't fail.
 abbrev pub TellsFault : Fault → (old new : Book) → Type 0
 TellsFault Socket old new = (old.coming ≡ []) × (new ≡ old)
 TellsFault Clock old new = ⊥
@@ -129,8 +131,8 @@ pub record Visits {A S : Type 0} (result : Result A Fault) (book book' : Option 
   pub drawn : Consumes nonces nonces' (drawn_of visit)
   pub served : AreServed register old new (visit ∷ [])
 
--- What so many connections did, one after the other. What they drew, put together, is a beginning of the nonce source: so
--- each nonce is the next 32 bytes, none is given twice, and nothing is left out but what was drawn before a fault.
+-- What so many connections did, one after the other. What they drew, put together, is a beginning of the nonce source:
+-- so each nonce is the next 32 bytes, none is given twice, and nothing is left out but what was drawn before a fault.
 pub record Meets {S : Type 0} (count : ℕ) (book book' : Option Book) (nonces nonces' : Option (List ℕ))
     (register : Ghosts S) (old new : S) : Type 0 where
   pub visits : List Visit

@@ -5,8 +5,8 @@ ghost use Rattle.server.specs.Connections.{IfGiven, Visits};
 
 use crate::fault::Fault;
 use crate::listener::{Connection, Listener};
+use http_requests::Routes;
 use office::Registry;
-use requests::Routes;
 use serving::serve_one;
 use wire::Source;
 

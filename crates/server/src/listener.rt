@@ -1,7 +1,7 @@
 //! Where connections come from.
 
 ghost use Rattle.std.specs.Prelude.{◌≡◌, ◌≤◌, Option, None, IfOk, IfErr};
-ghost use Rattle.profile.specs.declared.limits.TheConstants.{LATEST_MOMENT};
+ghost use Rattle.values.specs.declared.limits.TheConstants.{LATEST_MOMENT};
 ghost use Rattle.server.specs.Books.{Book, WhereTold, IsAccepted, IsEnded};
 ghost use Rattle.server.specs.Connections.{IsOfAccepting, TellsFault};
 

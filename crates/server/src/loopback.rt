@@ -1,7 +1,7 @@
 //! The system's listener.
 
 ghost use Rattle.std.specs.Prelude.{◌≤◌, IfSome};
-ghost use Rattle.profile.specs.declared.limits.TheConstants.{LATEST_MOMENT};
+ghost use Rattle.values.specs.declared.limits.TheConstants.{LATEST_MOMENT};
 
 use crate::closing::end_response;
 use crate::fault::Fault;
@@ -9,9 +9,9 @@ use crate::listener::{Connection, Listener};
 use crate::patience::Patience;
 use crate::timed::Timed;
 use crate::watch::Watch;
-use profile::LATEST_MOMENT;
 use std::net::{TcpListener, TcpStream};
 use std::time::{Clock, SystemTime, UNIX_EPOCH};
+use values::LATEST_MOMENT;
 
 /// A listener of TCP, whose connections are waited for with patience. Of its bytes nothing is told.
 #[derive(Drop)]

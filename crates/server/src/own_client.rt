@@ -9,8 +9,8 @@ use crate::listener::Listener;
 use crate::listening::bind;
 use crate::loopback::Loopback;
 use crate::patience::STEP_SECONDS;
+use http_requests::Routes;
 use office::Registry;
-use requests::Routes;
 use serving::ServeFault;
 use std::io::Write;
 use std::net::{Net, TcpListener, TcpStream};
@@ -64,13 +64,13 @@ fn serve_once<R: AllocGlobal, L: Listener, S: Registry>(
     serve_connection(&routes, rt, listener, store, &mut nonces)
 }
 
-/// Tests the way from a socket to a register and back, of an office with nothing revoked: listens on 127.0.0.1 at a port
-/// that the system chooses, connects to it, asks for the list, serves that connection, and looks at the answer.
+/// Tests the way from a socket to a register and back, of an office with nothing revoked: listens on 127.0.0.1 at a
+/// port that the system chooses, connects to it, asks for the list, serves that connection, and looks at the answer.
 ///
 /// # Errors
 ///
-/// `Unserved` where a socket, the clock or the register failed or a growth was refused; `Mismatch` where anything but the
-/// list of 44 bytes was answered.
+/// `Unserved` where a socket, the clock or the register failed or a growth was refused; `Mismatch` where anything but
+/// the list of 44 bytes was answered.
 pub fn selftest<
     R: Net<Listener = TcpListener, Stream = TcpStream> + Clock + AllocGlobal,
     S: Registry,

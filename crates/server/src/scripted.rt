@@ -1,7 +1,7 @@
 //! Listeners in memory.
 
 ghost use Rattle.std.specs.Prelude.{◌≡◌, ◌≤◌, ◌<◌, Some, [], length, map, drop, vec_len, vec_capacity, IfOk};
-ghost use Rattle.profile.specs.declared.limits.TheConstants.{LATEST_MOMENT};
+ghost use Rattle.values.specs.declared.limits.TheConstants.{LATEST_MOMENT};
 ghost use Rattle.server.specs.Books.{Book};
 
 use crate::fault::Fault;
@@ -14,7 +14,7 @@ use wire::{Ending, Pace, ScriptedReader, VecSink};
 pub struct ScriptedConnection<'a> {
     /// The bytes that it sends.
     pub sent: &'a [u8],
-    /// The moment when it is accepted, at most `profile::LATEST_MOMENT`.
+    /// The moment when it is accepted, at most `values::LATEST_MOMENT`.
     pub moment: u64,
     ghost lawful: { moment ≤ LATEST_MOMENT },
 }

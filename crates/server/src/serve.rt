@@ -6,8 +6,8 @@ ghost use Rattle.server.specs.Connections.{Extends, Meets};
 use crate::connection::serve_connection;
 use crate::listener::Listener;
 use crate::report::report;
+use http_requests::Routes;
 use office::Registry;
-use requests::Routes;
 use std::io::Write;
 use wire::Source;
 
@@ -39,8 +39,9 @@ pub fn serve_on<R: AllocGlobal, L: Listener, S: Registry, N: Source, O: Write, E
     ensures was_open { S.is_honest store.new → S.is_open store.new → S.is_open store.old }
 
     // Each connection is given the response that is due to its request after the arrivals of those before it, or it is
-    // closed with a fault. The nonces are the next bytes of the source, in the order of the connections. The register then
-    // means the history with the arrivals that the requests ask for, and is open where it has answered since the last fault.
+    // closed with a fault. The nonces are the next bytes of the source, in the order of the connections. The register
+    // then means the history with the arrivals that the requests ask for, and is open where it has answered since the
+    // last fault.
     ensures met { result ≡ DONE → Meets connections (L.book listener.old) (L.book listener.new) (N.remaining nonces.old)
         (N.remaining nonces.new) S.Registry store.old store.new }
 

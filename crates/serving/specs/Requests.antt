@@ -2,10 +2,10 @@
 use Rattle.std.specs.Prelude.{◌≡◌, ◌⊎◌, ◌<◌, ◌≤◌, ℕ, List, ◌++◌, length, Option}
 use Rattle.std.specs.Io.KnownBytes.{Consumes, IsAtEnd}
 use Rattle.httparse.specs.Grammar.{RequestHead}
-use Rattle.requests.specs.declared.limits.TheConstants.{MAX_HEAD}
-use Rattle.requests.specs.Heads.{IsGood}
-use Rattle.requests.specs.Reading.{HoldsHead, NeverHolds, WaitsBefore}
-use Rattle.requests.specs.BodySizes.{WantsBody}
+use Rattle.http_requests.specs.declared.limits.TheConstants.{MAX_HEAD}
+use Rattle.http_requests.specs.Heads.{IsGood}
+use Rattle.http_requests.specs.Reading.{HoldsHead, NeverHolds, WaitsBefore}
+use Rattle.http_requests.specs.BodySizes.{WantsBody}
 
 -- Enough bytes to tell: they hold a head, they are as many as a head may have, nothing is left, or they are the
 -- beginning of no head.

@@ -14,8 +14,8 @@ ghost use Rattle.serving.specs.Served.{Served, Stopped};
 
 use crate::fault::ServeFault;
 use crate::taking::{take_nonce, take_request};
+use http_requests::Routes;
 use office::Registry;
-use requests::Routes;
 use std::alloc::Global;
 use web::answer_by;
 use wire::{Failed, Sink, Source, write_all};

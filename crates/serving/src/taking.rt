@@ -7,7 +7,7 @@ ghost use Rattle.serving.specs.Requests.{IsFront, TakesMore, IsOneRequest};
 ghost use Rattle.serving.specs.Nonces.{Draws, FailsBy};
 
 use crate::fault::ServeFault;
-use requests::{MAX_HEAD, Progress, Routes, body_size, progress_of, read_head};
+use http_requests::{MAX_HEAD, Progress, Routes, body_size, progress_of, read_head};
 use std::alloc::Global;
 use wire::{Source, read_full};
 

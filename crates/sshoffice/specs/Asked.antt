@@ -1,7 +1,7 @@
 -- What a command asks of the office in a database, by its words.
 use Rattle.std.specs.Prelude.{ℕ, List, Option, Some, None, string_bytes}
-use Rattle.words.specs.declared.job.Job.{Job}
-use Rattle.words.specs.declared.job.Job.TheVariants as job
+use Rattle.command_line.specs.declared.job.Job.{Job}
+use Rattle.command_line.specs.declared.job.Job.TheVariants as job
 use Rattle.jobs.specs.declared.job.OfficeJob.{OfficeJob}
 use Rattle.jobs.specs.declared.job.OfficeJob.TheVariants as office
 

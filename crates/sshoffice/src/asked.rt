@@ -4,8 +4,8 @@ ghost use Rattle.std.specs.Prelude.{◌≡◌, IfSome, option_map};
 ghost use Rattle.jobs.specs.Jobs.{IsLawful};
 ghost use Rattle.sshoffice.specs.Asked.{asked_of, founding_of, service_of};
 
+use command_line::Job;
 use jobs::{Founding, OfficeJob};
-use words::Job;
 
 /// What is to be served, where and how often.
 #[derive(Clone, Copy, Debug)]

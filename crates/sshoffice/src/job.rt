@@ -1,12 +1,13 @@
 //! Jobs done.
 
 ghost use Rattle.std.specs.Prelude.{◌≡◌, ◌≤◌, map, string_bytes};
-ghost use Rattle.words.specs.Answers.{AreBad};
+ghost use Rattle.command_line.specs.Answers.{AreBad};
 ghost use Rattle.sshoffice.specs.Words.{IsOfBadWords};
 
 use crate::asked::{Service, asked_of, founding_of, service_of};
 use crate::database::{do_in, serve};
 use crate::files::{check, open_file, read_exchange_file, read_key_file};
+use command_line::{Job, WordsFault, read_words};
 use jobs::{
     Founding, JobFault, OfficeJob, apply_to_trial, flushed, opening_of, status_of, test_ended,
     write_out,
@@ -14,7 +15,6 @@ use jobs::{
 use server::selftest;
 use std::io::{ErrorKind, Write};
 use trial::trial_office;
-use words::{Job, WordsFault, read_words};
 
 /// The status of bad words.
 pub const BAD_WORDS: u8 = 2;

@@ -1,14 +1,14 @@
 -- An arrival that is accepted now.
 use Rattle.std.proofs.Common.{◌≡◌, ℕ, ◌+◌, ◌<◌, ◌≤◌, List, [], ◌∷◌, ◌++◌, length, None, Result, Ok, Err, refl, sym, ap, subst, ◌∙◌, arith}
 use Rattle.std.specs.Prelude.{IsOkAnd, ◌^◌}
-use Rattle.profile.specs.declared.limits.TheConstants.{LATEST_MOMENT}
-use Rattle.profile.specs.declared.refusal.Refusal.{Refusal}
+use Rattle.values.specs.declared.limits.TheConstants.{LATEST_MOMENT}
+use Rattle.values.specs.declared.refusal.Refusal.{Refusal}
 use Rattle.sqlite.specs.Effect.{Database}
 use Rattle.sqlite.specs.State.{State as Connection, Survives}
 use Rattle.sqlite.proofs.StateLemmas.{survives_weaker}
 use Rattle.message.specs.declared.kinds.Message.{Message}
-use Rattle.tables.specs.Contents.{Contents}
-use Rattle.tables.specs.declared.fault.Fault.{Fault}
+use Rattle.store_sql.specs.Contents.{Contents}
+use Rattle.store_sql.specs.declared.fault.Fault.{Fault}
 use Rattle.office.specs.declared.arrival.Arrival.{Arrival}
 use Rattle.office.specs.declared.arrival.Kept.{Kept}
 use Rattle.office.specs.declared.arrival.Outcome.TheVariants as outcome
@@ -24,8 +24,8 @@ use Rattle.office.specs.Shows.{Shows}
 use Rattle.office.proofs.Growth.{holds_in_range, opening_stays}
 use Rattle.office.proofs.Ranges.{revoked_is_issued}
 use Rattle.office.proofs.Steps.{shows_accepted}
-use Rattle.rows.specs.Transactions.{Goes, Makes, Waits}
-use Rattle.writes.specs.Due.{Fits, IsDue, contents_after, kept_of}
+use Rattle.store_rows.specs.Transactions.{Goes, Makes, Waits}
+use Rattle.store_writes.specs.Due.{Fits, IsDue, contents_after, kept_of}
 use Rattle.store.specs.Meaning.{IsHistory}
 use Rattle.store.specs.Arriving.{IsAccepted, IsAfter, IsNew, Past, Settles, kept_at, state_at}
 use Rattle.office.proofs.Dates.{date_after}

@@ -2,9 +2,9 @@
 use Rattle.std.proofs.Common.{◌≡◌, inl, inr, Bool, true, false, List, Ok, Err, Result, IsTrue, refl, subst, sym}
 use Rattle.std.specs.Prelude.{IfOk, IfErr, OnErr, OnOk}
 use Rattle.sqlite.specs.State.{State as Connection, HasCleanDisk, Survives}
-use Rattle.tables.specs.Calls.{Never, OnlyReads}
-use Rattle.tables.specs.declared.fault.Fault.{Fault}
-use Rattle.tables.specs.declared.fault.Fault.TheVariants.{Damaged, Device, NoMemory}
+use Rattle.store_sql.specs.Calls.{Never, OnlyReads}
+use Rattle.store_sql.specs.declared.fault.Fault.{Fault}
+use Rattle.store_sql.specs.declared.fault.Fault.TheVariants.{Damaged, Device, NoMemory}
 use Rattle.office.specs.declared.opening.Opening.{Opening}
 use Rattle.office.specs.declared.arrival.Arrival.{Arrival}
 use Rattle.office.specs.declared.arrival.Kept.{Kept}
@@ -12,7 +12,7 @@ use Rattle.office.specs.declared.fault.StoreFault.{StoreFault}
 use Rattle.office.specs.Faults.{HasCause, IsOfARegister}
 use Rattle.office.specs.State.{State}
 use Rattle.office.specs.History.{first_accepted, kept_by, state}
-use Rattle.rows.specs.Faults.{fault_of, told}
+use Rattle.store_rows.specs.Faults.{fault_of, told}
 use Rattle.store.specs.Meaning.{DiskFailed, HasFailed, Tells}
 use Rattle.store.specs.Showing.{ShowsOffice}
 use Rattle.store.proofs.Telling.{disk_failed, open_before, tells_still}

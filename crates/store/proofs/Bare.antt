@@ -1,11 +1,11 @@
 -- A database without tables, in which those of the office are made.
 use Rattle.sqlite.specs.State.{State, Survives}
 use Rattle.sqlite.proofs.StateLemmas.{survives_weaker}
-use Rattle.tables.specs.Schema.{no_schema}
-use Rattle.tables.specs.Contents.{no_contents}
-use Rattle.tables.specs.Calls.{IsBare, Steps, Waits as WaitsAt}
-use Rattle.rows.specs.Transactions.{Has, Waits}
-use Rattle.rows.proofs.Steps.{Leads, goes}
+use Rattle.store_sql.specs.Schema.{no_schema}
+use Rattle.store_sql.specs.Contents.{no_contents}
+use Rattle.store_sql.specs.Calls.{IsBare, Steps, Waits as WaitsAt}
+use Rattle.store_rows.specs.Transactions.{Has, Waits}
+use Rattle.store_rows.proofs.Steps.{Leads, goes}
 
 pub bare_leads : (a b : State) → (IsBare no_schema a.now → Steps a b no_contents)
     → Leads (λ (_ : Unit {0}). IsBare no_schema) Has (λ _. no_contents) a b

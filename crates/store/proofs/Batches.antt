@@ -4,18 +4,18 @@ use Rattle.std.specs.Prelude.{◌&&◌}
 use Rattle.std.proofs.lemmas.Bool.{and_parts, cases_lt, le-leb, lt-leb, leb-true}
 use Rattle.std.proofs.lemmas.List.{take_all, length-drop}
 use Rattle.std.proofs.Math.ListN.{drop_of_length-le}
-use Rattle.profile.specs.declared.limits.TheConstants.{LAST_SERIAL}
+use Rattle.values.specs.declared.limits.TheConstants.{LAST_SERIAL}
 use Rattle.office.specs.declared.certificate.Certificate.{Certificate}
 use Rattle.office.specs.declared.opening.Opening.{Opening}
 use Rattle.office.specs.declared.arrival.Arrival.{Arrival}
 use Rattle.office.specs.Listing.{batch_of}
 use Rattle.office.specs.State.{next_serial}
 use Rattle.office.specs.History.{state}
-use Rattle.rows.specs.Certificates.{AreCounted, is_within}
+use Rattle.store_rows.specs.Certificates.{AreCounted, is_within}
 use Rattle.store.specs.Batches.{numbered}
 use Rattle.store.specs.Meaning.{IsHistory}
 use Rattle.store.proofs.Lawful.{lawful_after}
-use Rattle.views.proofs.OfHistory.{of_history}
+use Rattle.store_reads.proofs.OfHistory.{of_history}
 
 -- none has a serial up to one below the first
 none_below : (first lo hi : ℕ) (cs : List Certificate) → hi < first → AreCounted first cs → filter (is_within lo hi) cs ≡ []

@@ -1,17 +1,17 @@
 -- What every history keeps.
 use Rattle.std.proofs.Common.{◌≡◌, ℕ, List, Ok, Err, Result}
 use Rattle.sqlite.specs.State.{State as Connection}
-use Rattle.tables.specs.declared.fault.Fault.{Fault}
+use Rattle.store_sql.specs.declared.fault.Fault.{Fault}
 use Rattle.krl.specs.declared.run.Run.{Run}
 use Rattle.krl.specs.Sets.{contains}
 use Rattle.office.specs.declared.arrival.Kept.{Kept}
 use Rattle.office.specs.State.{State}
 use Rattle.office.specs.History.{first_accepted, kept_by, state}
-use Rattle.rows.specs.Showing.{Shows}
-use Rattle.views.specs.Histories.{IsOfHistory}
-use Rattle.views.specs.RunRows.{AreRevokedRuns}
+use Rattle.store_rows.specs.Showing.{Shows}
+use Rattle.store_reads.specs.Histories.{IsOfHistory}
+use Rattle.store_reads.specs.RunRows.{AreRevokedRuns}
 use Rattle.store.specs.Showing.{ShowsOffice}
-use Rattle.views.proofs.OfHistory.{of_history}
+use Rattle.store_reads.proofs.OfHistory.{of_history}
 use Rattle.store.proofs.Lawful.{lawful_after}
 
 -- what is shown of each lawful state of a history is shown of each office

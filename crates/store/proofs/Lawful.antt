@@ -7,7 +7,7 @@ use Rattle.std.specs.Cmp.Lexicographic.{slice_cmp}
 use Rattle.std.specs.FinMap.Entries.{find}
 use Rattle.std.proofs.lemmas.Bool.{and_parts, ltb-false, ltb-true, eqb-true}
 use Rattle.std.proofs.lemmas.List.Sums.{fold_push}
-use Rattle.profile.specs.declared.refusal.Refusal.{Refusal}
+use Rattle.values.specs.declared.refusal.Refusal.{Refusal}
 use Rattle.lines.specs.declared.signature.Signature.{Signature}
 use Rattle.message.specs.declared.department.Department.{Department}
 use Rattle.message.specs.declared.issue.Issue.{Issue}
@@ -32,8 +32,8 @@ use Rattle.office.specs.History.{First, add_accepted, change, judged, kept_by, s
 use Rattle.office.proofs.Histories.{message_lawful}
 use Rattle.office.proofs.Issuable.{issuable_certificate, renewable_certificate}
 use Rattle.office.proofs.Judged.{judged_is_first, none_holds}
-use Rattle.rows.specs.Certificates.{AreCounted, IsSigned}
-use Rattle.rows.specs.Lawful.{IsLawful}
+use Rattle.store_rows.specs.Certificates.{AreCounted, IsSigned}
+use Rattle.store_rows.specs.Lawful.{IsLawful}
 use Rattle.store.specs.Meaning.{IsHistory}
 use Rattle.store.proofs.Ascending.{IsEntry, entries_put, names_put, texts_put}
 use Rattle.krl.proofs.Items.{all_more}

@@ -6,7 +6,7 @@ use Rattle.std.proofs.lemmas.Bool.Decides.{nat_tests}
 use Rattle.std.proofs.lemmas.List.{length-drop}
 use Rattle.std.proofs.lemmas.List.Sorted.{length_permutation}
 use Rattle.sqlite_trees.proofs.ListLemmas.{IsPermutation-filter}
-use Rattle.profile.specs.Names.{department_of, is_key_id, is_key_id_end}
+use Rattle.values.specs.Names.{department_of, is_key_id, is_key_id_end}
 use Rattle.lines.specs.Keys.{key_blob, key_of}
 use Rattle.lines.specs.KeyLines.{is_comment_or_none, is_key}
 use Rattle.lines.proofs.Blobs.{key_of_again}
@@ -24,21 +24,21 @@ use Rattle.office.specs.Messages.{message_with_text}
 use Rattle.office.specs.State.{is_ca}
 use Rattle.office.proofs.Growth.{holds_in_range, opening_stays}
 use Rattle.office.proofs.Histories.{message_lawful}
-use Rattle.migration.specs.Former.{first_ca, former_contents}
-use Rattle.migration.specs.Migrating.{RefusesFirstCa}
-use Rattle.tables.specs.declared.cas.CaRow.{CaRow}
-use Rattle.tables.specs.declared.runs.RunRow.{RunRow}
-use Rattle.tables.specs.Cells.{ca_cells, cert_cells, key_id_cells}
-use Rattle.tables.specs.Changes.{with_counters, with_request}
-use Rattle.tables.specs.Runs as runs
-use Rattle.tables.specs.Contents.{Contents}
-use Rattle.tables.specs.Refusals.{RefusesCa, RefusesCert}
-use Rattle.rows.specs.Rows.{ca_rows, office_contents, revoked_runs, run_row}
-use Rattle.writes.specs.Changing.{ca_from}
-use Rattle.writes.specs.Due.{counters_of, kept_of}
-use Rattle.writes.specs.Ranges.{joined_run}
-use Rattle.writes.specs.Refused.{RefusesChange, RefusesDecision, RefusesRange}
-use Rattle.writes.proofs.Joined.{rows_joined}
+use Rattle.store_migration.specs.Former.{first_ca, former_contents}
+use Rattle.store_migration.specs.Migrating.{RefusesFirstCa}
+use Rattle.store_sql.specs.declared.cas.CaRow.{CaRow}
+use Rattle.store_sql.specs.declared.runs.RunRow.{RunRow}
+use Rattle.store_sql.specs.Cells.{ca_cells, cert_cells, key_id_cells}
+use Rattle.store_sql.specs.Changes.{with_counters, with_request}
+use Rattle.store_sql.specs.Runs as runs
+use Rattle.store_sql.specs.Contents.{Contents}
+use Rattle.store_sql.specs.Refusals.{RefusesCa, RefusesCert}
+use Rattle.store_rows.specs.Rows.{ca_rows, office_contents, revoked_runs, run_row}
+use Rattle.store_writes.specs.Changing.{ca_from}
+use Rattle.store_writes.specs.Due.{counters_of, kept_of}
+use Rattle.store_writes.specs.Ranges.{joined_run}
+use Rattle.store_writes.specs.Refused.{RefusesChange, RefusesDecision, RefusesRange}
+use Rattle.store_writes.proofs.Joined.{rows_joined}
 use Rattle.office.specs.Openings.{IsOpening}
 use Rattle.store.specs.Creating.{RefusesOpening}
 use Rattle.store.specs.Arriving.{IsTooMuch, IsTooMuchToChange}
@@ -53,8 +53,8 @@ use Rattle.std.specs.Str.{bytes_eq}
 use Rattle.std.proofs.lemmas.Bool.{and_parts, or_parts, cases_Bool, eqb-true, leb-true}
 use Rattle.std.proofs.lemmas.Map.Text.{is_eq-slice_cmp}
 use Rattle.std.proofs.lemmas.Slice.Eq.{bytes_eq-Decides}
-use Rattle.profile.specs.Names.{has_size, is_name, is_name_byte}
-use Rattle.profile.specs.declared.refusal.Refusal.{Refusal}
+use Rattle.values.specs.Names.{has_size, is_name, is_name_byte}
+use Rattle.values.specs.declared.refusal.Refusal.{Refusal}
 use Rattle.lines.proofs.Blobs.{length-key_blob}
 use Rattle.message.specs.Values.{is_department}
 use Rattle.message.specs.declared.renewal.Renewal.{Renewal}
@@ -75,14 +75,14 @@ use Rattle.office.specs.Certificates.{renewed_certificate}
 use Rattle.office.specs.Permissions.{is_renewal_permitted_by}
 use Rattle.office.specs.State.{State, certificate_of, department_named, department_of_serial, has_any, is_key_id_revoked, is_range_revoked}
 use Rattle.office.proofs.Judged.{judged_is_first, none_holds}
-use Rattle.tables.specs.declared.offices.Counters.{Counters}
-use Rattle.tables.specs.declared.offices.OfficeRow.{OfficeRow}
-use Rattle.tables.specs.Cells.{office_cells}
-use Rattle.tables.specs.Changes.{counted, renumbered}
-use Rattle.tables.specs.Refusals.{HasOne, IsTooLong, RefusesCounters}
-use Rattle.rows.specs.Certificates.{AreCounted}
-use Rattle.rows.specs.Lawful.{IsLawful}
-use Rattle.rows.specs.Rows.{cert_row, contents_of, department_row, office_row, request_row}
+use Rattle.store_sql.specs.declared.offices.Counters.{Counters}
+use Rattle.store_sql.specs.declared.offices.OfficeRow.{OfficeRow}
+use Rattle.store_sql.specs.Cells.{office_cells}
+use Rattle.store_sql.specs.Changes.{counted, renumbered}
+use Rattle.store_sql.specs.Refusals.{HasOne, IsTooLong, RefusesCounters}
+use Rattle.store_rows.specs.Certificates.{AreCounted}
+use Rattle.store_rows.specs.Lawful.{IsLawful}
+use Rattle.store_rows.specs.Rows.{cert_row, contents_of, department_row, office_row, request_row}
 use Rattle.office.proofs.Growth.{length-signed_at}
 use Rattle.store.specs.Arriving.{IsAccepted, Past, kept_at, state_at}
 use Rattle.cert.proofs.Sizes.{key_id_end-le}

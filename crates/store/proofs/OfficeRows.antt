@@ -5,18 +5,18 @@ use Rattle.std.specs.List.{list_any}
 use Rattle.std.proofs.lemmas.List.Sorted.{length_permutation, All-permutation}
 use Rattle.std.proofs.lemmas.List.Elements.{All-cons, All-nil}
 use Rattle.sqlite.specs.Effect.{Database}
-use Rattle.tables.specs.Look.{is_office_table}
-use Rattle.tables.proofs.FirstTable.{first_seen}
-use Rattle.tables.specs.Contents.{Contents, HasOffices}
-use Rattle.tables.specs.declared.offices.OfficeRow.{OfficeRow}
+use Rattle.store_sql.specs.Look.{is_office_table}
+use Rattle.store_sql.proofs.FirstTable.{first_seen}
+use Rattle.store_sql.specs.Contents.{Contents, HasOffices}
+use Rattle.store_sql.specs.declared.offices.OfficeRow.{OfficeRow}
 use Rattle.office.specs.declared.fault.StoreFault.{StoreFault}
 use Rattle.office.specs.declared.fault.StoreFault.TheVariants.{AlreadyAnOffice, NotAnOffice, WrongSchema, Damaged, Device, NoMemory}
 use Rattle.sqlite.specs.State.{State, IsUnchanged}
-use Rattle.tables.specs.Refusals.{HasCauseOr}
-use Rattle.tables.specs.declared.fault.Fault.{Fault}
-use Rattle.tables.specs.declared.fault.Fault.TheVariants as table_fault
-use Rattle.rows.specs.Faults.{fault_of}
-use Rattle.migration.specs.Migrating.{HasStopped, IsExcused, RefusesFirstCa}
+use Rattle.store_sql.specs.Refusals.{HasCauseOr}
+use Rattle.store_sql.specs.declared.fault.Fault.{Fault}
+use Rattle.store_sql.specs.declared.fault.Fault.TheVariants as table_fault
+use Rattle.store_rows.specs.Faults.{fault_of}
+use Rattle.store_migration.specs.Migrating.{HasStopped, IsExcused, RefusesFirstCa}
 use Rattle.store.specs.Meaning.{DiskFailed, Looks, LooksOn, opened_by}
 use Rattle.store.proofs.Telling.{disk_failed}
 

@@ -5,17 +5,17 @@ use Rattle.sqlite.specs.Effect.{Database}
 use Rattle.sqlite.specs.Tree.{Trees}
 use Rattle.sqlite.specs.State.{State as Connection, Survives, IsUnchanged}
 use Rattle.text.specs.declared.memory.NoMemory.{NoMemory as Refusal}
-use Rattle.tables.specs.Contents.{Means}
-use Rattle.tables.specs.declared.fault.Fault.{Fault}
+use Rattle.store_sql.specs.Contents.{Means}
+use Rattle.store_sql.specs.declared.fault.Fault.{Fault}
 use Rattle.sqlite.proofs.Callers.{unchanged_then}
-use Rattle.tables.proofs.Later.{cause_then, stops_then}
+use Rattle.store_sql.proofs.Later.{cause_then, stops_then}
 use Rattle.office.specs.declared.opening.Opening.{Opening}
 use Rattle.office.specs.declared.arrival.Arrival.{Arrival}
 use Rattle.office.specs.declared.arrival.Kept.{Kept}
 use Rattle.office.specs.State.{State}
 use Rattle.office.specs.History.{first_accepted, kept_by, state}
-use Rattle.rows.specs.Rows.{office_contents}
-use Rattle.rows.specs.Showing.{Shows}
+use Rattle.store_rows.specs.Rows.{office_contents}
+use Rattle.store_rows.specs.Showing.{Shows}
 use Rattle.store.specs.Meaning.{IsHistory, made}
 use Rattle.store.specs.Showing.{ShowsOffice}
 use Rattle.store.proofs.Lawful.{lawful_after}

@@ -6,8 +6,8 @@ use Rattle.std.specs.Str.{bytes_eq}
 use Rattle.office.specs.declared.arrival.Arrival.{Arrival}
 use Rattle.office.specs.declared.arrival.Kept.{Kept}
 use Rattle.office.specs.History.{has_key, reply_kept}
-use Rattle.views.specs.Histories.{AreApart, is_for}
-use Rattle.views.proofs.Keeping.{known_by_kept, no_repeat, reply_by_kept, reply_of}
+use Rattle.store_reads.specs.Histories.{AreApart, is_for}
+use Rattle.store_reads.proofs.Keeping.{known_by_kept, no_repeat, reply_by_kept, reply_of}
 
 module _ (a : Arrival) (kept : List Kept) where
   pub unknown_found : find (is_for a.caller a.key) kept ≡ None → list_any (has_key a) kept ≡ false

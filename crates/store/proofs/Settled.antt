@@ -2,9 +2,9 @@
 use Rattle.std.proofs.Common.{◌≡◌, ℕ, List, [], ◌∷◌, ◌++◌, length, true, false, Some, None, Ok, Err, Result, IsTrue, refl, sym, ap₂, subst}
 use Rattle.std.specs.Prelude.{◌≤◌, nat_lt}
 use Rattle.std.specs.List.{list_any}
-use Rattle.profile.specs.declared.limits.TheConstants.{LATEST_MOMENT}
-use Rattle.profile.specs.declared.refusal.Refusal.{Refusal}
-use Rattle.profile.specs.declared.refusal.Refusal.TheVariants.{BadMessage, BadMoment, KeyReused}
+use Rattle.values.specs.declared.limits.TheConstants.{LATEST_MOMENT}
+use Rattle.values.specs.declared.refusal.Refusal.{Refusal}
+use Rattle.values.specs.declared.refusal.Refusal.TheVariants.{BadMessage, BadMoment, KeyReused}
 use Rattle.sqlite.specs.Tree.{Trees}
 use Rattle.sqlite.specs.Effect.{Database}
 use Rattle.sqlite.specs.State.{State as Connection, HasCleanDisk, Survives}
@@ -13,11 +13,11 @@ use Rattle.message.specs.declared.kinds.Message.{Message}
 use Rattle.message.specs.Reading.{Gives, message_at}
 use Rattle.message.specs.declared.fault.MessageFault.{MessageFault}
 use Rattle.message.specs.declared.fault.MessageFault.TheVariants.{BadLine}
-use Rattle.tables.specs.Contents.{Contents, Means}
-use Rattle.tables.specs.Calls as table
-use Rattle.tables.proofs.Later.{stops}
-use Rattle.tables.specs.declared.fault.Fault.{Fault}
-use Rattle.tables.specs.declared.fault.Fault.TheVariants.{NoMemory}
+use Rattle.store_sql.specs.Contents.{Contents, Means}
+use Rattle.store_sql.specs.Calls as table
+use Rattle.store_sql.proofs.Later.{stops}
+use Rattle.store_sql.specs.declared.fault.Fault.{Fault}
+use Rattle.store_sql.specs.declared.fault.Fault.TheVariants.{NoMemory}
 use Rattle.office.specs.declared.arrival.Arrival.{Arrival}
 use Rattle.office.specs.declared.arrival.Kept.{Kept}
 use Rattle.office.specs.declared.arrival.Outcome.{Outcome}
@@ -32,10 +32,10 @@ use Rattle.office.specs.Machine.{step}
 use Rattle.office.specs.History.{due, has_key, judged, reply_kept}
 use Rattle.office.specs.Shows.{Shows}
 use Rattle.office.proofs.Steps.{shows_office, shows_refused, shows_repeated}
-use Rattle.rows.specs.Rows.{contents_of, office_contents}
-use Rattle.rows.specs.Transactions.{Answers, Waits}
-use Rattle.rows.proofs.Causes.{cause_of, fails_then, fails_weaker}
-use Rattle.rows.proofs.Steps.{Leads, answers_then, goes_still, waits_then}
+use Rattle.store_rows.specs.Rows.{contents_of, office_contents}
+use Rattle.store_rows.specs.Transactions.{Answers, Waits}
+use Rattle.store_rows.proofs.Causes.{cause_of, fails_then, fails_weaker}
+use Rattle.store_rows.proofs.Steps.{Leads, answers_then, goes_still, waits_then}
 use Rattle.store.specs.Meaning.{IsHistory}
 use Rattle.store.specs.Showing.{ShowsOffice}
 use Rattle.store.specs.Arriving.{FailsAt, IsAfter, IsAnswered, IsNew, Past, ExceedsTables, Settles, contents_with, kept_at, state_at, stopped}

@@ -3,19 +3,19 @@ use Rattle.std.proofs.Common.{◌≡◌, inl, inr, Bool, false, List, [], ◌∷
 use Rattle.std.specs.Prelude.{IfErr, IfOk, OnErr, OnOk}
 use Rattle.sqlite.specs.Tree.{Trees}
 use Rattle.sqlite.specs.State.{State as Connection, HasCleanDisk, Survives}
-use Rattle.tables.specs.Faults as table
-use Rattle.tables.specs.Refusals.{HasCauseOr}
-use Rattle.tables.specs.declared.fault.Fault.{Fault}
-use Rattle.tables.specs.declared.fault.Fault.TheVariants.{Damaged, Device, NoMemory}
+use Rattle.store_sql.specs.Faults as table
+use Rattle.store_sql.specs.Refusals.{HasCauseOr}
+use Rattle.store_sql.specs.declared.fault.Fault.{Fault}
+use Rattle.store_sql.specs.declared.fault.Fault.TheVariants.{Damaged, Device, NoMemory}
 use Rattle.office.specs.declared.opening.Opening.{Opening}
 use Rattle.office.specs.declared.arrival.Arrival.{Arrival}
 use Rattle.office.specs.declared.arrival.Outcome.{Outcome}
 use Rattle.office.specs.declared.fault.StoreFault.{StoreFault}
 use Rattle.office.specs.Faults.{HasCause, IsOfARegister}
 use Rattle.office.specs.History.{due}
-use Rattle.rows.specs.Rows.{office_contents}
-use Rattle.rows.specs.Transactions.{Ends, Has, Leaves, Rests}
-use Rattle.rows.specs.Faults.{told}
+use Rattle.store_rows.specs.Rows.{office_contents}
+use Rattle.store_rows.specs.Transactions.{Ends, Has, Leaves, Rests}
+use Rattle.store_rows.specs.Faults.{told}
 use Rattle.store.specs.Meaning.{Tells}
 use Rattle.store.specs.Arriving.{IsAfter, IsAnswered, IsAny, IsCaused, IsStopped, ExceedsTables, contents_with, of_statement}
 use Rattle.store.proofs.Telling.{disk_failed, left_committed}

@@ -3,15 +3,15 @@ use Rattle.std.proofs.Common.{◌≡◌, inl, inr, ℕ, true, false, IsTrue, Opt
 use Rattle.std.specs.Prelude.{List, is_some}
 use Rattle.sqlite.specs.Tree.{Trees}
 use Rattle.sqlite.specs.State.{State, HasCleanDisk, Survives}
-use Rattle.tables.specs.Contents.{Contents, Kept, Means}
-use Rattle.tables.specs.Calls.{Fails, Never}
-use Rattle.tables.specs.Faults.{HasFailed}
+use Rattle.store_sql.specs.Contents.{Contents, Kept, Means}
+use Rattle.store_sql.specs.Calls.{Fails, Never}
+use Rattle.store_sql.specs.Faults.{HasFailed}
 use Rattle.office.specs.declared.opening.Opening.{Opening}
 use Rattle.office.specs.declared.arrival.Arrival.{Arrival}
-use Rattle.rows.specs.Transactions.{Has, IsAsBefore, Rests}
-use Rattle.rows.proofs.Before.{fails_before}
+use Rattle.store_rows.specs.Transactions.{Has, IsAsBefore, Rests}
+use Rattle.store_rows.proofs.Before.{fails_before}
 use Rattle.office.specs.declared.fault.StoreFault.{StoreFault}
-use Rattle.rows.specs.Rows.{office_contents}
+use Rattle.store_rows.specs.Rows.{office_contents}
 use Rattle.store.specs.Meaning.{DiskFailed, IsLeft, LooksOn, Tells}
 
 -- where no query has a limit on its steps, only a disk fails

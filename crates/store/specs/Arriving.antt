@@ -2,15 +2,15 @@
 use Rattle.std.specs.Prelude.{◌≡◌, ◌⊎◌, ◌<◌, false, nat_lt, Bool, List, [], ◌∷◌, ◌++◌, find, IfErr, IsOkAnd, Option}
 use Rattle.std.specs.Prelude.{Some, None, Result, Ok, Err}
 use Rattle.std.specs.List.{list_any}
-use Rattle.profile.specs.declared.limits.TheConstants.{LATEST_MOMENT}
+use Rattle.values.specs.declared.limits.TheConstants.{LATEST_MOMENT}
 use Rattle.sqlite.specs.Effect.{Database}
 use Rattle.sqlite.specs.State.{State as Connection, HasCleanDisk}
 use Rattle.message.specs.declared.kinds.Message.{Message}
-use Rattle.tables.specs.declared.fault.Fault.{Fault}
-use Rattle.tables.specs.declared.fault.Fault.TheVariants.{Damaged, Device, NoMemory}
-use Rattle.tables.specs.Contents.{Contents, Means}
-use Rattle.tables.specs.Cells.{cert_cells, request_cells}
-use Rattle.tables.specs.Refusals.{IsFull, IsTooLong, RefusesDepartment, RefusesSignature}
+use Rattle.store_sql.specs.declared.fault.Fault.{Fault}
+use Rattle.store_sql.specs.declared.fault.Fault.TheVariants.{Damaged, Device, NoMemory}
+use Rattle.store_sql.specs.Contents.{Contents, Means}
+use Rattle.store_sql.specs.Cells.{cert_cells, request_cells}
+use Rattle.store_sql.specs.Refusals.{IsFull, IsTooLong, RefusesDepartment, RefusesSignature}
 use Rattle.office.specs.declared.opening.Opening.{Opening}
 use Rattle.office.specs.declared.arrival.Arrival.{Arrival}
 use Rattle.office.specs.declared.arrival.Kept.{Kept}
@@ -27,12 +27,12 @@ use Rattle.office.specs.Decided.{HasRoom, written}
 use Rattle.office.specs.Messages.{message_with_text}
 use Rattle.office.specs.State.{State, next_serial}
 use Rattle.office.specs.History.{change as change_by, due, first_accepted, has_key, judged, kept_by, reply_kept, state}
-use Rattle.rows.specs.Rows.{cert_row, department_row, office_contents, request_row}
-use Rattle.rows.specs.Transactions.{Answers, FailsFor, StopsFor}
-use Rattle.views.specs.declared.concerning.Concerned.{Concerned}
-use Rattle.views.specs.Concerning.{AreConcerned}
-use Rattle.views.specs.Histories.{is_for}
-use Rattle.writes.specs.Due.{kept_of}
+use Rattle.store_rows.specs.Rows.{cert_row, department_row, office_contents, request_row}
+use Rattle.store_rows.specs.Transactions.{Answers, FailsFor, StopsFor}
+use Rattle.store_reads.specs.declared.concerning.Concerned.{Concerned}
+use Rattle.store_reads.specs.Concerning.{AreConcerned}
+use Rattle.store_reads.specs.Histories.{is_for}
+use Rattle.store_writes.specs.Due.{kept_of}
 use Rattle.store.specs.Meaning.{DiskFailed, IsHistory, Tells}
 
 -- ---- an office after a history

@@ -4,16 +4,16 @@ use Rattle.sqlite.specs.Tree.{Trees}
 use Rattle.sqlite.specs.State.{State}
 use Rattle.office.specs.declared.opening.Opening.{Opening}
 use Rattle.office.specs.State.{first_ca, opened}
-use Rattle.tables.specs.declared.fault.Fault.{Fault}
-use Rattle.tables.specs.Calls.{IsBare}
-use Rattle.tables.specs.Schema.{no_schema}
-use Rattle.tables.specs.declared.cas.CaRow.{CaRow}
-use Rattle.tables.specs.declared.offices.OfficeRow.{OfficeRow}
-use Rattle.tables.specs.Changes.{with_ca, with_office}
-use Rattle.tables.specs.Contents.{Contents, no_contents}
-use Rattle.tables.specs.Refusals.{HasCauseOr, RefusesCa, RefusesOffice}
-use Rattle.rows.specs.Rows.{ca_row, office_contents, office_row}
-use Rattle.rows.specs.Transactions.{Ends, FailsFor, Leaves, Makes, Rests, Waits}
+use Rattle.store_sql.specs.declared.fault.Fault.{Fault}
+use Rattle.store_sql.specs.Calls.{IsBare}
+use Rattle.store_sql.specs.Schema.{no_schema}
+use Rattle.store_sql.specs.declared.cas.CaRow.{CaRow}
+use Rattle.store_sql.specs.declared.offices.OfficeRow.{OfficeRow}
+use Rattle.store_sql.specs.Changes.{with_ca, with_office}
+use Rattle.store_sql.specs.Contents.{Contents, no_contents}
+use Rattle.store_sql.specs.Refusals.{HasCauseOr, RefusesCa, RefusesOffice}
+use Rattle.store_rows.specs.Rows.{ca_row, office_contents, office_row}
+use Rattle.store_rows.specs.Transactions.{Ends, FailsFor, Leaves, Makes, Rests, Waits}
 
 -- the row of the office is refused, or then that of its CA
 abbrev pub RefusesFirst : OfficeRow → CaRow → Contents → Type 0

@@ -10,15 +10,15 @@ use Rattle.office.specs.declared.arrival.Arrival.{Arrival}
 use Rattle.office.specs.declared.fault.StoreFault.{StoreFault}
 use Rattle.office.specs.declared.fault.StoreFault.TheVariants.{Device, NoMemory, NotAnOffice, WrongSchema}
 use Rattle.office.specs.Shows.{IsOffice}
-use Rattle.tables.specs.declared.offices.OfficeRow.{OfficeRow}
-use Rattle.tables.specs.Contents.{HasOffices, Kept}
-use Rattle.tables.specs.declared.fault.Fault.{Fault}
-use Rattle.tables.specs.declared.fault.Fault.TheVariants as table_fault
+use Rattle.store_sql.specs.declared.offices.OfficeRow.{OfficeRow}
+use Rattle.store_sql.specs.Contents.{HasOffices, Kept}
+use Rattle.store_sql.specs.declared.fault.Fault.{Fault}
+use Rattle.store_sql.specs.declared.fault.Fault.TheVariants as table_fault
 use Rattle.text.specs.declared.memory.NoMemory as text
-use Rattle.tables.specs.Schema.{no_schema}
-use Rattle.tables.specs.Calls.{Fails, IsBare}
-use Rattle.rows.specs.Rows.{office_contents}
-use Rattle.rows.specs.Transactions.{Rests, Has}
+use Rattle.store_sql.specs.Schema.{no_schema}
+use Rattle.store_sql.specs.Calls.{Fails, IsBare}
+use Rattle.store_rows.specs.Rows.{office_contents}
+use Rattle.store_rows.specs.Transactions.{Rests, Has}
 
 -- no transaction is open, and the database has no table
 abbrev pub IsBlank : State → Type 0

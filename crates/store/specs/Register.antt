@@ -4,10 +4,10 @@ use Rattle.sqlite.specs.State.{State}
 use Rattle.office.specs.declared.opening.Opening.{Opening}
 use Rattle.office.specs.declared.arrival.Arrival.{Arrival}
 use Rattle.office.specs.declared.fault.StoreFault.{StoreFault}
-use Rattle.tables.specs.Contents.{Contents}
-use Rattle.rows.specs.Transactions.{Has, Rests}
-use Rattle.migration.specs.Former.{Had, TellsBefore, migrated}
-use Rattle.migration.specs.Migrating.{IsExcused}
+use Rattle.store_sql.specs.Contents.{Contents}
+use Rattle.store_rows.specs.Transactions.{Has, Rests}
+use Rattle.store_migration.specs.Former.{Had, TellsBefore, migrated}
+use Rattle.store_migration.specs.Migrating.{IsExcused}
 use Rattle.store.specs.Meaning.{DiskFailed, IsBlank, IsHistory, Tells}
 
 -- the connection is open

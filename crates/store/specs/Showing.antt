@@ -1,16 +1,16 @@
 -- What a reading call shows of the tables of an office after a history.
 use Rattle.std.specs.Prelude.{List, Result, Ok, Err}
 use Rattle.sqlite.specs.State.{State as Connection, IsUnchanged}
-use Rattle.tables.specs.Contents.{Means}
-use Rattle.tables.specs.Calls.{Fails}
-use Rattle.tables.specs.Faults.{HasCause}
-use Rattle.tables.specs.declared.fault.Fault.{Fault}
+use Rattle.store_sql.specs.Contents.{Means}
+use Rattle.store_sql.specs.Calls.{Fails}
+use Rattle.store_sql.specs.Faults.{HasCause}
+use Rattle.store_sql.specs.declared.fault.Fault.{Fault}
 use Rattle.office.specs.declared.opening.Opening.{Opening}
 use Rattle.office.specs.declared.arrival.Arrival.{Arrival}
 use Rattle.office.specs.declared.arrival.Kept.{Kept}
 use Rattle.office.specs.State.{State}
 use Rattle.office.specs.History.{first_accepted, kept_by, state}
-use Rattle.rows.specs.Rows.{office_contents}
+use Rattle.store_rows.specs.Rows.{office_contents}
 use Rattle.store.specs.Meaning.{IsHistory}
 
 -- Of tables with the rows of an office after a history: this is shown of its state and of what is kept with it, and

@@ -3,7 +3,7 @@
 ghost use Rattle.std.specs.Prelude.{◌≡◌};
 ghost use Rattle.store.specs.Meaning.{made};
 
-use tables::Fault;
+use store_sql::Fault;
 use text::NoMemory;
 
 /// What was made where memory allowed it, as an answer of the tables.

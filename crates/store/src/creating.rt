@@ -1,23 +1,23 @@
 //! The tables of an office in which nothing has happened yet.
 
 ghost use Rattle.std.specs.Prelude.{◌≡◌, ◌∷◌, [], ◌<◌, ◌^◌, IfOk};
-ghost use Rattle.tables.specs.Contents.{no_contents};
-ghost use Rattle.tables.specs.Calls.{Stays};
-ghost use Rattle.tables.specs.Honest.{On, OutlivesBy};
-ghost use Rattle.tables.specs.Changes.{with_ca, with_office};
+ghost use Rattle.store_sql.specs.Contents.{no_contents};
+ghost use Rattle.store_sql.specs.Calls.{Stays};
+ghost use Rattle.store_sql.specs.Honest.{On, OutlivesBy};
+ghost use Rattle.store_sql.specs.Changes.{with_ca, with_office};
 ghost use Rattle.office.specs.Openings.{IsOpening};
 ghost use Rattle.office.specs.State.{first_ca, opened};
-ghost use Rattle.rows.specs.Rows.{ca_row, office_row};
-ghost use Rattle.rows.specs.Transactions.{FailsFor, Has, KeepsOnErr, Makes, Waits};
+ghost use Rattle.store_rows.specs.Rows.{ca_row, office_row};
+ghost use Rattle.store_rows.specs.Transactions.{FailsFor, Has, KeepsOnErr, Makes, Waits};
 ghost use Rattle.store.specs.Creating.{EndsFirst, EndsOpening, FailsFirst, FailsOnBlank, LeavesFirst, LeavesOpening};
 ghost use Rattle.store.specs.Creating.{MakesFirst, RefusesFirst, RefusesOpening, WaitsFirst};
 
 use lines::key_blob_of;
 use office::Opening;
-use rows::{conclude, number};
 use sqlite::{Alter, Connection};
 use std::alloc::Global;
-use tables::{CaRow, Fault, Number, OfficeRow, begin, create_tables, insert_ca, insert_office};
+use store_rows::{conclude, number};
+use store_sql::{CaRow, Fault, Number, OfficeRow, begin, create_tables, insert_ca, insert_office};
 use text::{NoMemory, Text};
 
 /// The schema that is made, and the only one that is opened.

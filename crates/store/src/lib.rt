@@ -24,5 +24,5 @@ pub use office::{
     Arrival, Ca, Entry, Issued, Opening, OpeningFault, Outcome, Pending, Registry, Revoked,
     Standing, StoreFault,
 };
-pub use profile::{Kind, Refusal, is_name};
 pub use register::Store;
+pub use values::{Kind, Refusal, is_name};

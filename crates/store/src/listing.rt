@@ -1,20 +1,20 @@
 //! What is read for reports: what is revoked, and certificates in batches.
 
 ghost use Rattle.std.specs.Prelude.{◌≡◌, ◌+◌, min};
-ghost use Rattle.tables.specs.Calls.{Never, OnlyReads};
-ghost use Rattle.rows.specs.Showing.{AreWithin};
-ghost use Rattle.tables.specs.Honest.{On, Outlives};
+ghost use Rattle.store_sql.specs.Calls.{Never, OnlyReads};
+ghost use Rattle.store_rows.specs.Showing.{AreWithin};
+ghost use Rattle.store_sql.specs.Honest.{On, Outlives};
 ghost use Rattle.office.specs.Listing.{AreRevocations, batch_of};
 ghost use Rattle.store.specs.Batches.{numbered};
 ghost use Rattle.store.specs.Showing.{ShowsOffice};
 
 use krl::Runs;
 use office::{Certificate, Revocations};
-use rows::{number, read_certificates, read_key_ids, read_office};
 use sqlite::{Alter, Connection};
 use std::alloc::Global;
-use tables::{Fault, Number};
-use views::revoked_runs;
+use store_reads::revoked_runs;
+use store_rows::{number, read_certificates, read_key_ids, read_office};
+use store_sql::{Fault, Number};
 
 fn with_key_ids<S: Alter>(
     alloc: Global,

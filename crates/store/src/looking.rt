@@ -2,19 +2,19 @@
 
 ghost use Rattle.std.specs.Prelude.{◌≡◌, false};
 ghost use Rattle.std.specs.List.{list_any};
-ghost use Rattle.tables.specs.Calls.{Never};
-ghost use Rattle.tables.specs.Honest.{Between, On, Outlives, tables_of};
-ghost use Rattle.tables.specs.Look.{is_office_table};
-ghost use Rattle.tables.specs.declared.offices.OfficeRow.{OfficeRow};
-ghost use Rattle.tables.specs.Faults.{HasFailed};
+ghost use Rattle.store_sql.specs.Calls.{Never};
+ghost use Rattle.store_sql.specs.Honest.{Between, On, Outlives, tables_of};
+ghost use Rattle.store_sql.specs.Look.{is_office_table};
+ghost use Rattle.store_sql.specs.declared.offices.OfficeRow.{OfficeRow};
+ghost use Rattle.store_sql.specs.Faults.{HasFailed};
 ghost use Rattle.store.specs.Meaning.{KeepsTelling, LooksOn, LooksUnless, opened_by};
 
 use crate::creating::SCHEMA;
 use office::StoreFault;
-use rows::fault_of;
 use sqlite::{Alter, Connection};
 use std::alloc::Global;
-use tables::{OfficeRow, every_office, has_office};
+use store_rows::fault_of;
+use store_sql::{OfficeRow, every_office, has_office};
 
 fn opened_by(rows: &[OfficeRow]) -> Result<(), StoreFault>
     ensures { result ≡ opened_by rows.now }

@@ -2,8 +2,8 @@
 
 ghost use Rattle.std.specs.Prelude.{◌≡◌, IfOk};
 ghost use Rattle.std.specs.List.Sorted.{IsNonDecreasing};
-ghost use Rattle.tables.specs.Calls.{Never, OnlyReads};
-ghost use Rattle.tables.specs.Honest.{On, Outlives};
+ghost use Rattle.store_sql.specs.Calls.{Never, OnlyReads};
+ghost use Rattle.store_sql.specs.Honest.{On, Outlives};
 ghost use Rattle.office.specs.Publication.{AreRevoked};
 ghost use Rattle.office.specs.Parts.{numbers};
 ghost use Rattle.store.specs.Parts.{AreOrdered, AreShown, IsMadeOf, are_ordered};
@@ -13,10 +13,10 @@ use crate::answer::made;
 use crate::listing::read_revocations;
 use krl::KrlHead;
 use office::{Ca, Revocations, Revoked, parts_of};
-use rows::{read_cas, read_office};
 use sqlite::{Alter, Connection};
 use std::alloc::Global;
-use tables::Fault;
+use store_rows::{read_cas, read_office};
+use store_sql::Fault;
 use text::{NoMemory, Texts};
 
 fn are_ordered(cas: &[Ca]) -> bool

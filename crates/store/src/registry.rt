@@ -4,7 +4,7 @@ ghost use Rattle.std.specs.Prelude.{IsTrue};
 ghost use Rattle.sqlite.specs.Held.{state};
 ghost use Rattle.sqlite.specs.State.{HasCleanDisk};
 ghost use Rattle.office.specs.declared.arrival.Arrival.{Arrival};
-ghost use Rattle.rows.specs.Transactions.{IsAsBefore};
+ghost use Rattle.store_rows.specs.Transactions.{IsAsBefore};
 ghost use Rattle.store.specs.Meaning.{HasFailed, Tells};
 ghost use Rattle.store.specs.Arriving.{IsStopped};
 
@@ -17,9 +17,9 @@ use message::Department;
 use office::{
     Arrival, Ca, Certificate, Issued, Outcome, Registry, Revocations, Revoked, StoreFault,
 };
-use rows::{read_cas, read_departments, told};
 use sqlite::Alter;
 use std::alloc::Global;
+use store_rows::{read_cas, read_departments, told};
 use text::Text;
 
 impl<S: Alter> Registry for Store<S> {

@@ -2,8 +2,8 @@
 
 ghost use Rattle.std.specs.Prelude.{◌≡◌, IfOk};
 ghost use Rattle.std.specs.Option.{option_map};
-ghost use Rattle.tables.specs.Calls.{Never, OnlyReads};
-ghost use Rattle.tables.specs.Honest.{On, Outlives};
+ghost use Rattle.store_sql.specs.Calls.{Never, OnlyReads};
+ghost use Rattle.store_sql.specs.Honest.{On, Outlives};
 ghost use Rattle.office.specs.State.{body_of};
 ghost use Rattle.office.specs.Publication.{issued_of, issued_row};
 ghost use Rattle.store.specs.Showing.{ShowsOffice};
@@ -12,9 +12,9 @@ use crate::answer::made;
 use office::{Certificate, Issued};
 use sqlite::{Alter, Connection};
 use std::alloc::Global;
-use tables::Fault;
+use store_reads::find_certificate;
+use store_sql::Fault;
 use text::{NoMemory, Text};
-use views::find_certificate;
 
 fn body_in(found: Option<Certificate>) -> Option<Text>
     ensures { result ≡ option_map (λ c. c.body) found }

@@ -1,23 +1,23 @@
 //! What an arrival is answered, inside a transaction.
 
 ghost use Rattle.std.specs.Prelude.{◌≡◌, IsTrue, length};
-ghost use Rattle.tables.specs.Calls.{Stays};
-ghost use Rattle.tables.specs.Honest.{On, OnOpen, OutlivesBy};
+ghost use Rattle.store_sql.specs.Calls.{Stays};
+ghost use Rattle.store_sql.specs.Honest.{On, OnOpen, OutlivesBy};
 ghost use Rattle.message.specs.Values.{is_message};
 ghost use Rattle.office.specs.Decided.{IsLawfulChange};
-ghost use Rattle.rows.specs.Transactions.{Waits};
-ghost use Rattle.views.specs.Concerning.{AreLawful};
+ghost use Rattle.store_rows.specs.Transactions.{Waits};
+ghost use Rattle.store_reads.specs.Concerning.{AreLawful};
 ghost use Rattle.store.specs.Arriving.{FailsAt, IsAccepted, IsAfter, IsAny, IsAsked, IsFound, IsNew, IsWeighed};
 ghost use Rattle.store.specs.Arriving.{Settles, stopped};
 
 use message::{Message, MessageFault, read_message};
 use office::{Arrival, Ca, Decision, Kept, Outcome, Stop, decide};
-use profile::{LATEST_MOMENT, Refusal};
 use sqlite::{Alter, Connection};
 use std::alloc::Global;
-use tables::Fault;
-use views::{Concerned, concerned_rows, kept_for};
-use writes::write;
+use store_reads::{Concerned, concerned_rows, kept_for};
+use store_sql::Fault;
+use store_writes::write;
+use values::{LATEST_MOMENT, Refusal};
 
 /// The last version of the published list.
 const LAST_VERSION: u64 = 9223372036854775806;

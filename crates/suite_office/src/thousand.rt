@@ -2,8 +2,8 @@
 
 use crate::asking::{exchanges, request_of};
 use crate::messages::DELIVERY;
+use memory_store::PlainStore;
 use office::Registry;
-use plain::PlainStore;
 use std::alloc::Global;
 use std::io::Write;
 use std::test::Fail;

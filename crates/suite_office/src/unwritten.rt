@@ -1,7 +1,7 @@
 //! Writers that fail within a response, and what a repeat then gets.
 
+use http_requests::Routes;
 use office::{Registry, StoreFault};
-use requests::Routes;
 use serving::{ServeFault, serve_one};
 use std::alloc::Global;
 use std::process::Abort;

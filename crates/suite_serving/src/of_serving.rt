@@ -2,8 +2,8 @@
 
 mod register;
 
+use http_requests::Routes;
 use register::Register;
-use requests::Routes;
 use serving::{ServeFault, serve_one};
 use std::alloc::{AllocError, Global};
 use wire::{Ending, Pace, ScriptedNonces, ScriptedReader, ScriptedWriter};
@@ -36,8 +36,8 @@ SSHKRL\n\0\0\0\0\x01\0\0\0\0\0\0\0\0\0\0\0\0\0\0\0\0\0\0\0\0\0\0\0\0\0\0\0\0\0\0
 const BAD_HEAD: &[u8] = b"HTTP/1.1 400 Bad Request\r\ncontent-type: text/plain\r\n\
 content-length: 18\r\nconnection: close\r\n\r\nrefused 1 BadHead\n";
 
-/// What came of one request: how it ended, how many bytes the reader and the nonces have left, and how many arrivals the
-/// register has taken.
+/// What came of one request: how it ended, how many bytes the reader and the nonces have left, and how many arrivals
+/// the register has taken.
 type Ended = (Result<(), ServeFault>, usize, usize, u64);
 
 /// One request served, with a writer that takes so many bytes, and what was written.

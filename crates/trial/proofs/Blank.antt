@@ -3,8 +3,8 @@ use Rattle.std.proofs.Common.{subst}
 use Rattle.sqlite.specs.Effect.{Database}
 use Rattle.sqlite.specs.State.{State}
 use Rattle.sqlite.specs.Steps.{IsEmpty}
-use Rattle.tables.specs.Calls.{IsBare}
-use Rattle.tables.specs.Schema.{no_schema}
+use Rattle.store_sql.specs.Calls.{IsBare}
+use Rattle.store_sql.specs.Schema.{no_schema}
 use Rattle.store.specs.Meaning.{IsBlank}
 
 -- it has no table, and no transaction is open

@@ -3,7 +3,7 @@
 ghost use Rattle.std.specs.Prelude.{◌≡◌, ◌++◌, [], ◌∷◌, IfOk};
 ghost use Rattle.sqlite.specs.Held.{state};
 ghost use Rattle.sqlite.specs.Steps.{over_memory};
-ghost use Rattle.tables.specs.Honest.{On};
+ghost use Rattle.store_sql.specs.Honest.{On};
 ghost use Rattle.office.specs.declared.opening.Opening.{Opening};
 ghost use Rattle.office.specs.declared.arrival.Arrival.{Arrival};
 ghost use Rattle.office.specs.Openings.{IsOpening};
@@ -11,11 +11,11 @@ ghost use Rattle.store.specs.Meaning.{Tells};
 ghost use Rattle.trial.specs.Trial.{TellsTrial, opening_of, trial_arrival};
 
 use office::{Arrival, Opening, Outcome, Registry, StoreFault};
-use profile::LAST_SERIAL;
 use sqlite::{Alter, Connection, MemStore};
 use std::alloc::Global;
 use store::Store;
 use text::{NoMemory, Text};
+use values::LAST_SERIAL;
 
 const CA_KEY: [u8; 32] = [0x11; 32];
 

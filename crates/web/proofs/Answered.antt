@@ -2,11 +2,11 @@
 use Rattle.std.proofs.Common.{◌≡◌, ℕ, List, [], ◌∷◌, ◌++◌, ap, subst, ◌∙◌}
 use Rattle.std.specs.Prelude.{Result, Ok, Err, IfOk, OnOk, Vec}
 use Rattle.std.specs.declared.alloc.Global.{Global}
-use Rattle.profile.specs.declared.refusal.Refusal.{Refusal}
-use Rattle.requests.specs.declared.resource.Resource.{Resource}
-use Rattle.requests.specs.declared.resource.Resource.TheVariants.{RevocationList}
-use Rattle.requests.specs.Asks.{Asks, refused, get, post}
-use Rattle.requests.specs.Responses.{refusal_response}
+use Rattle.values.specs.declared.refusal.Refusal.{Refusal}
+use Rattle.http_requests.specs.declared.resource.Resource.{Resource}
+use Rattle.http_requests.specs.declared.resource.Resource.TheVariants.{RevocationList}
+use Rattle.http_requests.specs.Asks.{Asks, refused, get, post}
+use Rattle.http_requests.specs.Responses.{refusal_response}
 use Rattle.office.specs.declared.opening.Opening.{Opening}
 use Rattle.office.specs.declared.arrival.Arrival.{Arrival}
 use Rattle.office.specs.History.{due, state}

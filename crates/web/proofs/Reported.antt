@@ -17,8 +17,8 @@ use Rattle.office.proofs.Listed.{among_is}
 use Rattle.web.specs.declared.batches.Report.{Report}
 use Rattle.web.specs.declared.batches.Report.TheVariants.{Pending, Table}
 use Rattle.web.specs.Batches.{Says, line_among, line_as, table_among}
-use Rattle.requests.specs.declared.response.MediaType.TheVariants.{PlainText}
-use Rattle.requests.specs.Responses.{response_text}
+use Rattle.http_requests.specs.declared.response.MediaType.TheVariants.{PlainText}
+use Rattle.http_requests.specs.Responses.{response_text}
 use Rattle.web.specs.Reports.{entry_line, pending_line, pending_lines, table_report, total_line}
 
 -- ---- batches

@@ -1,8 +1,8 @@
 -- A run of exchanges over a register, some of which are done.
 use Rattle.std.proofs.Common.{◌≡◌, ◌⊎◌, inl, inr, ℕ, List, [], ◌∷◌, ◌++◌, refl, sym, subst, append_assoc}
 use Rattle.std.proofs.lemmas.List.{append-nil}
-use Rattle.requests.proofs.OneAsk.{one_of}
-use Rattle.requests.specs.Asks.{Ask}
+use Rattle.http_requests.proofs.OneAsk.{one_of}
+use Rattle.http_requests.specs.Asks.{Ask}
 use Rattle.office.specs.declared.opening.Opening.{Opening}
 use Rattle.office.specs.declared.arrival.Arrival.{Arrival}
 use Rattle.web.specs.declared.exchange.Exchange.{Exchange}

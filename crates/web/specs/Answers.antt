@@ -1,14 +1,14 @@
 -- What is answered to a request.
 use Rattle.std.specs.Prelude.{◌≡◌, IsTrue, ℕ, List, [], ◌∷◌, ◌++◌, Option, Some, None}
-use Rattle.profile.specs.declared.refusal.Refusal.TheVariants.{UnknownSerial, NotSigned}
+use Rattle.values.specs.declared.refusal.Refusal.TheVariants.{UnknownSerial, NotSigned}
 use Rattle.lines.specs.CertLines.{certificate_line_text}
 use Rattle.krl.specs.Published.{fits}
-use Rattle.requests.specs.declared.resource.Resource.{Resource}
-use Rattle.requests.specs.declared.resource.Resource.TheVariants.{Pending, Certificate, Body, RevocationList, Signers}
-use Rattle.requests.specs.declared.resource.Resource.TheVariants.{Table, Cas}
-use Rattle.requests.specs.declared.response.MediaType.TheVariants.{PlainText, Bytes}
-use Rattle.requests.specs.Asks.{Ask, Asks, refused, get, post}
-use Rattle.requests.specs.Responses.{response_text, refusal_response}
+use Rattle.http_requests.specs.declared.resource.Resource.{Resource}
+use Rattle.http_requests.specs.declared.resource.Resource.TheVariants.{Pending, Certificate, Body, RevocationList}
+use Rattle.http_requests.specs.declared.resource.Resource.TheVariants.{Signers, Table, Cas}
+use Rattle.http_requests.specs.declared.response.MediaType.TheVariants.{PlainText, Bytes}
+use Rattle.http_requests.specs.Asks.{Ask, Asks, refused, get, post}
+use Rattle.http_requests.specs.Responses.{response_text, refusal_response}
 use Rattle.office.specs.declared.opening.Opening.{Opening}
 use Rattle.office.specs.declared.arrival.Arrival.{Arrival}
 use Rattle.office.specs.declared.arrival.Outcome.{Outcome}

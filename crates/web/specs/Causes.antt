@@ -1,6 +1,6 @@
 -- Why an answer fails.
 use Rattle.std.specs.Prelude.{◌≡◌, ◌⊎◌, ◌<◌, ℕ, List}
-use Rattle.requests.specs.Asks.{Asks, post}
+use Rattle.http_requests.specs.Asks.{Asks, post}
 use Rattle.office.specs.declared.opening.Opening.{Opening}
 use Rattle.office.specs.declared.arrival.Arrival.{Arrival}
 use Rattle.office.specs.declared.ca.TheConstants.{MOST_CAS}

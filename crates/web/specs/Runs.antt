@@ -1,7 +1,7 @@
 -- What is answered to requests one after the other, some of which met a fault.
 use Rattle.std.specs.Prelude.{◌≡◌, ◌⊎◌, List, [], ◌∷◌}
-use Rattle.requests.specs.declared.resource.Resource.TheVariants.{RevocationList}
-use Rattle.requests.specs.Asks.{Ask, Asks, get}
+use Rattle.http_requests.specs.declared.resource.Resource.TheVariants.{RevocationList}
+use Rattle.http_requests.specs.Asks.{Ask, Asks, get}
 use Rattle.office.specs.declared.opening.Opening.{Opening}
 use Rattle.office.specs.declared.arrival.Arrival.{Arrival}
 use Rattle.web.specs.declared.exchange.Exchange.{Exchange}

@@ -1,8 +1,8 @@
 //! Arrivals answered.
 
 ghost use Rattle.std.specs.Prelude.{◌≡◌, ◌≤◌, ◌<◌, ◌++◌, [], ◌∷◌, IfOk, OnOk, OnErr, IfErr, length, vec_capacity};
-ghost use Rattle.requests.specs.declared.response.MediaType.TheVariants.{PlainText};
-ghost use Rattle.requests.specs.Responses.{response_text};
+ghost use Rattle.http_requests.specs.declared.response.MediaType.TheVariants.{PlainText};
+ghost use Rattle.http_requests.specs.Responses.{response_text};
 ghost use Rattle.office.specs.declared.arrival.Arrival.{Arrival};
 ghost use Rattle.office.specs.History.{due};
 ghost use Rattle.office.specs.Faults.{HasCause};
@@ -10,8 +10,8 @@ ghost use Rattle.office.specs.Registers.{AnswersBy, FailsAsARegister, MeansOneMo
 ghost use Rattle.web.specs.Answers.{outcome_response};
 
 use crate::room::{ROOM, room};
+use http_requests::{MediaType, refuse, respond};
 use office::{Arrival, Outcome, Registry, StoreFault};
-use requests::{MediaType, refuse, respond};
 use std::alloc::Global;
 use text::Text;
 

@@ -1,8 +1,8 @@
 //! Certificates given.
 
 ghost use Rattle.std.specs.Prelude.{◌≡◌, ◌++◌, IfOk, OnOk, IfErr};
-ghost use Rattle.requests.specs.declared.response.MediaType.TheVariants.{PlainText};
-ghost use Rattle.requests.specs.Responses.{response_text};
+ghost use Rattle.http_requests.specs.declared.response.MediaType.TheVariants.{PlainText};
+ghost use Rattle.http_requests.specs.Responses.{response_text};
 ghost use Rattle.office.specs.State.{body_of};
 ghost use Rattle.office.specs.Publication.{issued_of};
 ghost use Rattle.office.specs.History.{state};
@@ -15,12 +15,12 @@ ghost use Rattle.web.specs.Causes.{FailsWithin};
 use crate::batches::{Report, put_all};
 use crate::pieces::put_pieces;
 use crate::room::{around, to_body, to_refusal};
+use http_requests::MediaType;
 use lines::write_cert_line;
 use office::{Issued, Pending, Registry, StoreFault};
-use profile::{Refusal, put_decimal};
-use requests::MediaType;
 use std::alloc::Global;
 use text::NoMemory;
+use values::{Refusal, put_decimal};
 
 /// The response with the body of a serial.
 pub(crate) fn to_serial_body<R: Registry>(

@@ -2,8 +2,8 @@
 
 ghost use Rattle.std.specs.Prelude.{◌≡◌, ◌++◌, length, IsTrue, IfOk, OnOk, IfErr};
 ghost use Rattle.krl.specs.Published.{fits, published_text};
-ghost use Rattle.requests.specs.declared.response.MediaType.TheVariants.{PlainText, Bytes};
-ghost use Rattle.requests.specs.Responses.{response_text};
+ghost use Rattle.http_requests.specs.declared.response.MediaType.TheVariants.{PlainText, Bytes};
+ghost use Rattle.http_requests.specs.Responses.{response_text};
 ghost use Rattle.office.specs.Publication.{published_list};
 ghost use Rattle.office.specs.History.{state};
 ghost use Rattle.office.specs.Faults.{HasCause};
@@ -17,14 +17,14 @@ ghost use Rattle.web.specs.Reports.{signers_report};
 
 use crate::pieces::put_pieces;
 use crate::room::{around, room};
+use http_requests::{MAX_RESPONSE_HEAD, MediaType, begin_response};
 use krl::{krl_len, write_krl};
 use lines::{KeyLine, SignerRow, fingerprint, write_signers};
 use message::Department;
 use office::{Ca, MOST_CAS, Registry, Revoked, StoreFault};
-use profile::{Kind, put_decimal};
-use requests::{MAX_RESPONSE_HEAD, MediaType, begin_response};
 use std::alloc::Global;
 use text::NoMemory;
+use values::{Kind, put_decimal};
 use wire::VecSink;
 
 /// The response with a list, written from front to back into the room for it. A section too long for its length of 32

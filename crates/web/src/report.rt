@@ -1,8 +1,8 @@
 //! The table of certificates.
 
 ghost use Rattle.std.specs.Prelude.{◌≡◌, ◌++◌, OnOk, IfErr};
-ghost use Rattle.requests.specs.declared.response.MediaType.TheVariants.{PlainText};
-ghost use Rattle.requests.specs.Responses.{response_text};
+ghost use Rattle.http_requests.specs.declared.response.MediaType.TheVariants.{PlainText};
+ghost use Rattle.http_requests.specs.Responses.{response_text};
 ghost use Rattle.office.specs.History.{state};
 ghost use Rattle.office.specs.Faults.{HasCause};
 ghost use Rattle.office.specs.Registers.{AnswersBy, FailsAsARegister, MeansTheSame};
@@ -14,11 +14,11 @@ ghost use Rattle.web.specs.Batches.{table_among};
 use crate::batches::{Report, put_all};
 use crate::pieces::{put_pieces, put_right};
 use crate::room::around;
+use http_requests::MediaType;
 use office::{Entry, Registry, Revocations, Standing, StoreFault};
-use profile::{Kind, put_decimal};
-use requests::MediaType;
 use std::alloc::Global;
 use text::NoMemory;
+use values::{Kind, put_decimal};
 
 fn serial_places() -> &'static [u8]
     ensures { result.now ≡ serial_places }

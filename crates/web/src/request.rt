@@ -1,7 +1,7 @@
 //! What a request is answered.
 
 ghost use Rattle.std.specs.Prelude.{◌≡◌, IfOk, OnOk, OnErr, IfErr};
-ghost use Rattle.requests.specs.declared.resource.Resource.TheVariants.{RevocationList};
+ghost use Rattle.http_requests.specs.declared.resource.Resource.TheVariants.{RevocationList};
 ghost use Rattle.office.specs.declared.arrival.Arrival.{Arrival};
 ghost use Rattle.office.specs.Faults.{HasCause};
 ghost use Rattle.office.specs.History.{state};
@@ -14,8 +14,8 @@ use crate::certificates::{to_certificate, to_pending, to_serial_body};
 use crate::publishing::{to_cas, to_list, to_signers};
 use crate::report::to_table;
 use crate::room::to_refusal;
+use http_requests::{Asked, Resource, Routes, asks};
 use office::{Arrival, Registry, StoreFault};
-use requests::{Asked, Resource, Routes, asks};
 use std::alloc::Global;
 use text::{NoMemory, Text};
 

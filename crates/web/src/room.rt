@@ -1,12 +1,12 @@
 //! Room for responses.
 
 ghost use Rattle.std.specs.Prelude.{◌≡◌, ◌≤◌, [], IfOk, IfErr, vec_capacity};
-ghost use Rattle.requests.specs.Responses.{response_text, refusal_response};
+ghost use Rattle.http_requests.specs.Responses.{response_text, refusal_response};
 
+use http_requests::{MAX_RESPONSE_HEAD, MediaType, begin_response, refuse, respond};
 use office::StoreFault;
-use profile::Refusal;
-use requests::{MAX_RESPONSE_HEAD, MediaType, begin_response, refuse, respond};
 use std::alloc::Global;
+use values::Refusal;
 
 /// The room that is reserved for a response before anything is applied: it takes the longest reply and each refusal.
 pub(crate) const ROOM: usize = 512;

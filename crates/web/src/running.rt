@@ -6,8 +6,8 @@ ghost use Rattle.web.specs.Runs.{Serves};
 
 use crate::exchange::{Exchange, Given};
 use crate::request::answer_by;
+use http_requests::Routes;
 use office::Registry;
-use requests::Routes;
 use std::alloc::Global;
 use text::{NoMemory, Text};
 

@@ -1,9 +1,9 @@
 //! Pairs that are no options.
 
 use cert::{OptionFault, Options};
-use profile::{Kind, OptionField};
 use std::alloc::Global;
 use text::{NoMemory, Pair, Pairs, Text};
+use values::{Kind, OptionField};
 
 /// Pairs of one value, with these names.
 fn pairs(alloc: Global, names: &[&[u8]], value: &[u8]) -> Result<Pairs, NoMemory> {

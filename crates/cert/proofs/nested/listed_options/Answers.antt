@@ -1,7 +1,7 @@
 use Rattle.std.proofs.Common.{◌≡◌, ℕ, List, [], ◌∷◌, ◌++◌, Option, None, Err, sym, ap, ◌∙◌, subst, refl, arith}
 use Rattle.text.specs.declared.pair.Pair.{Pair}
-use Rattle.profile.specs.declared.option_field.OptionField.{OptionField}
-use Rattle.profile.specs.declared.option_field.OptionField.TheVariants.{CriticalOptions, Extensions}
+use Rattle.values.specs.declared.option_field.OptionField.{OptionField}
+use Rattle.values.specs.declared.option_field.OptionField.TheVariants.{CriticalOptions, Extensions}
 use Rattle.cert.specs.declared.cert_fault.CertFault.{CertFault}
 use Rattle.cert.specs.Reading.{Gives, or_fault, field_fault, pair_of}
 use Rattle.cert.proofs.Elements.{option_goes_on, option_cut, option_fails, options_left}

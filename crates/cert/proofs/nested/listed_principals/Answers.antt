@@ -1,5 +1,5 @@
 use Rattle.std.proofs.Common.{◌≡◌, ℕ, List, [], ◌∷◌, ◌++◌, sym, ap, ◌∙◌, arith}
-use Rattle.profile.specs.Names.{is_principal}
+use Rattle.values.specs.Names.{is_principal}
 use Rattle.cert.proofs.Elements.{string_goes_on}
 use Rattle.cert.proofs.nested.listed_principals.Goals as goal
 

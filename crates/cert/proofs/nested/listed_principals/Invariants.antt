@@ -1,5 +1,5 @@
 use Rattle.std.proofs.Common.{◌≡◌, ◌-◌}
-use Rattle.profile.specs.Names.{is_principal}
+use Rattle.values.specs.Names.{is_principal}
 use Rattle.cert.specs.Reading.{strings_within}
 use Rattle.cert.proofs.Elements.{with_front}
 use Rattle.cert.proofs.nested.listed_principals.Given as goal

@@ -1,7 +1,7 @@
 use Rattle.std.proofs.Common.{◌≡◌, ℕ, Bool, true, false, not, cond, List, Option, Some, None, ap, sym, ◌∙◌, refl}
 use Rattle.std.specs.List.{list_any}
 use Rattle.std.specs.Str.{bytes_eq}
-use Rattle.profile.specs.Options.{is_known, is_option_value}
+use Rattle.values.specs.Options.{is_known, is_option_value}
 use Rattle.text.specs.declared.pair.Pair.{Pair}
 use Rattle.cert.specs.declared.option_fault.OptionFault.{OptionFault}
 use Rattle.cert.specs.declared.option_fault.OptionFault.TheVariants.{Unknown, Twice, BadValue}

@@ -1,5 +1,5 @@
 use Rattle.std.proofs.Common.{◌≡◌, ℕ, ◌^◌, ◌<◌, List, [], append_assoc, length, ap, sym, ◌∙◌}
-use Rattle.profile.specs.declared.option_field.OptionField.TheVariants.{CriticalOptions, Extensions}
+use Rattle.values.specs.declared.option_field.OptionField.TheVariants.{CriticalOptions, Extensions}
 use Rattle.wire.specs.Texts.{u64_text, string_text}
 use Rattle.cert.specs.Options.{options_text}
 use Rattle.cert.specs.Bodies.{cert_type, kind_number, principals_text, front}

@@ -1,8 +1,8 @@
 use Rattle.std.proofs.Common.{◌≡◌, ◌++◌, ◌∷◌, ◌∙◌, ℕ, List, [], length, arith, subst, sym, ap, refl, inl, inr, get_or, length-append}
 use Rattle.std.proofs.KnownBytes.{Consumes-nil}
-use Rattle.requests.specs.declared.progress.Progress.TheVariants.{Waits}
-use Rattle.requests.specs.Reading.{HoldsHead, NeverHolds, HasCome, WaitsBefore}
-use Rattle.requests.proofs.Reading.{waits_before_nothing, waits_before_more}
+use Rattle.http_requests.specs.declared.progress.Progress.TheVariants.{Waits}
+use Rattle.http_requests.specs.Reading.{HoldsHead, NeverHolds, HasCome, WaitsBefore}
+use Rattle.http_requests.proofs.Reading.{waits_before_nothing, waits_before_more}
 use Rattle.serving.proofs.Taken.{byte_more}
 use Rattle.serving.proofs.taking.take_front.Goals as goal
 

@@ -1,6 +1,6 @@
 use Rattle.std.proofs.Common.{◌≡◌, ℕ, List, Option, length}
 use Rattle.std.specs.Io.KnownBytes.{Consumes}
-use Rattle.requests.specs.Reading.{WaitsBefore}
+use Rattle.http_requests.specs.Reading.{WaitsBefore}
 use Rattle.serving.proofs.taking.take_front.Given as goal
 
 -- so many bytes were taken, each while those before it waited, and no call failed

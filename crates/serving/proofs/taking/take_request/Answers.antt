@@ -1,7 +1,7 @@
 use Rattle.std.proofs.Common.{◌++◌, ◌∙◌, ℕ, List, ap, inl, subst, sym}
-use Rattle.requests.specs.Heads.{IsGood}
-use Rattle.requests.specs.Reading.{IsNoMore}
-use Rattle.requests.proofs.Reading.{good_with_body, no_more_of_waits}
+use Rattle.http_requests.specs.Heads.{IsGood}
+use Rattle.http_requests.specs.Reading.{IsNoMore}
+use Rattle.http_requests.proofs.Reading.{good_with_body, no_more_of_waits}
 use Rattle.serving.proofs.taking.take_request.Goals as goal
 
 pub returns-clause-one : goal.returns-clause-one

@@ -1,8 +1,8 @@
 use Rattle.std.proofs.Common.{◌≡◌, subst, sym}
 use Rattle.sqlite.specs.Held.{state}
 use Rattle.sqlite.specs.Tree.{Trees}
-use Rattle.tables.specs.Contents.{Kept}
-use Rattle.rows.specs.Rows.{office_contents}
+use Rattle.store_sql.specs.Contents.{Kept}
+use Rattle.store_rows.specs.Rows.{office_contents}
 use Rattle.store.proofs.crashes.a_crash_leaves_the_history.Goals as goal
 
 pub returns : goal.returns

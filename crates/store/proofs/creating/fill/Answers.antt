@@ -1,14 +1,14 @@
 use Rattle.std.proofs.Common.{inl, inr, Err, arith}
 use Rattle.sqlite.specs.Held.{state}
 use Rattle.sqlite.specs.State.{HasCleanDisk}
-use Rattle.tables.specs.Calls.{Leaves}
-use Rattle.tables.specs.Changes.{with_ca, with_office}
-use Rattle.tables.specs.Refusals.{RefusesCa, RefusesOffice}
-use Rattle.rows.specs.Transactions.{Has}
-use Rattle.rows.proofs.Causes.{fails_then, fails_weaker}
-use Rattle.rows.proofs.Steps.{leads, makes, makes_then, waits, waits_then}
+use Rattle.store_sql.specs.Calls.{Leaves}
+use Rattle.store_sql.specs.Changes.{with_ca, with_office}
+use Rattle.store_sql.specs.Refusals.{RefusesCa, RefusesOffice}
+use Rattle.store_rows.specs.Transactions.{Has}
+use Rattle.store_rows.proofs.Causes.{fails_then, fails_weaker}
+use Rattle.store_rows.proofs.Steps.{leads, makes, makes_then, waits, waits_then}
 use Rattle.store.specs.Creating.{RefusesFirst}
-use Rattle.tables.proofs.Staying.{stays_then}
+use Rattle.store_sql.proofs.Staying.{stays_then}
 use Rattle.store.proofs.creating.fill.Goals as goal
 
 pub returns-in-Ok-clause-makes : goal.returns-in-Ok-clause-makes

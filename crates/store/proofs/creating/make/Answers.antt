@@ -1,16 +1,16 @@
 use Rattle.std.proofs.Common.{arith, refl}
 use Rattle.sqlite.specs.Held.{state}
 use Rattle.sqlite.specs.State.{HasCleanDisk}
-use Rattle.tables.specs.Schema.{no_schema}
-use Rattle.tables.specs.Contents.{no_contents}
-use Rattle.tables.specs.Calls.{IsBare, Waits as WaitsAt}
-use Rattle.tables.specs.Changes.{with_ca, with_office}
-use Rattle.rows.specs.Transactions.{Has}
-use Rattle.rows.proofs.Causes.{cause_of, fails_then}
-use Rattle.rows.proofs.Steps.{answers_then, waits_then}
+use Rattle.store_sql.specs.Schema.{no_schema}
+use Rattle.store_sql.specs.Contents.{no_contents}
+use Rattle.store_sql.specs.Calls.{IsBare, Waits as WaitsAt}
+use Rattle.store_sql.specs.Changes.{with_ca, with_office}
+use Rattle.store_rows.specs.Transactions.{Has}
+use Rattle.store_rows.proofs.Causes.{cause_of, fails_then}
+use Rattle.store_rows.proofs.Steps.{answers_then, waits_then}
 use Rattle.store.specs.Creating.{RefusesFirst}
 use Rattle.store.proofs.Bare.{bare_leads, bare_waits}
-use Rattle.tables.proofs.Staying.{stays_then}
+use Rattle.store_sql.proofs.Staying.{stays_then}
 use Rattle.store.proofs.creating.make.Goals as goal
 
 pub returns-in-Err-clause-survives : goal.returns-in-Err-clause-survives

@@ -2,15 +2,15 @@ use Rattle.std.proofs.Common.{arith}
 use Rattle.std.proofs.lemmas.Result.{IfErr-weaker}
 use Rattle.sqlite.specs.Held.{state}
 use Rattle.sqlite.specs.State.{HasCleanDisk}
-use Rattle.tables.specs.Schema.{no_schema}
-use Rattle.tables.specs.Contents.{no_contents}
-use Rattle.tables.specs.Calls.{IsBare}
-use Rattle.tables.specs.Changes.{with_ca, with_office}
-use Rattle.rows.specs.Transactions.{Waits}
-use Rattle.rows.proofs.Causes.{cause_of, stops_for}
-use Rattle.rows.proofs.Steps.{ends, left}
+use Rattle.store_sql.specs.Schema.{no_schema}
+use Rattle.store_sql.specs.Contents.{no_contents}
+use Rattle.store_sql.specs.Calls.{IsBare}
+use Rattle.store_sql.specs.Changes.{with_ca, with_office}
+use Rattle.store_rows.specs.Transactions.{Waits}
+use Rattle.store_rows.proofs.Causes.{cause_of, stops_for}
+use Rattle.store_rows.proofs.Steps.{ends, left}
 use Rattle.store.specs.Creating.{RefusesFirst}
-use Rattle.rows.proofs.Before.{concludes_before, fails_before}
+use Rattle.store_rows.proofs.Before.{concludes_before, fails_before}
 use Rattle.store.proofs.creating.make_whole.Goals as goal
 
 pub returns-in-Ok-clause-ends : goal.returns-in-Ok-clause-ends

@@ -3,7 +3,7 @@ use Rattle.std.specs.Prelude.{Vec}
 use Rattle.std.specs.declared.alloc.Global.{Global}
 use Rattle.sqlite.specs.Held.{state}
 use Rattle.office.specs.declared.certificate.Certificate.{Certificate}
-use Rattle.rows.specs.Certificates.{is_within}
+use Rattle.store_rows.specs.Certificates.{is_within}
 use Rattle.store.specs.Batches.{numbered}
 use Rattle.store.proofs.Reading.{shows_office}
 use Rattle.store.proofs.listing.batch_from.Goals as goal

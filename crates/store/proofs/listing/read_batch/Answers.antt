@@ -3,14 +3,14 @@ use Rattle.std.specs.Prelude.{Vec}
 use Rattle.std.specs.declared.alloc.Global.{Global}
 use Rattle.sqlite.specs.Held.{state}
 use Rattle.sqlite.specs.State.{HasCleanDisk}
-use Rattle.tables.proofs.Staying.{never_then, reads_then}
-use Rattle.tables.specs.Calls.{Never}
+use Rattle.store_sql.proofs.Staying.{never_then, reads_then}
+use Rattle.store_sql.specs.Calls.{Never}
 use Rattle.office.specs.declared.certificate.Certificate.{Certificate}
 use Rattle.office.specs.declared.opening.Opening.{Opening}
 use Rattle.office.specs.History.{state as after}
 use Rattle.office.specs.Listing.{batch_of}
-use Rattle.rows.specs.Certificates.{is_within}
-use Rattle.rows.specs.Offices.{IsOfficeOf}
+use Rattle.store_rows.specs.Certificates.{is_within}
+use Rattle.store_rows.specs.Offices.{IsOfficeOf}
 use Rattle.store.specs.Batches.{numbered}
 use Rattle.store.proofs.Batches.{batch_is}
 use Rattle.store.proofs.Reading.{shows_office, shows_then}

@@ -1,8 +1,8 @@
 use Rattle.std.proofs.Common.{◌≡◌, ℕ, List, Ok, Err, ap, ◌∙◌, arith}
 use Rattle.sqlite.specs.Held.{state}
 use Rattle.sqlite.specs.State.{HasCleanDisk}
-use Rattle.tables.proofs.Staying.{never_then, reads_then}
-use Rattle.tables.specs.Calls.{Never}
+use Rattle.store_sql.proofs.Staying.{never_then, reads_then}
+use Rattle.store_sql.specs.Calls.{Never}
 use Rattle.krl.specs.declared.run.Run.{Run}
 use Rattle.krl.specs.Sets.{contains}
 use Rattle.office.specs.Listing.{AreRevocations}

@@ -1,9 +1,9 @@
 use Rattle.std.proofs.Common.{inl}
 use Rattle.sqlite.specs.Held.{state}
-use Rattle.tables.specs.Faults.{HasFailed}
+use Rattle.store_sql.specs.Faults.{HasFailed}
 use Rattle.store.proofs.OfficeRows.{looked, looked_still, unseen}
 use Rattle.store.proofs.Telling.{open_before, tells_still}
-use Rattle.tables.proofs.Staying.{reads_none}
+use Rattle.store_sql.proofs.Staying.{reads_none}
 use Rattle.store.proofs.looking.look.Goals as goal
 
 pub returns-then-not-has_office-clause-looks : goal.returns-then-not-has_office-clause-looks

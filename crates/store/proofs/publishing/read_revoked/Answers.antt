@@ -1,10 +1,10 @@
 use Rattle.std.proofs.Common.{ℕ, Ok, Err, refl, ap₂, ◌∙◌, arith}
 use Rattle.sqlite.specs.Held.{state}
 use Rattle.sqlite.specs.State.{HasCleanDisk}
-use Rattle.tables.proofs.Staying.{never_then, reads_then}
-use Rattle.tables.specs.Calls.{Never}
+use Rattle.store_sql.proofs.Staying.{never_then, reads_then}
+use Rattle.store_sql.specs.Calls.{Never}
 use Rattle.office.specs.Publication.{AreRevoked}
-use Rattle.rows.specs.Offices.{IsOfficeOf}
+use Rattle.store_rows.specs.Offices.{IsOfficeOf}
 use Rattle.store.specs.Parts.{AreShown}
 use Rattle.store.proofs.Reading.{shows_office, shows_then}
 use Rattle.store.proofs.publishing.read_revoked.Goals as goal

@@ -3,7 +3,7 @@ use Rattle.std.specs.Prelude.{Vec}
 use Rattle.std.specs.declared.alloc.Global.{Global}
 use Rattle.sqlite.specs.Held.{state}
 use Rattle.office.specs.declared.ca.Ca.{Ca}
-use Rattle.rows.proofs.Sorting.{asked}
+use Rattle.store_rows.proofs.Sorting.{asked}
 use Rattle.store.proofs.Reading.{shows_office}
 use Rattle.store.proofs.Serving.{ordered_is, shows_ordered}
 use Rattle.store.proofs.publishing.read_serving_cas.Goals as goal

@@ -1,5 +1,5 @@
 use Rattle.sqlite.specs.Held.{state}
-use Rattle.rows.proofs.Sorting.{asked}
+use Rattle.store_rows.proofs.Sorting.{asked}
 use Rattle.office.specs.History.{state as after}
 use Rattle.office.proofs.Ranges.{revoked_is_issued}
 use Rattle.store.specs.Parts.{AreShown, IsMadeOf}

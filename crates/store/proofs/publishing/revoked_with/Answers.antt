@@ -1,8 +1,8 @@
 use Rattle.std.proofs.Common.{◌≡◌, ◌∙◌, arith}
 use Rattle.sqlite.specs.Held.{state}
 use Rattle.sqlite.specs.State.{HasCleanDisk}
-use Rattle.tables.proofs.Staying.{never_then, reads_then}
-use Rattle.tables.specs.Calls.{Never}
+use Rattle.store_sql.proofs.Staying.{never_then, reads_then}
+use Rattle.store_sql.specs.Calls.{Never}
 use Rattle.store.specs.Parts.{AreShown}
 use Rattle.store.proofs.Reading.{shows_then}
 use Rattle.store.proofs.publishing.revoked_with.Goals as goal

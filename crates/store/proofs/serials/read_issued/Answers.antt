@@ -1,6 +1,6 @@
 use Rattle.std.proofs.Common.{◌≡◌, Ok, Err, ap, ◌∙◌}
 use Rattle.sqlite.specs.Held.{state}
-use Rattle.rows.proofs.Sorting.{asked}
+use Rattle.store_rows.proofs.Sorting.{asked}
 use Rattle.std.specs.Option.{option_map}
 use Rattle.office.specs.declared.certificate.Certificate.{Certificate}
 use Rattle.std.specs.Prelude.{Option}

@@ -2,12 +2,12 @@ use Rattle.std.proofs.Common.{Ok, Err, arith}
 use Rattle.sqlite.specs.Held.{state}
 use Rattle.office.specs.declared.arrival.Outcome.{Outcome}
 use Rattle.sqlite.specs.State.{HasCleanDisk}
-use Rattle.views.specs.Concerning.{AreConcerned}
-use Rattle.tables.specs.Calls.{Never}
+use Rattle.store_reads.specs.Concerning.{AreConcerned}
+use Rattle.store_sql.specs.Calls.{Never}
 use Rattle.store.specs.Arriving.{IsNew, IsWeighed}
 use Rattle.store.proofs.Histories.{shows_of_history}
 use Rattle.store.proofs.Settled.{fails_after, fails_read, settles_failed, settles_then, waits_never, waits_read}
-use Rattle.tables.proofs.Staying.{reads_stay, stays_then}
+use Rattle.store_sql.proofs.Staying.{reads_stay, stays_then}
 use Rattle.store.proofs.settling.consider.Goals as goal
 
 pub returns-in-Ok-clause-settles : goal.returns-in-Ok-clause-settles

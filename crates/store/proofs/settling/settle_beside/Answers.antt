@@ -3,10 +3,10 @@ use Rattle.std.specs.Prelude.{find}
 use Rattle.std.specs.Str.{bytes_eq}
 use Rattle.sqlite.specs.Held.{state}
 use Rattle.office.specs.declared.arrival.Outcome.TheVariants as outcome
-use Rattle.views.specs.Histories.{is_for}
+use Rattle.store_reads.specs.Histories.{is_for}
 use Rattle.store.specs.Meaning.{IsHistory}
 use Rattle.store.specs.Arriving.{IsAsked, IsFound, Past, kept_at}
-use Rattle.views.proofs.OfHistory.{apart_after}
+use Rattle.store_reads.proofs.OfHistory.{apart_after}
 use Rattle.store.proofs.Repeats.{known_found, repeat_found, repeat_other, repeat_unknown, unknown_found}
 use Rattle.store.proofs.Settled.{fails_less, repeated_still, settles_still, settles_weaker, waits_weaker}
 use Rattle.store.proofs.settling.settle_beside.Goals as goal

@@ -1,12 +1,12 @@
 use Rattle.std.proofs.Common.{arith}
 use Rattle.sqlite.specs.Held.{state}
 use Rattle.sqlite.specs.State.{HasCleanDisk}
-use Rattle.rows.specs.Transactions.{Waits}
-use Rattle.rows.proofs.Causes.{stops_for}
-use Rattle.rows.proofs.Steps.{ends, left}
+use Rattle.store_rows.specs.Transactions.{Waits}
+use Rattle.store_rows.proofs.Causes.{stops_for}
+use Rattle.store_rows.proofs.Steps.{ends, left}
 use Rattle.store.specs.Arriving.{IsAfter, IsAnswered, IsAny, ExceedsTables, contents_with}
 use Rattle.store.proofs.Taken.{statement_caused}
-use Rattle.rows.proofs.Before.{concludes_before, fails_before}
+use Rattle.store_rows.proofs.Before.{concludes_before, fails_before}
 use Rattle.store.proofs.taking.take.Goals as goal
 
 pub returns-in-Ok-clause-ends : goal.returns-in-Ok-clause-ends

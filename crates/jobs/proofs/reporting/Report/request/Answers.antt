@@ -1,5 +1,5 @@
 use Rattle.std.proofs.Common.{codes, subst, sym}
-use Rattle.requests.specs.Asks.{Asks, get}
+use Rattle.http_requests.specs.Asks.{Asks, get}
 use Rattle.jobs.specs.declared.reporting.Report.{Report}
 use Rattle.jobs.specs.Reporting.{resource_of}
 use Rattle.jobs.proofs.Asking.{asks_signers, asks_table}

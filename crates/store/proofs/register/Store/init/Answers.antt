@@ -2,18 +2,18 @@ use Rattle.std.proofs.Common.{◌≡◌, [], false, sym, ap, ◌∙◌, arith}
 use Rattle.std.specs.List.{list_any}
 use Rattle.std.proofs.lemmas.Bool.{both_ways}
 use Rattle.sqlite.specs.Schema.{Schema}
-use Rattle.tables.specs.Look.{is_office_name}
+use Rattle.store_sql.specs.Look.{is_office_name}
 use Rattle.sqlite.specs.Held.{state}
-use Rattle.tables.specs.Schema.{no_schema}
-use Rattle.tables.specs.Calls.{IsBare}
-use Rattle.rows.specs.Rows.{office_contents}
-use Rattle.rows.specs.Transactions.{Leaves}
-use Rattle.views.proofs.Showing.{survives_still}
+use Rattle.store_sql.specs.Schema.{no_schema}
+use Rattle.store_sql.specs.Calls.{IsBare}
+use Rattle.store_rows.specs.Rows.{office_contents}
+use Rattle.store_rows.specs.Transactions.{Leaves}
+use Rattle.store_reads.proofs.Showing.{survives_still}
 use Rattle.store.specs.Creating.{RefusesOpening}
 use Rattle.store.proofs.Limits.{opening_fits}
 use Rattle.store.proofs.OfficeRows.{excused_unless}
 use Rattle.store.proofs.Telling.{left_committed}
-use Rattle.rows.proofs.Before.{same_before}
+use Rattle.store_rows.proofs.Before.{same_before}
 use Rattle.store.proofs.register.Store.init.Goals as goal
 
 pub returns-in-Ok-clause-made : goal.returns-in-Ok-clause-made

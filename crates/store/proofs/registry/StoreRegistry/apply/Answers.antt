@@ -1,6 +1,6 @@
 use Rattle.sqlite.specs.Held.{state}
 use Rattle.store.proofs.Taken.{cause_of_take, due_told, fault_told, next_told, only_of_take, open_told, stays_told}
-use Rattle.rows.specs.Transactions.{IsAsBefore}
+use Rattle.store_rows.specs.Transactions.{IsAsBefore}
 use Rattle.store.proofs.Answering.{fault_as_told}
 use Rattle.store.proofs.registry.StoreRegistry.apply.Goals as goal
 

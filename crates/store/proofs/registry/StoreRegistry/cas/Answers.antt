@@ -2,7 +2,7 @@ use Rattle.std.specs.Prelude.{◌≡◌}
 use Rattle.sqlite.specs.Held.{state}
 use Rattle.store.proofs.Answering.{cause_told, only_told, open_told, row_told, same_told, stays_told}
 use Rattle.store.proofs.Reading.{shows_office}
-use Rattle.rows.proofs.Before.{reads_before}
+use Rattle.store_rows.proofs.Before.{reads_before}
 use Rattle.store.proofs.registry.StoreRegistry.cas.Goals as goal
 
 pub returns-clause-row : goal.returns-clause-row

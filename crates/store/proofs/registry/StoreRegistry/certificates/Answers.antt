@@ -4,7 +4,7 @@ use Rattle.office.specs.Listing.{batch_of}
 use Rattle.office.specs.declared.certificate.Certificate.{Certificate}
 use Rattle.std.specs.declared.alloc.Global.{Global}
 use Rattle.store.proofs.Answering.{cause_told, only_told, open_told, row_told, same_told, stays_told}
-use Rattle.rows.proofs.Before.{reads_before}
+use Rattle.store_rows.proofs.Before.{reads_before}
 use Rattle.store.proofs.registry.StoreRegistry.certificates.Goals as goal
 
 pub returns-clause-row : goal.returns-clause-row

@@ -1,7 +1,7 @@
 use Rattle.sqlite.specs.Held.{state}
 use Rattle.office.specs.Listing.{AreRevocations}
 use Rattle.store.proofs.Answering.{cause_told, only_told, open_told, row_told, same_told, stays_told}
-use Rattle.rows.proofs.Before.{reads_before}
+use Rattle.store_rows.proofs.Before.{reads_before}
 use Rattle.store.proofs.registry.StoreRegistry.revocations.Goals as goal
 
 pub returns-clause-row : goal.returns-clause-row

@@ -1,0 +1,47 @@
+-- What is answered in place of a job.
+use Rattle.std.proofs.Common.{◌≡◌, ◌⊎◌, ◌∙◌, true, List, Option, None, ap, subst, sym, inl, inr}
+use Rattle.clap.specs.Words.{App, IsAmong, Text, fault_of, is_simple_and_free}
+use Rattle.clap.specs.declared.error.kind.ErrorKind.{ErrorKind}
+use Rattle.clap.specs.declared.error.kind.ErrorKind.TheVariants.{OutOfMemory}
+use Rattle.command_line.specs.Answers.{IsAnswered, IsFaultOf, IsLack, IsLackOfAny}
+use Rattle.command_line.specs.Asked.{Asked, asked_of}
+use Rattle.command_line.specs.Command.{office_command}
+use Rattle.command_line.specs.declared.fault.WordsFault.{WordsFault}
+use Rattle.command_line.specs.declared.fault.WordsFault.TheVariants.{Help, BadWords, NoMemory}
+
+-- What is said where there is no value.
+pub lacks : {A : Type 0} (found : Option A) (fault : WordsFault) → found ≡ None → IsLackOfAny fault → IsLack found fault
+lacks found (Help text) none any = absurd any
+lacks found (BadWords text) none any = none
+lacks found NoMemory none any = tt
+
+-- Where one value is wanted for another, what is said of the one is said of the other.
+pub lacks_too : {A B : Type 0} (one : Option A) (other : Option B) (fault : WordsFault) → (one ≡ None → other ≡ None) → IsLack one fault
+    → IsLack other fault
+lacks_too one other (Help text) leads lack = absurd lack
+lacks_too one other (BadWords text) leads lack = leads lack
+lacks_too one other NoMemory leads lack = tt
+
+-- What is answered where the words ask for nothing, said of the words.
+pub lack_is_fault : (words : List Text) (found : Option Asked) (fault : WordsFault) → found ≡ asked_of words → IsLack found fault
+    → IsFaultOf words fault
+lack_is_fault words found (Help text) same lack = absurd lack
+lack_is_fault words found (BadWords text) same lack = inr (sym same ∙ lack)
+lack_is_fault words found NoMemory same lack = tt
+
+-- An error of clap, said of the words.
+pub error_is_fault : (app : App) (words : List Text) (kind : ErrorKind) (fault : WordsFault) → app ≡ office_command
+    → IsAnswered kind fault → (is_simple_and_free app ≡ true → (kind ≡ OutOfMemory) ⊎ IsAmong kind (fault_of app words))
+    → IsFaultOf words fault
+error_is_fault app words kind fault same answered among =
+    go fault answered (subst (λ (a : App). (kind ≡ OutOfMemory) ⊎ IsAmong kind (fault_of a words)) same
+    (among (ap is_simple_and_free same)))
+  where
+    go : (fault : WordsFault) → IsAnswered kind fault → (kind ≡ OutOfMemory) ⊎ IsAmong kind (fault_of office_command words)
+        → IsFaultOf words fault
+    go (Help text) (inl help) (inl none) = absurd cc
+    go (Help text) (inr version) (inl none) = absurd cc
+    go (Help text) answered (inr among) = (kind, among, answered)
+    go (BadWords text) answered (inl none) = absurd (answered.2 none)
+    go (BadWords text) answered (inr among) = inl (kind, among, answered)
+    go NoMemory answered among = tt

@@ -1,0 +1,57 @@
+-- What the words are answered with.
+use Rattle.std.specs.Prelude.{◌≡◌, ◌≢◌, ◌⊎◌, [], List, Option, Some, None}
+use Rattle.clap.specs.Words.{IsAmong, Kinds, Text, fault_of}
+use Rattle.clap.specs.declared.error.kind.ErrorKind.{ErrorKind}
+use Rattle.clap.specs.declared.error.kind.ErrorKind.TheVariants.{DisplayHelp, DisplayVersion, OutOfMemory}
+use Rattle.command_line.specs.Asked.{asked, asked_of}
+use Rattle.command_line.specs.Command.{office_command}
+use Rattle.command_line.specs.declared.fault.WordsFault.{WordsFault}
+use Rattle.command_line.specs.declared.fault.WordsFault.TheVariants.{Help, BadWords, NoMemory}
+use Rattle.command_line.specs.declared.job.Job.{Job}
+
+-- the mistakes and wishes of the words, by clap's meaning of the command
+abbrev pub faults_of : List Text → Kinds
+faults_of words = fault_of office_command words
+
+-- The words have no mistake, and ask for the job.
+abbrev pub Names : List Text → Job → Type 0
+Names words job = (faults_of words ≡ []) × (asked_of words ≡ Some (asked job))
+
+-- a kind that is neither a wish for a text nor want of memory
+abbrev pub IsMistake : ErrorKind → Type 0
+IsMistake kind = (kind ≢ DisplayHelp) × (kind ≢ DisplayVersion) × (kind ≢ OutOfMemory)
+
+-- a kind that is a wish for a text
+abbrev pub IsWish : ErrorKind → Type 0
+IsWish kind = (kind ≡ DisplayHelp) ⊎ (kind ≡ DisplayVersion)
+
+-- The words have a mistake, or ask for nothing.
+abbrev pub AreBad : List Text → Type 0
+AreBad words = ((kind : ErrorKind) × IsAmong kind (faults_of words) × IsMistake kind) ⊎ (asked_of words ≡ None)
+
+-- The words ask for help or the version.
+abbrev pub AskForText : List Text → Type 0
+AskForText words = (kind : ErrorKind) × IsAmong kind (faults_of words) × IsWish kind
+
+-- what is said of the words by what is answered in place of a job
+abbrev pub IsFaultOf : List Text → WordsFault → Type 0
+IsFaultOf words (Help text) = AskForText words
+IsFaultOf words (BadWords text) = AreBad words
+IsFaultOf words NoMemory = Unit {0}
+
+-- what an error of clap is answered with
+abbrev pub IsAnswered : ErrorKind → WordsFault → Type 0
+IsAnswered kind (Help text) = IsWish kind
+IsAnswered kind (BadWords text) = IsMistake kind
+IsAnswered kind NoMemory = Unit {0}
+
+-- what is answered where a value is wanted: bad words only where there is none
+abbrev pub IsLack : {A : Type 0} → Option A → WordsFault → Type 0
+IsLack found (Help text) = ⊥
+IsLack found (BadWords text) = found ≡ None
+IsLack found NoMemory = Unit {0}
+
+-- what is said of a value that is not there
+abbrev pub IsLackOfAny : WordsFault → Type 0
+IsLackOfAny (Help text) = ⊥
+IsLackOfAny fault = Unit {0}

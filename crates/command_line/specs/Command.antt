@@ -1,0 +1,96 @@
+-- The command line as clap reads it: each subcommand with its options and words.
+use Rattle.std.specs.Prelude.{◌≡◌, ◌-◌, ◌^◌, ◌∷◌, [], ℕ, false, true, List, Some, codes}
+use Rattle.clap.specs.Words.{App, Rule, Shape, Text, app_of, new_app, new_rule, rule_of}
+use Rattle.clap.specs.declared.builder.arg.Arg.{Arg}
+use Rattle.clap.specs.declared.builder.command.Command.{Command}
+use Rattle.clap.specs.declared.builder.command.Command.TheViews.{out-Command}
+use Rattle.clap.specs.declared.builder.value_parser.ValueParser.TheVariants.{Unsigned}
+use Rattle.command_line.specs.declared.command.TheConstants.{MOST_CONNECTIONS}
+
+-- the greatest number of 64 bits
+abbrev pub most : ℕ
+most = 2 ^ 64 - 1
+
+-- `--name VALUE`, which may be left out
+abbrev pub optional : Text → Rule
+optional name = record (new_rule name) { long = Some name; value_names = 1 }
+
+-- `--name VALUE`, which must be given
+abbrev pub required : Text → Rule
+required name = record (new_rule name) { long = Some name; value_names = 1; required = true }
+
+-- `--name N`, with N from `low` to `high`
+abbrev pub number : Text → ℕ → ℕ → Rule
+number name low high = record (new_rule name) {
+  long = Some name;
+  value_names = 1;
+  required = true;
+  parser = Some (Unsigned low high);
+}
+
+-- a word by its place
+abbrev pub word : Text → Rule
+word name = record (new_rule name) { required = true }
+
+-- a number by its place, from `low` to `high`
+abbrev pub number_word : Text → ℕ → ℕ → Rule
+number_word name low high = record (new_rule name) { required = true; parser = Some (Unsigned low high) }
+
+-- a subcommand with these options and words
+abbrev pub subcommand : Text → List Rule → Shape
+subcommand name rules = record (new_app name).top { rules = rules }
+
+-- init --db PATH --ca PATH --root NAME --station NAME --first N --last N
+abbrev pub init_command : Shape
+init_command = subcommand (codes "init") (
+    required (codes "db") ∷ required (codes "ca") ∷ required (codes "root") ∷ required (codes "station")
+    ∷ number (codes "first") 0 most ∷ number (codes "last") 0 most ∷ [])
+
+-- apply [--db PATH] FILE
+abbrev pub apply_command : Shape
+apply_command = subcommand (codes "apply") (optional (codes "db") ∷ word (codes "FILE") ∷ [])
+
+-- serve --db PATH --port P --connections N --nonces PATH
+abbrev pub serve_command : Shape
+serve_command = subcommand (codes "serve") (
+    required (codes "db") ∷ number (codes "port") 0 65535
+    ∷ number (codes "connections") 1 MOST_CONNECTIONS ∷ required (codes "nonces") ∷ [])
+
+-- a subcommand of one database, as `krl --db PATH`
+abbrev pub on_database : Text → Shape
+on_database name = subcommand name (required (codes "db") ∷ [])
+
+-- check --ca PATH KRL SERIAL KEYID
+abbrev pub check_command : Shape
+check_command = subcommand (codes "check") (
+    required (codes "ca") ∷ word (codes "KRL") ∷ number_word (codes "SERIAL") 1 most ∷ word (codes "KEYID") ∷ [])
+
+abbrev pub selftest_command : Shape
+selftest_command = subcommand (codes "selftest") []
+
+-- `sshoffice`, which has a version and wants a subcommand
+abbrev pub top_command : Shape
+top_command = record (subcommand (codes "sshoffice") []) { subcommand_required = true; has_version = true }
+
+-- the command with these subcommands
+abbrev pub with_commands : List Shape → App
+with_commands subs = record { top = record top_command { is_leaf = false }; subs = subs }
+
+-- the command with its first five subcommands
+abbrev pub first_half : App
+first_half = with_commands (init_command ∷ apply_command ∷ serve_command ∷ on_database (codes "krl")
+    ∷ on_database (codes "signers") ∷ [])
+
+-- the whole command
+abbrev pub office_command : App
+office_command = with_commands (init_command ∷ apply_command ∷ serve_command ∷ on_database (codes "krl")
+    ∷ on_database (codes "signers") ∷ on_database (codes "table") ∷ check_command ∷ on_database (codes "migrate")
+    ∷ selftest_command ∷ [])
+
+-- The argument has this rule, at its own level alone.
+abbrev pub IsArgument : Rule → Arg → Type 0
+IsArgument rule a = (rule_of a ≡ rule) × (a.global ≡ false)
+
+-- The command has this shape, and no subcommand.
+abbrev pub IsSubcommand : Shape → Command → Type 0
+IsSubcommand shape c = (app_of c ≡ record { top = shape; subs = [] }) × ((out-Command c).has_globals ≡ false)

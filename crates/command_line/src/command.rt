@@ -1,0 +1,161 @@
+//! The command that clap reads, with its help.
+
+ghost use Rattle.std.specs.Prelude.{◌≡◌, [], IfOk};
+ghost use Rattle.clap.specs.Words.{app_of};
+ghost use Rattle.command_line.specs.Command.{IsArgument, IsSubcommand, apply_command, check_command, first_half};
+ghost use Rattle.command_line.specs.Command.{init_command, number, number_word, office_command, on_database, optional};
+ghost use Rattle.command_line.specs.Command.{required, selftest_command, serve_command, subcommand, top_command, word};
+
+use crate::help;
+use clap::builder::ValueParser;
+use clap::{Arg, Command};
+use std::alloc::{AllocError, Global};
+
+/// The most connections that one run of `serve` may be asked for.
+pub const MOST_CONNECTIONS: u64 = 1_000_000;
+
+// `--name VALUE`, which may be left out.
+fn optional<'a>(alloc: Global, name: &'a str, value: &'a str, help: &'a str) -> Arg<'a>
+    ensures { IsArgument (optional name.entry.now) result }
+{
+    Arg::new(alloc, name)
+        .long(name)
+        .value_name(value)
+        .help(help)
+}
+
+// `--name VALUE`, which must be given.
+fn required<'a>(alloc: Global, name: &'a str, value: &'a str, help: &'a str) -> Arg<'a>
+    ensures { IsArgument (required name.entry.now) result }
+{
+    optional(alloc, name, value, help).required(true)
+}
+
+// `--name N`, with a number from `low` to `high`.
+fn number<'a>(
+    alloc: Global,
+    name: &'a str,
+    value: &'a str,
+    low: u64,
+    high: u64,
+    help: &'a str,
+) -> Arg<'a>
+    ensures { IsArgument (number name.entry.now low high) result }
+{
+    required(alloc, name, value, help).value_parser(ValueParser::Unsigned(low, high))
+}
+
+// A word by its place.
+fn word<'a>(alloc: Global, name: &'a str, help: &'a str) -> Arg<'a>
+    ensures { IsArgument (word name.entry.now) result }
+{
+    Arg::new(alloc, name).required(true).help(help)
+}
+
+// A number by its place, from `low` to `high`.
+fn number_word<'a>(alloc: Global, name: &'a str, low: u64, high: u64, help: &'a str) -> Arg<'a>
+    ensures { IsArgument (number_word name.entry.now low high) result }
+{
+    word(alloc, name, help).value_parser(ValueParser::Unsigned(low, high))
+}
+
+// A command with no options and words yet.
+fn plain_command<'a>(alloc: Global, name: &'a str, about: &'a str, more: &'a str) -> Command<'a>
+    ensures { IsSubcommand (subcommand name.entry.now []) result }
+{
+    Command::new(alloc, name).about(about).after_help(more)
+}
+
+// The command with no subcommands yet.
+fn top_command<'a>(alloc: Global) -> Command<'a>
+    ensures { app_of result ≡ record { top = top_command; subs = [] } }
+{
+    let office = plain_command(alloc, "sshoffice", help::OFFICE, help::OFFICE_MORE);
+    office.version(help::VERSION).subcommand_required(true)
+}
+
+fn init_command<'a>(alloc: Global) -> Result<Command<'a>, AllocError>
+    ensures { IfOk result (IsSubcommand init_command) }
+{
+    plain_command(alloc, "init", help::INIT, help::INIT_MORE)
+        .arg(required(alloc, "db", "PATH", help::NEW_DATABASE))?
+        .arg(required(alloc, "ca", "PATH", help::CA_FILE))?
+        .arg(required(alloc, "root", "NAME", help::ROOT))?
+        .arg(required(alloc, "station", "NAME", help::STATION))?
+        .arg(number(alloc, "first", "N", 0, u64::MAX, help::FIRST))?
+        .arg(number(alloc, "last", "N", 0, u64::MAX, help::LAST))
+}
+
+fn apply_command<'a>(alloc: Global) -> Result<Command<'a>, AllocError>
+    ensures { IfOk result (IsSubcommand apply_command) }
+{
+    plain_command(alloc, "apply", help::APPLY, help::APPLY_MORE)
+        .arg(optional(alloc, "db", "PATH", help::DATABASE_OR_NONE))?
+        .arg(word(alloc, "FILE", help::EXCHANGE_FILE))
+}
+
+fn serve_command<'a>(alloc: Global) -> Result<Command<'a>, AllocError>
+    ensures { IfOk result (IsSubcommand serve_command) }
+{
+    let most = MOST_CONNECTIONS;
+    plain_command(alloc, "serve", help::SERVE, help::SERVE_MORE)
+        .arg(required(alloc, "db", "PATH", help::DATABASE))?
+        .arg(number(alloc, "port", "P", 0, 65535, help::PORT))?
+        .arg(number(alloc, "connections", "N", 1, most, help::CONNECTIONS))?
+        .arg(required(alloc, "nonces", "PATH", help::NONCES))
+}
+
+// A command of one database, as `krl --db PATH`.
+fn on_database<'a>(
+    alloc: Global,
+    name: &'a str,
+    about: &'a str,
+    more: &'a str,
+) -> Result<Command<'a>, AllocError>
+    ensures { IfOk result (IsSubcommand (on_database name.entry.now)) }
+{
+    plain_command(alloc, name, about, more).arg(required(alloc, "db", "PATH", help::DATABASE))
+}
+
+fn check_command<'a>(alloc: Global) -> Result<Command<'a>, AllocError>
+    ensures { IfOk result (IsSubcommand check_command) }
+{
+    plain_command(alloc, "check", help::CHECK, help::CHECK_MORE)
+        .arg(required(alloc, "ca", "PATH", help::CA_FILE))?
+        .arg(word(alloc, "KRL", help::LIST_FILE))?
+        .arg(number_word(alloc, "SERIAL", 1, u64::MAX, help::SERIAL))?
+        .arg(word(alloc, "KEYID", help::KEY_ID))
+}
+
+fn selftest_command<'a>(alloc: Global) -> Command<'a>
+    ensures { IsSubcommand selftest_command result }
+{
+    plain_command(alloc, "selftest", help::SELFTEST, help::SELFTEST_MORE)
+}
+
+// The command with the first five of its subcommands. A function with all nine takes minutes to prove.
+fn first_half<'a>(alloc: Global) -> Result<Command<'a>, AllocError>
+    ensures { IfOk result (λ c. app_of c ≡ first_half) }
+{
+    top_command(alloc)
+        .subcommand(init_command(alloc)?)?
+        .subcommand(apply_command(alloc)?)?
+        .subcommand(serve_command(alloc)?)?
+        .subcommand(on_database(alloc, "krl", help::KRL, help::KRL_MORE)?)?
+        .subcommand(on_database(alloc, "signers", help::SIGNERS, help::SIGNERS_MORE)?)
+}
+
+/// The whole command, whose meaning to clap is that of `specs/Command.antt`.
+///
+/// # Errors
+///
+/// Memory was refused.
+pub fn office_command<'a>(alloc: Global) -> Result<Command<'a>, AllocError>
+    ensures { IfOk result (λ c. app_of c ≡ office_command) }
+{
+    first_half(alloc)?
+        .subcommand(on_database(alloc, "table", help::TABLE, help::TABLE_MORE)?)?
+        .subcommand(check_command(alloc)?)?
+        .subcommand(on_database(alloc, "migrate", help::MIGRATE, help::MIGRATE_MORE)?)?
+        .subcommand(selftest_command(alloc))
+}

@@ -1,0 +1,142 @@
+//! Jobs from the words.
+
+ghost use Rattle.std.specs.Prelude.{◌≡◌, map, Some, IfOk, IfErr, string_bytes};
+ghost use Rattle.clap.specs.Words.{found_of, kind_of, rows_of, subcommand_rows_of};
+ghost use Rattle.command_line.specs.Answers.{IsAnswered, IsFaultOf, IsLack, Names};
+ghost use Rattle.command_line.specs.Asked.{apply_in, asked, asked_by, asked_in, check_in, init_in, serve_in};
+
+use crate::command::{MOST_CONNECTIONS, office_command};
+use crate::values::{lack, number_at, text_at, text_if_given};
+use crate::{Job, WordsFault};
+use clap::error::ErrorKind;
+use clap::{ArgMatches, Error};
+use std::alloc::Global;
+
+fn init_job(alloc: Global, found: &ArgMatches<'_>) -> Result<Job, WordsFault>
+    ensures ok { IfOk result (λ job. init_in (rows_of (found_of found.now)) ≡ Some (asked job)) }
+    ensures err { IfErr result (IsLack (init_in (rows_of (found_of found.now)))) }
+{
+    Ok(Job::Init {
+        db: text_at(alloc, found, "db")?,
+        ca: text_at(alloc, found, "ca")?,
+        root: text_at(alloc, found, "root")?,
+        station: text_at(alloc, found, "station")?,
+        first: number_at(alloc, found, "first", 0, u64::MAX)?,
+        last: number_at(alloc, found, "last", 0, u64::MAX)?,
+    })
+}
+
+fn apply_job(alloc: Global, found: &ArgMatches<'_>) -> Result<Job, WordsFault>
+    ensures ok { IfOk result (λ job. apply_in (rows_of (found_of found.now)) ≡ Some (asked job)) }
+    ensures err { IfErr result (IsLack (apply_in (rows_of (found_of found.now)))) }
+{
+    Ok(Job::Apply {
+        db: text_if_given(alloc, found, "db")?,
+        file: text_at(alloc, found, "FILE")?,
+    })
+}
+
+fn serve_job(alloc: Global, found: &ArgMatches<'_>) -> Result<Job, WordsFault>
+    ensures ok { IfOk result (λ job. serve_in (rows_of (found_of found.now)) ≡ Some (asked job)) }
+    ensures err { IfErr result (IsLack (serve_in (rows_of (found_of found.now)))) }
+{
+    Ok(Job::Serve {
+        db: text_at(alloc, found, "db")?,
+        port: number_at(alloc, found, "port", 0, 65535)? as u16,
+        connections: number_at(alloc, found, "connections", 1, MOST_CONNECTIONS)?,
+        nonces: text_at(alloc, found, "nonces")?,
+    })
+}
+
+fn check_job(alloc: Global, found: &ArgMatches<'_>) -> Result<Job, WordsFault>
+    ensures ok { IfOk result (λ job. check_in (rows_of (found_of found.now)) ≡ Some (asked job)) }
+    ensures err { IfErr result (IsLack (check_in (rows_of (found_of found.now)))) }
+{
+    Ok(Job::Check {
+        ca: text_at(alloc, found, "ca")?,
+        list: text_at(alloc, found, "KRL")?,
+        serial: number_at(alloc, found, "SERIAL", 1, u64::MAX)?,
+        key_id: text_at(alloc, found, "KEYID")?,
+    })
+}
+
+// The job of the subcommand of this name.
+fn named_job(alloc: Global, name: &str, found: &ArgMatches<'_>) -> Result<Job, WordsFault>
+    ensures ok { IfOk result (λ job. asked_by name.now (rows_of (found_of found.now)) ≡ Some (asked job)) }
+    ensures err { IfErr result (IsLack (asked_by name.now (rows_of (found_of found.now)))) }
+{
+    if name == "init" {
+        init_job(alloc, found)
+    } else if name == "apply" {
+        apply_job(alloc, found)
+    } else if name == "serve" {
+        serve_job(alloc, found)
+    } else if name == "krl" {
+        Ok(Job::Krl {
+            db: text_at(alloc, found, "db")?,
+        })
+    } else if name == "signers" {
+        Ok(Job::Signers {
+            db: text_at(alloc, found, "db")?,
+        })
+    } else if name == "table" {
+        Ok(Job::Table {
+            db: text_at(alloc, found, "db")?,
+        })
+    } else if name == "check" {
+        check_job(alloc, found)
+    } else if name == "migrate" {
+        Ok(Job::Migrate {
+            db: text_at(alloc, found, "db")?,
+        })
+    } else if name == "selftest" {
+        Ok(Job::Selftest)
+    } else {
+        Err(lack(alloc, "a command"))
+    }
+}
+
+fn job_by(alloc: Global, matches: &ArgMatches<'_>) -> Result<Job, WordsFault>
+    ensures ok { IfOk result (λ job. asked_in (subcommand_rows_of matches.now) ≡ Some (asked job)) }
+    ensures err { IfErr result (IsLack (asked_in (subcommand_rows_of matches.now))) }
+{
+    match matches.subcommand() {
+        Some((name, found)) => named_job(alloc, name, found),
+        None => Err(lack(alloc, "a command")),
+    }
+}
+
+fn fault_by(alloc: Global, error: &Error) -> WordsFault
+    ensures { IsAnswered (kind_of error.now) result }
+{
+    if matches!(error.kind(), ErrorKind::OutOfMemory) {
+        return WordsFault::NoMemory;
+    }
+    let Ok(text) = error.to_string(alloc) else {
+        return WordsFault::NoMemory;
+    };
+    if error.use_stderr() {
+        WordsFault::BadWords(text)
+    } else {
+        WordsFault::Help(text)
+    }
+}
+
+/// The job that the words ask for. The first word is the program's name.
+///
+/// # Errors
+///
+/// `Help` and `BadWords` with the text of clap, which ends with a line feed; `NoMemory` where a growth was refused.
+pub fn read_words(alloc: Global, words: &[String]) -> Result<Job, WordsFault>
+    // By the meaning of the command, the words have no mistake and name the job.
+    ensures ok { IfOk result (Names (map string_bytes words.now)) }
+
+    // They ask for help, have a mistake or ask for nothing.
+    ensures err { IfErr result (IsFaultOf (map string_bytes words.now)) }
+{
+    let command = office_command(alloc)?;
+    match command.try_get_matches_from(words) {
+        Ok(matches) => job_by(alloc, &matches),
+        Err(error) => Err(fault_by(alloc, &error)),
+    }
+}

@@ -1,0 +1,99 @@
+//! The values that clap found for a subcommand.
+
+ghost use Rattle.std.specs.Prelude.{◌≡◌, ◌≤◌, Some, IfErr, IfOk, IfSome, option_map, string_bytes};
+ghost use Rattle.clap.specs.Words.{first_of, found_of, rows_of};
+ghost use Rattle.command_line.specs.Answers.{IsLack, IsLackOfAny};
+ghost use Rattle.command_line.specs.declared.fault.WordsFault.TheVariants.{NoMemory};
+ghost use Rattle.command_line.specs.Asked.{number_at, number_of};
+
+use crate::WordsFault;
+use clap::ArgMatches;
+use std::alloc::Global;
+
+/// What is said of a value that clap did not give, or let through: `BadWords` with the name, or `NoMemory`.
+pub fn lack(alloc: Global, name: &str) -> WordsFault
+    ensures { IsLackOfAny result }
+{
+    match format!(in alloc; "error: no valid value for {name}\n") {
+        Ok(text) => WordsFault::BadWords(text),
+        Err(_) => WordsFault::NoMemory,
+    }
+}
+
+// The value of an option or word, as it was given.
+fn value_at<'a>(found: &ArgMatches<'a>, name: &str) -> Option<&'a str>
+    ensures { option_map (λ s. s.now) result ≡ first_of name.now (rows_of (found_of found.now)) }
+{
+    found.get_str(name)
+}
+
+/// The value that was given for an option or word.
+///
+/// # Errors
+///
+/// `BadWords`, only where none was given. `NoMemory`, where a growth was refused.
+pub fn text_at(alloc: Global, found: &ArgMatches<'_>, name: &str) -> Result<String, WordsFault>
+    ensures ok { IfOk result (λ text. first_of name.now (rows_of (found_of found.now)) ≡ Some (string_bytes text)) }
+    ensures err { IfErr result (IsLack (first_of name.now (rows_of (found_of found.now)))) }
+{
+    match value_at(found, name) {
+        Some(text) => Ok(String::from_str(alloc, text)?),
+        None => Err(lack(alloc, name)),
+    }
+}
+
+/// The value of an option that may be left out.
+///
+/// # Errors
+///
+/// `NoMemory`, where a growth was refused.
+pub fn text_if_given(
+    alloc: Global,
+    found: &ArgMatches<'_>,
+    name: &str,
+) -> Result<Option<String>, WordsFault>
+    ensures ok { IfOk result (λ text. first_of name.now (rows_of (found_of found.now)) ≡ option_map string_bytes text) }
+    ensures err { IfErr result (λ fault. fault ≡ NoMemory) }
+{
+    match value_at(found, name) {
+        Some(text) => Ok(Some(String::from_str(alloc, text)?)),
+        None => Ok(None),
+    }
+}
+
+// The number that a text writes, from `low` to `high`.
+fn number_of(text: &str, low: u64, high: u64) -> Option<u64>
+    ensures number { result ≡ number_of low high text.now }
+    ensures limits { IfSome result (λ n. (low ≤ n) × (n ≤ high)) }
+{
+    match text.parse::<u64>() {
+        Ok(number) if low <= number && number <= high => Some(number),
+        Ok(_) => None,
+        Err(_) => None,
+    }
+}
+
+/// The number that was given for an option or word, from `low` to `high`.
+///
+/// # Errors
+///
+/// `BadWords`, only where no number within the limits was given. `NoMemory`, where a growth was refused.
+pub fn number_at(
+    alloc: Global,
+    found: &ArgMatches<'_>,
+    name: &str,
+    low: u64,
+    high: u64,
+) -> Result<u64, WordsFault>
+    ensures ok { IfOk result (λ n. number_at (rows_of (found_of found.now)) name.now low high ≡ Some n) }
+    ensures limits { IfOk result (λ n. (low ≤ n) × (n ≤ high)) }
+    ensures err { IfErr result (IsLack (number_at (rows_of (found_of found.now)) name.now low high)) }
+{
+    match value_at(found, name) {
+        Some(text) => match number_of(text, low, high) {
+            Some(number) => Ok(number),
+            None => Err(lack(alloc, name)),
+        },
+        None => Err(lack(alloc, name)),
+    }
+}

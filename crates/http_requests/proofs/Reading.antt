@@ -1,0 +1,51 @@
+-- Heads in bytes that come one after the other.
+use Rattle.std.proofs.Common.{◌≡◌, ℕ, ◌≤◌, List, [], ◌∷◌, ◌++◌, length, take, Bool, true}
+use Rattle.std.proofs.Common.{false, refl, sym, ap, ◌∙◌, arith, length-append, subst, nat_lt}
+use Rattle.std.proofs.Math.Seq.{take-append_seam, take-length}
+use Rattle.std.proofs.lemmas.List.{append-nil, take-append-le}
+use Rattle.std.proofs.lemmas.Bool.Decides.{nat_tests}
+use Rattle.httparse.specs.Grammar.{RequestHead, ReadsRequest, print_request}
+use Rattle.httparse.proofs.GrammarLemmas.{ReadsRequest-append}
+use Rattle.http_requests.specs.Heads.{IsGood}
+use Rattle.http_requests.specs.Reading.{HoldsNone, IsNoMore, HasCome, WaitsBefore}
+use Rattle.http_requests.specs.declared.progress.Progress.TheVariants.{Waits}
+
+-- nothing comes before no bytes
+pub waits_before_nothing : WaitsBefore []
+waits_before_nothing n below = absurd (omega (arith, below))
+
+-- bytes that wait, and one more
+pub waits_before_more : (bytes : List ℕ) (b : ℕ) → WaitsBefore bytes → HasCome Waits bytes
+    → WaitsBefore (bytes ++ b ∷ [])
+waits_before_more bytes b before waits n below =
+    let size = length-append bytes (b ∷ []) in
+    let fits : n ≤ length bytes = omega (arith, size, below) in
+    let P : List ℕ → Type 0 = HasCome Waits in
+    subst P (sym (take-append-le n bytes (b ∷ []) fits)) (by (nat_lt n (length bytes)) refl fits)
+  where
+    by : (v : Bool) → nat_lt n (length bytes) ≡ v → n ≤ length bytes → HasCome Waits (take n bytes)
+    by true e fits = before n (grind (arith, nat_tests))
+    by false e fits =
+        let P : List ℕ → Type 0 = HasCome Waits in
+        let same : n ≡ length bytes = grind (arith, nat_tests) in
+        subst P (sym (ap (λ n. take n bytes) same ∙ take-length bytes)) waits
+
+-- with a head in no shorter beginning, a head is all the bytes
+pub no_more_of_waits : (bytes : List ℕ) → WaitsBefore bytes → IsNoMore bytes
+no_more_of_waits bytes before h [] reads = refl
+no_more_of_waits bytes before h (x ∷ rest) reads =
+    let p = print_request h in
+    let size = simp length-append at (ap length reads.0.1) in
+    let cut = ap (take (length p)) reads.0.1 ∙ take-append_seam p (x ∷ rest) in
+    let P : List ℕ → Type 0 = HoldsNone in
+    let none = subst P cut (before (length p) (omega (arith, size))).0 in
+    absurd (none h [] ((reads.0.0, sym (append-nil p)), reads.1))
+
+-- a good head that is all the bytes is one of these bytes with a body after it
+pub good_with_body : (before body rest : List ℕ) (h : RequestHead) → IsGood before h rest → IsNoMore before
+    → IsGood (before ++ body) h body
+good_with_body before body rest h good all =
+    let none = all h rest (good.0.reads, good.0.lines) in
+    let more = ReadsRequest-append before h rest body good.0.reads in
+    let P : List ℕ → Type 0 = λ r. ReadsRequest (before ++ body) h (r ++ body) in
+    (record { reads = subst P none more; size = good.0.size; lines = good.0.lines }, good.1)

@@ -1,0 +1,5 @@
+use Rattle.http_requests.proofs.LawfulAsk.{lawful_of}
+use Rattle.http_requests.proofs.laws.asks_are_lawful.Goals as goal
+
+pub returns : goal.returns
+returns c = lawful_of

@@ -1,0 +1,7 @@
+use Rattle.std.proofs.Common.{sym, ap, ◌∙◌, refl}
+use Rattle.matchit.specs.Seek.{first}
+use Rattle.http_requests.proofs.route.kind_of.Goals as goal
+
+pub returns-in-Ok-clause-some : goal.returns-in-Ok-clause-some
+returns-in-Ok-clause-some c =
+    (_, sym (ap (λ rows. first rows c.args.path.now) c.args.routes.now.whole) ∙ c.in-Ok.ensures.found, refl)

@@ -1,0 +1,48 @@
+use Rattle.std.proofs.Common.{ap, sym, ◌∙◌, subst}
+use Rattle.matchit.specs.Seek.{first}
+use Rattle.http_requests.specs.declared.router.RouteKind.TheVariants.{Message, Certificate, Body}
+use Rattle.http_requests.specs.Paths.{Path, IsPath, path_text}
+use Rattle.http_requests.specs.Routing.{routing}
+use Rattle.http_requests.proofs.Finding.{routed, same_route, at_route}
+use Rattle.http_requests.proofs.Matching.{fixed_path}
+use Rattle.http_requests.proofs.route.route_of.Goals as goal
+
+pub returns-in-None-clause-none : goal.returns-in-None-clause-none
+returns-in-None-clause-none c = λ p is e.
+    let differ = sym c.in-None.ensures.none ∙ ap (first routing) e ∙ routed p is in
+    cc differ
+
+pub returns-in-Some-Fixed-clause-path : goal.returns-in-Some-Fixed-clause-path
+returns-in-Some-Fixed-clause-path c =
+    let found = c.in-Some-Fixed.ensures.some in
+    (fixed_path c.args.path.now found.0 _ found.1 (found.2 ∙ c.in-Some-Fixed.field-0-is)).0
+
+pub returns-in-Some-Fixed-clause-text : goal.returns-in-Some-Fixed-clause-text
+returns-in-Some-Fixed-clause-text c =
+    let found = c.in-Some-Fixed.ensures.some in
+    (fixed_path c.args.path.now found.0 _ found.1 (found.2 ∙ c.in-Some-Fixed.field-0-is)).1
+
+pub returns-in-None-message_of-clause-none : goal.returns-in-None-message_of-clause-none
+returns-in-None-message_of-clause-none c = λ p is e.
+    let found = c.in-Some-Message.ensures.some in
+    let same = same_route c.args.path.now found.0 p is found.1 e in
+    let at = at_route Message p (sym c.in-Some-Message.field-0-is ∙ sym found.2 ∙ same) in
+    let P : Path → Type 0 = IsPath in
+    c.in-None-message_of.ensures.none at.0 at.1 (subst P at.2 is) (c.as_bytes.ensures.value ∙ e ∙ ap path_text at.2)
+
+pub returns-in-None-certificate_of-clause-none : goal.returns-in-None-certificate_of-clause-none
+returns-in-None-certificate_of-clause-none c = λ p is e.
+    let found = c.in-Some-Certificate.ensures.some in
+    let same = same_route c.args.path.now found.0 p is found.1 e in
+    let at = at_route Certificate p (sym c.in-Some-Certificate.field-0-is ∙ sym found.2 ∙ same) in
+    let P : Path → Type 0 = IsPath in
+    c.in-None-certificate_of.ensures.none at.0 (subst P at.1 is)
+    (c.as_bytes-in-Some-Certificate.ensures.value ∙ e ∙ ap path_text at.1)
+
+pub returns-in-None-body_of-clause-none : goal.returns-in-None-body_of-clause-none
+returns-in-None-body_of-clause-none c = λ p is e.
+    let found = c.in-Some-Body.ensures.some in
+    let same = same_route c.args.path.now found.0 p is found.1 e in
+    let at = at_route Body p (sym c.in-Some-Body.field-0-is ∙ sym found.2 ∙ same) in
+    let P : Path → Type 0 = IsPath in
+    c.in-None-body_of.ensures.none at.0 (subst P at.1 is) (c.as_bytes-in-Some-Body.ensures.value ∙ e ∙ ap path_text at.1)

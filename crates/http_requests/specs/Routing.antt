@@ -1,0 +1,49 @@
+-- The routes as the router keeps them.
+use Rattle.std.specs.Prelude.{ℕ, List, [], ◌∷◌, ◌++◌, codes}
+use Rattle.matchit.specs.Router.{RouteOf}
+use Rattle.matchit.specs.Rows.{RowsOf, param_token}
+use Rattle.http_requests.specs.declared.resource.Resource.TheVariants.{Pending, RevocationList, Signers, Table, Cas}
+use Rattle.http_requests.specs.declared.router.RouteKind.{RouteKind}
+use Rattle.http_requests.specs.declared.router.RouteKind.TheVariants.{Message, Certificate, Body, Fixed}
+use Rattle.http_requests.specs.Paths.{resource, path_text}
+
+-- the pattern of each route
+abbrev pub pattern_of : RouteKind → List ℕ
+pattern_of Message = codes "/v1/callers/" ++ param_token ∷ codes "/requests/" ++ param_token ∷ []
+pattern_of Certificate = codes "/v1/certs/" ++ param_token ∷ []
+pattern_of Body = codes "/v1/certs/" ++ param_token ∷ codes "/body"
+pattern_of (Fixed r) = path_text (resource r)
+
+-- its text, and the places of its parameters' names in it
+abbrev pub text_of : RouteKind → List ℕ
+text_of Message = codes "/v1/callers/{caller}/requests/{key}"
+text_of Certificate = codes "/v1/certs/{serial}"
+text_of Body = codes "/v1/certs/{serial}/body"
+text_of (Fixed r) = path_text (resource r)
+
+abbrev pub names_of : RouteKind → List (ℕ × ℕ)
+names_of Message = (13, 19) ∷ (31, 34) ∷ []
+names_of Certificate = (11, 17) ∷ []
+names_of Body = (11, 17) ∷ []
+names_of (Fixed r) = []
+
+-- the row of each route
+abbrev pub row_of : RouteKind → RouteOf RouteKind
+row_of kind = record { pattern = pattern_of kind; text = text_of kind; names = names_of kind; value = kind }
+
+abbrev pub rows_of : List RouteKind → RowsOf (RouteOf RouteKind)
+rows_of [] = []
+rows_of (kind ∷ rest) = (pattern_of kind, row_of kind) ∷ rows_of rest
+
+-- the routes, in the order in which a router keeps them
+abbrev pub kinds : List RouteKind
+kinds =
+    Message ∷ Fixed Cas ∷ Body ∷ Certificate ∷ Fixed RevocationList ∷ Fixed Pending ∷ Fixed Signers ∷ Fixed Table ∷ []
+
+-- their rows
+abbrev pub routing : RowsOf (RouteOf RouteKind)
+routing = rows_of kinds
+
+-- the rows of the routes with parameters
+abbrev pub routing_by_parameters : RowsOf (RouteOf RouteKind)
+routing_by_parameters = rows_of (Message ∷ Body ∷ Certificate ∷ [])

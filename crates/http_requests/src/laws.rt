@@ -1,0 +1,37 @@
+//! What is true of every request.
+
+ghost use Rattle.std.specs.Prelude.{◌≡◌, ◌≢◌, ◌↔◌, ◌<◌, ℕ, List, ◌++◌, length};
+ghost use Rattle.httparse.specs.Grammar.{RequestHead};
+ghost use Rattle.values.specs.declared.refusal.Refusal.{Refusal};
+ghost use Rattle.http_requests.specs.Asks.{Ask, Asks, HeadAsks, IsLawful, refused};
+ghost use Rattle.http_requests.specs.BodySizes.{WantsBody};
+ghost use Rattle.http_requests.specs.Paths.{Path, IsPath, path_text};
+
+/// No text is that of two paths.
+pub fn texts_tell_paths()
+    ensures { (p q : Path) → IsPath p → IsPath q → path_text p ≡ path_text q → p ≡ q }
+{}
+
+/// No request asks two things.
+pub fn one_ask()
+    ensures { (bytes : List ℕ) (a b : Ask) → Asks bytes a → Asks bytes b → a ≡ b }
+{}
+
+/// What is asked is lawful: a refusal is one of the first six, the names are names, the serial is one, and the message
+/// is no longer than a body may be.
+pub fn asks_are_lawful()
+    ensures { (bytes : List ℕ) (a : Ask) → Asks bytes a → IsLawful a }
+{}
+
+/// Bytes after what is asked change nothing: only a request without a good head, or with a short body, may become
+/// another one as more bytes come.
+pub fn later_bytes_change_nothing()
+    ensures { (bytes more : List ℕ) (a : Ask) → Asks bytes a → a ≢ refused Refusal.BadHead
+        → a ≢ refused Refusal.ShortBody → Asks (bytes ++ more) a }
+{}
+
+/// A request is refused for a short body exactly where fewer bytes follow its head than the head wants.
+pub fn short_bodies_are_below_the_size()
+    ensures { (h : RequestHead) (n : ℕ) (rest : List ℕ) (a : Ask) → WantsBody h n → HeadAsks h rest a
+        → (a ≡ refused Refusal.ShortBody) ↔ (length rest < n) }
+{}

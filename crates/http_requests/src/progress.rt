@@ -1,0 +1,30 @@
+//! How much of a head has come.
+
+ghost use Rattle.http_requests.specs.Reading.{HasCome};
+
+use crate::limits::MAX_HEADER_LINES;
+use httparse::Status;
+use httparse::spans::{EMPTY_HEADER_SPAN, parse_request};
+
+/// What has come of a head of at most `MAX_HEADER_LINES` header lines.
+#[derive(Clone, Copy, Debug, PartialEq, Eq)]
+pub enum Progress {
+    /// A whole head.
+    Whole,
+    /// No head yet, but bytes that may become one.
+    Waits,
+    /// Bytes that no more bytes can make a head.
+    Hopeless,
+}
+
+/// What has come of a head. The limit on a head's bytes isn't looked at.
+pub fn progress_of(bytes: &[u8]) -> Progress
+    ensures { HasCome result bytes.now }
+{
+    let mut headers = [EMPTY_HEADER_SPAN; MAX_HEADER_LINES];
+    match parse_request(bytes, &mut headers) {
+        Ok(Status::Complete(_)) => Progress::Whole,
+        Ok(Status::Partial) => Progress::Waits,
+        Err(_) => Progress::Hopeless,
+    }
+}

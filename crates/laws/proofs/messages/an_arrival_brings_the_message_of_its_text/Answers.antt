@@ -1,5 +1,0 @@
-use Rattle.laws.proofs.Brought.{with_text_exactly}
-use Rattle.laws.proofs.messages.an_arrival_brings_the_message_of_its_text.Goals as goal
-
-pub returns : goal.returns
-returns c = with_text_exactly

@@ -1,5 +1,0 @@
-use Rattle.laws.proofs.Later.{later_revokes}
-use Rattle.laws.proofs.publication.a_later_list_revokes_as_much.Goals as goal
-
-pub returns : goal.returns
-returns c = later_revokes

@@ -1,5 +1,0 @@
-use Rattle.laws.proofs.Versions.{versions_tell}
-use Rattle.laws.proofs.publication.equal_versions_are_equal_lists.Goals as goal
-
-pub returns : goal.returns
-returns c = versions_tell

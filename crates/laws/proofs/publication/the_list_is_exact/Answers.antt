@@ -1,5 +1,0 @@
-use Rattle.laws.proofs.Lists.{list_is_exact}
-use Rattle.laws.proofs.publication.the_list_is_exact.Goals as goal
-
-pub returns : goal.returns
-returns c = list_is_exact

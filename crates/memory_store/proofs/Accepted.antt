@@ -1,0 +1,35 @@
+-- One arrival more over the lists.
+use Rattle.std.proofs.Common.{◌≡◌, ℕ, ◌+◌, ◌<◌, ◌≤◌, List, [], ◌∷◌, ◌++◌, None, Result, Ok, Err, sym, ap, subst, ◌∙◌, arith}
+use Rattle.std.specs.Prelude.{IsOkAnd}
+use Rattle.values.specs.declared.refusal.Refusal.{Refusal}
+use Rattle.office.specs.declared.opening.Opening.{Opening}
+use Rattle.office.specs.declared.arrival.Arrival.{Arrival}
+use Rattle.office.specs.declared.arrival.Kept.{Kept}
+use Rattle.office.specs.declared.arrival.Outcome.TheVariants as outcome
+use Rattle.office.specs.declared.view.Decision.{Decision}
+use Rattle.office.specs.Machine.{State}
+use Rattle.office.specs.Decided.{written}
+use Rattle.office.specs.History.{First, judged, change, kept_row, reply_kept, due}
+use Rattle.office.specs.Shows.{Shows}
+use Rattle.office.proofs.Steps.{shows_accepted}
+use Rattle.memory_store.specs.Contents.{Contents, state_of, row_of, Writes}
+
+-- what was decided and written is what is due
+pub accepted : (t new : Contents) (o : Opening) (l : List Arrival) (a : Arrival) (d : Decision) (j : Result First Refusal)
+    → reply_kept t.kept a ≡ None → judged (state_of t) t.kept a ≡ j
+    → d.version < 9223372036854775807
+    → IsOkAnd j (λ f. (f.arrival ≡ a) × (f.reply ≡ d.reply) × (written d (state_of t) ≡ change (state_of t) f))
+    → Writes t a d new → Shows (state_of t) t.kept o l
+    → (outcome.Accepted d.reply ≡ due o l a) × Shows (state_of new) new.kept o (l ++ a ∷ [])
+accepted t new o l a d (Err x) first e small found w m = absurd found
+accepted t new o l a d (Ok f) first e small found w m =
+    let version : d.version ≡ (change (state_of t) f).version = ap (λ (s : State). s.version) found.2 in
+    let r = shows_accepted (state_of t) t.kept o l a f first e (omega (arith, small, version)) m in
+    let row : kept_row f ≡ row_of a d.reply =
+    ap (λ (x : Arrival). row_of x f.reply) found.0 ∙ ap (λ (x : List ℕ). row_of a x) found.1 in
+    let kept : t.kept ++ kept_row f ∷ [] ≡ new.kept = ap (λ (k : Kept). t.kept ++ k ∷ []) row ∙ sym w.kept in
+    let state : change (state_of t) f ≡ state_of new = sym found.2 ∙ sym w.state in (
+      ap (λ (x : List ℕ). outcome.Accepted x) (sym found.1) ∙ r.0,
+      subst (λ (s : State). Shows s new.kept o (l ++ a ∷ [])) state
+          (subst (λ (ks : List Kept). Shows (change (state_of t) f) ks o (l ++ a ∷ [])) kept r.1),
+    )

@@ -1,0 +1,23 @@
+-- The published list after a history.
+use Rattle.std.proofs.Common.{◌≡◌, List, refl, sym, subst}
+use Rattle.office.specs.declared.opening.Opening.{Opening}
+use Rattle.office.specs.declared.arrival.Arrival.{Arrival}
+use Rattle.office.specs.declared.arrival.Kept.{Kept}
+use Rattle.office.specs.declared.publication.Revoked.{Revoked}
+use Rattle.office.specs.Parts.{AreParts}
+use Rattle.office.specs.Publication.{AreRevoked, head_of}
+use Rattle.office.specs.History.{state}
+use Rattle.office.specs.Shows.{Shows}
+use Rattle.office.proofs.Parts.{AreIssued, parts_are_published}
+use Rattle.office.proofs.Ranges.{revoked_is_issued}
+use Rattle.memory_store.specs.Contents.{Contents, state_of}
+
+-- what is shown of the list is that of the history
+pub shown : (t : Contents) (kept : List Kept) (o : Opening) (l : List Arrival) (r : Revoked) → r.head ≡ head_of (state_of t)
+    → AreParts r.parts.items t.cas t.runs → r.key_ids ≡ t.key_ids → Shows (state_of t) kept o l → AreRevoked r (state o l)
+shown t kept o l r head parts key_ids m = subst (AreRevoked r) m.is_state (record {
+  head = head;
+  parts = parts_are_published (state_of t) t.runs r.parts.items parts (λ n. refl)
+      (subst AreIssued (sym m.is_state) (revoked_is_issued o l));
+  key_ids = key_ids;
+})

@@ -1,0 +1,77 @@
+-- What the plain store holds.
+use Rattle.std.specs.Prelude.{◌≡◌, ℕ, ◌+◌, ◌≤◌, List, [], ◌∷◌, ◌++◌, length, All, IsTrue, IsOkAnd, Result, Ok, Err}
+use Rattle.std.specs.List.{list_all}
+use Rattle.std.specs.List.Sorted.{IsNonDecreasing}
+use Rattle.message.specs.declared.department.Department.{Department}
+use Rattle.message.specs.Values.{is_department}
+use Rattle.krl.specs.declared.run.Run.{Run}
+use Rattle.krl.specs.Sets.{contains}
+use Rattle.office.specs.Openings.{IsOpening}
+use Rattle.office.specs.Certificates.{IsCertificate}
+use Rattle.office.specs.Parts.{numbers}
+use Rattle.office.specs.declared.opening.Opening.{Opening}
+use Rattle.office.specs.declared.ca.Ca.{Ca}
+use Rattle.office.specs.declared.certificate.Certificate.{Certificate}
+use Rattle.office.specs.declared.arrival.Arrival.{Arrival}
+use Rattle.office.specs.declared.arrival.Kept.{Kept}
+use Rattle.office.specs.declared.view.Decision.{Decision}
+use Rattle.office.specs.declared.view.Stop.{Stop}
+use Rattle.office.specs.declared.view.Stop.TheVariants as stop
+use Rattle.office.specs.Machine.{State}
+use Rattle.office.specs.Decided.{written}
+use Rattle.office.specs.History.{judged, change}
+use Rattle.memory_store.specs.Departments.{entries}
+
+pub record Contents : Type 0 where
+  pub opening : Opening
+  -- by number
+  pub cas : List Ca
+  -- by name
+  pub departments : List Department
+  -- by serial
+  pub certificates : List Certificate
+  -- the runs of the serials that are revoked
+  pub runs : List Run
+  -- the key ids that are revoked, ascending
+  pub key_ids : List (List ℕ)
+  -- a row for each first acceptance
+  pub kept : List Kept
+  pub version : ℕ
+  pub date : ℕ
+
+-- the plain machine's state
+abbrev pub state_of : Contents → State
+state_of t = record {
+  opening = t.opening;
+  cas = t.cas;
+  departments = entries t.departments;
+  certificates = t.certificates;
+  revoked = contains t.runs;
+  revoked_key_ids = t.key_ids;
+  version = t.version;
+  date = t.date;
+}
+
+abbrev pub row_of : Arrival → List ℕ → Kept
+row_of a reply = record { caller = a.caller; key = a.key; bytes = a.bytes; reply = reply }
+
+-- what is found of an arrival that is no repeat
+abbrev pub Judges : Result Decision Stop → Contents → Arrival → Type 0
+Judges (Ok d) t a = IsOkAnd (judged (state_of t) t.kept a) (λ f. (f.arrival ≡ a) × (f.reply ≡ d.reply)
+    × (written d (state_of t) ≡ change (state_of t) f))
+Judges (Err (stop.Refused r)) t a = judged (state_of t) t.kept a ≡ Err r
+Judges (Err stop.NoMemory) t a = Unit {0}
+
+-- the contents with what was decided, and a row for the arrival
+pub record Writes (old : Contents) (a : Arrival) (d : Decision) (new : Contents) : Type 0 where
+  pub kept : new.kept ≡ old.kept ++ row_of a d.reply ∷ []
+  pub state : state_of new ≡ written d (state_of old)
+
+-- what the lists keep: serials in range, rows as they may be, and CAs in order that serve from handed out serials on
+pub record AreKept (t : Contents) : Type 0 where
+  pub opening : IsOpening t.opening
+  pub serials : t.opening.first + length t.certificates ≤ t.opening.last + 1
+  pub departments : IsTrue (list_all is_department t.departments)
+  pub certificates : All IsCertificate t.certificates
+  pub ascending : IsNonDecreasing (numbers t.cas)
+  pub served : All (λ n. n ≤ t.opening.first + length t.certificates) (numbers t.cas)

@@ -1,0 +1,98 @@
+//! What an arrival is answered.
+
+ghost use Rattle.std.specs.Prelude.{◌≡◌, ◌≤◌, IfOk, IsTrue};
+ghost use Rattle.std.specs.List.{list_any};
+ghost use Rattle.std.specs.Option.{option_copied};
+ghost use Rattle.message.specs.Values.{is_message};
+ghost use Rattle.office.specs.History.{has_key, is_repeat, reply_kept};
+ghost use Rattle.office.specs.Decided.{Decided, HasRoom, IsLawfulChange};
+ghost use Rattle.memory_store.specs.Contents.{Judges, state_of};
+
+use crate::store::PlainStore;
+use message::{Message, MessageFault, read_message};
+use office::{Arrival, Decision, Kept, Stop, decide};
+use std::alloc::Global;
+use text::Text;
+use values::{LATEST_MOMENT, Refusal};
+
+/// The last version of the published list.
+const LAST_VERSION: u64 = 9223372036854775806;
+
+fn is_for(arrival: &Arrival, kept: &Kept) -> bool
+    ensures { result ≡ has_key arrival.now kept.now }
+{
+    kept.caller.is(arrival.caller.as_slice()) && kept.key.is(arrival.key.as_slice())
+}
+
+fn is_again(arrival: &Arrival, kept: &Kept) -> bool
+    ensures { result ≡ is_repeat arrival.now kept.now }
+{
+    is_for(arrival, kept) && kept.bytes.is(arrival.bytes.as_slice())
+}
+
+/// The reply that the same message got.
+pub(crate) fn kept_reply<'a>(kept: &'a [Kept], arrival: &Arrival) -> Option<&'a Text>
+    ensures { option_copied result ≡ reply_kept kept.now arrival.now }
+{
+    match kept.iter().find(|row| is_again(arrival, row)) {
+        Some(row) => Some(&row.reply),
+        None => None,
+    }
+}
+
+fn is_known(kept: &[Kept], arrival: &Arrival) -> bool
+    ensures { result ≡ list_any (has_key arrival.now) kept.now }
+{
+    kept.iter().any(|row| is_for(arrival, row))
+}
+
+impl PlainStore {
+    /// What an arrival that is no repeat gives.
+    pub(crate) fn judge(&self, alloc: Global, arrival: &Arrival) -> Result<Decision, Stop>
+        ensures judges { Judges result self.now arrival.now }
+        ensures room { IfOk result (λ d. HasRoom d.change (state_of self.now)) }
+        ensures change { IfOk result (λ d. IsLawfulChange d.change) }
+        ensures version { IfOk result (λ d. d.version ≤ LAST_VERSION) }
+    {
+        let message = match read_message(alloc, arrival.bytes.as_slice()) {
+            Ok(message) => message,
+            Err(MessageFault::BadLine(_)) => return Err(Stop::Refused(Refusal::BadMessage)),
+            Err(MessageFault::NoMemory) => return Err(Stop::NoMemory),
+        };
+        if LATEST_MOMENT < arrival.moment {
+            return Err(Stop::Refused(Refusal::BadMoment));
+        }
+        if is_known(self.kept.as_slice(), arrival) {
+            return Err(Stop::Refused(Refusal::KeyReused));
+        }
+        self.decided(alloc, arrival, &message)
+    }
+
+    /// What a message gives.
+    fn decided(&self, alloc: Global, arrival: &Arrival, message: &Message) -> Result<Decision, Stop>
+        requires { IsTrue (is_message message.now) }
+        ensures decided { Decided result (state_of self.now) arrival.now.caller message.now arrival.now.moment
+            arrival.now.nonce }
+        ensures room { IfOk result (λ d. HasRoom d.change (state_of self.now)) }
+        ensures change { IfOk result (λ d. IsLawfulChange d.change) }
+        ensures version { IfOk result (λ d. d.version ≤ LAST_VERSION) }
+    {
+        // A version past the last counts as a refused growth.
+        if LAST_VERSION < self.version {
+            return Err(Stop::NoMemory);
+        }
+        let view = self.view(message);
+        let decision = decide(
+            alloc,
+            &view,
+            arrival.caller.as_slice(),
+            message,
+            arrival.moment,
+            &arrival.nonce,
+        )?;
+        if LAST_VERSION < decision.version {
+            return Err(Stop::NoMemory);
+        }
+        Ok(decision)
+    }
+}

@@ -1,0 +1,57 @@
+-- What each first acceptance keeps holds after every history, of the first acceptances and the state.
+use Rattle.std.proofs.Common.{◌≡◌, ◌≤◌, List, [], ◌∷◌, ◌++◌, true, None, Result, Ok, Err, refl, sym, ap, subst, ◌∙◌}
+use Rattle.std.specs.List.{fold}
+use Rattle.std.proofs.lemmas.Bool.{ltb-false}
+use Rattle.std.proofs.lemmas.List.Sums.{fold_push, fold-append}
+use Rattle.values.specs.declared.limits.TheConstants.{LATEST_MOMENT}
+use Rattle.values.specs.declared.refusal.Refusal.{Refusal}
+use Rattle.message.specs.Values.{is_message}
+use Rattle.office.specs.declared.opening.Opening.{Opening}
+use Rattle.office.specs.declared.arrival.Arrival.{Arrival}
+use Rattle.office.specs.declared.arrival.Kept.{Kept}
+use Rattle.office.specs.Machine.{State, opened, refusals, first_holding, reply_to}
+use Rattle.office.specs.History.{First, kept_by, judged, add_accepted, with_arrival}
+use Rattle.office.specs.History.{first_accepted, state, state_after, change}
+use Rattle.office.proofs.Judged.{IsFirst, judged_is_first}
+use Rattle.office.proofs.Histories.{message_lawful}
+
+-- a first acceptance of a state: lawful, not refused, in time, with the machine's reply
+pub record IsAccepted (s : State) (f : First) : Type 0 where
+  pub lawful : is_message f.message ≡ true
+  pub allowed : first_holding (refusals s f.arrival.caller f.message f.arrival.moment) ≡ None
+  pub in_time : f.arrival.moment ≤ LATEST_MOMENT
+  pub reply : f.reply ≡ reply_to s f.message f.arrival.moment f.arrival.nonce
+
+first_is_accepted : (s : State) (kept : List Kept) (a : Arrival) (f : First) → IsFirst s kept a f → IsAccepted s f
+first_is_accepted s kept a f is = record {
+  lawful = message_lawful a.bytes f.message is.message;
+  allowed = ap (λ (x : Arrival). first_holding (refusals s x.caller f.message x.moment)) is.arrival ∙ is.allowed;
+  in_time = subst (λ (x : Arrival). x.moment ≤ LATEST_MOMENT) (sym is.arrival) (ltb-false _ _ is.in_time);
+  reply = is.reply ∙ ap (λ (x : Arrival). reply_to s f.message x.moment x.nonce) (sym is.arrival);
+}
+
+-- whatever each first acceptance keeps
+abbrev pub IsKeptBy : (List First → State → Type 0) → Type 0
+IsKeptBy P = (fs : List First) (s : State) (f : First) → IsAccepted s f → P fs s → P (fs ++ f ∷ []) (change s f)
+
+kept_by_one : (P : List First → State → Type 0) → IsKeptBy P → (o : Opening) (fs : List First) (a : Arrival) (r : Result First Refusal) → judged (state_after o fs) (kept_by fs) a ≡ r
+    → P fs (state_after o fs) → P (add_accepted fs r) (state_after o (add_accepted fs r))
+kept_by_one P keeps o fs a (Err x) e p = p
+kept_by_one P keeps o fs a (Ok f) e p =
+    let s = state_after o fs in
+    let is = first_is_accepted s (kept_by fs) a f (judged_is_first s (kept_by fs) a f e) in
+    subst (P (fs ++ f ∷ [])) (sym (fold_push change (opened o) fs f)) (keeps fs s f is p)
+
+kept_by_more : (P : List First → State → Type 0) → IsKeptBy P → (o : Opening) (fs : List First) (l : List Arrival) → P fs (state_after o fs)
+    → P (fold (with_arrival o) fs l) (state_after o (fold (with_arrival o) fs l))
+kept_by_more P keeps o fs [] p = p
+kept_by_more P keeps o fs (a ∷ l) p = kept_by_more P keeps o (with_arrival o fs a) l (kept_by_one P keeps o fs a _ refl p)
+
+-- what holds of an office in which nothing has happened yet holds after every history
+pub after_all : (P : List First → State → Type 0) → IsKeptBy P → (o : Opening) (l : List Arrival) → P [] (opened o) → P (first_accepted o l) (state o l)
+after_all P keeps o l p = kept_by_more P keeps o [] l p
+
+-- what holds after a history holds after every longer one
+pub after_more : (P : List First → State → Type 0) → IsKeptBy P → (o : Opening) (l later : List Arrival) → P (first_accepted o l) (state o l) → P (first_accepted o (l ++ later)) (state o (l ++ later))
+after_more P keeps o l later p =
+    subst (λ (fs : List First). P fs (state_after o fs)) (sym (fold-append (with_arrival o) [] l later)) (kept_by_more P keeps o (first_accepted o l) later p)

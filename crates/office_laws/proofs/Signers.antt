@@ -1,0 +1,105 @@
+-- The signer of a serial is the CA that the published list has it under.
+use Rattle.std.proofs.Common.{◌≡◌, ◌≢◌, ℕ, zero, suc, List, [], ◌∷◌, map, Bool, true, false, cond}
+use Rattle.std.proofs.Common.{◌&&◌, leb, ltb, Some, refl, sym, ap, subst, ◌∙◌, arith, add-one}
+use Rattle.std.specs.Prelude.{slice_get, slice_index, drop}
+use Rattle.std.specs.List.{fold, list_all, AllByRecursion}
+use Rattle.std.specs.Str.{bytes_eq}
+use Rattle.std.proofs.lemmas.Bool.{and_parts}
+use Rattle.std.proofs.lemmas.Bool.Decides.{nat_tests}
+use Rattle.std.proofs.lemmas.Slice.Eq.{bytes_eq-Decides}
+use Rattle.krl.specs.Sets.{is_last_reached}
+use Rattle.office.specs.declared.ca.Ca.{Ca}
+use Rattle.office_laws.specs.Signers.{key_at}
+use Rattle.office_laws.proofs.Shape.{AreDistinct}
+use Rattle.krl.proofs.Publishing.{bytes_other}
+
+-- each CA came later
+abbrev pub are_later : ℕ → List Ca → Bool
+are_later n cas = list_all (λ since. ltb n since) (map (λ ca. ca.since) cas)
+
+not_reached : (n since : ℕ) → ltb n since ≡ true → leb since n ≡ false
+not_reached n since e = grind (arith, nat_tests)
+
+reached : (n since : ℕ) → ltb n since ≡ false → leb since n ≡ true
+reached n since e = grind (arith, nat_tests)
+
+-- CAs that came later sign nothing
+later_sign_nothing : (n : ℕ) (key : List ℕ) (cas : List Ca) → are_later n cas ≡ true → fold (key_at n) key cas ≡ key
+later_sign_nothing n key [] e = refl
+later_sign_nothing n key (ca ∷ cas) e =
+    let parts = and_parts (ltb n ca.since) (are_later n cas) e in
+    rw (not_reached n ca.since parts.0) (later_sign_nothing n key cas parts.1)
+
+key_not : (x key : List ℕ) (ca : Ca) (n : ℕ) → key ≢ x → ca.key ≢ x → key_at n key ca ≢ x
+key_not x key ca n p q = by_test (leb ca.since n)
+  where
+    by_test : (b : Bool) → cond b ca.key key ≢ x
+    by_test true = q
+    by_test false = p
+
+-- other keys aren't the signer's
+others_sign : (n : ℕ) (x key : List ℕ) (cas : List Ca) → AllByRecursion (λ ca. ca.key ≢ x) cas → key ≢ x → fold (key_at n) key cas ≢ x
+others_sign n x key [] all p = p
+others_sign n x key (ca ∷ cas) all p = others_sign n x (key_at n key ca) cas all.1 (key_not x key ca n p all.0)
+
+-- once one that came by then is among the others, it or a later one signs
+one_signs : (n : ℕ) (x key : List ℕ) (cas : List Ca) → AllByRecursion (λ ca. ca.key ≢ x) cas → are_later n cas ≡ false → fold (key_at n) key cas ≢ x
+one_signs n x key [] all e = absurd cc
+one_signs n x key (ca ∷ cas) all e = by_test (ltb n ca.since) refl (one_signs n x key cas all.1)
+  where
+    by_test : (b : Bool) → ltb n ca.since ≡ b → (are_later n cas ≡ false → fold (key_at n) key cas ≢ x) → fold (key_at n) key (ca ∷ cas) ≢ x
+    by_test true is rest = rw (not_reached n ca.since is) (rest (rw is at e))
+    by_test false is rest = rw (reached n ca.since is) (others_sign n x ca.key cas all.1 all.0)
+
+bytes_same : (x y : List ℕ) → x ≡ y → bytes_eq x y ≡ true
+bytes_same x y e = (bytes_eq-Decides x y).1 e
+
+-- the first of CAs, once it came
+first_signs : (n : ℕ) (ca : Ca) (cas : List Ca) → AllByRecursion (λ c. c.key ≢ ca.key) cas → are_later n cas ≡ bytes_eq ca.key (fold (key_at n) ca.key cas)
+first_signs n ca cas all = by_test (are_later n cas) refl
+  where
+    by_test : (b : Bool) → are_later n cas ≡ b → b ≡ bytes_eq ca.key (fold (key_at n) ca.key cas)
+    by_test true is = sym (bytes_same ca.key _ (sym (later_sign_nothing n ca.key cas is)))
+    by_test false is = sym (bytes_other ca.key _ (λ e. one_signs n ca.key ca.key cas all is (sym e)))
+
+-- the key of a CA among others
+other_there : (x : List ℕ) (cas : List Ca) (place : ℕ) (ca : Ca) → AllByRecursion (λ c. c.key ≢ x) cas → slice_get cas place ≡ Some ca → x ≢ ca.key
+other_there x [] place ca all e = absurd cc
+other_there x (c ∷ cas) zero ca all e =
+    let same : c ≡ ca = cc in λ f. all.0 (ap (λ (y : Ca). y.key) same ∙ sym f)
+other_there x (c ∷ cas) (suc place) ca all e = other_there x cas place ca all.1 e
+
+pub last_behind : (first : ℕ) (since : List ℕ) (place n : ℕ) → is_last_reached (first ∷ since) (suc place) n ≡ is_last_reached since place n
+last_behind first since place n =
+    ap (λ k. leb (slice_index since place) n && list_all (λ later. ltb n later) (drop k (first ∷ since))) (add-one (suc place))
+    ∙ ap (λ k. leb (slice_index since place) n && list_all (λ later. ltb n later) (drop k since)) (sym (add-one place))
+
+-- a CA at a place among distinct ones, where the key so far is another
+place_signs : (n : ℕ) (key : List ℕ) (cas : List Ca) (place : ℕ) (ca : Ca) → AreDistinct cas → slice_get cas place ≡ Some ca → key ≢ ca.key
+    → is_last_reached (map (λ c. c.since) cas) place n ≡ bytes_eq ca.key (fold (key_at n) key cas)
+place_signs n key [] place ca d e p = absurd cc
+place_signs n key (c ∷ cas) zero ca d e p =
+    let same : c ≡ ca = cc in
+    subst (λ (x : Ca). (leb c.since n && are_later n cas) ≡ bytes_eq x.key (fold (key_at n) key (c ∷ cas))) same (by_test (leb c.since n) refl)
+  where
+    by_test : (b : Bool) → leb c.since n ≡ b → (leb c.since n && are_later n cas) ≡ bytes_eq c.key (fold (key_at n) key (c ∷ cas))
+    by_test true is = rw is (first_signs n c cas d.0)
+    by_test false is = rw is (sym (bytes_other c.key _ (λ e. others_sign n c.key key cas d.0 (other e) (sym e))))
+      where
+        other : c.key ≡ fold (key_at n) key cas → key ≢ c.key
+        other f = subst (λ (x : Ca). key ≢ x.key) (sym same) p
+          where
+            same : c ≡ ca
+            same = cc
+place_signs n key (c ∷ cas) (suc place) ca d e p =
+    last_behind c.since (map (λ x. x.since) cas) place n ∙ place_signs n (key_at n key c) cas place ca d.1 e (key_not ca.key key c n p (other_there c.key cas place ca d.0 e))
+
+-- a CA at a place among distinct ones, the first of which had come
+pub served_signs : (n : ℕ) (key : List ℕ) (first : Ca) (cas : List Ca) (place : ℕ) (ca : Ca) → leb first.since n ≡ true → AreDistinct (first ∷ cas) → slice_get (first ∷ cas) place ≡ Some ca
+    → is_last_reached (map (λ c. c.since) (first ∷ cas)) place n ≡ bytes_eq ca.key (fold (key_at n) key (first ∷ cas))
+served_signs n key first cas zero ca came d e =
+    let same : first ≡ ca = cc in
+    subst (λ (x : Ca). (leb first.since n && are_later n cas) ≡ bytes_eq x.key (fold (key_at n) key (first ∷ cas))) same (rw came (first_signs n first cas d.0))
+served_signs n key first cas (suc place) ca came d e =
+    let apart : key_at n key first ≢ ca.key = rw came (other_there first.key cas place ca d.0 e) in
+    last_behind first.since (map (λ x. x.since) cas) place n ∙ place_signs n (key_at n key first) cas place ca d.1 e apart

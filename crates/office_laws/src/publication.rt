@@ -1,0 +1,34 @@
+//! Laws of the published list.
+
+ghost use Rattle.std.specs.Prelude.{◌≡◌, ◌++◌, List, ℕ, Some, IsTrue, slice_get, true};
+ghost use Rattle.lines.specs.Keys.{key_blob};
+ghost use Rattle.krl.specs.Format.{RevocationList, revokes};
+ghost use Rattle.krl.specs.Published.{fits};
+ghost use Rattle.office.specs.declared.opening.Opening.{Opening};
+ghost use Rattle.office.specs.declared.arrival.Arrival.{Arrival};
+ghost use Rattle.office.specs.declared.ca.Ca.{Ca};
+ghost use Rattle.office.specs.Publication.{published_list, published_parts};
+ghost use Rattle.office.specs.History.{state};
+ghost use Rattle.office.specs.Shows.{IsOffice};
+ghost use Rattle.office_laws.specs.Lists.{AreExactList, IsExact};
+
+/// The bytes of the published list, where each section has a length of 32 bits, can be cut in one way. The list revokes
+/// a certificate just where its key id was named, or its serial was named and the CA is the one that signs it.
+pub fn the_list_is_exact()
+    ensures { (o : Opening) (l : List Arrival) → IsOffice o l → IsTrue (fits (published_parts (state o l))
+        (state o l).revoked_key_ids) → AreExactList (published_list (state o l)) o l }
+{}
+
+/// A later list revokes, under each CA of the earlier one's office, all that the earlier list does.
+pub fn a_later_list_revokes_as_much()
+    ensures { (o : Opening) (l later : List Arrival) (old new : RevocationList) → IsExact o l old
+        → IsExact o (l ++ later) new → (place : ℕ) (ca : Ca) → slice_get (state o l).cas place ≡ Some ca
+        → (serial : ℕ) (key_id : List ℕ) → revokes (key_blob ca.key) serial key_id old ≡ true
+        → revokes (key_blob ca.key) serial key_id new ≡ true }
+{}
+
+/// While the version stays, the published list stays, byte for byte, whatever comes in between.
+pub fn equal_versions_are_equal_lists()
+    ensures { (o : Opening) (l later : List Arrival) → (state o l).version ≡ (state o (l ++ later)).version →
+        published_list (state o l) ≡ published_list (state o (l ++ later)) }
+{}

@@ -1,5 +1,0 @@
-use Rattle.requests.proofs.LawfulAsk.{lawful_of}
-use Rattle.requests.proofs.laws.asks_are_lawful.Goals as goal
-
-pub returns : goal.returns
-returns c = lawful_of

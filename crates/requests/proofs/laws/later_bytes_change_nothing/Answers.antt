@@ -1,5 +1,0 @@
-use Rattle.requests.proofs.Later.{later_of}
-use Rattle.requests.proofs.laws.later_bytes_change_nothing.Goals as goal
-
-pub returns : goal.returns
-returns c = later_of

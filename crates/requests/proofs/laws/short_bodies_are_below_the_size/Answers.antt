@@ -1,5 +1,0 @@
-use Rattle.requests.proofs.Wanted.{short_below}
-use Rattle.requests.proofs.laws.short_bodies_are_below_the_size.Goals as goal
-
-pub returns : goal.returns
-returns c = short_below

@@ -1,5 +1,0 @@
-use Rattle.requests.proofs.OneAsk.{same_path}
-use Rattle.requests.proofs.laws.texts_tell_paths.Goals as goal
-
-pub returns : goal.returns
-returns c = same_path

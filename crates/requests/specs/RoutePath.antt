@@ -1,9 +1,0 @@
--- The path that a route stands for.
-use Rattle.requests.specs.declared.route.Route.{Route}
-use Rattle.requests.specs.declared.route.Route.TheVariants.{Message, Resource}
-use Rattle.requests.specs.Paths.{Path, message, resource}
-
--- caller and key as bytes
-abbrev pub path_of : Route → Path
-path_of (Message caller key) = message caller.now key.now
-path_of (Resource r) = resource r

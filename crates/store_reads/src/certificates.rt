@@ -1,0 +1,72 @@
+//! The certificate of a serial.
+
+ghost use Rattle.std.specs.Prelude.{◌≡◌, IfOk, IfSome};
+ghost use Rattle.store_sql.specs.Calls.{Never, OnlyReads};
+ghost use Rattle.store_sql.specs.Honest.{On, Outlives};
+ghost use Rattle.office.specs.Certificates.{IsCertificate};
+ghost use Rattle.office.specs.State.{certificate_of};
+ghost use Rattle.store_rows.specs.Certificates.{certificate_in};
+ghost use Rattle.store_rows.specs.Reading.{IsRead};
+ghost use Rattle.store_rows.specs.Showing.{Shows};
+ghost use Rattle.store_reads.specs.Finding.{asked_serial, value_in};
+ghost use Rattle.store_reads.specs.Histories.{IsOfHistory};
+
+use office::Certificate;
+use sqlite::{Alter, Connection};
+use std::alloc::Global;
+use store_rows::read_certificate;
+use store_sql::{CertRow, Fault, Number, find_cert};
+
+/// The serial as a column can hold it. No office issues 0.
+fn asked_serial(serial: u64) -> Number
+    ensures { result ≡ asked_serial serial }
+{
+    match Number::new(serial) {
+        Some(number) => number,
+        None => Number::ZERO,
+    }
+}
+
+fn read_found(alloc: Global, found: Option<CertRow>) -> Result<Option<Certificate>, Fault>
+    ensures exact { IsRead (value_in certificate_in found) result }
+    ensures lawful { IfOk result (λ found. IfSome found IsCertificate) }
+{
+    let Some(row) = found else {
+        return Ok(None);
+    };
+    match read_certificate(alloc, &row) {
+        Ok(certificate) => Ok(Some(certificate)),
+        Err(fault) => Err(fault),
+    }
+}
+
+fn find_numbered<S: Alter>(
+    alloc: Global,
+    conn: &mut Connection<S>,
+    serial: Number,
+) -> Result<Option<Certificate>, Fault>
+    ensures shows { On S.Store (Shows (λ s kept found. found ≡ certificate_of s serial)) conn.old conn.new result }
+    ensures lawful { IfOk result (λ found. IfSome found IsCertificate) }
+    ensures reads { On S.Store OnlyReads conn.old conn.new result }
+    ensures survives { Outlives S.Store Never conn.old conn.new }
+{
+    match find_cert(alloc, conn, serial) {
+        Ok(found) => read_found(alloc, found),
+        Err(fault) => Err(fault),
+    }
+}
+
+/// The certificate of this serial, or `None` where it wasn't issued. What is read is lawful, or told damaged.
+pub fn find_certificate<S: Alter>(
+    alloc: Global,
+    conn: &mut Connection<S>,
+    serial: u64,
+) -> Result<Option<Certificate>, Fault>
+    ensures shows { On S.Store (Shows (λ s kept found. IsOfHistory s kept → found ≡ certificate_of s serial))
+        conn.old conn.new result }
+    ensures lawful { IfOk result (λ found. IfSome found IsCertificate) }
+    ensures reads { On S.Store OnlyReads conn.old conn.new result }
+    ensures survives { Outlives S.Store Never conn.old conn.new }
+{
+    find_numbered(alloc, conn, asked_serial(serial))
+}

@@ -1,0 +1,28 @@
+use Rattle.std.proofs.lemmas.Cmp.{nat_cmp_total}
+use Rattle.std.specs.Ordering.{nat_cmp}
+use Rattle.sqlite.specs.Held.{state}
+use Rattle.store_sql.specs.Contents.{Contents}
+use Rattle.store_sql.specs.declared.cas.CaRow.{CaRow}
+use Rattle.office.specs.State.{State}
+use Rattle.store_rows.specs.Reading.{ca_in}
+use Rattle.store_rows.specs.Rows.{contents_of}
+use Rattle.store_rows.proofs.CaRows.{cas_again, cas_rise}
+use Rattle.store_rows.proofs.Sorting.{asked, shows_each}
+use Rattle.store_rows.proofs.cas.read_cas.Goals as goal
+
+pub returns-in-Ok-clause-shows : goal.returns-in-Ok-clause-shows
+returns-in-Ok-clause-shows g c clean =
+    shows_each ca_in (λ (k : Contents). k.cas) (λ (r : CaRow). r.number) nat_cmp nat_cmp_total (λ (s : State). s.cas)
+    (λ s kept lawful. cas_rise 1 s.cas) (λ s kept lawful. cas_again 1 s.cas lawful.cas)
+    (state g.S.Store c.args.conn.now) (state g.S.Store c.every_ca.new.conn) c.in-Ok.rows.items
+    c.read_each.result (c.in-Ok.ensures.finds clean) (c.in-Ok.ensures.sorted clean)
+    (rw c.as_slice.ensures.value at c.read_each.ensures)
+
+pub returns-in-Ok-clause-reads : goal.returns-in-Ok-clause-reads
+returns-in-Ok-clause-reads g c clean =
+    asked (state g.S.Store c.args.conn.now) (state g.S.Store c.every_ca.new.conn)
+    (c.in-Ok.ensures.reads clean) c.read_each.result
+
+pub returns-in-Err-clause-shows : goal.returns-in-Err-clause-shows
+returns-in-Err-clause-shows g c clean s kept lawful means =
+    (c.in-Err.ensures.finds clean (contents_of s kept) means, c.in-Err.ensures.fault clean (contents_of s kept) means)

@@ -1,0 +1,35 @@
+use Rattle.std.proofs.lemmas.Cmp.{nat_list_cmp_total}
+use Rattle.std.specs.Ordering.{nat_cmp}
+use Rattle.std.specs.Cmp.Lexicographic.{slice_cmp}
+use Rattle.std.specs.Prelude.{◌≡◌}
+use Rattle.std.proofs.Common.{Less}
+use Rattle.sqlite_trees.proofs.ListLemmas.{ascending-map}
+use Rattle.sqlite.specs.Held.{state}
+use Rattle.store_sql.specs.Contents.{Contents}
+use Rattle.store_sql.specs.declared.departments.DepartmentRow.{DepartmentRow}
+use Rattle.office.specs.Publication.{departments_of}
+use Rattle.store_rows.specs.Departments.{department_in}
+use Rattle.store_rows.specs.Rows.{contents_of, department_row}
+use Rattle.store_rows.proofs.DepartmentRows.{departments_again}
+use Rattle.store_rows.proofs.Sorting.{asked, shows_each}
+use Rattle.store_rows.proofs.departments.read_departments.Goals as goal
+
+pub returns-in-Ok-clause-shows : goal.returns-in-Ok-clause-shows
+returns-in-Ok-clause-shows g c clean =
+    shows_each department_in (λ (k : Contents). k.departments) (λ (r : DepartmentRow). r.name) (slice_cmp nat_cmp)
+    nat_list_cmp_total departments_of
+    (λ s kept lawful. ascending-map (λ (a b : DepartmentRow). slice_cmp nat_cmp a.name b.name ≡ Less)
+    (λ e. department_row e.1) s.departments lawful.names)
+    (λ s kept lawful. departments_again s.departments lawful.departments)
+    (state g.S.Store c.args.conn.now) (state g.S.Store c.every_department.new.conn) c.in-Ok.rows.items
+    c.read_each.result (c.in-Ok.ensures.finds clean) (c.in-Ok.ensures.sorted clean)
+    (rw c.as_slice.ensures.value at c.read_each.ensures)
+
+pub returns-in-Ok-clause-reads : goal.returns-in-Ok-clause-reads
+returns-in-Ok-clause-reads g c clean =
+    asked (state g.S.Store c.args.conn.now) (state g.S.Store c.every_department.new.conn)
+    (c.in-Ok.ensures.reads clean) c.read_each.result
+
+pub returns-in-Err-clause-shows : goal.returns-in-Err-clause-shows
+returns-in-Err-clause-shows g c clean s kept lawful means =
+    (c.in-Err.ensures.finds clean (contents_of s kept) means, c.in-Err.ensures.fault clean (contents_of s kept) means)

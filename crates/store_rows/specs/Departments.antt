@@ -1,0 +1,33 @@
+-- Departments of rows.
+use Rattle.std.specs.Prelude.{ℕ, ◌==◌, List, [], ◌∷◌, if◌then◌else◌, Option, Some, None}
+use Rattle.std.specs.List.{slice_split}
+use Rattle.std.specs.Option.{option_and_then}
+use Rattle.values.specs.declared.kind.Kind.{Kind}
+use Rattle.message.specs.declared.department.Department.{Department}
+use Rattle.message.specs.Values.{is_department}
+use Rattle.store_sql.specs.declared.departments.DepartmentRow.{DepartmentRow}
+use Rattle.cert.specs.Reading.{kind_of}
+
+-- the texts between commas; of no bytes none
+abbrev pub parted : List ℕ → List (List ℕ)
+parted [] = []
+parted (b ∷ text) = slice_split (λ c. c == 44) (b ∷ text)
+
+abbrev pub parts_of : DepartmentRow → Kind → Department
+parts_of row kind = record {
+  name = row.name;
+  kind = kind;
+  administrators = parted row.admins;
+  rules = parted row.rules;
+  options = parted row.options;
+  extensions = parted row.extensions;
+  longest_life = row.max_life;
+  namespaces = parted row.namespaces;
+}
+
+abbrev pub if_lawful : Department → Option Department
+if_lawful d = if is_department d then Some d else None
+
+-- the lawful department of a row, if there is one
+abbrev pub department_in : DepartmentRow → Option Department
+department_in row = option_and_then (λ kind. if_lawful (parts_of row kind)) (kind_of row.kind)

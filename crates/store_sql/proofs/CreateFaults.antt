@@ -1,0 +1,120 @@
+-- Why a table can't be made beside the others: memory is refused, or the database fails.
+use Rattle.std.proofs.Common.{◌≡◌, inl, inr, ℕ, ◌≤◌, ◌+◌, ◌^◌, List, [], length, true, false, Option, None, Some, Ok, Err, Result, refl, sym, ap, subst, subst₂, ◌∙◌, append-nil, IfErr}
+use Rattle.std.specs.Prelude.{IsUtf8, ◌||◌, ◌*◌, codes}
+use Rattle.std.proofs.lemmas.Str.{IsUtf8-from_is_utf8}
+use Rattle.sqlite_schema.specs.Rules.{table_reals, index_reals}
+use Rattle.sqlite_value.specs.declared.value.Value.TheVariants.{Text}
+use Rattle.sqlite_rules.specs.Lists.{Has}
+use Rattle.sqlite.specs.Compile.{table_defined_by}
+use Rattle.sqlite_catalog.specs.Change.{automatics, created, is_reserved, is_used, next_tree}
+use Rattle.sqlite_catalog.specs.Listing.{is_fit, is_formed}
+use Rattle.sqlite_catalog.specs.Calls.{RefusesTable, IsLongTable}
+use Rattle.sqlite_catalog.specs.declared.error.Refusal as alter
+use Rattle.sqlite_catalog.specs.declared.error.Refusal.TheVariants.{Invalid, NameTaken, BadName, TooBig, BadKey, BadText, Violates}
+use Rattle.sqlite.specs.Schema.{Schema}
+use Rattle.sqlite.specs.Table.{Table}
+use Rattle.sqlite.specs.Command.TheVariants.{CreateTable}
+use Rattle.sqlite.specs.declared.error.Error.{Error}
+use Rattle.sqlite.specs.declared.run.Mode.{Mode}
+use Rattle.sqlite.specs.Effect.{Database, is_query}
+use Rattle.sqlite.specs.Does.{Does, MakesTable, lacks_sequence}
+use Rattle.sqlite.specs.Listing.{understood}
+use Rattle.sqlite.specs.State.{State, Executes, ExecutesIn, IsMisplaced, is_pragma, mode_of, text_of}
+use Rattle.sqlite.proofs.Callers.{IsPlain, command_of, statement_of}
+use Rattle.store_sql.specs.Faults.{fault_of, HasCause}
+use Rattle.store_sql.proofs.Makeable.{IsMakeable}
+use Rattle.store_sql.proofs.FaultLemmas.{IsWhole, failed, not_run}
+
+never_misplaced : (s : State) (e : Error) → IsMisplaced s CreateTable e → ⊥
+never_misplaced s e (inl (_, inl (k, _))) = cc
+never_misplaced s e (inl (_, inr (inl k, _))) = cc
+never_misplaced s e (inl (_, inr (inr k, _))) = cc
+never_misplaced s e (inr (_, name, inl k, _)) = cc
+never_misplaced s e (inr (_, name, inr k, _)) = cc
+
+module _ {text : List ℕ} {before : Schema} {table : Table} (m : IsMakeable text before table) where
+  -- ---- no rule refuses it
+
+  is_table : (other : Table) → table_defined_by text ≡ Ok other → table ≡ other
+  is_table other is = let both : Ok table ≡ Ok other = sym m.create.defined ∙ is in cc
+
+  no_reason : (reason : alter.Refusal) → RefusesTable before text reason → ⊥
+  no_reason (Invalid e) h = let wrong : Ok table ≡ Err e = sym m.create.defined ∙ h in cc
+  no_reason NameTaken (other, is, inl used) =
+      let same = is_table other is in
+      let wrong : true ≡ false = sym used ∙ (ap (λ (t : Table). is_used before t.name) (sym same) ∙ m.free) in cc
+  no_reason NameTaken (other, is, inr (index, has, used)) =
+      let same = is_table other is in
+      let wrong : true ≡ false = sym used
+      ∙ m.index_free index (subst (λ (t : Table). Has (automatics t 0 0 t.uniques) index) (sym same) has) in cc
+  no_reason BadName (other, is, inl bad) =
+      bad (subst (λ (t : Table). IsUtf8 t.name) (is_table other is) (IsUtf8-from_is_utf8 table.name m.is_name))
+  no_reason BadName (other, is, inr bad) =
+      let wrong : true ≡ false = sym bad.0
+      ∙ (ap (λ (t : Table). is_reserved t.name) (sym (is_table other is)) ∙ m.unreserved) in cc
+  no_reason TooBig (other, is, inl many) =
+      m.few_trees (subst (λ (t : Table). 65536 ≤ next_tree before + length t.uniques) (sym (is_table other is)) many)
+  no_reason TooBig (other, is, inr (inl many)) =
+      m.few_reals (subst (λ (t : Table). 2 ^ 64 ≤ table_reals t) (sym (is_table other is)) many)
+  no_reason TooBig (other, is, inr (inr (key, has, many))) =
+      let same = sym (is_table other is) in
+      m.small_keys key (subst (λ (t : Table). Has t.uniques key) same has)
+      (subst (λ (t : Table). 2 ^ 64 ≤ index_reals (table_reals t) key) same many)
+  no_reason BadKey (other, is, bad) =
+      let wrong : true ≡ false = sym m.formed ∙ (ap is_formed (is_table other is) ∙ bad) in cc
+  no_reason BadText (other, is, bad) =
+      let wrong : true ≡ false = sym m.fit
+      ∙ (ap (λ (t : Table). is_fit (Text (codes "table")) (Text t.name) (Text t.name) (Text text)) (is_table other is) ∙ bad) in cc
+  no_reason (Violates rule) h = h
+
+  not_long : IsLongTable text → ⊥
+  not_long (other, is, many) =
+      m.short (subst (λ (t : Table). 10 ^ 9 ≤ 2 * length t.name + length text + 200) (sym (is_table other is)) many)
+
+  -- ---- so it is made, or memory is refused, or the database fails
+
+  not_made : (db : Database) (stop : Option Error) → db.schema ≡ before → MakesTable text db (Err stop) → ⊥
+  not_made db None is h = not_long h
+  not_made db (Some e) is (inl bad) = bad.0 (IsUtf8-from_is_utf8 text m.is_text)
+  not_made db (Some e) is (inr (reason, refuses, told)) =
+      no_reason reason (subst (λ s. RefusesTable s text reason) is refuses)
+
+  never_refused : (limit : Option ℕ) (mode : Mode) (db : Database) (stop : Option Error) → db.schema ≡ before
+      → Does limit mode [] db text None CreateTable (Err stop) → ⊥
+  never_refused limit mode db stop is (inl (why, inl (cause, made, e), f)) = not_made db cause is made
+  never_refused limit mode db stop is (inl (why, inr (after, made, sequence), f)) =
+      let schema : after.schema ≡ created before table =
+      made.is ∙ ap (λ s. created s made.table) is ∙ ap (created before) (sym (is_table made.table made.defined)) in
+      let none : lacks_sequence after.schema ≡ false = ap lacks_sequence schema ∙ m.create.uncounted in
+      let wrong : Err why ≡ Ok after = rw none at sequence in absurd cc
+  never_refused limit mode db stop is (inr (after, made, gives)) = cc
+
+  -- why the call fails
+  module _ (old new : State) (has : old.now.schema ≡ before) where
+    create_fault : (e : Error) → Executes text [] old new (Err e) → HasCause old new (fault_of e)
+    unfolding ExecutesIn
+    create_fault e (inl h) =
+        let known = sym (ap (λ s. understood s text) has) in
+        not_run text [] old new (subst IsPlain known m.create.plain) (subst (IsWhole text 0) known m.one) e h
+    create_fault e (inr h) =
+        let known = sym (ap (λ s. understood s text) has) ∙ h.1.is in
+        let bare = subst IsPlain known m.create.plain in
+        let ran = rw (bare.0, bare.1, append-nil []) at h.2 in
+        let same : h.0.command ≡ CreateTable = ap command_of (sym known) ∙ m.create.is in
+        let stated : text_of text h.0 ≡ text = ap (statement_of text) (sym known) ∙ m.create.all in
+        let refuses = λ (stop : Option Error)
+        (did : Does old.step_limit (mode_of old) [] old.now (text_of text h.0) None h.0.command (Err stop)).
+        never_refused old.step_limit (mode_of old) old.now stop has
+        (subst₂ (λ t k. Does old.step_limit (mode_of old) [] old.now t None k (Err stop)) stated same did) in
+        let plainly : (is_query h.0.command || (is_pragma h.0.command || false)) ≡ false = rw same refl in
+        elim (rw plainly at ran) [
+          | inl refused ↦ elim refused.0 [
+            | inl m ↦ absurd (never_misplaced old e (subst (λ k. IsMisplaced old k e) same m))
+            | inr w ↦ absurd (refuses (Some e) w.1)
+          ]
+          | inr wrong ↦ failed old new _ e (refuses None) wrong
+        ]
+
+    pub create_faults : (r : Result ℕ Error) → Executes text [] old new r → IfErr r (λ e. HasCause old new (fault_of e))
+    create_faults (Ok n) h = tt
+    create_faults (Err e) h = create_fault e h

@@ -1,0 +1,267 @@
+-- Why a department is refused.
+use Rattle.std.proofs.Common.{◌≡◌, inl, inr, ℕ, ℤ, pos, ◌^◌, ◌++◌, List, [], ◌∷◌, length, map, Bool, true, false, not, Some, Result, refl, sym, ap, subst, ◌∙◌, is_eq, arith}
+use Rattle.std.specs.Prelude.{◌&&◌, filter}
+use Rattle.std.specs.List.{AllByRecursion, list_any}
+use Rattle.std.specs.List.Sorted.{IsPermutation}
+use Rattle.std.proofs.lemmas.Bool.{cases_Bool, ltb-false, or_cases, or_left, or_right}
+use Rattle.sqlite_value.specs.Keys.{first_key, joined, plain}
+use Rattle.sqlite_schema.specs.Names.{same_name}
+use Rattle.sqlite.specs.declared.types.Value.TheVariants.{Null, Int, Text}
+use Rattle.sqlite.specs.Collation.TheVariants.{Binary}
+use Rattle.sqlite.specs.Order.{Row, column, value_cmp}
+use Rattle.sqlite.specs.Tree.{Trees, has_rowid, rowid, without_rowid}
+use Rattle.sqlite.specs.Cast.{cast_row}
+use Rattle.sqlite.specs.Edit.{Applies, edit_of, id_in, left_by}
+use Rattle.sqlite.specs.Rowids.TheVariants.{Given}
+use Rattle.sqlite.specs.Rows.{shown}
+use Rattle.sqlite.specs.State.{State}
+use Rattle.sqlite.specs.Source.TheVariants.{Values}
+use Rattle.sqlite.specs.Command.TheVariants.{InsertOr}
+use Rattle.sqlite.specs.Listing.{understood}
+use Rattle.sqlite.proofs.Callers.{statement_of}
+use Rattle.sqlite_rules.specs.Calls.{ids_of}
+use Rattle.sqlite_rules.specs.Edit.{is_referred, next_rowid}
+use Rattle.sqlite_rules.specs.Keys.{AreConflicts}
+use Rattle.sqlite_rules.specs.Lists.{Has}
+use Rattle.sqlite_rules.specs.Steps.{IsJudged}
+use Rattle.sqlite_rules.specs.declared.error.Refusal.{Refusal}
+use Rattle.sqlite_rules.specs.declared.error.Refusal.TheVariants.{Violates, Mismatch, NoRowid, BadReference, TooDeep}
+use Rattle.sqlite_rules.proofs.ListLemmas.{all_from, all_has, has_filtered, has_kept, some_from, some_has}
+use Rattle.sqlite_rules.proofs.TableLemmas.{put_all_adds, put_all_keeps}
+use Rattle.sqlite_schema.specs.declared.command.Conflict.TheVariants.{Abort}
+use Rattle.sqlite_schema.specs.declared.schema.Among.TheVariants.{All}
+use Rattle.sqlite_schema.specs.declared.schema.Constraint.TheVariants.{Datatype, NotNull, Check, PrimaryKey, Unique, ForeignKey}
+use Rattle.sqlite_schema.specs.declared.schema.Keys.TheVariants.{Enforced}
+use Rattle.sqlite_schema.specs.Rules.{Refers, agree, equal, guards, references_fit}
+use Rattle.sqlite_typing.specs.Types.{accepts_program}
+use Rattle.store_sql.specs.Schema.{whole, department_at}
+use Rattle.store_sql.specs.Cells.{department_cells}
+use Rattle.store_sql.specs.Contents.{Contents, IsNumber, Means, department_places}
+use Rattle.store_sql.specs.Refusals.{RefusedFor, RefusesDepartment}
+use Rattle.store_sql.specs.declared.departments.DepartmentRow.{DepartmentRow}
+use Rattle.store_sql.proofs.DepartmentTable.{conflict_is, fresh_row, has_id, name_is, named, next_row, none_named, only_one, own_row, put_is, put_query, put_sql, source, terms, the_row, unique}
+use Rattle.store_sql.specs.declared.fault.Fault.{Fault}
+use Rattle.store_sql.specs.Calls.{FailsBy}
+use Rattle.store_sql.proofs.FaultLemmas.{HasWriteCause, none_overflows}
+use Rattle.store_sql.proofs.InsertReasons.{all_refer, each_refers, has_department}
+use Rattle.store_sql.proofs.Inserts.{no_works}
+use Rattle.store_sql.proofs.KeyReasons.{counted, free, full}
+use Rattle.store_sql.proofs.Queries.{selected}
+use Rattle.store_sql.proofs.Reasons.{HasClash, IsPut, halted, one, storable}
+use Rattle.store_sql.proofs.Refused.{Stops, refused_for}
+use Rattle.store_sql.proofs.Rows.{cast_int, cast_null}
+use Rattle.store_sql.proofs.Stops.{IsHalted}
+use Rattle.store_sql.proofs.UpdateReasons.{freed, sole}
+use Rattle.store_sql.proofs.UpsertStops.{IsUnmet, upsert_halts}
+
+fits_alone : references_fit whole department_at true false ≡ true
+unfolding same_name joined
+fits_alone = refl
+
+fits_again : references_fit whole department_at true true ≡ true
+unfolding same_name joined
+fits_again = refl
+
+-- certificates keep their departments where each name stays
+names_stay : (db next : Trees) → next 3 ≡ db 3
+    → ((p : Row → Bool) → ((r s : Row) → column r 1 ≡ column s 1 → p r ≡ true → p s ≡ true) → list_any p (db 1) ≡ true
+    → list_any p (next 1) ≡ true)
+    → AllByRecursion (λ r. has_department db r ≡ true) (db 3) → Refers All whole next
+unfolding first_key
+names_stay db next certs stay was = all_refer next (subst (AllByRecursion (λ r. has_department next r ≡ true)) (sym certs)
+    (all_from (λ r. has_department next r ≡ true) (db 3) (λ r here. elim (or_cases _ _ (all_has (λ r. has_department db r ≡ true) (db 3) r was here)) [
+      | inl null ↦ or_left _ _ null
+      | inr held ↦ or_right _ _ (stay (λ d. agree plain (1 ∷ []) d (2 ∷ []) r)
+          (λ a b same is. subst (λ v. (equal Binary v (column r 2) && true) ≡ true) same is) held)
+    ])))
+
+module _ (d : DepartmentRow) where
+  abbrev row_at : ℤ → Row
+  row_at id = Int id ∷ department_cells d
+
+  fresh_is : (rows : List Row) → fresh_row d rows ≡ row_at (next_rowid rows)
+  fresh_is rows = rw cast_null (simp cast_int)
+
+  is_put : (s : State) (c : Contents) (gone : List ℤ) (id : ℤ)
+      → is_referred whole Enforced (one s.now.trees department_at gone (row_at id)) ≡ true → Means s.now c
+      → IsPut s.now.trees department_at gone (row_at id)
+  is_put s c gone id referred means = record {
+    listed = inr (inl refl);
+    ordered = means.kept.holds.departments.apart;
+    typed = refl;
+    present = refl;
+    checked = refl;
+    keyed = refl;
+    referred = referred;
+    unique = means.kept.sound.obeys.rules Unique;
+    short = λ fits. (
+      storable _ (row_at id) refl (refl, (refl, (refl, (refl, (refl, (refl, (refl, (refl, (refl, tt)))))))))
+          (omega arith, omega arith) fits,
+      omega arith,
+    );
+    entries = λ fits. (
+      (λ e. storable _ (Text d.name ∷ Int id ∷ []) refl (refl, (refl, tt)) (omega arith, omega arith) (omega (arith, fits))),
+      ((λ e. cc), ((λ e. cc), ((λ e. cc), tt))),
+    );
+  }
+
+  well_judged : (id : ℤ) (why : Refusal) → IsJudged department_at (row_at id) (Some why) → ⊥
+  well_judged id Mismatch h = let wrong : true ≡ false = h in cc
+  well_judged id NoRowid h = h
+  well_judged id BadReference h = h
+  well_judged id TooDeep h = h
+  well_judged id (Violates Datatype) h = let wrong : true ≡ false = h in cc
+  well_judged id (Violates NotNull) h = let wrong : true ≡ false = h in cc
+  well_judged id (Violates Check) h = let wrong : true ≡ false = h in cc
+  well_judged id (Violates PrimaryKey) h = h
+  well_judged id (Violates Unique) h = h
+  well_judged id (Violates ForeignKey) h = h
+
+  -- a row with the key of the new one has its name
+  clash_named : (db : Trees) (gone : List ℤ) (id : ℤ) → HasClash db department_at gone (row_at id)
+      → (other : Row) × Has (left_by db (one db department_at gone (row_at id))) other × (named d.name other ≡ true)
+  unfolding first_key
+  clash_named db gone id (i, here, on, other, there, same) = (
+    other,
+    there,
+    all_has (λ j. guards j department_at ≡ true → agree j.order j.columns other j.columns (row_at id) ≡ true → named d.name other ≡ true)
+        whole.indexes i ((λ e same. same), ((λ e. cc), ((λ e. cc), ((λ e. cc), tt)))) here on same,
+  )
+
+  -- ---- where no department has the name
+
+  added : (s : State) (c : Contents) → Means s.now c
+      → AreConflicts (Some (1 ∷ [])) whole.indexes department_at (s.now.trees 1) (fresh_row d (s.now.trees 1)) []
+      → IsHalted whole s.now.trees (edit_of s.now.trees department_at [] Given 0 (fresh_row d (s.now.trees 1) ∷ []))
+      → RefusesDepartment d c
+  added s c means none halts =
+      let db = s.now.trees in
+      let h = means.kept.holds in
+      let new = row_at (next_rowid (db 1)) in
+      let is : cast_row department_at (fresh_row d (db 1)) ≡ new = rw (fresh_is (db 1)) (simp cast_int) in
+      let stopped = subst (λ row. IsHalted whole db (one db department_at [] row)) is halts in
+      halted db department_at [] new (is_put s c [] (next_rowid (db 1)) fits_alone means)
+      (λ out. inr (full department_cells department_places (db 1) c.departments h.departments h.departments_numbered out))
+      (λ taken. free (db 1) (department_cells d) h.departments_numbered h.departments.apart taken)
+      (λ clash. let it = clash_named db [] (next_rowid (db 1)) clash in
+      absurd (let wrong : true ≡ false = sym it.2 ∙ none_named d (db 1) none it.0 it.1 in cc))
+      (λ long. inl (omega (arith, long)))
+      (λ next did broken. absurd (broken (names_stay db next (did.tables.1.1.0 (λ e. cc))
+      (λ p alike held. let found = some_has p (db 1) held in
+      some_from p (next 1) found.0 (subst (λ l. Has l found.0) (sym did.rows) (put_all_keeps (new ∷ []) (db 1) found.0 did.fresh found.1)) found.2)
+      (each_refers db (means.kept.sound.obeys.rules ForeignKey))))) stopped
+
+  -- ---- where one has it
+
+  module _ (s : State) (c : Contents) (means : Means s.now c) (r0 : Row) (here0 : Has (s.now.trees 1) r0)
+      (hit0 : named d.name r0 ≡ true) where
+    abbrev db : Trees
+    db = s.now.trees
+
+    kept_row : (k : ℕ) → rowid r0 ≡ Int (pos k) → cast_row department_at (next_row d (fresh_row d (db 1)) r0) ≡ row_at (pos k)
+    kept_row k id =
+        let name : column r0 1 ≡ Text d.name = name_is d c db means.kept r0 here0 hit0 r0 here0 hit0 in
+        let new = fresh_is (db 1) in rw (new, id, name) (simp cast_int)
+
+    -- each name is there still
+    renamed : (k : ℕ) (next : Trees) → rowid r0 ≡ Int (pos k)
+        → Applies whole Enforced db (one db department_at (pos k ∷ []) (row_at (pos k))) next → (p : Row → Bool)
+        → ((r t : Row) → column r 1 ≡ column t 1 → p r ≡ true → p t ≡ true) → list_any p (db 1) ≡ true → list_any p (next 1) ≡ true
+    renamed k next id did p alike held =
+        let new = row_at (pos k) in
+        let left = without_rowid (pos k) (db 1) in
+        let found = some_has p (db 1) held in
+        elim (cases_Bool (has_rowid (pos k) found.0)) [
+          | inl same ↦
+              let tie : is_eq (value_cmp (rowid found.0) (rowid r0)) ≡ true = rw id same in
+              let is : found.0 ≡ r0 = Rattle.sqlite_rules.proofs.PlaceLemmas.tied_same (db 1) found.0 r0
+              means.kept.holds.departments.apart found.1 here0 (Rattle.store_sql.proofs.Edits.equal_is _ tie) in
+              let name : column r0 1 ≡ Text d.name = name_is d c db means.kept r0 here0 hit0 r0 here0 hit0 in
+              some_from p (next 1) new (subst (λ l. Has l new) (sym did.rows) (put_all_adds (new ∷ []) left new did.fresh (inl refl)))
+              (alike found.0 new (ap (λ r. column r 1) is ∙ name) found.2)
+          | inr other ↦
+              some_from p (next 1) found.0 (subst (λ l. Has l found.0) (sym did.rows)
+              (put_all_keeps (new ∷ []) left found.0 did.fresh
+              (has_kept (λ r. not (has_rowid (pos k) r)) (db 1) found.0 found.1 (ap not other)))) found.2
+        ]
+
+    over : (rows : List Row) → IsPermutation
+        (map (λ r. rowid r ∷ next_row d (fresh_row d (db 1)) r) (filter (has_id d c db means.kept r0 here0 hit0) (db 1))) rows
+        → IsHalted whole db (edit_of db department_at (ids_of rows) Given 1 rows) → RefusesDepartment d c
+    over rows all halts =
+        let h = means.kept.holds in
+        let shows = λ (r : Row). rowid r ∷ next_row d (fresh_row d (db 1)) r in
+        let alone : filter (has_id d c db means.kept r0 here0 hit0) (db 1) ≡ r0 ∷ [] =
+        only_one (has_id d c db means.kept r0 here0 hit0) (db 1) r0 h.departments.apart here0
+        (own_row d c db means.kept r0 here0 hit0) (the_row d c db means.kept r0 here0 hit0) in
+        let rows_are = sole (shows r0) rows (subst (λ l. IsPermutation (map shows l) rows) alone all) in
+        let k = all_has (λ r. IsNumber (length (db 1)) (rowid r)) (db 1) r0 h.departments_numbered here0 in
+        let id : rowid r0 ≡ Int (pos k.0) = k.1 in
+        let step = subst (λ rs. IsHalted whole db (edit_of db department_at (ids_of rs) Given 1 rs)) rows_are halts in
+        let at_id = subst (λ v. IsHalted whole db (one db department_at (id_in v ∷ []) (cast_row department_at (next_row d (fresh_row d (db 1)) r0)))) id step in
+        let new = row_at (pos k.0) in
+        let stopped = subst (λ row. IsHalted whole db (one db department_at (pos k.0 ∷ []) row)) (kept_row k.0 id) at_id in
+        let count = counted department_cells department_places (db 1) c.departments h.departments in
+        halted db department_at (pos k.0 ∷ []) new (is_put s c (pos k.0 ∷ []) (pos k.0) fits_again means)
+        (λ out. let big = ltb-false k.0 (2 ^ 63) out in inr (omega (arith, big, k.2, count)))
+        (λ taken. absurd (freed (db 1) (pos k.0) new refl taken))
+        (λ clash. absurd (let it = clash_named db (pos k.0 ∷ []) (pos k.0) clash in
+        let left = has_filtered (λ r. not (has_rowid (pos k.0) r)) (db 1) it.0 it.1 in
+        let same = unique d c db means.kept r0 here0 hit0 it.0 left.0 it.2 in
+        let tie : has_rowid (pos k.0) it.0 ≡ true = subst (λ v. is_eq (value_cmp (rowid it.0) v) ≡ true) id same in
+        let wrong = rw tie at left.1 in cc))
+        (λ long. inl (omega (arith, long)))
+        (λ next did broken. absurd (broken (names_stay db next (did.tables.1.1.0 (λ e. cc)) (renamed k.0 next id did)
+        (each_refers db (means.kept.sound.obeys.rules ForeignKey))))) stopped
+
+  put_typed : (s : State) (c : Contents) → Means s.now c → (there : Row) (more : List Row)
+      → AreConflicts (Some (1 ∷ [])) whole.indexes department_at (s.now.trees 1) (row_at (next_rowid (s.now.trees 1))) (there ∷ more)
+      → accepts_program whole [] put_query
+      (department_cells d ++ rowid there ∷ shown department_at (row_at (next_rowid (s.now.trees 1)))) ≡ true
+  put_typed s c means there more conflicts =
+      let met = conflicts.sound there (inl refl) in
+      let k = all_has (λ r. IsNumber (length (s.now.trees 1)) (rowid r)) (s.now.trees 1) met.0 means.kept.holds.departments_numbered met.1 in
+      let id : rowid there ≡ Int (pos k.0) = ap rowid met.3 ∙ k.1 in
+      rw id refl
+
+  pub refuses_department : (s : State) (c : Contents) → Means s.now c
+      → Stops put_sql (department_cells d) (InsertOr 1 Abort (Values terms 9)
+      (record { target = Some (1 ∷ []); update = Some (record { lets = []; body = put_query }) } ∷ [])) s
+      → RefusesDepartment d c
+  refuses_department s c means stops = go
+      (upsert_halts s.now whole means.schema 1 department_at refl (department_cells d)
+      (statement_of put_sql (understood whole put_sql)) (Some (1 ∷ [])) (record { lets = []; body = put_query }) (no_works 1)
+      (row_at (next_rowid (s.now.trees 1))) (put_typed s c means)
+      (λ given h. elim h [ inl over ↦ over | inr fold ↦ none_overflows _ fold ]) terms 9 (source d) refl refl
+      (fresh_is (s.now.trees 1)) stops.0 stops.1)
+    where
+      go : IsUnmet s.now whole means.schema 1 department_at refl (department_cells d)
+          (statement_of put_sql (understood whole put_sql)) (Some (1 ∷ [])) (record { lets = []; body = put_query }) (no_works 1)
+          (row_at (next_rowid (s.now.trees 1))) (put_typed s c means)
+          (λ given h. elim h [ inl over ↦ over | inr fold ↦ none_overflows _ fold ])
+          → RefusesDepartment d c
+      go (inl out) =
+          let h = means.kept.holds in
+          inr (full department_cells department_places (s.now.trees 1) c.departments h.departments h.departments_numbered out)
+      go (inr (inl (why, bad))) = absurd (well_judged (next_rowid (s.now.trees 1)) why bad)
+      go (inr (inr (inl (none, halts)))) =
+          let is = sym (fresh_is (s.now.trees 1)) in
+          added s c means (subst (λ r. AreConflicts (Some (1 ∷ [])) whole.indexes department_at (s.now.trees 1) r []) is none)
+          (subst (λ r. IsHalted whole s.now.trees (edit_of s.now.trees department_at [] Given 0 (r ∷ []))) is halts)
+      go (inr (inr (inr (there, more, conflicts, kept)))) =
+          let is = sym (fresh_is (s.now.trees 1)) in
+          let met = conflicts.sound there (inl refl) in
+          let hit : named d.name met.0 ≡ true = sym (conflict_is d (s.now.trees 1) met.0)
+          ∙ ap (λ n. Rattle.sqlite_rules.specs.Keys.conflicts (Some (1 ∷ [])) whole.indexes department_at n met.0) (sym is) ∙ met.2 in
+          let params = department_cells d ++ rowid there ∷ shown department_at (row_at (next_rowid (s.now.trees 1))) in
+          let all = selected 1 _ _ [] s.now.trees params kept.0 refl (kept.1.answer Null) in
+          let shown_all = subst (λ n. IsPermutation (map (λ r. rowid r ∷ next_row d n r)
+          (filter (has_id d c s.now.trees means.kept met.0 met.1 hit) (s.now.trees 1))) kept.0) is (rw (met.3) at all) in
+          over s c means met.0 met.1 hit kept.0 shown_all kept.2
+
+pub department_fails : {X : Type 0} (d : DepartmentRow) (old new : State) (r : Result X Fault)
+    → FailsBy (HasWriteCause put_sql (department_cells d)) old new r → RefusedFor (RefusesDepartment d) old new r
+department_fails d old new r =
+    refused_for put_sql (department_cells d) (InsertOr 1 Abort (Values terms 9)
+    (record { target = Some (1 ∷ []); update = Some (record { lets = []; body = put_query }) } ∷ [])) put_is.0 put_is.2
+    (RefusesDepartment d) (refuses_department d) old new r

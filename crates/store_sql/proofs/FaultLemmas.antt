@@ -1,0 +1,170 @@
+-- Why a query or a write fails.
+use Rattle.std.proofs.Common.{◌≡◌, ◌⊎◌, inl, inr, ℕ, List, [], length, Option, Some, None, Ok, Err, Result, sym, ap, subst, subst₂, ◌∙◌, true, false, append-nil, Any, IfErr}
+use Rattle.std.specs.Prelude.{nat_le, Vec, ◌||◌, IfOk, if◌then◌else◌}
+use Rattle.std.specs.declared.alloc.Global.{Global}
+use Rattle.std.proofs.lemmas.Bool.{leb-true}
+use Rattle.sqlite.specs.Order.{Row}
+use Rattle.sqlite.specs.Tree.{Trees}
+use Rattle.sqlite_trees.specs.declared.error.StoreError.TheVariants.{OutOfMemory, Io, Corrupt, Full, Broken, Unstorable}
+use Rattle.sqlite.specs.Command.TheVariants.{Select, Begin, Commit, Rollback, Release, RollbackTo}
+use Rattle.sqlite.specs.Query.{Query}
+use Rattle.sqlite_sql.specs.Program.{ProgramOverflows}
+use Rattle.sqlite_typing.specs.Types.{accepts_program}
+use Rattle.sqlite_resolve.specs.declared.compiled.Compiled.{Compiled}
+use Rattle.sqlite_resolve.specs.declared.error.CompileError.{CompileError}
+use Rattle.sqlite.specs.Listing.{understood, reads_listing, IsSourceOf}
+use Rattle.sqlite.specs.declared.error.Error.{Error}
+use Rattle.sqlite.specs.Effect.{Database, RefusesToRead, is_query}
+use Rattle.sqlite.specs.Schema.{Schema}
+use Rattle.sqlite.specs.State.{State, FailsToQuery, IsNotRun, Fails, Executes, ExecutesIn, IsMisplaced, mode_of, text_of, is_pragma}
+use Rattle.sqlite.proofs.Callers.{IsPlain, command_of}
+use Rattle.store_sql.specs.Schema.{whole}
+use Rattle.store_sql.specs.Contents.{Contents, Means}
+use Rattle.store_sql.specs.Faults.{is_out_of_memory, fault_of, HasCause, HasFailed}
+use Rattle.store_sql.specs.declared.fault.Fault.TheVariants.{Device, Damaged, NoMemory}
+use Rattle.sqlite.specs.Command.{Command}
+use Rattle.sqlite.specs.Does.{Does}
+use Rattle.store_sql.specs.declared.fault.Fault.{Fault}
+
+-- the rules of the tables refuse the statement, as for a key that is taken, or a row of it is too big
+abbrev pub IsRefused : List ℕ → Row → State → Type 0
+IsRefused sql params s =
+    IfOk (understood whole sql) (λ c. (stop : Option Error)
+    × Does s.step_limit (mode_of s) params s.now (text_of sql c) None c.command (Err stop))
+
+-- the cause of each fault of a write on tables that mean something
+abbrev pub HasWriteCause : List ℕ → Row → State → State → Fault → Type 0
+HasWriteCause sql params old new NoMemory = Unit {0}
+HasWriteCause sql params old new Device = HasFailed old new ⊎ IsRefused sql params old
+HasWriteCause sql params old new Damaged = ⊥
+
+-- the text is one statement with so many parameters
+abbrev pub IsWhole : List ℕ → ℕ → Result Compiled CompileError → Type 0
+IsWhole sql count (Ok c) = (nat_le (length sql) c.tail ≡ true) × (length c.names ≡ count)
+IsWhole sql count (Err e) = ⊥
+
+-- the cause of a failure of the database
+failing : (old new : State) (too_big : Type 0) (e : Error) → Fails old new too_big e → too_big
+    ⊎ HasCause old new (fault_of e)
+failing old new too_big e (OutOfMemory, is, cause, back, tells) = inr (rw is tt)
+failing old new too_big e (Io, is, cause, back, tells) = inr (rw is (inl cause))
+failing old new too_big e (Corrupt, is, cause, back, tells) = inr (rw is (inl cause))
+failing old new too_big e (Full, is, cause, back, tells) = inr (rw is (inl cause))
+failing old new too_big e (Broken, is, cause, back, tells) = inr (rw is (inr (inl cause)))
+failing old new too_big e (Unstorable, is, cause, back, tells) = inl cause
+
+-- that cause, where no row is too big
+pub failed : (old new : State) (too_big : Type 0) (e : Error) → (too_big → ⊥) → Fails old new too_big e
+    → HasCause old new (fault_of e)
+failed old new too_big e none h = elim (failing old new too_big e h) [ inl big ↦ absurd (none big) | inr cause ↦ cause ]
+
+-- a text that is one plain statement with its parameters is not refused before it runs
+pub not_run : (sql : List ℕ) (params : Row) (old new : State) → IsPlain (understood old.now.schema sql)
+    → IsWhole sql (length params) (understood old.now.schema sql)
+    → (e : Error) → IsNotRun old new sql params e → HasCause old new (fault_of e)
+unfolding IsNotRun
+not_run sql params old new plain one e (inr h) = failed old new ⊥ e (λ b. b) h
+not_run sql params old new plain one e (inl (inl fault, same)) = absurd
+    (subst (IsWhole sql (length params)) fault.1 one)
+not_run sql params old new plain one e (inl (inr found, same)) =
+    let fits = subst (IsWhole sql (length params)) found.1 one in
+    let bare = subst IsPlain found.1 plain in
+    absurd (elim found.2 [
+      | inl long ↦ long.0 (leb-true _ _ fits.0)
+      | inr other ↦ elim other [ inl given ↦ given.0 (sym fits.1) | inr clock ↦ clock.0 bare.1 ]
+    ])
+
+pub none_overflows : (rows : List Row) → Any (λ r. ⊥) rows → ⊥
+none_overflows rows h = h.4
+
+module _ {A : Type 0} (schema : Schema) (Has : A → Database → Type 0)
+    (same : (a : A) (db : Database) → Has a db → db.schema ≡ schema) (sql : List ℕ) (params : Row) (query : Query)
+    (names : List (List ℕ))
+    (is : command_of (understood schema sql) ≡ Select (record { lets = []; body = query }) names)
+    (plain : IsPlain (understood schema sql)) (unlisted : reads_listing schema sql ≡ false)
+    (one : IsWhole sql (length params) (understood schema sql))
+    (typed : accepts_program schema [] query params ≡ true)
+    (sure : (trees : Trees) → ProgramOverflows trees params [] [] query → ⊥) where
+  query_fault : (old new : State) (e : Error) (a : A) → Has a old.now → FailsToQuery sql params old new e
+      → HasCause old new (fault_of e)
+  unfolding FailsToQuery
+  query_fault old new e a has (inl h) =
+      let known = sym (ap (λ s. understood s sql) (same a old.now has)) in
+      not_run sql params old new (subst IsPlain known plain) (subst (IsWhole sql (length params)) known one) e h
+  query_fault old new e a has (inr h) =
+      let known = sym (ap (λ s. understood s sql) (same a old.now has)) ∙ h.1.is in
+      let bare = subst IsPlain known plain in
+      let shown = rw (bare.0, bare.1, append-nil params) at h.2 in
+      let db : shown.0 ≡ old.now = subst (λ b. IsSourceOf b old.now shown.0)
+      (ap (λ s. reads_listing s sql) (same a old.now has) ∙ unlisted) shown.1 in
+      let refused = subst₂ (λ k d. RefusesToRead old.step_limit k d params e) (ap command_of (sym known) ∙ is) db
+      shown.2 in
+      elim refused [
+        | inl mismatch ↦ absurd (let wrong : true ≡ false = sym typed
+            ∙ ap (λ s. accepts_program s [] query params) (sym (same a old.now has)) ∙ mismatch.1 in cc)
+        | inr other ↦ elim other [
+          | inl over ↦ absurd (sure old.now.trees over.1)
+          | inr interrupted ↦ rw interrupted.0
+              (inr (inr interrupted.1))
+        ]
+      ]
+
+  -- each failure of the query has its cause
+  pub faults : (old new : State) (r : Result (Vec Row Global) Error) → IfErr r (FailsToQuery sql params old new)
+      → IfErr r (λ e. (a : A) → Has a old.now → HasCause old new (fault_of e))
+  faults old new (Ok rows) err = tt
+  faults old new (Err e) err = λ a has. query_fault old new e a has err
+
+-- a cause of any call is one of a write
+write_cause : (sql : List ℕ) (params : Row) (old new : State) (f : Fault) → HasCause old new f
+    → HasWriteCause sql params old new f
+write_cause sql params old new NoMemory h = tt
+write_cause sql params old new Device h = inl h
+write_cause sql params old new Damaged h = h
+
+-- the fault of a refusal
+refused_is : (sql : List ℕ) (params : Row) (old new : State) (e : Error) → IsRefused sql params old
+    → HasWriteCause sql params old new (fault_of e)
+refused_is sql params old new e h = elim (is_out_of_memory e) as
+    (λ b. HasWriteCause sql params old new (if b then NoMemory else Device)) [ true ↦ tt | false ↦ inr h ]
+
+-- why a write fails
+module _ (sql : List ℕ) (params : Row) (command : Command) (is : command_of (understood whole sql) ≡ command)
+    (plain : IsPlain (understood whole sql)) (one : IsWhole sql (length params) (understood whole sql))
+    (shows : (is_query command || (is_pragma command || false)) ≡ false)
+    (ends : (command ≡ Begin) ⊎ ((command ≡ Commit) ⊎ (command ≡ Rollback)) → ⊥)
+    (saves : (name : List ℕ) → (command ≡ Release name) ⊎ (command ≡ RollbackTo name) → ⊥) where
+  never_misplaced : (s : State) (e : Error) → IsMisplaced s command e → ⊥
+  never_misplaced s e (inl (_, inl (k, _))) = ends (inl k)
+  never_misplaced s e (inl (_, inr (k, _))) = ends (inr k)
+  never_misplaced s e (inr it) = saves it.1 it.2
+
+  pub write_faults : (old new : State) (r : Result ℕ Error) → Executes sql params old new r
+      → IfErr r (λ e. (c : Contents) → Means old.now c → HasWriteCause sql params old new (fault_of e))
+  unfolding ExecutesIn
+  write_faults old new (Ok n) h = tt
+  write_faults old new (Err e) (inl h) = λ c means.
+      let known = sym (ap (λ s. understood s sql) means.schema) in
+      write_cause sql params old new (fault_of e)
+      (not_run sql params old new (subst IsPlain known plain) (subst (IsWhole sql (length params)) known one) e h)
+  write_faults old new (Err e) (inr h) = λ c means.
+      let known = sym (ap (λ s. understood s sql) means.schema) ∙ h.1.is in
+      let bare = subst IsPlain known plain in
+      let said = λ (stop : Option Error)
+      (did : Does old.step_limit (mode_of old) params old.now (text_of sql h.0) None h.0.command (Err stop)).
+      refused_is sql params old new e
+      (subst (λ r. IfOk r (λ c. (stop : Option Error)
+      × Does old.step_limit (mode_of old) params old.now (text_of sql c) None c.command (Err stop))) (sym known)
+      (stop, did)) in
+      let ran = rw (bare.0, bare.1, append-nil params) at h.2 in
+      let same : h.0.command ≡ command = ap command_of (sym known) ∙ is in
+      let plainly : (is_query h.0.command || (is_pragma h.0.command || false)) ≡ false = rw same shows in
+      elim (rw plainly at ran) [
+        | inl refused ↦ elim refused.0 [
+          | inl m ↦ absurd
+              (never_misplaced old e (subst (λ k. IsMisplaced old k e) same m))
+          | inr w ↦ said (Some e) w.1
+        ]
+        | inr wrong ↦ elim (failing old new _ e wrong)
+            [ inl big ↦ said None big | inr cause ↦ write_cause sql params old new (fault_of e) cause ]
+      ]

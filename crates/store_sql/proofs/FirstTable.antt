@@ -1,0 +1,34 @@
+-- The table of the office is the first of the office's tables.
+use Rattle.std.proofs.Common.{◌≡◌, List, [], ◌∷◌, slice_get, true, Some, ap, sym, subst}
+use Rattle.std.specs.List.{list_any}
+use Rattle.sqlite.specs.Effect.{Database}
+use Rattle.sqlite.specs.Schema.{Schema}
+use Rattle.sqlite.specs.Table.{Table}
+use Rattle.store_sql.specs.Schema.{office_at}
+use Rattle.store_sql.specs.Contents.{Contents, HasOffices, Means, MeansWithoutCa}
+use Rattle.store_sql.specs.Look.{first_is_office, is_office_table}
+
+-- in schema 2
+pub means_offices : (db : Database) (c : Contents) → Means db c → HasOffices c.offices db
+means_offices db c means = record {
+  first = ap (λ (s : Schema). slice_get s.tables 0) means.schema;
+  holds = means.kept.holds.offices;
+}
+
+-- and in schema 1
+pub former_offices : (db : Database) (c : Contents) → MeansWithoutCa db c → HasOffices c.offices db
+former_offices db c means = record {
+  first = ap (λ (s : Schema). slice_get s.tables 0) means.schema;
+  holds = means.holds.offices;
+}
+
+-- the others, where it is the first
+pub first_is : (ts : List Table) → slice_get ts 0 ≡ Some office_at → (others : List Table) × (ts ≡ office_at ∷ others)
+first_is [] e = absurd cc
+first_is (t ∷ ts) e = (ts, let same : t ≡ office_at = cc in ap (λ (u : Table). u ∷ ts) same)
+
+-- so it is seen
+pub first_seen : (ts : List Table) → slice_get ts 0 ≡ Some office_at → list_any is_office_table ts ≡ true
+first_seen ts e =
+    let it = first_is ts e in
+    subst (λ (us : List Table). list_any is_office_table us ≡ true) (sym it.1) (first_is_office it.0)

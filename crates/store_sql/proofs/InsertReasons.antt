@@ -1,0 +1,142 @@
+-- Why INSERT of one struct is refused.
+use Rattle.std.proofs.Common.{◌≡◌, ◌≢◌, inl, inr, ℕ, pos, ◌/◌, List, [], ◌∷◌, length, map, slice_get, Bool, true, Some, refl, sym, ap, subst, ◌∙◌, is_eq}
+use Rattle.std.specs.Prelude.{◌||◌, ◌==◌}
+use Rattle.std.specs.List.{AllByRecursion, list_any}
+use Rattle.std.specs.Ordering.{int_cmp}
+use Rattle.std.proofs.lemmas.List.Sorted.{IsPermutation-sym}
+use Rattle.std.proofs.lemmas.Bool.{eqb-true}
+use Rattle.sqlite_value.proofs.OrderLemmas.{value_cmp-Int}
+use Rattle.sqlite.specs.declared.types.Value.TheVariants.{Int}
+use Rattle.sqlite.specs.Order.{Row, value_cmp}
+use Rattle.sqlite.specs.Term.{Term}
+use Rattle.sqlite.specs.Table.{Table}
+use Rattle.sqlite.specs.Tree.{Trees, rowid}
+use Rattle.sqlite.specs.Source.TheVariants.{Values}
+use Rattle.sqlite.specs.Command.TheVariants.{Insert}
+use Rattle.sqlite.specs.Edit.{Applies, Edit, edit_of, is_taken, with_rowid}
+use Rattle.sqlite.specs.Rowids.TheVariants.{Chosen}
+use Rattle.sqlite.specs.Cast.{cast_row}
+use Rattle.sqlite.specs.State.{State}
+use Rattle.sqlite.specs.Rows.{stamped}
+use Rattle.sqlite.specs.Effect.{value_rows}
+use Rattle.sqlite.specs.Listing.{understood}
+use Rattle.sqlite.proofs.Callers.{statement_of}
+use Rattle.sqlite_schema.specs.declared.schema.Among.TheVariants.{All}
+use Rattle.sqlite_schema.specs.declared.schema.Constraint.TheVariants.{ForeignKey}
+use Rattle.sqlite_schema.specs.declared.schema.Keys.TheVariants.{Enforced}
+use Rattle.sqlite_schema.specs.declared.schema.Reference.{Reference}
+use Rattle.sqlite_schema.specs.Names.{same_name}
+use Rattle.sqlite_schema.specs.Rules.{Keeps, Refers, agree, has_null, has_parent}
+use Rattle.sqlite_value.specs.Keys.{joined, plain}
+use Rattle.sqlite_typing.specs.Types.{accepts_terms}
+use Rattle.sqlite_rules.specs.Lists.{Has}
+use Rattle.sqlite_rules.proofs.ListLemmas.{all_from, all_has, some_has, test_has}
+use Rattle.sqlite_rules.proofs.ProbeLemmas.{mapped_has}
+use Rattle.sqlite_rules.proofs.RuleLemmas.{refers_from}
+use Rattle.sqlite_trees.proofs.ListLemmas.{all-permutation}
+use Rattle.store_sql.specs.Schema.{whole, cert_at, to_department}
+use Rattle.store_sql.specs.Contents.{Contents, Lists, Means, at_places}
+use Rattle.store_sql.proofs.Edits.{mapped_from, of_record}
+use Rattle.store_sql.proofs.Inserts.{no_works}
+use Rattle.store_sql.proofs.Numbers.{same_number}
+use Rattle.store_sql.proofs.Reasons.{one}
+use Rattle.store_sql.proofs.Refused.{Stops}
+use Rattle.store_sql.proofs.Statements.{uncounted}
+use Rattle.store_sql.proofs.Stops.{IsHalted, insert_halts}
+
+-- ---- rows and their structs
+
+-- each struct has a row
+pub row_of : {X : Type 0} (cells : X → Row) (places : List ℕ) (rows : List Row) (xs : List X) (x : X)
+    → Lists cells places rows xs → Has xs x → (r : Row) × Has rows r × (at_places places r ≡ cells x)
+row_of cells places rows xs x h here =
+    let it = mapped_from (at_places places) rows (cells x)
+    (all_has (Has (map (at_places places) rows)) (map cells xs) (cells x)
+    (all-permutation (Has (map (at_places places) rows)) (map (at_places places) rows) (map cells xs)
+    (IsPermutation-sym _ _ h.same) (all_from (Has (map (at_places places) rows)) (map (at_places places) rows) (λ e k. k)))
+    (mapped_has cells xs x here)) in
+    (it.0, it.1, sym it.2)
+
+-- a struct has the number that is taken
+pub taken_number : {X : Type 0} (cells : X → Row) (places : List ℕ) (number : X → ℕ) (rows : List Row) (xs : List X) (n : ℕ)
+    (rest : Row) → ((x : X) (r : Row) → at_places places r ≡ cells x → rowid r ≡ Int (pos (number x)))
+    → Lists cells places rows xs → is_taken rows (Int (pos n) ∷ rest) ≡ true → (x : X) × Has xs x × (number x ≡ n)
+taken_number cells places number rows xs n rest ids h taken =
+    let found = some_has (λ r. is_eq (value_cmp (rowid r) (Int (pos n)))) rows taken in
+    let it = of_record cells places rows xs found.0 h found.1 in
+    let tie : is_eq (value_cmp (Int (pos (number it.0))) (Int (pos n))) ≡ true =
+    subst (λ v. is_eq (value_cmp v (Int (pos n))) ≡ true) (ids it.0 found.0 it.2) found.2 in
+    let same : (number it.0 == n) ≡ true =
+    sym (same_number (number it.0) n) ∙ ap is_eq (sym (value_cmp-Int (pos (number it.0)) (pos n))) ∙ tie in
+    (it.0, it.1, eqb-true (number it.0) n same)
+
+-- ---- foreign keys
+
+-- a row of departments has the name that the certificate's row names, if it names one
+abbrev pub has_department : Trees → Row → Bool
+has_department trees row = has_null (2 ∷ []) row || list_any (λ d. agree plain (1 ∷ []) d (2 ∷ []) row) (trees 1)
+
+pub parent_is : (trees : Trees) (row : Row) → has_parent whole.tables trees row (to_department 2) ≡ has_department trees row
+unfolding same_name joined
+parent_is trees row = refl
+
+-- all references hold where each certificate has its department
+pub all_refer : (trees : Trees) → AllByRecursion (λ r. has_department trees r ≡ true) (trees 3) → Refers All whole trees
+all_refer trees all = refers_from All whole trees (λ t ref row listed known is there.
+    all_has (λ (u : Table). Has u.references ref → Has (trees u.tree) row → has_parent whole.tables trees row ref ≡ true) whole.tables t (
+      (λ none there. absurd none),
+      (
+        (λ none there. absurd none),
+        (
+          at_cert ref row,
+          (
+            (λ none there. absurd none),
+            (
+              (λ none there. absurd none),
+              ((λ none there. absurd none), ((λ none there. absurd none), tt)),
+            ),
+          ),
+        ),
+      ),
+    ) listed known there)
+  where
+    at_cert : (ref : Reference) (row : Row) → Has cert_at.references ref → Has (trees 3) row
+        → has_parent whole.tables trees row ref ≡ true
+    at_cert ref row (inl same) there =
+        subst (λ r. has_parent whole.tables trees row r ≡ true) (sym same)
+        (parent_is trees row ∙ all_has (λ r. has_department trees r ≡ true) (trees 3) row all there)
+    at_cert ref row (inr none) there = absurd none
+
+-- each certificate has its department
+pub each_refers : (trees : Trees) → Keeps ForeignKey whole trees → AllByRecursion (λ r. has_department trees r ≡ true) (trees 3)
+each_refers trees keeps = all_from (λ r. has_department trees r ≡ true) (trees 3) (λ row there.
+    sym (parent_is trees row)
+    ∙ test_has (has_parent whole.tables trees row) (to_department 2 ∷ []) (to_department 2)
+    (all_has (λ r. Rattle.std.specs.List.list_all (has_parent whole.tables trees r) (to_department 2 ∷ []) ≡ true) (trees 3) row
+    keeps.1.1.0 there) (inl refl))
+
+-- an edit of another table breaks none
+pub none_orphaned : (db next : Trees) (edit : Edit) → Keeps ForeignKey whole db → Applies whole Enforced db edit next
+    → 1 ≢ edit.table.tree → 3 ≢ edit.table.tree → (Refers All whole next → ⊥) → ⊥
+none_orphaned db next edit keeps did one three broken =
+    let departments : next 1 ≡ db 1 = did.tables.1.0 one in
+    let certs : next 3 ≡ db 3 = did.tables.1.1.0 three in
+    broken (all_refer next (rw certs (subst
+    (λ ds. AllByRecursion (λ r. (has_null (2 ∷ []) r || list_any (λ d. agree plain (1 ∷ []) d (2 ∷ []) r) ds) ≡ true) (db 3))
+    (sym departments) (each_refers db keeps))))
+
+-- ---- INSERT
+
+module _ {X : Type 0} (sql : List ℕ) (cells : X → Row) (at : ℕ) (table : Table) (terms : List Term) (width : ℕ)
+    (source : X → Row) (row : X → List Row → Row) (found : slice_get whole.tables at ≡ Some (uncounted table))
+    (sourced : (x : X) → value_rows (stamped (uncounted table) (cells x)) width (length terms / width) terms ≡ source x ∷ [])
+    (typed : (x : X) → accepts_terms terms (stamped (uncounted table) (cells x)) ≡ true)
+    (made : (x : X) (rows : List Row) → with_rowid Chosen rows (cast_row (uncounted table) (source x)) ≡ row x rows) where
+  pub insert_halted : (x : X) (s : State) (c : Contents) → Means s.now c → Stops sql (cells x) (Insert at (Values terms width)) s
+      → IsHalted whole s.now.trees (one s.now.trees (uncounted table) [] (row x (s.now.trees table.tree)))
+  insert_halted x s c means stops =
+      let trees = s.now.trees in
+      let halts = insert_halts s.now whole means.schema at table found (cells x) (statement_of sql (understood whole sql))
+      (no_works table.tree) terms width (typed x) stops.0 stops.1 in
+      let given = subst (λ rs. IsHalted whole trees (edit_of trees (uncounted table) [] Chosen 0 rs)) (sourced x) halts in
+      subst (λ r. IsHalted whole trees (one trees (uncounted table) [] r)) (made x (trees table.tree)) given

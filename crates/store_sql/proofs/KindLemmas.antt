@@ -1,0 +1,71 @@
+-- A row that has just these kinds of columns is made of what is read from them.
+use Rattle.std.proofs.Common.{◌≡◌, ℕ, pos, negsuc, ◌+◌, List, [], ◌∷◌, map, Bool, true, false, length, refl, sym, ap₂, ◌∙◌, arith}
+use Rattle.std.specs.Prelude.{◌&&◌, ◌==◌}
+use Rattle.std.specs.List.{list_all, enumerate_from, range_with_len}
+use Rattle.std.proofs.lemmas.Bool.Decides.{nat_tests}
+use Rattle.std.proofs.lemmas.List.{ext_get_or}
+use Rattle.std.proofs.lemmas.List.FromFn.{length-map-range_with_len, get_or-map-range_with_len}
+use Rattle.sqlite.specs.Order.{Row, column}
+use Rattle.sqlite.specs.Values.{or_null}
+use Rattle.sqlite.specs.declared.types.Value.{Value}
+use Rattle.sqlite.specs.declared.types.Value.TheVariants as value
+use Rattle.store_sql.specs.declared.kind.Kind.{Kind}
+use Rattle.store_sql.specs.declared.kind.Kind.TheVariants.{Number, Text, Blob, OptionalBlob}
+use Rattle.store_sql.specs.Kinds.{holds, has_kinds, text_in, blob_in, optional_blob_in, number_in}
+
+-- the value that is read from a column, as it is kept
+abbrev pub kept : Kind → Value → Value
+kept Number v = value.Int (pos (number_in v))
+kept Text v = value.Text (text_in v)
+kept Blob v = value.Blob (blob_in v)
+kept OptionalBlob v = or_null value.Blob (optional_blob_in v)
+
+abbrev pub kept_from : List Kind → ℕ → Row → Row
+kept_from [] at row = []
+kept_from (k ∷ kinds) at row = kept k (column row at) ∷ kept_from kinds (at + 1) row
+
+kept_is : (k : Kind) (v : Value) → holds k v ≡ true → v ≡ kept k v
+kept_is Number (value.Int (pos n)) h = refl
+kept_is Number (value.Int (negsuc n)) h = absurd cc
+kept_is Number value.Null h = absurd cc
+kept_is Number (value.Real x) h = absurd cc
+kept_is Number (value.Text t) h = absurd cc
+kept_is Number (value.Blob b) h = absurd cc
+kept_is Text (value.Text t) h = refl
+kept_is Text (value.Int n) h = absurd cc
+kept_is Text value.Null h = absurd cc
+kept_is Text (value.Real x) h = absurd cc
+kept_is Text (value.Blob b) h = absurd cc
+kept_is Blob (value.Blob b) h = refl
+kept_is Blob (value.Int n) h = absurd cc
+kept_is Blob value.Null h = absurd cc
+kept_is Blob (value.Real x) h = absurd cc
+kept_is Blob (value.Text t) h = absurd cc
+kept_is OptionalBlob (value.Blob b) h = refl
+kept_is OptionalBlob value.Null h = refl
+kept_is OptionalBlob (value.Int n) h = absurd cc
+kept_is OptionalBlob (value.Real x) h = absurd cc
+kept_is OptionalBlob (value.Text t) h = absurd cc
+
+both : (a b : Bool) → (a && b) ≡ true → (a ≡ true) × (b ≡ true)
+both true b h = (refl, h)
+both false b h = absurd cc
+
+all_kept : (kinds : List Kind) (at : ℕ) (row : Row)
+    → list_all (λ p. holds p.1 (column row p.0)) (enumerate_from at kinds) ≡ true
+    → map (column row) (range_with_len at (length kinds)) ≡ kept_from kinds at row
+all_kept [] at row h = refl
+all_kept (k ∷ kinds) at row h = let parts = both (holds k (column row at)) _ h in ap₂ ◌∷◌
+    (kept_is k (column row at) parts.0) (all_kept kinds (at + 1) row parts.1)
+
+columns_of : (row : Row) (n : ℕ) → length row ≡ n → row ≡ map (column row) (range_with_len 0 n)
+columns_of row n is =
+    ext_get_or value.Null row (map (column row) (range_with_len 0 n))
+    (is ∙ sym (length-map-range_with_len (column row) 0 n))
+    (λ i low. sym (get_or-map-range_with_len (column row) 0 n i i value.Null (omega arith) (omega arith)))
+
+pub fits : (kinds : List Kind) (row : Row) → has_kinds kinds row ≡ true → row ≡ kept_from kinds 0 row
+fits kinds row h =
+    let parts = both (length row == length kinds) _ h in
+    let many : length row ≡ length kinds = grind (arith, nat_tests) in
+    columns_of row (length kinds) many ∙ all_kept kinds 0 row parts.1

@@ -1,0 +1,46 @@
+-- A call that comes after another.
+use Rattle.std.proofs.Common.{◌≡◌, inl, inr, Bool, true, false, IsTrue, subst, ◌∙◌, arith}
+use Rattle.std.specs.Prelude.{IsSome, Option, if◌then◌else◌}
+use Rattle.std.proofs.lemmas.Bool.{both_ways}
+use Rattle.sqlite.specs.Tree.{Trees}
+use Rattle.sqlite.specs.State.{State, Survives, IsUnchanged, KeepsCommit}
+use Rattle.sqlite.proofs.Callers.{unchanged_then}
+use Rattle.store_sql.specs.Calls.{Fails}
+use Rattle.store_sql.specs.Faults.{HasCause, HasFailed}
+use Rattle.store_sql.specs.declared.fault.Fault.{Fault}
+use Rattle.store_sql.specs.declared.fault.Fault.TheVariants.{Damaged, Device, NoMemory}
+
+-- what a failure leaves in a transaction
+pub stops : (a b : State) → Fails a b → KeepsCommit a b
+stops a b (inl same) = record { was_open = λ _. same.0.was_open; committed = λ _. same.0.committed_is }
+stops a b (inr back) = record { was_open = back.was_open; committed = λ still. (back.undone still).1 }
+
+-- inside of a transaction what is committed stays
+pub inside_is : (b : Bool) {X : Type 0} (last now shown : X) → IsTrue b → shown ≡ (if b then last else now) → shown ≡ last
+inside_is true last now shown t e = e
+inside_is false last now shown t e = absurd (let f : false ≡ true = t in cc)
+
+pub stops_then : (a b c : State) → IsUnchanged a b → Fails b c → Fails a c
+stops_then a b c p (inl q) = inl (unchanged_then a b c p q)
+stops_then a b c p (inr back) = inr (record {
+  was_open = λ _. p.0.was_open;
+  undone = λ still. let u = back.undone still in (u.0 ∙ p.0.committed_is, u.1 ∙ p.0.committed_is);
+  autocommit = back.autocommit;
+  unmarked = back.unmarked;
+  counts = record {
+    changes = back.counts.changes ∙ p.1.changes;
+    last_rowid = back.counts.last_rowid ∙ p.1.last_rowid;
+  };
+})
+
+-- what failed after a call that left the connection open failed since before it
+pub failed_then : (a b c : State) (P : Trees → Type 0) → Survives a b P → IsTrue b.is_open → HasFailed b c → HasFailed a c
+failed_then a b c P one is_open (inl more) = inl (omega (arith, one.counts, more))
+failed_then a b c P one is_open (inr (inl shut)) = absurd (both_ways b.is_open shut is_open)
+failed_then a b c P one is_open (inr (inr limit)) = inr (inr (subst (λ (o : Option _). IsSome o) one.limit limit))
+
+pub cause_then : (a b c : State) (f : Fault) (P : Trees → Type 0) → Survives a b P → IsTrue b.is_open → HasCause b c f
+    → HasCause a c f
+cause_then a b c NoMemory P one is_open cause = tt
+cause_then a b c Damaged P one is_open cause = cause
+cause_then a b c Device P one is_open cause = failed_then a b c P one is_open cause

@@ -1,0 +1,100 @@
+-- CREATE TABLE.
+use Rattle.std.proofs.Common.{◌≡◌, ℕ, List, [], None, Ok, Err, Result, refl, sym, ap, subst, ◌∙◌, false}
+use Rattle.sqlite.specs.Schema.{Schema}
+use Rattle.sqlite.specs.Table.{Table}
+use Rattle.sqlite.specs.Tree.{Trees}
+use Rattle.sqlite.specs.Command.TheVariants.{CreateTable}
+use Rattle.sqlite.specs.Compile.{table_defined_by}
+use Rattle.sqlite.specs.Change.{created, next_tree, KeepsRows}
+use Rattle.sqlite.specs.Does.{Tally, lacks_sequence}
+use Rattle.sqlite.specs.Effect.{Database}
+use Rattle.sqlite_tied.specs.Compute.{everything}
+use Rattle.sqlite.specs.Listing.{understood}
+use Rattle.sqlite.specs.declared.error.Error.{Error}
+use Rattle.sqlite.specs.State.{State, Writes, Executes, CommitsBy}
+use Rattle.sqlite.proofs.Callers.{IsPlain, command_of, statement_of, runs_as}
+use Rattle.store_sql.specs.declared.sql.TheConstants.{CREATE_OFFICE, CREATE_DEPARTMENT, CREATE_CERT, CREATE_REQUEST, CREATE_RUN, CREATE_REVOKED, CREATE_CA}
+use Rattle.store_sql.specs.Schema.{no_schema, with_office, with_department, with_cert, with_request, with_run, without_ca, office, department, cert, request, run, revoked_keyid, ca}
+use Rattle.store_sql.specs.Calls.{Creates, Stays, Waits}
+use Rattle.store_sql.specs.Done.{IsDone}
+use Rattle.store_sql.specs.declared.fault.Fault.{Fault}
+use Rattle.store_sql.proofs.Forms.{closes, ends_nowhere, is_compiled}
+use Rattle.store_sql.proofs.Staying.{stays_done}
+use Rattle.store_sql.proofs.Statements.{went, same_value, stopped, commits_as}
+
+-- a text that makes this table of the schema before
+pub record Create (text : List ℕ) (before : Schema) (table : Table) : Type 0 where
+  pub is : command_of (understood before text) ≡ CreateTable
+  pub all : statement_of text (understood before text) ≡ text
+  pub plain : IsPlain (understood before text)
+  pub defined : table_defined_by text ≡ Ok table
+  pub uncounted : lacks_sequence (created before table) ≡ false
+
+module _ {text : List ℕ} {before : Schema} {table : Table} (t : Create text before table) where
+  pub creates : (old new : State) (r : Result ℕ Error) → Executes text [] old new r → Creates before table old new r
+  creates old new (Err e) h = stopped text [] old new e h
+  creates old new (Ok count) h = λ has.
+      let w = subst (λ sql. Writes old new None CreateTable sql [] count) t.all
+      (runs_as text [] old new before has CreateTable t.is t.plain count h) in
+      let done = went w.changed in
+      let first = went done.1 in
+      let made = first.1 in
+      let both : Ok made.table ≡ Ok table = sym made.defined ∙ t.defined in
+      let same : made.table ≡ table = cc in
+      let schema : first.0.schema ≡ created before table = made.is ∙ ap (λ s. created s made.table) has
+      ∙ ap (created before) same in
+      let none : lacks_sequence first.0.schema ≡ false = ap lacks_sequence schema ∙ t.uncounted in
+      let now : new.now ≡ first.0 = ap (λ (p : Tally × Database). p.1) (same_value done.2)
+      ∙ same_value (rw none at first.2) in
+      record {
+        was_open = w.shown.was_open;
+        is_open = w.shown.is_open;
+        schema = ap (λ (d : Database). d.schema) now ∙ schema;
+        empty = ap (λ (d : Database). d.trees (next_tree before)) now
+            ∙ subst (λ s. first.0.trees (next_tree s) ≡ []) has made.empty;
+        others = subst (λ (d : Database). KeepsRows before.tables old.now.trees d.trees) (sym now)
+            (subst (λ s. KeepsRows s.tables old.now.trees first.0.trees) has made.others);
+        sound = w.sound;
+        committed = w.shown.committed_is;
+        mode = w.shown.mode;
+        marks = w.marks;
+      }
+
+  pub create_stays : {X : Type 0} (old new : State) (answer : Result ℕ Error) (r : Result X Fault) → IsDone answer r
+      → Executes text [] old new answer → Stays old new r
+  create_stays old new answer r done ran =
+      let known = is_compiled (understood before text) t.plain in
+      stays_done text [] old new
+      (λ c is. ends_nowhere before old.now.schema text known.0 c known.1 is (ap closes (sym (ap command_of known.1) ∙ t.is)))
+      answer r done ran
+
+  pub creates_left : (old : State) (trees : Trees) → CommitsBy text [] old trees → Waits before old trees
+  creates_left old trees h has = (commits_as text [] old before has CreateTable t.is t.plain tt trees h).0
+
+pub office_text : Create CREATE_OFFICE.now no_schema office
+unfolding understood everything
+office_text = record { is = refl; all = refl; plain = (refl, refl); defined = refl; uncounted = refl }
+
+pub department_text : Create CREATE_DEPARTMENT.now with_office department
+unfolding understood everything
+department_text = record { is = refl; all = refl; plain = (refl, refl); defined = refl; uncounted = refl }
+
+pub cert_text : Create CREATE_CERT.now with_department cert
+unfolding understood everything
+cert_text = record { is = refl; all = refl; plain = (refl, refl); defined = refl; uncounted = refl }
+
+pub request_text : Create CREATE_REQUEST.now with_cert request
+unfolding understood everything
+request_text = record { is = refl; all = refl; plain = (refl, refl); defined = refl; uncounted = refl }
+
+pub run_text : Create CREATE_RUN.now with_request run
+unfolding understood everything
+run_text = record { is = refl; all = refl; plain = (refl, refl); defined = refl; uncounted = refl }
+
+pub revoked_text : Create CREATE_REVOKED.now with_run revoked_keyid
+unfolding understood everything
+revoked_text = record { is = refl; all = refl; plain = (refl, refl); defined = refl; uncounted = refl }
+
+pub ca_text : Create CREATE_CA.now without_ca ca
+unfolding understood everything
+ca_text = record { is = refl; all = refl; plain = (refl, refl); defined = refl; uncounted = refl }

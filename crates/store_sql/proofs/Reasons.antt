@@ -1,0 +1,242 @@
+-- Why one row is not put into a table of the office.
+use Rattle.std.proofs.Common.{◌≡◌, ◌≢◌, ◌⊎◌, inl, inr, ℕ, ℤ, pos, negsuc, ◌≤◌, ◌<◌, ◌^◌, ◌+◌, List, [], ◌∷◌, drop, length, Bool, true, false, not, refl, sym, subst, ◌∙◌, arith}
+use Rattle.std.specs.Prelude.{◌&&◌, ◌==◌, sum_by, nat_le}
+use Rattle.std.specs.Float.{NotNan}
+use Rattle.std.specs.List.{AllByRecursion, list_any, list_all}
+use Rattle.std.specs.Ordering.{int_cmp, is_ne}
+use Rattle.std.proofs.lemmas.Bool.{cases_Bool, eqb-true, leb-true, leb-false, and_parts, not-false}
+use Rattle.std.proofs.Math.Dec.{T, eqb_refl}
+use Rattle.std.proofs.lemmas.Cmp.{int_cmp_total, tied_itself}
+use Rattle.std.proofs.lemmas.List.Elements.{All-from_recursion}
+use Rattle.std.proofs.lemmas.Nat.Bits.{bit_at-zero}
+use Rattle.sqlite_value.specs.Order.{bytes, exact, number}
+use Rattle.sqlite.specs.declared.types.Value.{Value}
+use Rattle.sqlite.specs.declared.types.Value.TheVariants.{Null, Int, Real, Text, Blob}
+use Rattle.sqlite.specs.Order.{Row}
+use Rattle.sqlite.specs.Table.{Table}
+use Rattle.sqlite.specs.Tree.{Trees, IsTable, rowid, with_tree}
+use Rattle.sqlite.specs.Edit.{Applies, Edit, id_in, is_taken, left_by}
+use Rattle.sqlite_trees.specs.Tree.{IsAscending}
+use Rattle.sqlite_trees.specs.View.{is_int, IsStorable, IsStorableRow}
+use Rattle.sqlite_sql.specs.Catalog.{entry_of}
+use Rattle.sqlite_sql.specs.Ops.{fits_i64}
+use Rattle.sqlite_schema.specs.declared.schema.Among.TheVariants.{All}
+use Rattle.sqlite_schema.specs.declared.schema.Constraint.TheVariants.{Datatype, NotNull, Check, PrimaryKey, Unique, ForeignKey}
+use Rattle.sqlite_schema.specs.declared.schema.Index.{Index}
+use Rattle.sqlite_schema.specs.declared.schema.Keys.TheVariants.{Enforced}
+use Rattle.sqlite_schema.specs.Rules.{Keeps, Refers, agree, are_present, are_typed, clashes, differ, guards, has_computed, index_reals, passes_checks, table_reals}
+use Rattle.sqlite_rules.specs.Edit.{edited, is_referred, IsOversized, taken_by}
+use Rattle.sqlite_rules.specs.Keys.{are_unique}
+use Rattle.sqlite_rules.specs.Lists.{Has}
+use Rattle.sqlite_rules.specs.declared.error.Refusal.TheVariants.{Violates, Mismatch, NoRowid, BadReference, TooDeep}
+use Rattle.sqlite_rules.proofs.EditLemmas.{turns}
+use Rattle.sqlite_rules.proofs.ListLemmas.{all_from, all_has, fails_has, some_has}
+use Rattle.sqlite_rules.proofs.RuleLemmas.{unique_kept}
+use Rattle.sqlite_rules.proofs.TableLemmas.{int_is, put_has}
+use Rattle.store_sql.specs.Schema.{whole}
+use Rattle.store_sql.proofs.Queries.{int_ne_test}
+use Rattle.store_sql.proofs.Stops.{IsHalted}
+
+-- ---- how long a row may be
+
+abbrev pub size : Row → ℕ
+size row = sum_by (λ v. 18 + length (bytes v)) row
+
+-- no float
+abbrev pub is_exact : Value → Bool
+is_exact Null = true
+is_exact (Int n) = true
+is_exact (Real x) = false
+is_exact (Text t) = true
+is_exact (Blob b) = true
+
+not_nan : (v : Value) → is_exact v ≡ true → NotNan (number v)
+unfolding lib.Ieee.is_nan
+not_nan Null h = tt
+not_nan (Int (pos n)) h = tt
+not_nan (Int (negsuc n)) h = tt
+not_nan (Real x) h = absurd cc
+not_nan (Text t) h = tt
+not_nan (Blob b) h = tt
+
+none_is_nan : (row : Row) → AllByRecursion (λ v. is_exact v ≡ true) row → AllByRecursion (λ v. NotNan (number v)) row
+none_is_nan [] all = tt
+none_is_nan (v ∷ row) all = (not_nan v all.0, none_is_nan row all.1)
+
+-- a row without floats, in a table that has none, is stored if it is short
+pub storable : (reals : ℕ) (row : Row) → reals ≡ 0 → AllByRecursion (λ v. is_exact v ≡ true) row
+    → (0 < length row) × (length row ≤ 2001) → size row ≤ 10 ^ 9 → IsStorable reals row
+storable reals row none exact columns short = record {
+  typed = λ c hit. absurd (let wrong : 0 ≡ 1 = sym (bit_at-zero c) ∙ subst (λ r. Rattle.std.specs.Int.bit_at r c ≡ 1) none hit in omega (arith, wrong));
+  columns = columns;
+  numbers = All-from_recursion (λ v. NotNan (number v)) row (none_is_nan row exact);
+  short = short;
+}
+
+-- ---- the tables are apart
+
+apart : IsAscending (λ a b. a.tree ≡ b.tree → ⊥) whole.tables
+apart = (
+  ((λ e. cc), ((λ e. cc), ((λ e. cc), ((λ e. cc), ((λ e. cc), ((λ e. cc), tt)))))),
+  (
+    ((λ e. cc), ((λ e. cc), ((λ e. cc), ((λ e. cc), ((λ e. cc), tt))))),
+    (
+      ((λ e. cc), ((λ e. cc), ((λ e. cc), ((λ e. cc), tt)))),
+      (
+        ((λ e. cc), ((λ e. cc), ((λ e. cc), tt))),
+        (
+          ((λ e. cc), ((λ e. cc), tt)),
+          (
+            ((λ e. cc), tt),
+            (tt, tt),
+          ),
+        ),
+      ),
+    ),
+  ),
+)
+
+-- ---- one row
+
+differs_from_itself : (v : Value) → is_int v ≡ true → differ v v ≡ true → ⊥
+differs_from_itself v int h =
+    let id = int_is v int in
+    let test : is_ne (int_cmp (id_in v) (id_in v)) ≡ true =
+    sym (int_ne_test (id_in v) (id_in v)) ∙ subst (λ w. differ w w ≡ true) id h in
+    let same = tied_itself int_cmp_total (id_in v) in
+    let wrong : false ≡ true = subst (λ o. is_ne o ≡ true) same test in cc
+
+pub this_tree : (db : Trees) (tree : ℕ) (rows : List Row) → with_tree db tree rows tree ≡ rows
+this_tree db tree rows = elim (cases_Bool (tree == tree)) [
+  | inl same ↦ rw same refl
+  | inr not_same ↦ absurd (subst (λ b. T b) not_same (eqb_refl tree))
+]
+
+pub other_tree : (db : Trees) (tree : ℕ) (rows : List Row) (t : ℕ) → t ≢ tree → with_tree db tree rows t ≡ db t
+other_tree db tree rows t apart = elim (cases_Bool (t == tree)) [
+  | inl same ↦ absurd (apart (eqb-true t tree same))
+  | inr not_same ↦ rw not_same refl
+]
+
+pub the_one : {X : Type 0} (x y : X) → Has (y ∷ []) x → x ≡ y
+the_one x y (inl same) = same
+the_one x y (inr none) = absurd none
+
+module _ (db : Trees) (table : Table) (gone : List ℤ) (new : Row) where
+  abbrev pub one : Edit
+  one = record { table = table; gone = gone; news = new ∷ [] }
+
+  -- a row of the table has the key of the new one
+  abbrev pub HasClash : Type 0
+  HasClash =
+      (i : Index) × Has whole.indexes i × (guards i table ≡ true) × (other : Row) × Has (left_by db one) other
+      × (agree i.order i.columns other i.columns new ≡ true)
+
+  other_row : (row : Row) → differ (rowid row) (rowid new) ≡ true → is_int (rowid new) ≡ true
+      → (row ≡ new) ⊎ Has (left_by db one) row → Has (left_by db one) row
+  other_row row differs int (inl same) =
+      absurd (differs_from_itself (rowid new) int (subst (λ r. differ (rowid r) (rowid new) ≡ true) same differs))
+  other_row row differs int (inr left) = left
+
+  clash : Has whole.tables table → IsTable (db table.tree) → is_taken (left_by db one) new ≡ false
+      → is_int (rowid new) ≡ true
+      → (after : Trees) → after table.tree ≡ edited db one
+      → AllByRecursion (λ t. t.tree ≢ table.tree → after t.tree ≡ db t.tree) whole.tables
+      → Keeps Unique whole db → (Keeps Unique whole after → ⊥) → HasClash
+  clash listed ordered free int after rows others keeps broken =
+      let turned = turns whole db after one apart listed ordered (rw free refl) rows others in
+      elim (cases_Bool (are_unique whole.indexes after table (new ∷ []))) [
+        | inl fine ↦ absurd (broken (unique_kept whole db after table (left_by db one) (taken_by db one) (new ∷ []) turned fine keeps))
+        | inr fails ↦
+            let index = fails_has
+            (λ i. not (guards i table && list_any (clashes i.order i.columns (after table.tree)) (new ∷ []))) whole.indexes fails in
+            let on : (guards index.0 table && list_any (clashes index.0.order index.0.columns (after table.tree)) (new ∷ [])) ≡ true =
+            not-false
+            (guards index.0 table && list_any (clashes index.0.order index.0.columns (after table.tree)) (new ∷ [])) index.2 in
+            let parts = and_parts (guards index.0 table)
+            (list_any (clashes index.0.order index.0.columns (after table.tree)) (new ∷ [])) on in
+            let row = some_has (clashes index.0.order index.0.columns (after table.tree)) (new ∷ []) parts.1 in
+            let is_new = the_one row.0 new row.1 in
+            let meets = λ (other : Row). agree index.0.order index.0.columns other index.0.columns new && differ (rowid other) (rowid new) in
+            let found = some_has meets (after table.tree)
+            (subst (λ r. clashes index.0.order index.0.columns (after table.tree) r ≡ true) is_new row.2) in
+            let both = and_parts (agree index.0.order index.0.columns found.0 index.0.columns new) (differ (rowid found.0) (rowid new)) found.2 in (
+              index.0,
+              index.1,
+              parts.0,
+              found.0,
+              other_row found.0 both.1 int
+                  (put_has new (left_by db one) found.0 (subst (λ l. Has l found.0) rows found.1)),
+              both.0,
+            )
+      ]
+
+  -- nor has any where no index is on the table
+  pub unclashed : AllByRecursion (λ i. guards i table ≡ true → ⊥) whole.indexes → HasClash → ⊥
+  unclashed none (i, here, on, other, there, same) = all_has (λ j. guards j table ≡ true → ⊥) whole.indexes i none here on
+
+  -- what is seen of the table and of the row
+  pub record IsPut : Type 0 where
+    pub listed : Has whole.tables table
+    pub ordered : IsTable (db table.tree)
+    pub typed : (are_typed table.key 0 table.columns (drop 1 new) && has_computed table new) ≡ true
+    pub present : are_present table.key 0 table.columns new ≡ true
+    pub checked : passes_checks table new ≡ true
+    pub keyed : is_int (rowid new) ≡ true
+    pub referred : is_referred whole Enforced one ≡ true
+    pub unique : Keeps Unique whole db
+    pub short : size new ≤ 10 ^ 9 → IsStorableRow (table_reals table) new
+    pub entries : size new ≤ 10 ^ 9
+        → AllByRecursion (λ i. i.table ≡ table.tree → IsStorable (index_reals (table_reals table) i.columns) (entry_of i.columns new))
+        whole.indexes
+
+  -- Such a row is kept out by its rowid, which is taken or out of range, by its key, by its size, or for want of a parent.
+  pub halted : {R : Type 0} → IsPut → (fits_i64 (id_in (rowid new)) ≡ false → R) → (is_taken (left_by db one) new ≡ true → R)
+      → (HasClash → R) → (10 ^ 9 < size new → R)
+      → ((next : Trees) → Applies whole Enforced db one next → (Refers All whole next → ⊥) → R) → IsHalted whole db one → R
+  halted {R} p range taken clashes long orphan h = go h
+    where
+      within : size new ≤ 10 ^ 9 → (IsStorableRow (table_reals table) new → ⊥)
+          ⊎ ((i : Index) × Has whole.indexes i × (i.table ≡ table.tree)
+          × (IsStorable (index_reals (table_reals table) i.columns) (entry_of i.columns new) → ⊥)) → ⊥
+      within fits (inl row) = row (p.short fits)
+      within fits (inr (i, here, of, entry)) = entry (all_has
+          (λ j. j.table ≡ table.tree → IsStorable (index_reals (table_reals table) j.columns) (entry_of j.columns new))
+          whole.indexes i (p.entries fits) here of)
+
+      too_long : (IsStorableRow (table_reals table) new → ⊥)
+          ⊎ ((i : Index) × Has whole.indexes i × (i.table ≡ table.tree)
+          × (IsStorable (index_reals (table_reals table) i.columns) (entry_of i.columns new) → ⊥)) → R
+      too_long big = elim (cases_Bool (nat_le (size new) (10 ^ 9))) [
+        | inl fits ↦ absurd (within (leb-true (size new) (10 ^ 9) fits) big)
+        | inr over ↦ long (leb-false (size new) (10 ^ 9) over)
+      ]
+
+      broken : (Keeps Unique whole (with_tree db table.tree (edited db one)) → ⊥) → R
+      broken unkept = elim (cases_Bool (is_taken (left_by db one) new)) [
+        | inl is_taken ↦ taken is_taken
+        | inr free ↦ clashes (clash p.listed p.ordered free p.keyed (with_tree db table.tree (edited db one))
+            (this_tree db table.tree (edited db one))
+            (all_from (λ t. t.tree ≢ table.tree → with_tree db table.tree (edited db one) t.tree ≡ db t.tree) whole.tables
+            (λ t listed. other_tree db table.tree (edited db one) t.tree)) p.unique unkept)
+      ]
+
+      go : IsHalted whole db one → R
+      go (inl (Violates Datatype, h)) = absurd (let wrong = rw p.typed at h in cc)
+      go (inl (Violates NotNull, h)) = absurd (let wrong = rw p.present at h in cc)
+      go (inl (Violates Check, h)) = absurd (let wrong = rw p.checked at h in cc)
+      go (inl (Violates PrimaryKey, h)) = elim (cases_Bool (is_taken (left_by db one) new)) [
+        | inl is_taken ↦ taken is_taken
+        | inr free ↦ absurd (let wrong = rw free at h in cc)
+      ]
+      go (inl (Violates Unique, h)) = broken h
+      go (inl (Violates ForeignKey, h)) = absurd h
+      go (inl (Mismatch, h)) = absurd (let wrong = rw p.keyed at h in cc)
+      go (inl (NoRowid, h)) = elim (cases_Bool (fits_i64 (id_in (rowid new)))) [
+        | inl fits ↦ absurd (let wrong = rw fits at h in cc)
+        | inr out ↦ range out
+      ]
+      go (inl (BadReference, h)) = absurd (let wrong : true ≡ false = sym p.referred ∙ h in cc)
+      go (inl (TooDeep, h)) = absurd h
+      go (inr (inl (row, here, big))) = too_long (subst (λ r. IsOversized whole table r) (the_one row new here) big)
+      go (inr (inr (next, did, unreferred))) = orphan next did unreferred

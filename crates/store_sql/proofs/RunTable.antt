@@ -1,0 +1,289 @@
+-- The statements on the table of runs.
+use Rattle.std.proofs.Common.{◌≡◌, ℕ, pos, List, [], ◌∷◌, codes, map, Bool, true, false, not, Option, None, Ok, refl, sym, ap, ap₂, subst, ◌∙◌, inl, inr, take, IsSorted}
+use Rattle.std.specs.Prelude.{◌&&◌, filter, nat_le}
+use Rattle.std.specs.List.Sorted.{IsPermutation}
+use Rattle.std.proofs.Math.Bool.{and-true}
+use Rattle.std.proofs.lemmas.Simd.{map-map}
+use Rattle.std.proofs.lemmas.List.Sorted.{IsPermutation-map, IsPermutation-refl}
+use Rattle.sqlite.specs.Order.{Row, column}
+use Rattle.sqlite.specs.declared.types.Value.TheVariants.{Null, Int}
+use Rattle.std.proofs.lemmas.Cmp.{tied_itself}
+use Rattle.std.proofs.Common.{Equal}
+use Rattle.sqlite_value.proofs.OrderLemmas.{value_cmp_total}
+use Rattle.sqlite.specs.Order.{value_cmp}
+use Rattle.sqlite_rules.proofs.PlaceLemmas.{tied_same}
+use Rattle.sqlite_value.specs.Keys.{ascending}
+use Rattle.sqlite_value.specs.declared.keys.Key.{Key}
+use Rattle.sqlite.specs.Term.{Term, lit, col, op2}
+use Rattle.sqlite.specs.Ops.{binary, is_true}
+use Rattle.sqlite_sql.specs.declared.ops.BinaryOp.TheVariants.{Compare}
+use Rattle.sqlite_sql.specs.declared.ops.CompareOp.TheVariants.{Le, Ge}
+use Rattle.sqlite.specs.Collation.TheVariants.{Binary}
+use Rattle.sqlite.specs.Query.{Query, IsAnswer, Output}
+use Rattle.sqlite.specs.Program.{overlay}
+use Rattle.sqlite.specs.Source.TheVariants.{Values}
+use Rattle.sqlite.specs.Command.TheVariants.{Insert, Select, Delete}
+use Rattle.sqlite.specs.Tree.{Trees, rowid}
+use Rattle.sqlite_trees.specs.View.{is_int}
+use Rattle.sqlite.specs.Edit.{edit_of, Applies, id_in}
+use Rattle.sqlite.specs.Rowids.TheVariants.{Given}
+use Rattle.sqlite_schema.specs.declared.schema.Keys.TheVariants.{Enforced}
+use Rattle.sqlite_rules.specs.Calls.{ids_of}
+use Rattle.sqlite_rules.specs.Lists.{Has}
+use Rattle.sqlite.specs.Does.{Tally, Does}
+use Rattle.sqlite.specs.Effect.{Database}
+use Rattle.sqlite_tied.specs.Compute.{everything}
+use Rattle.sqlite.specs.Listing.{understood, reads_listing}
+use Rattle.sqlite.proofs.Callers.{IsPlain, command_of, statement_of}
+use Rattle.store_sql.specs.Schema.{whole, run_at}
+use Rattle.store_sql.specs.Cells.{run_cells}
+use Rattle.store_sql.specs.Contents.{Contents, Holds, Means, Lists, at_places, run_places}
+use Rattle.store_sql.specs.Changes.{with_run}
+use Rattle.store_sql.specs.Runs.{begins, last_run, without_runs}
+use Rattle.store_sql.specs.declared.sql.TheConstants.{INSERT_RUN, EVERY_RUN, LAST_RUN, DELETE_RUNS}
+use Rattle.store_sql.specs.declared.runs.RunRow.{RunRow}
+use Rattle.store_sql.proofs.Apart.{run_apart}
+use Rattle.store_sql.proofs.CallLemmas.{Write, Find}
+use Rattle.store_sql.proofs.Edits.{keep_all, of_record, of_row, left_is, filter_table}
+use Rattle.store_sql.proofs.Elsewhere.{spares, in_run}
+use Rattle.store_sql.proofs.FaultLemmas.{IsWhole, none_overflows}
+use Rattle.store_sql.proofs.Inserts.{no_works}
+use Rattle.store_sql.proofs.Inserts as insert
+use Rattle.store_sql.proofs.Queries.{on_table, in_order, in_order, selected, chosen, lists_left, int_le_test, int_ge_test}
+use Rattle.store_sql.proofs.Rows.{cast_int}
+use Rattle.store_sql.proofs.Statements.{mode, deletes}
+use Rattle.store_sql.proofs.Rising.{AscendBy, DescendBy, falling}
+use Rattle.store_sql.proofs.LastRun.{falls, first_is_last, listed}
+use Rattle.store_sql.proofs.Unmapped.{unmapped}
+use Rattle.store_sql.proofs.Numbers.{le_number, ge_number}
+
+-- ---- INSERT
+
+abbrev pub insert_sql : List ℕ
+insert_sql = INSERT_RUN.now
+
+abbrev pub terms : List Term
+terms = col 0 0 ∷ lit Null ∷ col 0 1 ∷ []
+
+pub insert_is : (command_of (understood whole insert_sql) ≡ Insert 4 (Values terms 3))
+    × IsPlain (understood whole insert_sql) × IsWhole insert_sql 2 (understood whole insert_sql)
+unfolding understood everything
+insert_is = (refl, (refl, refl), (refl, refl))
+
+abbrev pub source : RunRow → Row
+source r = Int (pos r.lo) ∷ Null ∷ Int (pos r.hi) ∷ []
+
+pub put : (r : RunRow) → Write insert_sql (run_cells r) (with_run r)
+put = insert.put insert_sql run_cells run_places 4 run_at terms 3 source with_run (λ c. c.runs)
+    refl insert_is.0 insert_is.1 (λ x. insert_is.2) (λ x. refl) (λ x rows. simp cast_int) (λ db c h. h.runs)
+    (λ x db after c h o put now. in_run db after c h (x ∷ c.runs) o now)
+
+-- ---- SELECT of all
+
+abbrev every_sql : List ℕ
+every_sql = EVERY_RUN.now
+
+abbrev every_query : Query
+every_query = on_table 6 [] (col 1 0 ∷ col 1 2 ∷ []) ((col 1 0, ascending Binary) ∷ [])
+
+every_is : (command_of (understood whole every_sql) ≡ Select (record { lets = []; body = every_query }) (codes "lo" ∷ codes "hi" ∷ [])) × (reads_listing whole every_sql ≡ false)
+    × IsPlain (understood whole every_sql) × IsWhole every_sql 0 (understood whole every_sql)
+unfolding understood everything
+every_is = (refl, refl, (refl, refl), (refl, refl))
+
+every_answers : (trees : Trees) (rows : List Row) (c : Contents) → Holds trees c
+    → IsAnswer every_query (overlay trees []) ([]) rows → IsPermutation (map run_cells c.runs) rows
+every_answers trees rows c h answer =
+    subst (λ xs. IsPermutation (map run_cells xs) rows) (keep_all c.runs)
+    (chosen run_cells run_cells (λ x. true) run_places (λ v. true) (λ v. column v 0 ∷ column v 1 ∷ []) (λ x. refl)
+    (λ x. refl) (trees 6) rows c.runs h.runs (selected 6 _ _ _ trees [] rows refl answer))
+
+pub every : Find every_sql ([]) run_cells (λ c. c.runs)
+every = record {
+  query = every_query;
+  names = codes "lo" ∷ codes "hi" ∷ [];
+  is = every_is.0;
+  unlisted = every_is.1;
+  plain = every_is.2;
+  one = every_is.3;
+  typed = refl;
+  sure = λ trees h. elim h [ inl over ↦ over | inr fold ↦ none_overflows _ fold ];
+  apart = run_apart;
+  answers = every_answers;
+}
+
+-- no two begin with the same serial
+begin_apart : (trees : Trees) (c : Contents) → Holds trees c → (x y : RunRow) → Has c.runs x → Has c.runs y
+    → x.lo ≡ y.lo → x ≡ y
+begin_apart trees c h x y here there equal =
+    let r = of_row run_cells run_places (trees 6) c.runs x h.runs here in
+    let s = of_row run_cells run_places (trees 6) c.runs y h.runs there in
+    let first : rowid r.0 ≡ Int (pos x.lo) = ap (λ v. column v 0) r.2 in
+    let second : rowid s.0 ≡ Int (pos x.lo) = ap (λ v. column v 0) s.2 ∙ ap (λ n. Int (pos n)) (sym equal) in
+    let tie : value_cmp (rowid r.0) (rowid s.0) ≡ Equal =
+    ap₂ value_cmp first second ∙ tied_itself value_cmp_total (Int (pos x.lo)) in
+    let same : r.0 ≡ s.0 = tied_same (trees 6) r.0 s.0 h.runs.apart r.1 s.1 tie in
+    run_apart x y (sym r.2 ∙ ap (at_places run_places) same ∙ s.2)
+
+-- ---- SELECT of the last one that begins with a serial or before it
+
+abbrev last_sql : List ℕ
+last_sql = LAST_RUN.now
+
+abbrev low_test : List Term
+low_test = op2 (Compare Le Binary) (col 1 0) (col 0 0) ∷ []
+
+abbrev downwards : List (Term × Key)
+downwards = (col 1 0, record { collation = Binary; descending = true }) ∷ []
+
+abbrev low_query : Query
+low_query = on_table 6 low_test (col 1 0 ∷ col 1 2 ∷ []) downwards
+
+abbrev last_query : Query
+last_query = record low_query { limit = lit (Int (pos 1)) }
+
+last_is : (command_of (understood whole last_sql)
+    ≡ Select (record { lets = []; body = last_query }) (codes "lo" ∷ codes "hi" ∷ []))
+    × (reads_listing whole last_sql ≡ false)
+    × IsPlain (understood whole last_sql) × IsWhole last_sql 1 (understood whole last_sql)
+unfolding understood everything
+last_is = (refl, refl, (refl, refl), (refl, refl))
+
+low_passes : (n : ℕ) (r : RunRow)
+    → (is_true (binary (Compare Le Binary) (column (run_cells r) 0) (Int (pos n))) && true) ≡ nat_le r.lo n
+low_passes n r = and-true _ ∙ int_le_test (pos r.lo) (pos n) ∙ le_number r.lo n
+
+-- all that begin so, the last of them first
+module _ (n : ℕ) (trees : Trees) (rows : List Row) (c : Contents) (h : Holds trees c)
+    (answer : IsAnswer last_query (overlay trees []) (Int (pos n) ∷ []) rows) where
+  low_answer : IsAnswer low_query (overlay trees []) (Int (pos n) ∷ []) (map (λ (o : Output). o.1) answer.ordered)
+  low_answer = record {
+    staged = answer.staged;
+    grouped = answer.grouped;
+    kept = answer.kept;
+    distinct = answer.distinct;
+    ordered = answer.ordered;
+    same = answer.same;
+    sorted = answer.sorted;
+    shown = refl;
+  }
+
+  low_are : IsPermutation (map run_cells (filter (λ r. nat_le r.lo n) c.runs)) (map (λ (o : Output). o.1) answer.ordered)
+  low_are =
+      chosen run_cells run_cells (λ r. nat_le r.lo n) run_places
+      (λ v. is_true (binary (Compare Le Binary) (column v 0) (Int (pos n))) && true) (λ v. column v 0 ∷ column v 1 ∷ [])
+      (λ x. low_passes n x) (λ x. refl) (trees 6) (map (λ (o : Output). o.1) answer.ordered) c.runs h.runs
+      (selected 6 low_test (col 1 0 ∷ col 1 2 ∷ []) downwards trees (Int (pos n) ∷ [])
+      (map (λ (o : Output). o.1) answer.ordered) refl low_answer)
+
+  low_fall : DescendBy 0 (map (λ (o : Output). o.1) answer.ordered)
+  low_fall =
+      in_order 6 low_test (col 1 0 ∷ col 1 2 ∷ []) downwards trees (Int (pos n) ∷ [])
+      (map (λ (o : Output). o.1) answer.ordered) (λ v. column v 0 ∷ []) (λ r. refl) refl low_answer
+
+  last_answers : IsPermutation (map run_cells (listed (last_run n c))) rows
+  last_answers =
+      let all = unmapped run_cells (filter (λ r. nat_le r.lo n) c.runs) (map (λ (o : Output). o.1) answer.ordered) low_are in
+      let down : IsSorted falls all.0 = falling all.0 (subst (DescendBy 0) all.2 low_fall) in
+      let one : take 1 all.0 ≡ listed (last_run n c) =
+      first_is_last n c.runs all.0 (begin_apart trees c h) all.1 down in
+      let shown : rows ≡ map run_cells (take 1 all.0) = answer.shown ∙ ap (take 1) all.2 ∙ taken all.0 in
+      subst (IsPermutation (map run_cells (listed (last_run n c)))) (sym (shown ∙ ap (map run_cells) one)) (IsPermutation-refl _)
+    where
+      taken : (zs : List RunRow) → take 1 (map run_cells zs) ≡ map run_cells (take 1 zs)
+      taken [] = refl
+      taken (z ∷ zs) = refl
+
+pub last : (n : ℕ) → Find last_sql (Int (pos n) ∷ []) run_cells (λ c. listed (last_run n c))
+last n = record {
+  query = last_query;
+  names = codes "lo" ∷ codes "hi" ∷ [];
+  is = last_is.0;
+  unlisted = last_is.1;
+  plain = last_is.2;
+  one = last_is.3;
+  typed = refl;
+  sure = λ trees h. elim h [ inl over ↦ over | inr fold ↦ none_overflows _ fold ];
+  apart = run_apart;
+  answers = last_answers n;
+}
+
+-- ---- DELETE
+
+abbrev pub tests : List Term
+tests = op2 (Compare Ge Binary) (col 1 0) (col 0 0) ∷ op2 (Compare Le Binary) (col 1 0) (col 0 1) ∷ []
+
+abbrev pub passes : RunRow → Row → Bool
+passes ends v = is_true (binary (Compare Ge Binary) (column v 0) (Int (pos ends.lo))) &&
+    (is_true (binary (Compare Le Binary) (column v 0) (Int (pos ends.hi))) && true)
+
+passes_is : (ends r : RunRow) → passes ends (run_cells r) ≡ begins ends r
+passes_is ends r = ap₂ ◌&&◌ (int_ge_test (pos r.lo) (pos ends.lo) ∙ ge_number r.lo ends.lo)
+    (and-true _ ∙ int_le_test (pos r.lo) (pos ends.hi) ∙ le_number r.lo ends.hi)
+
+abbrev pub delete_sql : List ℕ
+delete_sql = DELETE_RUNS.now
+
+abbrev pub delete_query : Query
+delete_query = on_table 6 tests (col 1 0 ∷ []) []
+
+pub delete_is : (command_of (understood whole delete_sql) ≡ Delete 4 (record { lets = []; body = delete_query }))
+    × IsPlain (understood whole delete_sql) × IsWhole delete_sql 2 (understood whole delete_sql)
+unfolding understood everything
+delete_is = (refl, (refl, refl), (refl, refl))
+
+abbrev pub hit : RunRow → Row → Bool
+hit ends r = passes ends (at_places run_places r)
+
+left_runs : (ends : RunRow) (c : Contents) (db after : Trees) (rows : List Row) → Holds db c
+    → IsAnswer delete_query (overlay db []) (run_cells ends) rows
+    → Applies whole Enforced db (edit_of db run_at (ids_of rows) Given 0 []) after
+    → Lists run_cells run_places (after 6) (filter (λ r. not (begins ends r)) c.runs)
+left_runs ends c db after rows h answer did =
+    let all = selected 6 tests (col 1 0 ∷ []) [] db (run_cells ends) rows refl answer in
+    let ids : IsPermutation (map (λ r. id_in (rowid r)) (filter (hit ends) (db 6))) (ids_of rows) =
+    subst (λ l. IsPermutation l (ids_of rows))
+    (map-map (λ r. id_in (rowid r)) (λ r. column r 0 ∷ []) (filter (hit ends) (db 6)))
+    (IsPermutation-map (λ r. id_in (rowid r)) _ _ all) in
+    let ints = λ (r : Row) (here : Has (db 6) r).
+    let it = of_record run_cells run_places (db 6) c.runs r h.runs here in
+    let id : column r 0 ≡ Int (pos it.0.lo) = ap (λ v. column v 0) it.2 in ap is_int id in
+    let left : after 6 ≡ filter (λ r. not (hit ends r)) (db 6) = did.rows
+    ∙ left_is (hit ends) (db 6) h.runs.apart ints (ids_of rows) ids in
+    record {
+      same = rw left (lists_left run_cells (λ r. not (begins ends r)) run_places (λ v. not (passes ends v))
+          (λ r. ap not (passes_is ends r)) (db 6) c.runs h.runs);
+      apart = rw left (filter_table _ (db 6) h.runs.apart);
+    }
+
+delete_does : (ends : RunRow) (limit : Option ℕ) (db next : Database) (tally : Tally) (c : Contents) → Means db c
+    → Does limit mode (run_cells ends) db (statement_of delete_sql (understood whole delete_sql)) None
+    (Delete 4 (record { lets = []; body = delete_query })) (Ok (tally, next))
+    → (next.schema ≡ whole) × Holds next.trees (without_runs ends c)
+delete_does ends limit db next tally c means h =
+    let did = deletes limit db next tally whole means.schema 4 run_at refl (run_cells ends)
+    (statement_of delete_sql (understood whole delete_sql)) (record { lets = []; body = delete_query }) h
+    (no_works 6) in
+    let left = left_runs ends c db.trees next.trees did.0 means.kept.holds (did.1.answer Null) did.2 in (
+      did.3,
+      in_run db.trees next.trees c means.kept.holds (filter (λ r. not (begins ends r)) c.runs)
+          (spares (edit_of db.trees run_at (ids_of did.0) Given 0 []) db.trees next.trees did.2) left,
+    )
+
+pub delete : (ends : RunRow) → Write delete_sql (run_cells ends) (without_runs ends)
+delete ends = record {
+  command = Delete 4 (record { lets = []; body = delete_query });
+  is = delete_is.0;
+  plain =
+      delete_is.1;
+  one = delete_is.2;
+  on_rows = tt;
+  does = delete_does ends;
+}
+
+pub every_rises : (trees : Trees) (rows : List Row) → IsAnswer every.query (overlay trees []) ([]) rows
+    → AscendBy 0 rows
+unfolding every
+every_rises trees rows answer =
+    in_order 6 [] (col 1 0 ∷ col 1 2 ∷ []) ((col 1 0, ascending Binary) ∷ []) trees ([]) rows (λ v. column v 0 ∷ [])
+    (λ r. refl) refl answer

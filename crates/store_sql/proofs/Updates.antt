@@ -1,0 +1,41 @@
+-- UPDATE of the rows that pass a test.
+use Rattle.std.proofs.Common.{◌≡◌, ℕ, List, ◌∷◌, map, Bool, true, cond}
+use Rattle.std.specs.Prelude.{filter}
+use Rattle.std.specs.List.Sorted.{IsPermutation}
+use Rattle.sqlite.specs.Order.{Row}
+use Rattle.sqlite.specs.Tree.{Trees, rowid}
+use Rattle.sqlite_trees.specs.View.{is_int}
+use Rattle.sqlite.specs.Table.{Table}
+use Rattle.sqlite.specs.Edit.{edit_of, Applies}
+use Rattle.sqlite.specs.Rowids.TheVariants.{Given}
+use Rattle.sqlite.specs.Cast.{cast_row}
+use Rattle.sqlite_schema.specs.declared.schema.Keys.TheVariants.{Enforced}
+use Rattle.sqlite_rules.specs.Calls.{ids_of}
+use Rattle.sqlite_rules.specs.Lists.{Has}
+use Rattle.store_sql.specs.Schema.{whole}
+use Rattle.store_sql.specs.Contents.{Lists, at_places}
+use Rattle.store_sql.proofs.Edits.{of_record, updated, updated_apart, lists_updated}
+
+-- each struct that passes is changed: `next_row` is a row's new row
+pub lists_changed : {X : Type 0} (cells : X → Row) (places : List ℕ) (table : Table) (db after : Trees)
+    (rows : List Row) (xs : List X) (mine : X → Bool) (u : X → X)
+    (tests : Row → Bool) (change next_row : Row → Row) → ((x : X) → tests (cells x) ≡ mine x)
+    → ((x : X) → change (cells x) ≡ cells (u x))
+    → ((x : X) (r : Row) → at_places places r ≡ cells x → is_int (rowid r) ≡ true)
+    → ((x : X) (r : Row) → at_places places r ≡ cells x
+    → at_places places (cast_row table (next_row r)) ≡ change (at_places places r))
+    → Lists cells places (db table.tree) xs → IsPermutation
+    (map (λ r. rowid r ∷ next_row r) (filter (λ r. tests (at_places places r)) (db table.tree))) rows
+    → Applies whole Enforced db (edit_of db table (ids_of rows) Given 1 rows) after
+    → Lists cells places (after table.tree) (map (λ x. cond (mine x) (u x) x) xs)
+lists_changed cells places table db after rows xs mine u tests change next_row tested changed int back h all did =
+    let p = λ (r : Row). tests (at_places places r) in
+    let each = λ (r : Row) (here : Has (db table.tree) r). of_record cells places (db table.tree) xs r h here in
+    let ints = λ (r : Row) (here : Has (db table.tree) r). let it = each r here in int it.0 r it.2 in
+    let news = λ (r : Row) (here : Has (db table.tree) r). let it = each r here in back it.0 r it.2 in
+    record {
+      same = lists_updated cells places mine u tests change (λ r. cast_row table (next_row r)) tested changed
+          (db table.tree) (after table.tree) xs h news
+          (updated whole table db after rows p next_row h.apart ints all did);
+      apart = updated_apart whole table db after rows p next_row h.apart ints all did;
+    }

@@ -1,0 +1,36 @@
+-- Runs of revoked serials, found and taken out by where they begin.
+use Rattle.std.specs.Prelude.{◌≡◌, ℕ, Bool, not, ◌&&◌, nat_le, if◌then◌else◌, List, [], ◌∷◌, filter, Option, Some, None}
+use Rattle.std.specs.Prelude.{Result, Ok, Err}
+use Rattle.sqlite.specs.State.{State, IsUnchanged}
+use Rattle.store_sql.specs.declared.runs.RunRow.{RunRow}
+use Rattle.store_sql.specs.Calls.{Fails}
+use Rattle.store_sql.specs.Contents.{Contents, Means}
+
+-- ---- the last one
+
+-- the one of two runs that begins later, if both are there
+abbrev pub later : RunRow → Option RunRow → Option RunRow
+later r None = Some r
+later r (Some x) = if nat_le r.lo x.lo then Some x else Some r
+
+-- the last of the runs that begin with the serial or before it
+abbrev pub last_at : ℕ → List RunRow → Option RunRow
+last_at n [] = None
+last_at n (r ∷ rs) = if nat_le r.lo n then later r (last_at n rs) else last_at n rs
+
+abbrev pub last_run : ℕ → Contents → Option RunRow
+last_run n c = last_at n c.runs
+
+-- what is found is that of the contents, if there is one, and nothing has changed; or the call fails
+abbrev pub FindsIts : {X E : Type 0} → (Contents → Option X) → State → State → Result (Option X) E → Type 0
+FindsIts of old new (Ok found) = (c : Contents) → Means old.now c → IsUnchanged old new × (found ≡ of c)
+FindsIts of old new (Err e) = (c : Contents) → Means old.now c → Fails old new
+
+-- ---- those between two ends
+
+-- the run begins from the one end to the other
+abbrev pub begins : RunRow → RunRow → Bool
+begins ends r = nat_le ends.lo r.lo && nat_le r.lo ends.hi
+
+abbrev pub without_runs : RunRow → Contents → Contents
+without_runs ends c = record c { runs = filter (λ r. not (begins ends r)) c.runs }

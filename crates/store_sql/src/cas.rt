@@ -1,0 +1,93 @@
+//! The table of CAs.
+
+ghost use Rattle.std.specs.Prelude.{◌≡◌, ◌∷◌, []};
+ghost use Rattle.std.specs.Ordering.{nat_cmp};
+ghost use Rattle.store_sql.specs.Cells.{ca_cells};
+ghost use Rattle.store_sql.specs.Changes.{with_ca};
+ghost use Rattle.store_sql.specs.Calls.{Changes, FailsBy, Finds, Leaves, Never, OnlyReads, Rises, Stays};
+ghost use Rattle.store_sql.specs.Honest.{On, Outlives, OutlivesBy};
+ghost use Rattle.store_sql.specs.Faults.{HasCause};
+ghost use Rattle.store_sql.specs.Refusals.{RefusedFor, RefusesCa};
+
+use crate::columns::{Columns, found};
+use crate::fault::{Fault, done};
+use crate::kind::{Kind, blob_at, is_row_of, number_at};
+use crate::number::Number;
+use crate::sql::{EVERY_CA, INSERT_CA};
+use sqlite::types::ValueRef;
+use sqlite::{Alter, Connection, Row};
+use std::alloc::Global;
+use text::{NoMemory, Text};
+
+/// A CA.
+#[derive(Debug, Drop)]
+pub struct CaRow {
+    /// From 1 on.
+    pub number: Number,
+    /// Its key blob, 51 bytes.
+    pub ca: Text,
+    /// The serial that it serves first.
+    pub since: Number,
+}
+
+impl CaRow {
+    ghost use Rattle.std.specs.Prelude.{◌<◌, ◌^◌};
+    ghost use Rattle.sqlite.specs.Values.{bound};
+    ghost use Rattle.store_sql.specs.Cells.{ca_cells};
+
+    fn values(&self) -> [ValueRef<'_>; 3]
+        ensures is { bound result ≡ ca_cells self.now }
+        ensures low { self.now.number < 2 ^ 63 }
+    {
+        [
+            self.number.value(),
+            ValueRef::Blob(self.ca.as_slice()),
+            self.since.value(),
+        ]
+    }
+}
+
+impl Columns for CaRow {
+    ghost use Rattle.std.specs.Prelude.{◌∷◌, [], refl};
+    ghost use Rattle.store_sql.specs.Kinds.{has_kinds};
+    ghost use Rattle.store_sql.specs.Cells.{ca_cells, ca_kinds};
+
+    ghost cells = { ca_cells };
+
+    ghost is_row = { has_kinds ca_kinds };
+
+    ghost fits = { λ _. refl };
+
+    fn is_row(row: &Row) -> bool {
+        is_row_of(row, &[Kind::Number, Kind::Blob, Kind::Number])
+    }
+
+    fn copied_from(alloc: Global, row: &Row) -> Result<CaRow, NoMemory> {
+        Ok(CaRow {
+            number: number_at(row, 0),
+            ca: blob_at(alloc, row, 1)?,
+            since: number_at(row, 2),
+        })
+    }
+}
+
+/// Keeps a CA. `Device` also where its number or its key blob is taken, or the row is too long.
+pub fn insert_ca<S: Alter>(conn: &mut Connection<S>, ca: &CaRow) -> Result<(), Fault>
+    ensures changes { On S.Store (Changes (with_ca ca.now)) conn.old conn.new result }
+    ensures fault { On S.Store (RefusedFor (RefusesCa ca.now)) conn.old conn.new result }
+    ensures stays { On S.Store Stays conn.old conn.new result }
+    ensures survives { OutlivesBy S.Store (Leaves (with_ca ca.now)) conn.old conn.new }
+{
+    done(conn.execute(INSERT_CA, &ca.values()))
+}
+
+/// Each CA, by number. `Damaged` where a row has another form.
+pub fn every_ca<S: Alter>(alloc: Global, conn: &mut Connection<S>) -> Result<Vec<CaRow>, Fault>
+    ensures finds { On S.Store (Finds (λ c. c.cas)) conn.old conn.new result }
+    ensures sorted { On S.Store (Rises (λ a. a.number) nat_cmp) conn.old conn.new result }
+    ensures reads { On S.Store OnlyReads conn.old conn.new result }
+    ensures fault { On S.Store (FailsBy HasCause) conn.old conn.new result }
+    ensures survives { Outlives S.Store Never conn.old conn.new }
+{
+    found(alloc, conn.query_all(EVERY_CA, &[]))
+}

@@ -1,0 +1,147 @@
+//! The table of certificates.
+
+ghost use Rattle.std.specs.Prelude.{◌≡◌, ◌∷◌, []};
+ghost use Rattle.std.specs.Ordering.{nat_cmp};
+ghost use Rattle.sqlite.specs.declared.types.Value.TheVariants.{Blob};
+ghost use Rattle.store_sql.specs.Cells.{cert_cells};
+ghost use Rattle.store_sql.specs.Changes.{certs_numbered, certs_within, with_cert, with_signature};
+ghost use Rattle.store_sql.specs.Calls.{Changes, FailsBy, Finds, FindsOne, Leaves, Never, OnlyReads, Rises, Stays};
+ghost use Rattle.store_sql.specs.Honest.{On, Outlives, OutlivesBy};
+ghost use Rattle.store_sql.specs.Faults.{HasCause};
+ghost use Rattle.store_sql.specs.Refusals.{RefusedFor, RefusesCert, RefusesSignature};
+
+use crate::columns::{Columns, found, found_first};
+use crate::fault::{Fault, done};
+use crate::kind::{Kind, blob_at, is_row_of, number_at, optional_blob, optional_blob_at, text_at};
+use crate::number::Number;
+use crate::sql::{CERTS_WITHIN, FIND_CERT, INSERT_CERT, SIGN_CERT};
+use sqlite::types::ValueRef;
+use sqlite::{Alter, Connection, Row};
+use std::alloc::Global;
+use text::{NoMemory, Text};
+
+/// A certificate.
+#[derive(Debug, Drop)]
+pub struct CertRow {
+    pub serial: Number,
+    /// The name of its department.
+    pub department: Text,
+    pub key_id: Text,
+    /// All that is signed.
+    pub body: Text,
+    /// 64 bytes, once it is signed.
+    pub signature: Option<Text>,
+}
+
+impl CertRow {
+    ghost use Rattle.std.specs.Prelude.{◌<◌, ◌^◌};
+    ghost use Rattle.sqlite.specs.Values.{bound};
+    ghost use Rattle.store_sql.specs.Cells.{cert_cells};
+
+    fn values(&self) -> [ValueRef<'_>; 5]
+        ensures is { bound result ≡ cert_cells self.now }
+        ensures low { self.now.serial < 2 ^ 63 }
+    {
+        [
+            self.serial.value(),
+            ValueRef::Text(self.department.as_slice()),
+            ValueRef::Text(self.key_id.as_slice()),
+            ValueRef::Blob(self.body.as_slice()),
+            optional_blob(&self.signature),
+        ]
+    }
+}
+
+impl Columns for CertRow {
+    ghost use Rattle.std.specs.Prelude.{◌∷◌, []};
+    ghost use Rattle.store_sql.specs.Cells.{signed_or_not};
+    ghost use Rattle.store_sql.specs.Kinds.{has_kinds};
+    ghost use Rattle.store_sql.specs.Cells.{cert_cells, cert_kinds};
+
+    ghost cells = { cert_cells };
+
+    ghost is_row = { has_kinds cert_kinds };
+
+    ghost fits = { signed_or_not };
+
+    fn is_row(row: &Row) -> bool {
+        is_row_of(
+            row,
+            &[
+                Kind::Number,
+                Kind::Text,
+                Kind::Text,
+                Kind::Blob,
+                Kind::OptionalBlob,
+            ],
+        )
+    }
+
+    fn copied_from(alloc: Global, row: &Row) -> Result<CertRow, NoMemory> {
+        Ok(CertRow {
+            serial: number_at(row, 0),
+            department: text_at(alloc, row, 1)?,
+            key_id: text_at(alloc, row, 2)?,
+            body: blob_at(alloc, row, 3)?,
+            signature: optional_blob_at(alloc, row, 4)?,
+        })
+    }
+}
+
+/// Keeps a certificate. `Device` also where its serial is taken, its department is missing, or the row is too long.
+pub fn insert_cert<S: Alter>(conn: &mut Connection<S>, cert: &CertRow) -> Result<(), Fault>
+    ensures changes { On S.Store (Changes (with_cert cert.now)) conn.old conn.new result }
+    ensures fault { On S.Store (RefusedFor (RefusesCert cert.now)) conn.old conn.new result }
+    ensures stays { On S.Store Stays conn.old conn.new result }
+    ensures survives { OutlivesBy S.Store (Leaves (with_cert cert.now)) conn.old conn.new }
+{
+    done(conn.execute(INSERT_CERT, &cert.values()))
+}
+
+/// The certificate of this serial, if it is there. `Damaged` where its row has another form.
+pub fn find_cert<S: Alter>(
+    alloc: Global,
+    conn: &mut Connection<S>,
+    serial: Number,
+) -> Result<Option<CertRow>, Fault>
+    ensures finds { On S.Store (FindsOne (certs_numbered serial)) conn.old conn.new result }
+    ensures reads { On S.Store OnlyReads conn.old conn.new result }
+    ensures fault { On S.Store (FailsBy HasCause) conn.old conn.new result }
+    ensures survives { Outlives S.Store Never conn.old conn.new }
+{
+    found_first(alloc, conn.query_all(FIND_CERT, &[serial.value()]))
+}
+
+/// The certificates whose serials lie between these two, both included, by serial. `Damaged` where a row of one has
+/// another form. It reads those rows alone.
+pub fn certs_within<S: Alter>(
+    alloc: Global,
+    conn: &mut Connection<S>,
+    lo: Number,
+    hi: Number,
+) -> Result<Vec<CertRow>, Fault>
+    ensures finds { On S.Store (Finds (certs_within lo hi)) conn.old conn.new result }
+    ensures sorted { On S.Store (Rises (λ c. c.serial) nat_cmp) conn.old conn.new result }
+    ensures reads { On S.Store OnlyReads conn.old conn.new result }
+    ensures fault { On S.Store (FailsBy HasCause) conn.old conn.new result }
+    ensures survives { Outlives S.Store Never conn.old conn.new }
+{
+    found(
+        alloc,
+        conn.query_all(CERTS_WITHIN, &[lo.value(), hi.value()]),
+    )
+}
+
+/// Keeps the signature of the certificate of this serial, if it is there. `Device` also where its row is then too long.
+pub fn update_signature<S: Alter>(
+    conn: &mut Connection<S>,
+    serial: Number,
+    signature: &[u8],
+) -> Result<(), Fault>
+    ensures changes { On S.Store (Changes (with_signature serial signature.now)) conn.old conn.new result }
+    ensures fault { On S.Store (RefusedFor (RefusesSignature serial signature.now)) conn.old conn.new result }
+    ensures stays { On S.Store Stays conn.old conn.new result }
+    ensures survives { OutlivesBy S.Store (Leaves (with_signature serial signature.now)) conn.old conn.new }
+{
+    done(conn.execute(SIGN_CERT, &[serial.value(), ValueRef::Blob(signature)]))
+}

@@ -1,0 +1,143 @@
+//! The table of departments.
+
+ghost use Rattle.std.specs.Prelude.{◌≡◌, ◌∷◌, []};
+ghost use Rattle.std.specs.Ordering.{nat_cmp};
+ghost use Rattle.std.specs.Cmp.Lexicographic.{slice_cmp};
+ghost use Rattle.store_sql.specs.Cells.{department_cells};
+ghost use Rattle.store_sql.specs.Changes.{departments_named, with_department};
+ghost use Rattle.store_sql.specs.Calls.{Changes, FailsBy, Finds, FindsOne, Leaves, Never, OnlyReads, Rises, Stays};
+ghost use Rattle.store_sql.specs.Honest.{On, Outlives, OutlivesBy};
+ghost use Rattle.store_sql.specs.Faults.{HasCause};
+ghost use Rattle.store_sql.specs.Refusals.{RefusedFor, RefusesDepartment};
+
+use crate::columns::{Columns, found, found_first};
+use crate::fault::{Fault, done};
+use crate::kind::{Kind, is_row_of, number_at, text_at};
+use crate::number::Number;
+use crate::sql::{EVERY_DEPARTMENT, FIND_DEPARTMENT, PUT_DEPARTMENT};
+use sqlite::types::ValueRef;
+use sqlite::{Alter, Connection, Row};
+use std::alloc::Global;
+use text::{NoMemory, Text};
+
+/// A department. Lists are texts joined by commas, in the order given.
+#[derive(Debug, Drop)]
+pub struct DepartmentRow {
+    /// Its key.
+    pub name: Text,
+    /// 1 for users, 2 for hosts.
+    pub kind: Number,
+    pub admins: Text,
+    pub rules: Text,
+    pub options: Text,
+    pub extensions: Text,
+    /// The longest life of a certificate, in seconds.
+    pub max_life: Number,
+    pub namespaces: Text,
+}
+
+impl DepartmentRow {
+    ghost use Rattle.sqlite.specs.Values.{bound};
+    ghost use Rattle.store_sql.specs.Cells.{department_cells};
+
+    fn values(&self) -> [ValueRef<'_>; 8]
+        ensures { bound result ≡ department_cells self.now }
+    {
+        [
+            ValueRef::Text(self.name.as_slice()),
+            self.kind.value(),
+            ValueRef::Text(self.admins.as_slice()),
+            ValueRef::Text(self.rules.as_slice()),
+            ValueRef::Text(self.options.as_slice()),
+            ValueRef::Text(self.extensions.as_slice()),
+            self.max_life.value(),
+            ValueRef::Text(self.namespaces.as_slice()),
+        ]
+    }
+}
+
+impl Columns for DepartmentRow {
+    ghost use Rattle.std.specs.Prelude.{◌∷◌, [], refl};
+    ghost use Rattle.store_sql.specs.Kinds.{has_kinds};
+    ghost use Rattle.store_sql.specs.Cells.{department_cells, department_kinds};
+
+    ghost cells = { department_cells };
+
+    ghost is_row = { has_kinds department_kinds };
+
+    ghost fits = { λ _. refl };
+
+    fn is_row(row: &Row) -> bool {
+        is_row_of(
+            row,
+            &[
+                Kind::Text,
+                Kind::Number,
+                Kind::Text,
+                Kind::Text,
+                Kind::Text,
+                Kind::Text,
+                Kind::Number,
+                Kind::Text,
+            ],
+        )
+    }
+
+    fn copied_from(alloc: Global, row: &Row) -> Result<DepartmentRow, NoMemory> {
+        Ok(DepartmentRow {
+            name: text_at(alloc, row, 0)?,
+            kind: number_at(row, 1),
+            admins: text_at(alloc, row, 2)?,
+            rules: text_at(alloc, row, 3)?,
+            options: text_at(alloc, row, 4)?,
+            extensions: text_at(alloc, row, 5)?,
+            max_life: number_at(row, 6),
+            namespaces: text_at(alloc, row, 7)?,
+        })
+    }
+}
+
+/// Puts a department, in place of the one of its name if there is one. `Device` also where the row is too long, or
+/// there are as many rows as numbers for them.
+pub fn put_department<S: Alter>(
+    conn: &mut Connection<S>,
+    department: &DepartmentRow,
+) -> Result<(), Fault>
+    ensures changes { On S.Store (Changes (with_department department.now)) conn.old conn.new result }
+    ensures fault { On S.Store (RefusedFor (RefusesDepartment department.now)) conn.old conn.new result }
+    ensures stays { On S.Store Stays conn.old conn.new result }
+    ensures survives { OutlivesBy S.Store (Leaves (with_department department.now)) conn.old conn.new }
+{
+    done(conn.execute(PUT_DEPARTMENT, &department.values()))
+}
+
+/// The department of this name, if it is there. `Damaged` where its row has another form.
+pub fn find_department<S: Alter>(
+    alloc: Global,
+    conn: &mut Connection<S>,
+    name: &[u8],
+) -> Result<Option<DepartmentRow>, Fault>
+    ensures finds { On S.Store (FindsOne (departments_named name.now)) conn.old conn.new result }
+    ensures reads { On S.Store OnlyReads conn.old conn.new result }
+    ensures fault { On S.Store (FailsBy HasCause) conn.old conn.new result }
+    ensures survives { Outlives S.Store Never conn.old conn.new }
+{
+    found_first(
+        alloc,
+        conn.query_all(FIND_DEPARTMENT, &[ValueRef::Text(name)]),
+    )
+}
+
+/// Each department, in byte order of the names. `Damaged` where a row has another form.
+pub fn every_department<S: Alter>(
+    alloc: Global,
+    conn: &mut Connection<S>,
+) -> Result<Vec<DepartmentRow>, Fault>
+    ensures finds { On S.Store (Finds (λ c. c.departments)) conn.old conn.new result }
+    ensures sorted { On S.Store (Rises (λ d. d.name) (slice_cmp nat_cmp)) conn.old conn.new result }
+    ensures reads { On S.Store OnlyReads conn.old conn.new result }
+    ensures fault { On S.Store (FailsBy HasCause) conn.old conn.new result }
+    ensures survives { Outlives S.Store Never conn.old conn.new }
+{
+    found(alloc, conn.query_all(EVERY_DEPARTMENT, &[]))
+}

@@ -1,0 +1,106 @@
+//! What a column may hold, and single columns of a row.
+
+ghost use Rattle.std.specs.Prelude.{◌≡◌, IfOk};
+ghost use Rattle.std.specs.List.{list_all, enumerate_from};
+ghost use Rattle.sqlite_value.specs.Order.{column};
+ghost use Rattle.sqlite_value.specs.Value.{owned};
+ghost use Rattle.sqlite.specs.Values.{or_null};
+ghost use Rattle.sqlite.specs.declared.types.Value.TheVariants.{Blob};
+ghost use Rattle.store_sql.specs.Kinds.{holds, has_kinds, text_in, blob_in, optional_blob_in, number_in};
+
+use crate::number::Number;
+use sqlite::Row;
+use sqlite::types::ValueRef;
+use std::alloc::Global;
+use text::{NoMemory, Text};
+
+/// What a column may hold.
+#[derive(Clone, Copy, Debug, PartialEq, Eq)]
+pub(crate) enum Kind {
+    Number,
+    Text,
+    Blob,
+    OptionalBlob,
+}
+
+fn is_held(kind: Kind, row: &Row, at: usize) -> bool
+    ensures { result ≡ holds kind (column row.now at) }
+{
+    match (kind, row.get_ref(at)) {
+        (Kind::Number, Ok(ValueRef::Int(number))) => number >= 0,
+        (Kind::Text, Ok(ValueRef::Text(_))) => true,
+        (Kind::Blob, Ok(ValueRef::Blob(_))) => true,
+        (Kind::OptionalBlob, Ok(ValueRef::Blob(_) | ValueRef::Null) | Err(_)) => true,
+        _ => false,
+    }
+}
+
+fn are_held(kinds: &[Kind], row: &Row) -> bool
+    ensures { result ≡ list_all (λ p. holds p.1 (column row.now p.0)) (enumerate_from 0 kinds.now) }
+{
+    kinds
+        .iter()
+        .enumerate()
+        .all(|(at, kind)| is_held(*kind, row, at))
+}
+
+/// Whether the row has just these columns, each holding what it may.
+pub(crate) fn is_row_of(row: &Row, kinds: &[Kind]) -> bool
+    ensures { result ≡ has_kinds kinds.now row.now }
+{
+    row.column_count() == kinds.len() && are_held(kinds, row)
+}
+
+/// The text in a column, or no byte where there is none.
+pub(crate) fn text_at(alloc: Global, row: &Row, at: usize) -> Result<Text, NoMemory>
+    ensures { IfOk result (λ t. t ≡ text_in (column row.now at)) }
+{
+    match row.get_ref(at) {
+        Ok(ValueRef::Text(bytes)) => Text::from_slice(alloc, bytes),
+        _ => Ok(Text::new(alloc)),
+    }
+}
+
+/// The bytes in a column, or no byte where there are none.
+pub(crate) fn blob_at(alloc: Global, row: &Row, at: usize) -> Result<Text, NoMemory>
+    ensures { IfOk result (λ b. b ≡ blob_in (column row.now at)) }
+{
+    match row.get_ref(at) {
+        Ok(ValueRef::Blob(bytes)) => Text::from_slice(alloc, bytes),
+        _ => Ok(Text::new(alloc)),
+    }
+}
+
+/// The bytes in a column that may be NULL.
+pub(crate) fn optional_blob_at(
+    alloc: Global,
+    row: &Row,
+    at: usize,
+) -> Result<Option<Text>, NoMemory>
+    ensures { IfOk result (λ b. b ≡ optional_blob_in (column row.now at)) }
+{
+    match row.get_ref(at) {
+        Ok(ValueRef::Blob(bytes)) => Ok(Some(Text::from_slice(alloc, bytes)?)),
+        _ => Ok(None),
+    }
+}
+
+/// The number in a column, or 0 where there is none.
+pub(crate) fn number_at(row: &Row, at: usize) -> Number
+    ensures { result ≡ number_in (column row.now at) }
+{
+    match row.get_ref(at) {
+        Ok(ValueRef::Int(number)) => Number::from_signed(number),
+        _ => Number::ZERO,
+    }
+}
+
+/// The bytes as a value of SQL, NULL where there are none.
+pub(crate) fn optional_blob(blob: &Option<Text>) -> ValueRef<'_>
+    ensures { owned result ≡ or_null Blob blob.now }
+{
+    match blob {
+        Some(bytes) => ValueRef::Blob(bytes.as_slice()),
+        None => ValueRef::Null,
+    }
+}

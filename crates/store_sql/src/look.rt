@@ -1,0 +1,90 @@
+//! A look at the schema, before anything is asked of the tables.
+
+ghost use Rattle.std.specs.Prelude.{◌≡◌};
+ghost use Rattle.std.specs.Str.{bytes_eq};
+ghost use Rattle.std.specs.List.{list_any, list_all, zip};
+ghost use Rattle.store_sql.specs.Look.{has_columns, is_ca_name, is_office_name, is_office_table};
+ghost use Rattle.store_sql.specs.Honest.{tables_of};
+
+use sqlite::{Alter, Connection};
+use sqlite_schema::names::same_name;
+use sqlite_schema::schema::{Column, Table};
+
+fn has_office_name(table: &Table) -> bool
+    ensures { result ≡ is_office_name table.now }
+{
+    let name = table.name.as_slice();
+    same_name(name, b"office")
+        || same_name(name, b"department")
+        || same_name(name, b"cert")
+        || same_name(name, b"request")
+        || same_name(name, b"run")
+        || same_name(name, b"revoked_keyid")
+        || same_name(name, b"ca")
+}
+
+/// Whether the database has a table of the name of one of the office's.
+pub fn has_any_table<S: Alter>(conn: &Connection<S>) -> bool
+    ensures { result ≡ list_any is_office_name (tables_of S.Store conn.now) }
+{
+    conn.schema()
+        .tables
+        .as_slice()
+        .iter()
+        .any(|table| has_office_name(table))
+}
+
+fn are_named(columns: &[Column], names: &[&str]) -> bool
+    ensures { result ≡ list_all (λ p. bytes_eq p.0.name p.1.now) (zip columns.now names.now) }
+{
+    columns
+        .iter()
+        .zip(names)
+        .all(|(column, name)| column.name.as_slice() == name.as_bytes())
+}
+
+fn has_office_columns(table: &Table) -> bool
+    ensures { result ≡ has_columns table.now }
+{
+    table.columns.len() == 10
+        && are_named(
+            table.columns.as_slice(),
+            &[
+                "id", "schema", "ca", "root", "station", "first", "last", "next", "version", "date",
+            ],
+        )
+}
+
+fn is_office(table: &Table) -> bool
+    ensures { result ≡ is_office_table table.now }
+{
+    same_name(table.name.as_slice(), b"office") && has_office_columns(table)
+}
+
+/// Whether the database has the table of the office, with its columns.
+pub fn has_office<S: Alter>(conn: &Connection<S>) -> bool
+    ensures { result ≡ list_any is_office_table (tables_of S.Store conn.now) }
+{
+    conn.schema()
+        .tables
+        .as_slice()
+        .iter()
+        .any(|table| is_office(table))
+}
+
+fn has_ca_name(table: &Table) -> bool
+    ensures { result ≡ is_ca_name table.now }
+{
+    same_name(table.name.as_slice(), b"ca")
+}
+
+/// Whether the database has a table of the name of that of the CAs.
+pub fn has_ca_table<S: Alter>(conn: &Connection<S>) -> bool
+    ensures { result ≡ list_any is_ca_name (tables_of S.Store conn.now) }
+{
+    conn.schema()
+        .tables
+        .as_slice()
+        .iter()
+        .any(|table| has_ca_name(table))
+}

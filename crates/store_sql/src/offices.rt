@@ -1,0 +1,190 @@
+//! The table of the office.
+
+ghost use Rattle.std.specs.Prelude.{◌≡◌, ◌∷◌, []};
+ghost use Rattle.std.specs.Ordering.{nat_cmp};
+ghost use Rattle.sqlite.specs.Effect.{Database};
+ghost use Rattle.store_sql.specs.Cells.{office_cells, counter_cells};
+ghost use Rattle.store_sql.specs.Changes.{with_office, with_counters, with_schema};
+ghost use Rattle.store_sql.specs.Calls.{Changes, FailsIn, FindsIn, Leaves, Never, OnlyReads, Rises, Stays};
+ghost use Rattle.store_sql.specs.Honest.{On, Outlives, OutlivesBy};
+ghost use Rattle.store_sql.specs.Contents.{Contents, HasOffices, Means, MeansWithoutCa};
+ghost use Rattle.store_sql.specs.Faults.{HasCause};
+ghost use Rattle.store_sql.specs.Refusals.{RefusedFor, RefusesCounters, RefusesNumber, RefusesOffice};
+
+use crate::columns::{Columns, found};
+use crate::fault::{Fault, done};
+use crate::kind::{Kind, blob_at, is_row_of, number_at, text_at};
+use crate::number::Number;
+use crate::sql::{COUNT_OFFICE, EVERY_OFFICE, INSERT_OFFICE, NUMBER_OFFICE};
+use sqlite::types::ValueRef;
+use sqlite::{Alter, Connection, Row};
+use std::alloc::Global;
+use text::{NoMemory, Text};
+
+/// The one row of the office.
+#[derive(Debug, Drop)]
+pub struct OfficeRow {
+    /// 1 in an office.
+    pub id: Number,
+    /// The number of the schema.
+    pub schema: Number,
+    /// The key blob of the first CA, 51 bytes.
+    pub ca: Text,
+    /// The name of the caller that may send anything.
+    pub root: Text,
+    /// The name of the signing station.
+    pub station: Text,
+    /// The first serial.
+    pub first: Number,
+    /// The last serial.
+    pub last: Number,
+    /// The serial that is handed out next, at most one above the last.
+    pub next: Number,
+    /// The version of the revocation list.
+    pub version: Number,
+    /// The moment of its last change, in seconds since 1970.
+    pub date: Number,
+}
+
+/// What moves as the office works.
+#[derive(Clone, Copy, Debug, PartialEq, Eq)]
+pub struct Counters {
+    /// The serial that is handed out next.
+    pub next: Number,
+    /// The version of the revocation list.
+    pub version: Number,
+    /// The moment of its last change, in seconds since 1970-01-01 00:00:00 UTC.
+    pub date: Number,
+}
+
+impl Counters {
+    ghost use Rattle.sqlite.specs.Values.{bound};
+    ghost use Rattle.store_sql.specs.Cells.{counter_cells};
+
+    fn values(&self) -> [ValueRef<'_>; 3]
+        ensures { bound result ≡ counter_cells self.now }
+    {
+        [self.next.value(), self.version.value(), self.date.value()]
+    }
+}
+
+impl OfficeRow {
+    ghost use Rattle.std.specs.Prelude.{◌<◌, ◌^◌};
+    ghost use Rattle.sqlite.specs.Values.{bound};
+    ghost use Rattle.store_sql.specs.Cells.{office_cells};
+
+    fn values(&self) -> [ValueRef<'_>; 10]
+        ensures is { bound result ≡ office_cells self.now }
+        ensures low { self.now.id < 2 ^ 63 }
+    {
+        [
+            self.id.value(),
+            self.schema.value(),
+            ValueRef::Blob(self.ca.as_slice()),
+            ValueRef::Text(self.root.as_slice()),
+            ValueRef::Text(self.station.as_slice()),
+            self.first.value(),
+            self.last.value(),
+            self.next.value(),
+            self.version.value(),
+            self.date.value(),
+        ]
+    }
+}
+
+impl Columns for OfficeRow {
+    ghost use Rattle.std.specs.Prelude.{◌∷◌, [], refl};
+    ghost use Rattle.store_sql.specs.Kinds.{has_kinds};
+    ghost use Rattle.store_sql.specs.Cells.{office_cells, office_kinds};
+
+    ghost cells = { office_cells };
+
+    ghost is_row = { has_kinds office_kinds };
+
+    ghost fits = { λ _. refl };
+
+    fn is_row(row: &Row) -> bool {
+        is_row_of(
+            row,
+            &[
+                Kind::Number,
+                Kind::Number,
+                Kind::Blob,
+                Kind::Text,
+                Kind::Text,
+                Kind::Number,
+                Kind::Number,
+                Kind::Number,
+                Kind::Number,
+                Kind::Number,
+            ],
+        )
+    }
+
+    fn copied_from(alloc: Global, row: &Row) -> Result<OfficeRow, NoMemory> {
+        Ok(OfficeRow {
+            id: number_at(row, 0),
+            schema: number_at(row, 1),
+            ca: blob_at(alloc, row, 2)?,
+            root: text_at(alloc, row, 3)?,
+            station: text_at(alloc, row, 4)?,
+            first: number_at(row, 5),
+            last: number_at(row, 6),
+            next: number_at(row, 7),
+            version: number_at(row, 8),
+            date: number_at(row, 9),
+        })
+    }
+}
+
+/// Puts the row of an office. `Device` also where its id is taken, or the row is too long.
+pub fn insert_office<S: Alter>(conn: &mut Connection<S>, office: &OfficeRow) -> Result<(), Fault>
+    ensures changes { On S.Store (Changes (with_office office.now)) conn.old conn.new result }
+    ensures fault { On S.Store (RefusedFor (RefusesOffice office.now)) conn.old conn.new result }
+    ensures stays { On S.Store Stays conn.old conn.new result }
+    ensures survives { OutlivesBy S.Store (Leaves (with_office office.now)) conn.old conn.new }
+{
+    done(conn.execute(INSERT_OFFICE, &office.values()))
+}
+
+/// Each row of the table of the office, by id. An office has one. `Damaged` where a row has another form.
+pub fn every_office<S: Alter>(
+    alloc: Global,
+    conn: &mut Connection<S>,
+) -> Result<Vec<OfficeRow>, Fault>
+    // Of any tables, of which that of the office is the first.
+    ensures finds { On S.Store (FindsIn HasOffices (λ rows. rows)) conn.old conn.new result }
+    ensures sorted { On S.Store (Rises (λ o. o.id) nat_cmp) conn.old conn.new result }
+    ensures reads { On S.Store OnlyReads conn.old conn.new result }
+    ensures fault { On S.Store (FailsIn HasOffices HasCause) conn.old conn.new result }
+    ensures survives { Outlives S.Store Never conn.old conn.new }
+{
+    found(alloc, conn.query_all(EVERY_OFFICE, &[]))
+}
+
+/// The table of the office is the first of the tables of schema 1, and of those of schema 2.
+pub fn the_office_is_first()
+    ensures former { (db : Database) (c : Contents) → MeansWithoutCa db c → HasOffices c.offices db }
+    ensures present { (db : Database) (c : Contents) → Means db c → HasOffices c.offices db }
+{}
+
+/// Moves the counters of the office, the row of id 1, if it is there. `Device` also where the row is then too long.
+pub fn update_office<S: Alter>(conn: &mut Connection<S>, counters: &Counters) -> Result<(), Fault>
+    ensures changes { On S.Store (Changes (with_counters counters.now)) conn.old conn.new result }
+    ensures fault { On S.Store (RefusedFor (RefusesCounters counters.now)) conn.old conn.new result }
+    ensures stays { On S.Store Stays conn.old conn.new result }
+    ensures survives { OutlivesBy S.Store (Leaves (with_counters counters.now)) conn.old conn.new }
+{
+    done(conn.execute(COUNT_OFFICE, &counters.values()))
+}
+
+/// Sets the number of the schema in the office, the row of id 1, if it is there. `Device` also where the row is then
+/// too long.
+pub fn update_schema<S: Alter>(conn: &mut Connection<S>, schema: Number) -> Result<(), Fault>
+    ensures changes { On S.Store (Changes (with_schema schema)) conn.old conn.new result }
+    ensures fault { On S.Store (RefusedFor (RefusesNumber schema)) conn.old conn.new result }
+    ensures stays { On S.Store Stays conn.old conn.new result }
+    ensures survives { OutlivesBy S.Store (Leaves (with_schema schema)) conn.old conn.new }
+{
+    done(conn.execute(NUMBER_OFFICE, &[schema.value()]))
+}

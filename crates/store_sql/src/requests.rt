@@ -1,0 +1,98 @@
+//! The table of requests.
+
+ghost use Rattle.std.specs.Prelude.{◌≡◌, ◌∷◌, []};
+ghost use Rattle.store_sql.specs.Cells.{request_cells};
+ghost use Rattle.store_sql.specs.Changes.{requests_for, with_request};
+ghost use Rattle.store_sql.specs.Calls.{Changes, FailsBy, FindsOne, Leaves, Never, OnlyReads, Stays};
+ghost use Rattle.store_sql.specs.Honest.{On, Outlives, OutlivesBy};
+ghost use Rattle.store_sql.specs.Faults.{HasCause};
+ghost use Rattle.store_sql.specs.Refusals.{RefusedFor, RefusesRequest};
+
+use crate::columns::{Columns, found_first};
+use crate::fault::{Fault, done};
+use crate::kind::{Kind, blob_at, is_row_of, text_at};
+use crate::sql::{FIND_REQUEST, INSERT_REQUEST};
+use sqlite::types::ValueRef;
+use sqlite::{Alter, Connection, Row};
+use std::alloc::Global;
+use text::{NoMemory, Text};
+
+/// A request that was accepted.
+#[derive(Debug, Drop)]
+pub struct RequestRow {
+    pub caller: Text,
+    /// The caller's key of the request.
+    pub key: Text,
+    pub message: Text,
+    pub reply: Text,
+}
+
+impl RequestRow {
+    ghost use Rattle.sqlite.specs.Values.{bound};
+    ghost use Rattle.store_sql.specs.Cells.{request_cells};
+
+    fn values(&self) -> [ValueRef<'_>; 4]
+        ensures { bound result ≡ request_cells self.now }
+    {
+        [
+            ValueRef::Text(self.caller.as_slice()),
+            ValueRef::Text(self.key.as_slice()),
+            ValueRef::Blob(self.message.as_slice()),
+            ValueRef::Text(self.reply.as_slice()),
+        ]
+    }
+}
+
+impl Columns for RequestRow {
+    ghost use Rattle.std.specs.Prelude.{◌∷◌, [], refl};
+    ghost use Rattle.store_sql.specs.Kinds.{has_kinds};
+    ghost use Rattle.store_sql.specs.Cells.{request_cells, request_kinds};
+
+    ghost cells = { request_cells };
+
+    ghost is_row = { has_kinds request_kinds };
+
+    ghost fits = { λ _. refl };
+
+    fn is_row(row: &Row) -> bool {
+        is_row_of(row, &[Kind::Text, Kind::Text, Kind::Blob, Kind::Text])
+    }
+
+    fn copied_from(alloc: Global, row: &Row) -> Result<RequestRow, NoMemory> {
+        Ok(RequestRow {
+            caller: text_at(alloc, row, 0)?,
+            key: text_at(alloc, row, 1)?,
+            message: blob_at(alloc, row, 2)?,
+            reply: text_at(alloc, row, 3)?,
+        })
+    }
+}
+
+/// Keeps a request that was accepted. `Device` also where its caller has used its key, the row is too long, or there
+/// are as many rows as numbers for them.
+pub fn insert_request<S: Alter>(conn: &mut Connection<S>, request: &RequestRow) -> Result<(), Fault>
+    ensures changes { On S.Store (Changes (with_request request.now)) conn.old conn.new result }
+    ensures fault { On S.Store (RefusedFor (RefusesRequest request.now)) conn.old conn.new result }
+    ensures stays { On S.Store Stays conn.old conn.new result }
+    ensures survives { OutlivesBy S.Store (Leaves (with_request request.now)) conn.old conn.new }
+{
+    done(conn.execute(INSERT_REQUEST, &request.values()))
+}
+
+/// The request of this caller and key, if one is kept. `Damaged` where its row has another form.
+pub fn find_request<S: Alter>(
+    alloc: Global,
+    conn: &mut Connection<S>,
+    caller: &[u8],
+    key: &[u8],
+) -> Result<Option<RequestRow>, Fault>
+    ensures finds { On S.Store (FindsOne (requests_for caller.now key.now)) conn.old conn.new result }
+    ensures reads { On S.Store OnlyReads conn.old conn.new result }
+    ensures fault { On S.Store (FailsBy HasCause) conn.old conn.new result }
+    ensures survives { Outlives S.Store Never conn.old conn.new }
+{
+    found_first(
+        alloc,
+        conn.query_all(FIND_REQUEST, &[ValueRef::Text(caller), ValueRef::Text(key)]),
+    )
+}

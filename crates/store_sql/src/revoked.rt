@@ -1,0 +1,78 @@
+//! The table of revoked key ids.
+
+ghost use Rattle.std.specs.Ordering.{nat_cmp};
+ghost use Rattle.std.specs.Cmp.Lexicographic.{slice_cmp};
+ghost use Rattle.store_sql.specs.Cells.{key_id_cells};
+ghost use Rattle.store_sql.specs.Changes.{revoked_as, with_revoked};
+ghost use Rattle.store_sql.specs.Calls.{Changes, FailsBy, Finds, FindsOne, Leaves, Never, OnlyReads, Rises, Stays};
+ghost use Rattle.store_sql.specs.Honest.{On, Outlives, OutlivesBy};
+ghost use Rattle.store_sql.specs.Faults.{HasCause};
+ghost use Rattle.store_sql.specs.Refusals.{RefusedFor, RefusesKeyId};
+
+use crate::columns::{Columns, found, found_first};
+use crate::fault::{Fault, done};
+use crate::kind::{Kind, is_row_of, text_at};
+use crate::sql::{EVERY_REVOKED, FIND_REVOKED, INSERT_REVOKED};
+use sqlite::types::ValueRef;
+use sqlite::{Alter, Connection, Row};
+use std::alloc::Global;
+use text::{NoMemory, Text};
+
+impl Columns for Text {
+    ghost use Rattle.std.specs.Prelude.{refl};
+    ghost use Rattle.store_sql.specs.Kinds.{has_kinds};
+    ghost use Rattle.store_sql.specs.Cells.{key_id_cells, key_id_kinds};
+
+    ghost cells = { key_id_cells };
+
+    ghost is_row = { has_kinds key_id_kinds };
+
+    ghost fits = { λ _. refl };
+
+    fn is_row(row: &Row) -> bool {
+        is_row_of(row, &[Kind::Text])
+    }
+
+    fn copied_from(alloc: Global, row: &Row) -> Result<Text, NoMemory> {
+        text_at(alloc, row, 0)
+    }
+}
+
+/// Keeps a revoked key id. `Device` also where it is there, the row is too long, or there are as many rows as numbers
+/// for them.
+pub fn insert_revoked<S: Alter>(conn: &mut Connection<S>, key_id: &[u8]) -> Result<(), Fault>
+    ensures changes { On S.Store (Changes (with_revoked key_id.now)) conn.old conn.new result }
+    ensures fault { On S.Store (RefusedFor (RefusesKeyId key_id.now)) conn.old conn.new result }
+    ensures stays { On S.Store Stays conn.old conn.new result }
+    ensures survives { OutlivesBy S.Store (Leaves (with_revoked key_id.now)) conn.old conn.new }
+{
+    done(conn.execute(INSERT_REVOKED, &[ValueRef::Text(key_id)]))
+}
+
+/// The key id, if it is revoked. `Damaged` where its row has another form.
+pub fn find_revoked<S: Alter>(
+    alloc: Global,
+    conn: &mut Connection<S>,
+    key_id: &[u8],
+) -> Result<Option<Text>, Fault>
+    ensures finds { On S.Store (FindsOne (revoked_as key_id.now)) conn.old conn.new result }
+    ensures reads { On S.Store OnlyReads conn.old conn.new result }
+    ensures fault { On S.Store (FailsBy HasCause) conn.old conn.new result }
+    ensures survives { Outlives S.Store Never conn.old conn.new }
+{
+    found_first(
+        alloc,
+        conn.query_all(FIND_REVOKED, &[ValueRef::Text(key_id)]),
+    )
+}
+
+/// Each revoked key id, in byte order. `Damaged` where a row has another form.
+pub fn every_revoked<S: Alter>(alloc: Global, conn: &mut Connection<S>) -> Result<Vec<Text>, Fault>
+    ensures finds { On S.Store (Finds (λ c. c.revoked)) conn.old conn.new result }
+    ensures sorted { On S.Store (Rises (λ k. k) (slice_cmp nat_cmp)) conn.old conn.new result }
+    ensures reads { On S.Store OnlyReads conn.old conn.new result }
+    ensures fault { On S.Store (FailsBy HasCause) conn.old conn.new result }
+    ensures survives { Outlives S.Store Never conn.old conn.new }
+{
+    found(alloc, conn.query_all(EVERY_REVOKED, &[]))
+}

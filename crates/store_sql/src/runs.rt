@@ -1,0 +1,110 @@
+//! The table of runs of revoked serials.
+
+ghost use Rattle.std.specs.Prelude.{◌≡◌, ◌∷◌, []};
+ghost use Rattle.std.specs.Ordering.{nat_cmp};
+ghost use Rattle.store_sql.specs.Cells.{run_cells};
+ghost use Rattle.store_sql.specs.Changes.{with_run};
+ghost use Rattle.store_sql.specs.Runs.{FindsIts, last_run, without_runs};
+ghost use Rattle.store_sql.specs.Calls.{Changes, FailsBy, Finds, Leaves, Never, OnlyReads, Rises, Stays};
+ghost use Rattle.store_sql.specs.Honest.{On, Outlives, OutlivesBy};
+ghost use Rattle.store_sql.specs.Faults.{HasCause};
+ghost use Rattle.store_sql.specs.Refusals.{RefusedFor, RefusesRun};
+
+use crate::columns::{Columns, found, found_first};
+use crate::fault::{Fault, done};
+use crate::kind::{Kind, is_row_of, number_at};
+use crate::number::Number;
+use crate::sql::{DELETE_RUNS, EVERY_RUN, INSERT_RUN, LAST_RUN};
+use sqlite::types::ValueRef;
+use sqlite::{Alter, Connection, Row};
+use std::alloc::Global;
+use text::NoMemory;
+
+/// A run of revoked serials, both ends included.
+#[derive(Clone, Copy, Debug, PartialEq, Eq)]
+pub struct RunRow {
+    pub lo: Number,
+    pub hi: Number,
+}
+
+impl RunRow {
+    ghost use Rattle.std.specs.Prelude.{◌<◌, ◌^◌};
+    ghost use Rattle.sqlite.specs.Values.{bound};
+    ghost use Rattle.store_sql.specs.Cells.{run_cells};
+
+    fn values(&self) -> [ValueRef<'_>; 2]
+        ensures is { bound result ≡ run_cells self.now }
+        ensures low { self.now.lo < 2 ^ 63 }
+    {
+        [self.lo.value(), self.hi.value()]
+    }
+}
+
+impl Columns for RunRow {
+    ghost use Rattle.std.specs.Prelude.{◌∷◌, [], refl};
+    ghost use Rattle.store_sql.specs.Kinds.{has_kinds};
+    ghost use Rattle.store_sql.specs.Cells.{run_cells, run_kinds};
+
+    ghost cells = { run_cells };
+
+    ghost is_row = { has_kinds run_kinds };
+
+    ghost fits = { λ _. refl };
+
+    fn is_row(row: &Row) -> bool {
+        is_row_of(row, &[Kind::Number, Kind::Number])
+    }
+
+    fn copied_from(_alloc: Global, row: &Row) -> Result<RunRow, NoMemory> {
+        Ok(RunRow {
+            lo: number_at(row, 0),
+            hi: number_at(row, 1),
+        })
+    }
+}
+
+/// Keeps a run. `Device` also where another begins with its first serial.
+pub fn insert_run<S: Alter>(conn: &mut Connection<S>, run: &RunRow) -> Result<(), Fault>
+    ensures changes { On S.Store (Changes (with_run run.now)) conn.old conn.new result }
+    ensures fault { On S.Store (RefusedFor (RefusesRun run.now)) conn.old conn.new result }
+    ensures stays { On S.Store Stays conn.old conn.new result }
+    ensures survives { OutlivesBy S.Store (Leaves (with_run run.now)) conn.old conn.new }
+{
+    done(conn.execute(INSERT_RUN, &run.values()))
+}
+
+/// Each run, ascending. `Damaged` where a row has another form.
+pub fn every_run<S: Alter>(alloc: Global, conn: &mut Connection<S>) -> Result<Vec<RunRow>, Fault>
+    ensures finds { On S.Store (Finds (λ c. c.runs)) conn.old conn.new result }
+    ensures sorted { On S.Store (Rises (λ r. r.lo) nat_cmp) conn.old conn.new result }
+    ensures reads { On S.Store OnlyReads conn.old conn.new result }
+    ensures fault { On S.Store (FailsBy HasCause) conn.old conn.new result }
+    ensures survives { Outlives S.Store Never conn.old conn.new }
+{
+    found(alloc, conn.query_all(EVERY_RUN, &[]))
+}
+
+/// The last of the runs that begin with this serial or before it, if there is one. `Damaged` where its row has another
+/// form. It reads that row alone.
+pub fn last_run<S: Alter>(
+    alloc: Global,
+    conn: &mut Connection<S>,
+    serial: Number,
+) -> Result<Option<RunRow>, Fault>
+    ensures finds { On S.Store (FindsIts (last_run serial)) conn.old conn.new result }
+    ensures reads { On S.Store OnlyReads conn.old conn.new result }
+    ensures fault { On S.Store (FailsBy HasCause) conn.old conn.new result }
+    ensures survives { Outlives S.Store Never conn.old conn.new }
+{
+    found_first(alloc, conn.query_all(LAST_RUN, &[serial.value()]))
+}
+
+/// Takes out the runs that begin between these ends, both included. The tables never refuse that.
+pub fn delete_runs<S: Alter>(conn: &mut Connection<S>, ends: &RunRow) -> Result<(), Fault>
+    ensures changes { On S.Store (Changes (without_runs ends.now)) conn.old conn.new result }
+    ensures fault { On S.Store (FailsBy HasCause) conn.old conn.new result }
+    ensures stays { On S.Store Stays conn.old conn.new result }
+    ensures survives { OutlivesBy S.Store (Leaves (without_runs ends.now)) conn.old conn.new }
+{
+    done(conn.execute(DELETE_RUNS, &ends.values()))
+}

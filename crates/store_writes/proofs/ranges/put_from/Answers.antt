@@ -1,0 +1,57 @@
+use Rattle.std.proofs.Common.{◌≡◌, ℕ, ◌+◌, ap, subst, ◌∙◌, arith, Ok, Err}
+use Rattle.sqlite.specs.Held.{state}
+use Rattle.sqlite.specs.State.{HasCleanDisk}
+use Rattle.store_sql.specs.Calls.{Never}
+use Rattle.store_sql.specs.Runs.{last_run}
+use Rattle.store_rows.specs.Transactions.{Has}
+use Rattle.store_rows.proofs.Causes.{fails_then}
+use Rattle.store_writes.specs.Ranges.{joined_high, run_from, with_joined}
+use Rattle.store_writes.specs.Refused.{RefusesJoined}
+use Rattle.store_writes.proofs.Parts.{found_leads, found_then}
+use Rattle.store_sql.proofs.Staying.{reads_stay, stays_then}
+use Rattle.store_writes.proofs.ranges.put_from.Goals as goal
+
+pub returns-in-Ok-clause-makes : goal.returns-in-Ok-clause-makes
+returns-in-Ok-clause-makes g c clean =
+    let old = state g.S.Store c.args.conn.now in
+    let mid = state g.S.Store c.last_run.new.conn in
+    let new = state g.S.Store c.replace.new.conn in
+    let still : HasCleanDisk mid = omega (arith, c.replace.ensures.survives.clean) in
+    let range = c.args.range in
+    found_then (λ d. with_joined (run_from c.args.lo range d) d) (with_joined (record { lo = c.args.lo; hi = c.joined_high-hi.result })) old mid new c.replace.result
+    (λ d means.
+    let found = c.in-Ok.ensures.finds still d means in
+    let is : c.joined_high-hi.result ≡ joined_high range.hi (last_run (range.hi + 1) d) =
+    c.joined_high-hi.ensures ∙ ap (joined_high range.hi) (found.1 ∙ ap (λ (n : ℕ). last_run n d) c.number.ensures) in
+    (found.0, ap (λ (n : ℕ). with_joined (record { lo = c.args.lo; hi = n }) d) is))
+    (c.replace.ensures.makes clean)
+
+pub returns-in-Ok-clause-fault : goal.returns-in-Ok-clause-fault
+returns-in-Ok-clause-fault g c clean =
+    let old = state g.S.Store c.args.conn.now in
+    let mid = state g.S.Store c.last_run.new.conn in
+    let new = state g.S.Store c.replace.new.conn in
+    let still : HasCleanDisk mid = omega (arith, c.replace.ensures.survives.clean) in
+    let range = c.args.range in
+    fails_then Has Has (RefusesJoined (record { lo = c.args.lo; hi = c.joined_high-hi.result })) (λ d. RefusesJoined (run_from c.args.lo range d) d) (λ d. d) Never old mid new c.replace.result
+    (found_leads old mid (λ d means. (c.in-Ok.ensures.finds still d means).0))
+    (λ d means why.
+    let found = c.in-Ok.ensures.finds still d means in
+    let is : c.joined_high-hi.result ≡ joined_high range.hi (last_run (range.hi + 1) d) =
+    c.joined_high-hi.ensures ∙ ap (joined_high range.hi) (found.1 ∙ ap (λ (n : ℕ). last_run n d) c.number.ensures) in
+    subst (λ (n : ℕ). RefusesJoined (record { lo = c.args.lo; hi = n }) d) is why)
+    c.last_run.ensures.survives still c.replace.ensures.survives.counts (c.replace.ensures.fault clean)
+
+pub returns-in-Ok-clause-stays : goal.returns-in-Ok-clause-stays
+returns-in-Ok-clause-stays g c clean =
+    let old = state g.S.Store c.args.conn.now in
+    let mid = state g.S.Store c.last_run.new.conn in
+    let new = state g.S.Store c.replace.new.conn in
+    let still : HasCleanDisk mid = omega (arith, c.replace.ensures.survives.clean) in
+    stays_then old mid new c.in-Ok.found c.replace.result (reads_stay old mid (Ok c.in-Ok.found) (c.in-Ok.ensures.reads still))
+    (c.replace.ensures.stays clean)
+
+pub returns-in-Err-clause-stays : goal.returns-in-Err-clause-stays
+returns-in-Err-clause-stays g c clean =
+    reads_stay {X = Unit {0}} (state g.S.Store c.args.conn.now) (state g.S.Store c.last_run.new.conn) (Err c.in-Err.fault)
+    (c.in-Err.ensures.reads clean)

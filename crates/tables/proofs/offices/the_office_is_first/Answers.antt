@@ -1,5 +1,0 @@
-use Rattle.tables.proofs.FirstTable.{former_offices, means_offices}
-use Rattle.tables.proofs.offices.the_office_is_first.Goals as goal
-
-pub returns : goal.returns
-returns c = record { former = former_offices; present = means_offices }

@@ -1,0 +1,38 @@
+//! The values of the profile: names, principals, rules, key ids, options, networks, limits and refusals.
+//!
+//! Each test of a text decides its definition in `specs`, takes no memory and returns on any bytes.
+//! `office_laws` says the definitions once more, by how the texts are spelled.
+//! A refusal's number, name and status stand here in one table, and nowhere else.
+#![tactic(auto)]
+
+mod decimal;
+mod kind;
+mod laws;
+mod limits;
+mod lists;
+mod names;
+mod network;
+mod option_field;
+mod option_value;
+mod refusal;
+mod rule;
+mod serial;
+
+pub use decimal::{put_decimal, read_decimal};
+pub use kind::Kind;
+pub use laws::{
+    distinct_texts_differ_at_each_place, key_ids_begin_with_departments,
+    networks_are_spelled_one_way, rules_are_met_by_suffixes,
+};
+pub use limits::{
+    LAST_SERIAL, LATEST_MOMENT, LONGEST_LIFE, MOST_ADMINISTRATORS, MOST_NAMESPACES,
+    MOST_PRINCIPALS, MOST_RULES,
+};
+pub use lists::{are_distinct, is_member};
+pub use names::{department_of, is_key_id, is_name, is_namespace, is_principal};
+pub use network::{are_networks, is_network};
+pub use option_field::{OptionField, is_flag, is_known};
+pub use option_value::is_option_value;
+pub use refusal::Refusal;
+pub use rule::{is_rule, meets};
+pub use serial::is_serial;

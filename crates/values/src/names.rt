@@ -1,0 +1,122 @@
+//! Names, principals, key ids and namespaces.
+
+ghost use Rattle.std.specs.Prelude.{◌≡◌, ◌==◌, position};
+ghost use Rattle.std.specs.List.{list_all};
+ghost use Rattle.values.specs.Names.{
+  department_of,
+  has_size,
+  is_key_id,
+  is_key_id_byte,
+  is_key_id_end,
+  is_lower_or_digit,
+  is_name,
+  is_name_byte,
+  is_namespace,
+  is_principal,
+  is_principal_byte,
+};
+
+/// Whether there are from `low` to `high` bytes.
+pub(crate) fn has_size(text: &[u8], low: usize, high: usize) -> bool
+    ensures { result ≡ has_size low high text.now }
+{
+    low <= text.len() && text.len() <= high
+}
+
+fn is_lower_or_digit(byte: u8) -> bool
+    ensures { result ≡ is_lower_or_digit byte }
+{
+    matches!(byte, b'a'..=b'z' | b'0'..=b'9')
+}
+
+fn is_name_byte(byte: u8) -> bool
+    ensures { result ≡ is_name_byte byte }
+{
+    is_lower_or_digit(byte) || byte == b'-'
+}
+
+fn is_principal_byte(byte: u8) -> bool
+    ensures { result ≡ is_principal_byte byte }
+{
+    is_lower_or_digit(byte) || byte == b'.' || byte == b'_' || byte == b'@' || byte == b'-'
+}
+
+fn is_key_id_byte(byte: u8) -> bool
+    ensures { result ≡ is_key_id_byte byte }
+{
+    byte.is_ascii_graphic()
+}
+
+fn has_name_bytes(text: &[u8]) -> bool
+    ensures { result ≡ list_all is_name_byte text.now }
+{
+    text.iter().all(|b| is_name_byte(*b))
+}
+
+/// Whether each byte is of the alphabet of principals.
+pub(crate) fn has_principal_bytes(text: &[u8]) -> bool
+    ensures { result ≡ list_all is_principal_byte text.now }
+{
+    text.iter().all(|b| is_principal_byte(*b))
+}
+
+fn has_key_id_bytes(text: &[u8]) -> bool
+    ensures { result ≡ list_all is_key_id_byte text.now }
+{
+    text.iter().all(|b| is_key_id_byte(*b))
+}
+
+/// Whether the text names a caller, a request key or a department: 1 to 32 bytes of `a-z 0-9 -`.
+pub fn is_name(text: &[u8]) -> bool
+    ensures { result ≡ is_name text.now }
+{
+    has_size(text, 1, 32) && has_name_bytes(text)
+}
+
+/// Whether the text is a principal: 1 to 64 bytes of `a-z 0-9 . _ @ -`.
+pub fn is_principal(text: &[u8]) -> bool
+    ensures { result ≡ is_principal text.now }
+{
+    has_size(text, 1, 64) && has_principal_bytes(text)
+}
+
+/// Whether the text is a namespace of signatures: 1 to 32 bytes of `a-z 0-9 . _ @ -`.
+pub fn is_namespace(text: &[u8]) -> bool
+    ensures { result ≡ is_namespace text.now }
+{
+    has_size(text, 1, 32) && has_principal_bytes(text)
+}
+
+/// Where the first `/` stands.
+pub(crate) fn first_slash(text: &[u8]) -> Option<usize>
+    ensures { result ≡ position (λ b. b == 47) text.now }
+{
+    text.iter().position(|b| *b == b'/')
+}
+
+/// What stands before the first `/` of a key id, all of it where there is none.
+pub fn department_of(key_id: &[u8]) -> &[u8]
+    ensures { result.now ≡ department_of key_id.now }
+{
+    match first_slash(key_id) {
+        Some(end) => &key_id[..end],
+        None => key_id,
+    }
+}
+
+fn is_key_id_end(text: &[u8]) -> bool
+    ensures { result ≡ is_key_id_end text.now }
+{
+    match text {
+        [b'/', rest @ ..] => has_size(rest, 1, 64) && has_key_id_bytes(rest),
+        _ => false,
+    }
+}
+
+/// Whether the text is a key id: the name of a department, `/` and 1 to 64 bytes from 0x21 to 0x7e.
+pub fn is_key_id(text: &[u8]) -> bool
+    ensures { result ≡ is_key_id text.now }
+{
+    let department = department_of(text);
+    is_name(department) && is_key_id_end(&text[department.len()..])
+}

@@ -1,0 +1,61 @@
+//! Networks, as source-address lists them.
+
+ghost use Rattle.std.specs.Prelude.{◌≡◌, ◌==◌, length};
+ghost use Rattle.std.specs.List.{list_all, slice_split};
+ghost use Rattle.values.specs.Networks.{address_of, are_networks, is_block, is_network};
+
+use crate::decimal::read_decimal;
+use crate::names::first_slash;
+use std::net::Ipv4Addr;
+
+/// The most networks that one option lists.
+const MOST_NETWORKS: usize = 8;
+
+fn address_of(text: &[u8]) -> Option<u32>
+    ensures { result ≡ address_of text.now }
+{
+    match Ipv4Addr::parse_ascii(text) {
+        Ok(address) => Some(address.to_bits()),
+        Err(_) => None,
+    }
+}
+
+fn is_block(address: Option<u32>, size: Option<u64>) -> bool
+    ensures { result ≡ is_block address size }
+{
+    match (address, size) {
+        (Some(address), Some(size)) => size <= 32
+            && address as u64 % 2u64.pow(32 - size as u32) == 0,
+        _ => false,
+    }
+}
+
+/// Whether the text is an IPv4 network `a.b.c.d/n` (RFC 4632 section 3.1): each of a, b, c, d from 0 to 255 and n from
+/// 0 to 32 in decimal without leading zeros, the address's bits past the first n being zero.
+pub fn is_network(text: &[u8]) -> bool
+    ensures { result ≡ is_network text.now }
+{
+    match first_slash(text) {
+        Some(slash) => is_block(address_of(&text[..slash]), read_decimal(&text[slash + 1..])),
+        None => false,
+    }
+}
+
+fn piece_count(text: &[u8]) -> usize
+    ensures { result ≡ length (slice_split (λ b. b == 44) text.now) }
+{
+    text.split(|b| *b == b',').count()
+}
+
+fn all_networks(text: &[u8]) -> bool
+    ensures { result ≡ list_all is_network (slice_split (λ b. b == 44) text.now) }
+{
+    text.split(|b| *b == b',').all(is_network)
+}
+
+/// Whether the text is 1 to 8 networks joined by commas.
+pub fn are_networks(text: &[u8]) -> bool
+    ensures { result ≡ are_networks text.now }
+{
+    piece_count(text) <= MOST_NETWORKS && all_networks(text)
+}
