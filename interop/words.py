@@ -10,7 +10,7 @@ Usage: sshoffice <COMMAND>
 
 Commands:
   init      Makes an office in a new database
-  apply     Runs the exchanges of a file and prints the answers
+  apply     Answers the requests of a file
   serve     Answers HTTP requests on 127.0.0.1, one connection after the other
   krl       Prints the revocation list
   signers   Prints the allowed signers

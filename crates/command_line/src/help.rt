@@ -33,7 +33,7 @@ pub const INIT_MORE: &str = "Example:
 A value that begins with '-' is written --root=-value.";
 
 /// What `apply` does.
-pub const APPLY: &str = "Runs the exchanges of a file and prints the answers";
+pub const APPLY: &str = "Answers the requests of a file";
 
 /// What the help of `apply` says at its end.
 pub const APPLY_MORE: &str = "Example:
@@ -117,7 +117,7 @@ pub const DATABASE_OR_NONE: &str = "The office's database; without it, a trial o
 pub const CA_FILE: &str = "The file with the public key line of the CA";
 
 /// What `--root` is.
-pub const ROOT: &str = "The caller that may do everything but deliver";
+pub const ROOT: &str = "The caller that may do everything but deliver signatures";
 
 /// What `--station` is.
 pub const STATION: &str = "The caller that delivers signatures";
@@ -129,7 +129,7 @@ pub const FIRST: &str = "The first serial, at least 1";
 pub const LAST: &str = "The last serial, at most 9223372036854775806";
 
 /// What `FILE` is.
-pub const EXCHANGE_FILE: &str = "The exchange file, or /dev/stdin";
+pub const EXCHANGE_FILE: &str = "The file of requests, or /dev/stdin";
 
 /// What `--port` is.
 pub const PORT: &str = "The port to listen on, or 0 for any free one";

@@ -9,7 +9,7 @@ pub enum Job {
         db: String,
         /// Path of the file with the CA's key line.
         ca: String,
-        /// The caller that may do everything but deliver.
+        /// The caller that may do everything but deliver signatures.
         root: String,
         /// The caller that delivers signatures.
         station: String,
@@ -18,7 +18,7 @@ pub enum Job {
         /// The last serial.
         last: u64,
     },
-    /// Runs the exchanges of a file over the office of a database, or over a trial office.
+    /// Answers the requests of a file, by the office of a database or by a trial office.
     Apply {
         /// Path of the database, or none for a trial office in memory.
         db: Option<String>,

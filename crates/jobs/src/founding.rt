@@ -18,7 +18,7 @@ use text::NoMemory;
 /// What an office is to begin with, beside the key of its CA.
 #[derive(Clone, Copy, Debug)]
 pub struct Founding<'a> {
-    /// The caller that may do everything but deliver.
+    /// The caller that may do everything but deliver signatures.
     pub root: &'a str,
     /// The caller that delivers signatures.
     pub station: &'a str,
