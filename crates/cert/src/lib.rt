@@ -5,20 +5,20 @@
 //! Bytes that are no body of the profile are refused by the first field that fails.
 #![tactic(auto)]
 
+mod body_reader;
 mod cert_fault;
 mod fields;
 mod nested;
 mod option_fault;
 mod options;
-mod reading;
 mod signature;
 mod writing;
 
+pub use body_reader::read_body;
 pub use cert_fault::CertFault;
 pub use fields::CertFields;
 pub use lines::Signature;
 pub use option_fault::OptionFault;
 pub use options::Options;
-pub use reading::read_body;
 pub use signature::{join_signature, read_signature};
 pub use writing::write_body;

@@ -6,8 +6,8 @@ use Rattle.clap.specs.declared.error.kind.ErrorKind.TheVariants.{OutOfMemory}
 use Rattle.command_line.specs.Answers.{IsAnswered, IsFaultOf, IsLack, IsLackOfAny}
 use Rattle.command_line.specs.Asked.{Asked, asked_of}
 use Rattle.command_line.specs.Command.{office_command}
-use Rattle.command_line.specs.declared.fault.WordsFault.{WordsFault}
-use Rattle.command_line.specs.declared.fault.WordsFault.TheVariants.{Help, BadWords, NoMemory}
+use Rattle.command_line.specs.declared.words_fault.WordsFault.{WordsFault}
+use Rattle.command_line.specs.declared.words_fault.WordsFault.TheVariants.{Help, BadWords, NoMemory}
 
 -- What is said where there is no value.
 pub lacks : {A : Type 0} (found : Option A) (fault : WordsFault) → found ≡ None → IsLackOfAny fault → IsLack found fault

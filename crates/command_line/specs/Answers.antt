@@ -5,8 +5,8 @@ use Rattle.clap.specs.declared.error.kind.ErrorKind.{ErrorKind}
 use Rattle.clap.specs.declared.error.kind.ErrorKind.TheVariants.{DisplayHelp, DisplayVersion, OutOfMemory}
 use Rattle.command_line.specs.Asked.{asked, asked_of}
 use Rattle.command_line.specs.Command.{office_command}
-use Rattle.command_line.specs.declared.fault.WordsFault.{WordsFault}
-use Rattle.command_line.specs.declared.fault.WordsFault.TheVariants.{Help, BadWords, NoMemory}
+use Rattle.command_line.specs.declared.words_fault.WordsFault.{WordsFault}
+use Rattle.command_line.specs.declared.words_fault.WordsFault.TheVariants.{Help, BadWords, NoMemory}
 use Rattle.command_line.specs.declared.job.Job.{Job}
 
 -- the mistakes and wishes of the words, by clap's meaning of the command

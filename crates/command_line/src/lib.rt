@@ -7,13 +7,13 @@
 #![tactic(auto)]
 
 mod command;
-mod fault;
 mod help;
 mod job;
-mod reading;
 mod values;
+mod words_fault;
+mod words_reader;
 
 pub use command::MOST_CONNECTIONS;
-pub use fault::WordsFault;
 pub use job::Job;
-pub use reading::read_words;
+pub use words_fault::WordsFault;
+pub use words_reader::read_words;

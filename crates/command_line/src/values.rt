@@ -3,7 +3,7 @@
 ghost use Rattle.std.specs.Prelude.{◌≡◌, ◌≤◌, Some, IfErr, IfOk, IfSome, option_map, string_bytes};
 ghost use Rattle.clap.specs.Words.{first_of, found_of, rows_of};
 ghost use Rattle.command_line.specs.Answers.{IsLack, IsLackOfAny};
-ghost use Rattle.command_line.specs.declared.fault.WordsFault.TheVariants.{NoMemory};
+ghost use Rattle.command_line.specs.declared.words_fault.WordsFault.TheVariants.{NoMemory};
 ghost use Rattle.command_line.specs.Asked.{number_at, number_of};
 
 use crate::WordsFault;

@@ -9,7 +9,7 @@ use Rattle.std.proofs.lemmas.List.{length-take-le, take-append-drop, take-append
 use Rattle.hex.specs.Hex.{encode_lower}
 use Rattle.hex.proofs.HexLemmas.{length-encode_with}
 use Rattle.web.specs.declared.exchange.Exchange.{Exchange}
-use Rattle.exchanges.specs.declared.reading.TheConstants.{MAX_EXCHANGES, MAX_FILE}
+use Rattle.exchanges.specs.declared.exchange_reader.TheConstants.{MAX_EXCHANGES, MAX_FILE}
 use Rattle.exchanges.specs.Exchanges.{AreExchanges, IsBadRecord, IsExchange, TellsOf, exchange_text, exchanges_text}
 
 -- ---- lengths

@@ -5,7 +5,7 @@ use Rattle.std.proofs.lemmas.Grind.{flat_map-append}
 use Rattle.std.proofs.lemmas.List.{append-nil}
 use Rattle.std.proofs.lemmas.Option.{same_Some}
 use Rattle.web.specs.declared.exchange.Exchange.{Exchange}
-use Rattle.exchanges.specs.declared.reading.TheConstants.{MAX_EXCHANGES}
+use Rattle.exchanges.specs.declared.exchange_reader.TheConstants.{MAX_EXCHANGES}
 use Rattle.exchanges.specs.Exchanges.{AreExchanges, IsBadRecord, IsExchange, exchange_text, exchanges_text}
 use Rattle.exchanges.specs.Reading.{exchange_at}
 use Rattle.exchanges.proofs.Records.{exchange_at-found, exchange_at-text}

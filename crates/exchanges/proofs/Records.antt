@@ -18,7 +18,7 @@ use Rattle.values.specs.Decimals.{is_number_below, number_of}
 use Rattle.values.proofs.DecimalLemmas.{number_found, number_of-decimal, value_below}
 use Rattle.values.proofs.Lacking.{Lacks, after_first-append, before_first-append, decimal_lacks}
 use Rattle.web.specs.declared.exchange.Exchange.{Exchange}
-use Rattle.exchanges.specs.declared.reading.TheConstants.{MAX_REQUEST}
+use Rattle.exchanges.specs.declared.exchange_reader.TheConstants.{MAX_REQUEST}
 use Rattle.exchanges.specs.Exchanges.{IsExchange, exchange_text}
 use Rattle.exchanges.specs.Reading.{after, cut_of, exchange_at, if_lower, nonce_of, number_up_to, request_in}
 

@@ -5,9 +5,9 @@ use Rattle.std.specs.Fmt.{decimal}
 use Rattle.std.specs.List.{AllByRecursion, flat_map}
 use Rattle.hex.specs.Hex.{IsBytes, encode_lower}
 use Rattle.web.specs.declared.exchange.Exchange.{Exchange}
-use Rattle.exchanges.specs.declared.reading.ExchangesFault.{ExchangesFault}
-use Rattle.exchanges.specs.declared.reading.ExchangesFault.TheVariants.{BadExchange, NoMemory}
-use Rattle.exchanges.specs.declared.reading.TheConstants.{MAX_EXCHANGES, MAX_REQUEST}
+use Rattle.exchanges.specs.declared.exchange_reader.ExchangesFault.{ExchangesFault}
+use Rattle.exchanges.specs.declared.exchange_reader.ExchangesFault.TheVariants.{BadExchange, NoMemory}
+use Rattle.exchanges.specs.declared.exchange_reader.TheConstants.{MAX_EXCHANGES, MAX_REQUEST}
 
 -- a record
 abbrev pub exchange_text : Exchange → List ℕ

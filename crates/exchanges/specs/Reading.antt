@@ -8,8 +8,8 @@ use Rattle.std.specs.Str.{bytes_eq}
 use Rattle.hex.specs.Hex.{decode_sized, encode_lower}
 use Rattle.values.specs.Decimals.{number_of}
 use Rattle.web.specs.declared.exchange.Exchange.{Exchange}
-use Rattle.exchanges.specs.declared.reading.Record.{Record}
-use Rattle.exchanges.specs.declared.reading.TheConstants.{MAX_REQUEST}
+use Rattle.exchanges.specs.declared.exchange_reader.Record.{Record}
+use Rattle.exchanges.specs.declared.exchange_reader.TheConstants.{MAX_REQUEST}
 
 -- what follows these bytes
 abbrev pub after : List ℕ → List ℕ → Option (List ℕ)

@@ -4,13 +4,13 @@
 //! gave to each exchange, one after the other.
 #![tactic(auto)]
 
+mod exchange_reader;
 mod printing;
-mod reading;
 mod running;
 
-pub use printing::{has_fault, print_given};
-pub use reading::{
+pub use exchange_reader::{
     ExchangesFault, MAX_EXCHANGES, MAX_FILE, MAX_RECORD_LINE, MAX_REQUEST, read_exchanges,
     the_first_bytes_tell_of_a_file,
 };
+pub use printing::{has_fault, print_given};
 pub use running::{RunFault, apply_exchanges, print_all};

@@ -14,7 +14,7 @@ use Rattle.office.specs.declared.opening.Opening.{Opening}
 use Rattle.office.specs.declared.arrival.Arrival.{Arrival}
 use Rattle.office.specs.declared.ca.Ca.{Ca}
 use Rattle.office.specs.declared.certificate.Certificate.{Certificate}
-use Rattle.office.specs.declared.fault.StoreFault.{StoreFault}
+use Rattle.office.specs.declared.store_fault.StoreFault.{StoreFault}
 use Rattle.office.specs.Openings.{IsOpening}
 use Rattle.office.specs.Faults.{IsOfARegister}
 use Rattle.office.specs.State.{body_of, certificate_of}
@@ -34,8 +34,8 @@ use Rattle.web.specs.Causes.{StopsAt}
 use Rattle.exchanges.specs.declared.running.RunFault.{RunFault}
 use Rattle.exchanges.specs.declared.running.RunFault.TheVariants as run
 use Rattle.exchanges.specs.Printing.{AreRun, Prints}
-use Rattle.headline.specs.declared.fault.PublishFault.{PublishFault}
-use Rattle.headline.specs.declared.fault.PublishFault.TheVariants.{Store, Write}
+use Rattle.headline.specs.declared.publish_fault.PublishFault.{PublishFault}
+use Rattle.headline.specs.declared.publish_fault.PublishFault.TheVariants.{Store, Write}
 
 -- ---- serials and bodies, after every history
 

@@ -9,7 +9,7 @@
 //! The clauses are asked of a disk that has returned what was written, as the call ends.
 #![tactic(auto)]
 
-mod fault;
+mod publish_fault;
 
 ghost use Rattle.std.specs.Prelude.{◌≡◌, ◌≢◌, ◌⊎◌, ◌<◌, ◌+◌, ℕ, List, length, Err, IfErr, IsTrue, OnOk, if◌then◌else◌};
 ghost use Rattle.std.specs.Io.KnownBytes.{Appends};
@@ -31,9 +31,9 @@ ghost use Rattle.headline.specs.Headline.{WritesList, is_write};
 
 pub use exchanges::RunFault;
 use exchanges::apply_exchanges;
-pub use fault::PublishFault;
 use krl::{krl_len, write_krl};
 use office::{MOST_CAS, Registry, Revoked, StoreFault};
+pub use publish_fault::PublishFault;
 use sqlite::Alter;
 use std::alloc::Global;
 use std::io::Write;

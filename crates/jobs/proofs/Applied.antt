@@ -10,8 +10,8 @@ use Rattle.exchanges.specs.Exchanges.{AreExchanges, exchanges_text}
 use Rattle.exchanges.specs.declared.running.RunFault.{RunFault}
 use Rattle.exchanges.specs.declared.running.RunFault.TheVariants as run
 use Rattle.jobs.specs.Faults.{run_result}
-use Rattle.jobs.specs.declared.fault.JobFault.{JobFault}
-use Rattle.jobs.specs.declared.fault.JobFault.TheVariants.{BadExchange, Fault}
+use Rattle.jobs.specs.declared.job_fault.JobFault.{JobFault}
+use Rattle.jobs.specs.declared.job_fault.JobFault.TheVariants.{BadExchange, Fault}
 use Rattle.exchanges.specs.Printing.{Prints}
 use Rattle.trial.specs.Trial.{opening_of, trial_arrival}
 

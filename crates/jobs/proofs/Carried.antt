@@ -2,8 +2,8 @@
 use Rattle.std.proofs.Common.{◌≡◌, ℕ, List, Bool, Option, Result, Ok, Err, true, false, refl, sym, subst, ◌∙◌}
 use Rattle.std.specs.Prelude.{IsTrue, OnOk}
 use Rattle.sqlite.specs.State.{State}
-use Rattle.office.specs.declared.fault.StoreFault.{StoreFault}
-use Rattle.office.specs.declared.fault.StoreFault.TheVariants as store
+use Rattle.office.specs.declared.store_fault.StoreFault.{StoreFault}
+use Rattle.office.specs.declared.store_fault.StoreFault.TheVariants as store
 use Rattle.office.specs.Faults.{IsOfARegister}
 use Rattle.web.specs.declared.exchange.Exchange.{Exchange}
 use Rattle.exchanges.specs.declared.running.RunFault.{RunFault}
@@ -12,7 +12,7 @@ use Rattle.store_rows.specs.Transactions.{IsAsBefore}
 use Rattle.store_migration.specs.Migrating.{IsExcused}
 use Rattle.store.specs.Meaning.{DiskFailed}
 use Rattle.headline.specs.Headline.{OfficePrints, OfficeRuns}
-use Rattle.jobs.specs.declared.fault.JobFault.{JobFault}
+use Rattle.jobs.specs.declared.job_fault.JobFault.{JobFault}
 use Rattle.jobs.specs.Faults.{of_store, run_result}
 use Rattle.jobs.specs.Opening.{IsLeft, IsOpened, IsUnopened, TellsOn}
 use Rattle.jobs.specs.Applying.{Applies}

@@ -3,12 +3,12 @@ use Rattle.std.proofs.Common.{◌≡◌, Err, sym, subst}
 use Rattle.std.specs.Prelude.{IsTrue}
 use Rattle.sqlite.specs.State.{State}
 use Rattle.office.specs.declared.opening.Opening.{Opening}
-use Rattle.office.specs.declared.fault.StoreFault.{StoreFault}
-use Rattle.office.specs.declared.fault.StoreFault.TheVariants as store
+use Rattle.office.specs.declared.store_fault.StoreFault.{StoreFault}
+use Rattle.office.specs.declared.store_fault.StoreFault.TheVariants as store
 use Rattle.store_rows.specs.Transactions.{IsAsBefore}
 use Rattle.store_migration.specs.Migrating.{IsExcused}
 use Rattle.store.specs.Meaning.{DiskFailed, IsBlank}
-use Rattle.jobs.specs.declared.fault.JobFault.{JobFault}
+use Rattle.jobs.specs.declared.job_fault.JobFault.{JobFault}
 use Rattle.jobs.specs.Faults.{of_store}
 use Rattle.jobs.specs.Making.{IsMadeWhole, IsUnmade, Makes}
 

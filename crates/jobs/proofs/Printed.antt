@@ -5,16 +5,16 @@ use Rattle.std.specs.Io.KnownBytes.{Appends}
 use Rattle.sqlite.specs.State.{State}
 use Rattle.office.specs.declared.opening.Opening.{Opening}
 use Rattle.office.specs.declared.arrival.Arrival.{Arrival}
-use Rattle.office.specs.declared.fault.StoreFault.{StoreFault}
-use Rattle.office.specs.declared.fault.StoreFault.TheVariants as store
+use Rattle.office.specs.declared.store_fault.StoreFault.{StoreFault}
+use Rattle.office.specs.declared.store_fault.StoreFault.TheVariants as store
 use Rattle.office.specs.Faults.{IsOfARegister}
 use Rattle.store_rows.specs.Transactions.{IsAsBefore}
 use Rattle.store.specs.Meaning.{Stores, Tells}
-use Rattle.headline.specs.declared.fault.PublishFault.{PublishFault}
-use Rattle.headline.specs.declared.fault.PublishFault.TheVariants as publish
+use Rattle.headline.specs.declared.publish_fault.PublishFault.{PublishFault}
+use Rattle.headline.specs.declared.publish_fault.PublishFault.TheVariants as publish
 use Rattle.headline.specs.Headline.{IfFound, IsList, OfStore}
-use Rattle.jobs.specs.declared.fault.JobFault.{JobFault}
-use Rattle.jobs.specs.declared.fault.JobFault.TheVariants.{NoMemory, Store, Write}
+use Rattle.jobs.specs.declared.job_fault.JobFault.{JobFault}
+use Rattle.jobs.specs.declared.job_fault.JobFault.TheVariants.{NoMemory, Store, Write}
 use Rattle.jobs.specs.declared.reporting.Report.{Report}
 use Rattle.jobs.specs.Faults.{of_store, publish_result}
 use Rattle.jobs.specs.Opening.{IsLeft, IsOpened, IsUnopened, TellsOn}

@@ -8,13 +8,13 @@ use Rattle.http_requests.specs.declared.response.MediaType.TheVariants.{PlainTex
 use Rattle.http_requests.specs.Responses.{response_head, response_text}
 use Rattle.office.specs.declared.opening.Opening.{Opening}
 use Rattle.office.specs.declared.arrival.Arrival.{Arrival}
-use Rattle.office.specs.declared.fault.StoreFault.TheVariants as store
+use Rattle.office.specs.declared.store_fault.StoreFault.TheVariants as store
 use Rattle.office.specs.History.{state}
 use Rattle.store.specs.Meaning.{Stores, Tells}
 use Rattle.web.specs.Answers.{Answers, IsOfTheRegister, answer_text, with_ask}
 use Rattle.headline.specs.Headline.{OfficeAnswers}
-use Rattle.jobs.specs.declared.fault.JobFault.{JobFault}
-use Rattle.jobs.specs.declared.fault.JobFault.TheVariants.{Write}
+use Rattle.jobs.specs.declared.job_fault.JobFault.{JobFault}
+use Rattle.jobs.specs.declared.job_fault.JobFault.TheVariants.{Write}
 use Rattle.jobs.specs.declared.reporting.Report.{Report}
 use Rattle.jobs.specs.declared.reporting.Report.TheVariants.{Signers, Table}
 use Rattle.jobs.specs.Opening.{IsLeft}

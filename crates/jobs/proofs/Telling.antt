@@ -1,13 +1,13 @@
 -- What is read of a file tells of it.
 use Rattle.std.proofs.Common.{◌≡◌, ℕ, ◌+◌, List, take, Option, Some, None, Result, Ok, Err, sym, subst}
 use Rattle.std.specs.Prelude.{IfOk, IfSome}
-use Rattle.exchanges.specs.declared.reading.TheConstants.{MAX_FILE}
+use Rattle.exchanges.specs.declared.exchange_reader.TheConstants.{MAX_FILE}
 use Rattle.exchanges.specs.Exchanges.{TellsOf}
-use Rattle.exchanges.specs.declared.reading.ExchangesFault.{ExchangesFault}
-use Rattle.exchanges.specs.declared.reading.ExchangesFault.TheVariants as exchanges
+use Rattle.exchanges.specs.declared.exchange_reader.ExchangesFault.{ExchangesFault}
+use Rattle.exchanges.specs.declared.exchange_reader.ExchangesFault.TheVariants as exchanges
 use Rattle.exchanges.proofs.LongFiles.{first_tells}
-use Rattle.jobs.specs.declared.fault.JobFault.{JobFault}
-use Rattle.jobs.specs.declared.fault.JobFault.TheVariants.{File, NoMemory, Fault}
+use Rattle.jobs.specs.declared.job_fault.JobFault.{JobFault}
+use Rattle.jobs.specs.declared.job_fault.JobFault.TheVariants.{File, NoMemory, Fault}
 use Rattle.jobs.specs.Faults.{IsOfAFile, IsOfExchanges, of_exchanges}
 
 -- the first bytes, so many, were read

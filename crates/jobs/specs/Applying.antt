@@ -1,12 +1,12 @@
 -- Exchanges applied to the office in a database.
 use Rattle.std.specs.Prelude.{◌≡◌, ℕ, List, Option, Result, Ok, Err, true, false}
 use Rattle.sqlite.specs.State.{State}
-use Rattle.office.specs.declared.fault.StoreFault.TheVariants as store
+use Rattle.office.specs.declared.store_fault.StoreFault.TheVariants as store
 use Rattle.web.specs.declared.exchange.Exchange.{Exchange}
 use Rattle.store_rows.specs.Transactions.{IsAsBefore}
 use Rattle.headline.specs.Headline.{OfficePrints, OfficeRuns}
-use Rattle.jobs.specs.declared.fault.JobFault.{JobFault}
-use Rattle.jobs.specs.declared.fault.JobFault.TheVariants.{Fault, NoMemory, Store, Write}
+use Rattle.jobs.specs.declared.job_fault.JobFault.{JobFault}
+use Rattle.jobs.specs.declared.job_fault.JobFault.TheVariants.{Fault, NoMemory, Store, Write}
 use Rattle.jobs.specs.Opening.{IsLeft, IsUnopened}
 
 -- What came of it. Each exchange is given what is due to it, or some are given a fault, and it is printed. Or the

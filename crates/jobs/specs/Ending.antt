@@ -3,9 +3,9 @@ use Rattle.std.specs.Prelude.{ℕ, Result, Ok, Err}
 use Rattle.sqlite.specs.declared.error.Error.{Error}
 use Rattle.sqlite.specs.declared.error.Error.TheVariants.{SqliteFailure}
 use Rattle.sqlite.specs.declared.error.ErrorCode.TheVariants.{OutOfMemory}
-use Rattle.office.specs.declared.fault.StoreFault.TheVariants.{Device}
-use Rattle.jobs.specs.declared.fault.JobFault.{JobFault}
-use Rattle.jobs.specs.declared.fault.JobFault.TheVariants.{NoMemory, Store}
+use Rattle.office.specs.declared.store_fault.StoreFault.TheVariants.{Device}
+use Rattle.jobs.specs.declared.job_fault.JobFault.{JobFault}
+use Rattle.jobs.specs.declared.job_fault.JobFault.TheVariants.{NoMemory, Store}
 
 -- of a database that was not opened or closed
 abbrev pub of_database : Error → JobFault

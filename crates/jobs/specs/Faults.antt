@@ -4,21 +4,21 @@ use Rattle.lines.specs.declared.key_line.LineFault.{LineFault}
 use Rattle.lines.specs.declared.key_line.LineFault.TheVariants as line
 use Rattle.office.specs.declared.opening.Opening.{Opening as Begun}
 use Rattle.office.specs.declared.opening.OpeningFault.{OpeningFault}
-use Rattle.office.specs.declared.fault.StoreFault.{StoreFault}
-use Rattle.office.specs.declared.fault.StoreFault.TheVariants as store
-use Rattle.server.specs.declared.fault.ListenFault.{ListenFault}
-use Rattle.server.specs.declared.fault.ListenFault.TheVariants as listening
-use Rattle.server.specs.declared.fault.SelftestFault.{SelftestFault}
-use Rattle.server.specs.declared.fault.SelftestFault.TheVariants as selftest
-use Rattle.exchanges.specs.declared.reading.ExchangesFault.{ExchangesFault}
-use Rattle.exchanges.specs.declared.reading.ExchangesFault.TheVariants as exchanges
+use Rattle.office.specs.declared.store_fault.StoreFault.{StoreFault}
+use Rattle.office.specs.declared.store_fault.StoreFault.TheVariants as store
+use Rattle.server.specs.declared.connection_fault.ListenFault.{ListenFault}
+use Rattle.server.specs.declared.connection_fault.ListenFault.TheVariants as listening
+use Rattle.server.specs.declared.connection_fault.SelftestFault.{SelftestFault}
+use Rattle.server.specs.declared.connection_fault.SelftestFault.TheVariants as selftest
+use Rattle.exchanges.specs.declared.exchange_reader.ExchangesFault.{ExchangesFault}
+use Rattle.exchanges.specs.declared.exchange_reader.ExchangesFault.TheVariants as exchanges
 use Rattle.exchanges.specs.declared.running.RunFault.{RunFault}
 use Rattle.exchanges.specs.declared.running.RunFault.TheVariants as run
-use Rattle.headline.specs.declared.fault.PublishFault.{PublishFault}
-use Rattle.headline.specs.declared.fault.PublishFault.TheVariants as publish
-use Rattle.jobs.specs.declared.fault.JobFault.{JobFault}
-use Rattle.jobs.specs.declared.fault.JobFault.TheVariants.{File, Write, Socket, Connection, Mismatch, NoMemory}
-use Rattle.jobs.specs.declared.fault.JobFault.TheVariants.{BadExchange, Line, Opening, Store, Fault}
+use Rattle.headline.specs.declared.publish_fault.PublishFault.{PublishFault}
+use Rattle.headline.specs.declared.publish_fault.PublishFault.TheVariants as publish
+use Rattle.jobs.specs.declared.job_fault.JobFault.{JobFault}
+use Rattle.jobs.specs.declared.job_fault.JobFault.TheVariants.{File, Write, Socket, Connection, Mismatch, NoMemory}
+use Rattle.jobs.specs.declared.job_fault.JobFault.TheVariants.{BadExchange, Line, Opening, Store, Fault}
 
 -- of a file that can't be read as exchanges
 abbrev pub of_exchanges : ExchangesFault → JobFault

@@ -2,7 +2,7 @@
 use Rattle.std.specs.Prelude.{◌≡◌, ℕ, List, [], codes, Option, Result}
 use Rattle.sqlite.specs.State.{State}
 use Rattle.office.specs.Openings.{IsOpening}
-use Rattle.jobs.specs.declared.fault.JobFault.{JobFault}
+use Rattle.jobs.specs.declared.job_fault.JobFault.{JobFault}
 use Rattle.jobs.specs.declared.job.OfficeJob.{OfficeJob}
 use Rattle.jobs.specs.declared.job.OfficeJob.TheVariants.{Init, Apply, Krl, Signers, Table, Migrate}
 use Rattle.jobs.specs.declared.reporting.Report.TheVariants as report

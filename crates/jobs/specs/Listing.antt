@@ -4,12 +4,12 @@ use Rattle.std.specs.Io.KnownBytes.{Appends}
 use Rattle.sqlite.specs.State.{State}
 use Rattle.office.specs.declared.opening.Opening.{Opening}
 use Rattle.office.specs.declared.arrival.Arrival.{Arrival}
-use Rattle.office.specs.declared.fault.StoreFault.TheVariants as store
+use Rattle.office.specs.declared.store_fault.StoreFault.TheVariants as store
 use Rattle.store_rows.specs.Transactions.{IsAsBefore}
 use Rattle.store.specs.Meaning.{Stores, Tells}
 use Rattle.headline.specs.Headline.{IsList}
-use Rattle.jobs.specs.declared.fault.JobFault.{JobFault}
-use Rattle.jobs.specs.declared.fault.JobFault.TheVariants.{NoMemory, Store, Write}
+use Rattle.jobs.specs.declared.job_fault.JobFault.{JobFault}
+use Rattle.jobs.specs.declared.job_fault.JobFault.TheVariants.{NoMemory, Store, Write}
 use Rattle.jobs.specs.Opening.{IsLeft}
 
 -- the list of the history that the tables tell is printed, and they store that history

@@ -4,8 +4,8 @@ use Rattle.sqlite.specs.State.{State, Survives}
 use Rattle.lines.specs.Digests.{fingerprint_text}
 use Rattle.office.specs.declared.opening.Opening.{Opening}
 use Rattle.office.specs.declared.arrival.Arrival.{Arrival}
-use Rattle.office.specs.declared.fault.StoreFault.{StoreFault}
-use Rattle.office.specs.declared.fault.StoreFault.TheVariants as store
+use Rattle.office.specs.declared.store_fault.StoreFault.{StoreFault}
+use Rattle.office.specs.declared.store_fault.StoreFault.TheVariants as store
 use Rattle.store_sql.specs.Schema.{no_schema}
 use Rattle.store_sql.specs.Calls.{IsBare}
 use Rattle.store_sql.specs.Contents.{Contents}
@@ -14,8 +14,8 @@ use Rattle.store_rows.specs.Transactions.{Has, IsAsBefore, Leaves, Rests}
 use Rattle.store_migration.specs.Former.{Had, TellsBefore, ca_of, migrated}
 use Rattle.store_migration.specs.Migrating.{HasStopped, IsExcused, Judges}
 use Rattle.store.specs.Meaning.{DiskFailed, IsBlank, IsHistory, Tells}
-use Rattle.jobs.specs.declared.fault.JobFault.{JobFault}
-use Rattle.jobs.specs.declared.fault.JobFault.TheVariants.{NoMemory, Store}
+use Rattle.jobs.specs.declared.job_fault.JobFault.{JobFault}
+use Rattle.jobs.specs.declared.job_fault.JobFault.TheVariants.{NoMemory, Store}
 
 -- ---- an office made
 

@@ -6,13 +6,13 @@ use Rattle.http_requests.specs.declared.resource.Resource.{Resource}
 use Rattle.http_requests.specs.declared.resource.Resource.TheVariants as resource
 use Rattle.office.specs.declared.opening.Opening.{Opening}
 use Rattle.office.specs.declared.arrival.Arrival.{Arrival}
-use Rattle.office.specs.declared.fault.StoreFault.TheVariants as store
+use Rattle.office.specs.declared.store_fault.StoreFault.TheVariants as store
 use Rattle.office.specs.State.{State}
 use Rattle.office.specs.History.{state}
 use Rattle.store.specs.Meaning.{Stores, Tells}
 use Rattle.web.specs.Reports.{signers_report, table_report}
-use Rattle.jobs.specs.declared.fault.JobFault.{JobFault}
-use Rattle.jobs.specs.declared.fault.JobFault.TheVariants.{NoMemory, Store, Write}
+use Rattle.jobs.specs.declared.job_fault.JobFault.{JobFault}
+use Rattle.jobs.specs.declared.job_fault.JobFault.TheVariants.{NoMemory, Store, Write}
 use Rattle.jobs.specs.declared.reporting.Report.{Report}
 use Rattle.jobs.specs.declared.reporting.Report.TheVariants.{Signers, Table}
 use Rattle.jobs.specs.Opening.{IsLeft}

@@ -2,14 +2,14 @@
 use Rattle.std.specs.Prelude.{◌≡◌, ◌≤◌, ℕ, List, length, map, flat_map, IsTrue, Option, None, Result, Ok, Err}
 use Rattle.std.specs.Io.KnownBytes.{Appends, Consumes}
 use Rattle.sqlite.specs.State.{HasCleanDisk, State}
-use Rattle.office.specs.declared.fault.StoreFault.TheVariants as store
+use Rattle.office.specs.declared.store_fault.StoreFault.TheVariants as store
 use Rattle.web.specs.Runs.{Serves as AllServed}
 use Rattle.server.specs.Books.{Book}
 use Rattle.server.specs.Connections.{Extends, TellsAll, Visit, drawn_of, exchange_of, given_of}
 use Rattle.server.specs.Names.{listening_line}
 use Rattle.store.specs.Meaning.{Tells}
-use Rattle.jobs.specs.declared.fault.JobFault.{JobFault}
-use Rattle.jobs.specs.declared.fault.JobFault.TheVariants.{NoMemory, Socket, Store, Write}
+use Rattle.jobs.specs.declared.job_fault.JobFault.{JobFault}
+use Rattle.jobs.specs.declared.job_fault.JobFault.TheVariants.{NoMemory, Socket, Store, Write}
 use Rattle.jobs.specs.Opening.{IsUnopened, TellsOn}
 
 -- What so many connections did, one after the other, over these tables and those. Each was given what is due to it, or

@@ -7,9 +7,9 @@ ghost use Rattle.jobs.specs.Faults.{run_result};
 ghost use Rattle.jobs.specs.Trial.{AppliesToTrial};
 ghost use Rattle.store_sql.specs.Honest.{IsOutside, IsUnlimited, On};
 
-use crate::fault::JobFault;
+use crate::file_reader::read_exchanges_from;
+use crate::job_fault::JobFault;
 use crate::opening::open_office;
-use crate::reading::read_exchanges_from;
 use exchanges::{RunFault, apply_exchanges};
 use headline::replay;
 use sqlite::{Alter, Connection};

@@ -3,12 +3,12 @@
 ghost use Rattle.std.specs.Prelude.{◌≡◌, ℕ, Err, IfErr, IfSome, OnOk};
 ghost use Rattle.std.specs.Io.KnownBytes.{Appends};
 ghost use Rattle.krl.specs.Faults.{FirstFault};
-ghost use Rattle.krl.specs.declared.fault.KrlFault.{KrlFault};
+ghost use Rattle.krl.specs.declared.krl_fault.KrlFault.{KrlFault};
 ghost use Rattle.jobs.specs.Checking.{Checks, verdict_text};
 
-use crate::fault::JobFault;
+use crate::file_reader::read_list;
+use crate::job_fault::JobFault;
 use crate::output::write_out;
-use crate::reading::read_list;
 use std::alloc::Global;
 use std::io::{Read, Write};
 

@@ -8,8 +8,8 @@ ghost use Rattle.jobs.specs.Faults.{IsOfADatabase, of_selftest};
 ghost use Rattle.jobs.specs.Jobs.{told_text};
 ghost use Rattle.jobs.specs.Making.{ready_text};
 
-use crate::fault::JobFault;
 use crate::job::OfficeJob;
+use crate::job_fault::JobFault;
 use crate::output::write_out;
 use lines::{KeyLine, fingerprint};
 use office::{Opening, StoreFault};

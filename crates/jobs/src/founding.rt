@@ -8,7 +8,7 @@ ghost use Rattle.office.specs.Openings.{IsOpening, made_opening};
 ghost use Rattle.jobs.specs.Faults.{IsOfAnOpening};
 ghost use Rattle.jobs.specs.Making.{Makes};
 
-use crate::fault::JobFault;
+use crate::job_fault::JobFault;
 use office::{Opening, StoreFault};
 use sqlite::{Alter, Connection};
 use std::alloc::Global;

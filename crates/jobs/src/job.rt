@@ -4,8 +4,8 @@ ghost use Rattle.jobs.specs.Jobs.{Does, IsLawful};
 ghost use Rattle.store_sql.specs.Honest.{IsOutside, IsUnlimited, On};
 
 use crate::applying::apply_over;
-use crate::fault::JobFault;
 use crate::founding::make_over;
+use crate::job_fault::JobFault;
 use crate::listing::list_over;
 use crate::migrating::migrate_over;
 use crate::reporting::{Report, report_over};

@@ -5,8 +5,8 @@ ghost use Rattle.jobs.specs.Faults.{publish_result};
 ghost use Rattle.jobs.specs.Listing.{Lists};
 ghost use Rattle.store_sql.specs.Honest.{IsOutside, IsUnlimited, On};
 
-use crate::fault::JobFault;
 use crate::job::Done;
+use crate::job_fault::JobFault;
 use crate::opening::open_office;
 use headline::{PublishFault, publish};
 use sqlite::{Alter, Connection};

@@ -6,7 +6,7 @@ ghost use Rattle.store_sql.specs.Look.{is_ca_name, is_office_table};
 ghost use Rattle.store_sql.specs.Honest.{IsOutside, IsUnlimited, On, tables_of};
 ghost use Rattle.jobs.specs.Making.{Migrates};
 
-use crate::fault::JobFault;
+use crate::job_fault::JobFault;
 use office::StoreFault;
 use sqlite::{Alter, Connection};
 use std::alloc::Global;

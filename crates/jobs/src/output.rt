@@ -3,7 +3,7 @@
 ghost use Rattle.std.specs.Prelude.{◌≡◌, IfErr, OnOk};
 ghost use Rattle.std.specs.Io.KnownBytes.{Appends};
 
-use crate::fault::JobFault;
+use crate::job_fault::JobFault;
 use std::io::Write;
 
 /// Writes all of the bytes.

@@ -9,7 +9,7 @@ ghost use Rattle.exchanges.specs.Reading.{after, cut_of};
 ghost use Rattle.jobs.specs.Reporting.{Reports, resource_of};
 ghost use Rattle.store_sql.specs.Honest.{IsOutside, IsUnlimited, On, StaysClean};
 
-use crate::fault::JobFault;
+use crate::job_fault::JobFault;
 use crate::opening::open_office;
 use crate::output::write_out;
 use headline::respond;

@@ -7,7 +7,7 @@ ghost use Rattle.server.specs.Connections.{Extends};
 ghost use Rattle.store.specs.Meaning.{Tells};
 ghost use Rattle.jobs.specs.Serving.{MeetsOver, Serves};
 
-use crate::fault::JobFault;
+use crate::job_fault::JobFault;
 use crate::opening::open_office;
 use server::{Listener, Loopback, listen, serve_on};
 use sqlite::{Alter, Connection};

@@ -5,9 +5,9 @@ use Rattle.std.specs.Prelude.{MatchOption}
 use Rattle.std.specs.List.{flat_map, list_all, AllByRecursion}
 use Rattle.std.proofs.lemmas.Bool.{and_parts}
 use Rattle.wire.specs.Texts.{u32_text, u64_text, string_text}
-use Rattle.krl.specs.declared.fault.KrlFault.{KrlFault}
-use Rattle.krl.specs.declared.fault.KrlFault.TheVariants.{Truncated, BadMagic, BadVersion}
-use Rattle.krl.specs.declared.fault.KrlFault.TheVariants.{BadFlags, Unsupported, BadSection}
+use Rattle.krl.specs.declared.krl_fault.KrlFault.{KrlFault}
+use Rattle.krl.specs.declared.krl_fault.KrlFault.TheVariants.{Truncated, BadMagic, BadVersion}
+use Rattle.krl.specs.declared.krl_fault.KrlFault.TheVariants.{BadFlags, Unsupported, BadSection}
 use Rattle.krl.specs.Format.{Part, Serials, Range, KeyIds, OtherPart, part_type, part_data, part_text}
 use Rattle.krl.specs.Format.{Section, Certificates, OtherSection, section_data, section_text, Header}
 use Rattle.krl.specs.Format.{header_text, magic, RevocationList, is_supported, is_supported_part}

@@ -7,7 +7,7 @@ use Rattle.std.specs.List.{flat_map, AllByRecursion}
 use Rattle.std.specs.Str.{bytes_eq}
 use Rattle.wire.specs.Texts.{string_text, u64_text}
 use Rattle.krl.specs.declared.run.Run.{Run}
-use Rattle.krl.specs.declared.fault.KrlFault.TheVariants.{BadSection}
+use Rattle.krl.specs.declared.krl_fault.KrlFault.TheVariants.{BadSection}
 use Rattle.krl.specs.Sets.{is_within}
 use Rattle.krl.specs.Format.{Serials, Range, KeyIds, OtherPart, IsString}
 use Rattle.krl.specs.Faults.{IsU64, NoPart}

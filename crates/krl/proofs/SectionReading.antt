@@ -5,8 +5,8 @@ use Rattle.std.specs.Prelude.{IfOk, IfErr, MatchOption}
 use Rattle.std.specs.List.{list_all, flat_map, AllByRecursion}
 use Rattle.std.proofs.lemmas.Bool.{ne_eqb}
 use Rattle.wire.specs.Texts.{string_text}
-use Rattle.krl.specs.declared.fault.KrlFault.{KrlFault}
-use Rattle.krl.specs.declared.fault.KrlFault.TheVariants.{Unsupported}
+use Rattle.krl.specs.declared.krl_fault.KrlFault.{KrlFault}
+use Rattle.krl.specs.declared.krl_fault.KrlFault.TheVariants.{Unsupported}
 use Rattle.krl.specs.Format.{Part, part_text, tagged_text, names, Section, Certificates, section_text, section_revokes}
 use Rattle.krl.specs.Format.{is_for, Header, header_text, RevocationList, is_supported, is_supported_part}
 use Rattle.krl.specs.Format.{is_supported_section, revokes, IsString, IsPart, IsSection, IsHeader, IsCut}

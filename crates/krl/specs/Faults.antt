@@ -3,9 +3,9 @@ use Rattle.std.specs.Prelude.{◌≡◌, ◌≢◌, ◌==◌, ℕ, ◌<◌, ◌^
 use Rattle.std.specs.Prelude.{true, ◌||◌, Option, Some, None, MatchOption, if◌then◌else◌}
 use Rattle.std.specs.List.{flat_map, AllByRecursion}
 use Rattle.wire.specs.Texts.{u32_text, u64_text, string_text}
-use Rattle.krl.specs.declared.fault.KrlFault.{KrlFault}
-use Rattle.krl.specs.declared.fault.KrlFault.TheVariants.{Truncated, BadMagic, BadVersion}
-use Rattle.krl.specs.declared.fault.KrlFault.TheVariants.{BadFlags, Unsupported, BadSection}
+use Rattle.krl.specs.declared.krl_fault.KrlFault.{KrlFault}
+use Rattle.krl.specs.declared.krl_fault.KrlFault.TheVariants.{Truncated, BadMagic, BadVersion}
+use Rattle.krl.specs.declared.krl_fault.KrlFault.TheVariants.{BadFlags, Unsupported, BadSection}
 use Rattle.krl.specs.Format.{Part, part_type, part_data, part_text, tagged_text, Section}
 use Rattle.krl.specs.Format.{section_text, Header, magic, header_text, IsString, IsPart}
 use Rattle.krl.specs.Format.{IsSection, IsHeader, is_supported_part, is_supported_section}

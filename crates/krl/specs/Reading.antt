@@ -1,8 +1,8 @@
 -- What the reader's steps answer.
 use Rattle.std.specs.Prelude.{◌≡◌, ℕ, ◌<◌, List, ◌++◌, Bool, true, slice_index, MatchOption}
 use Rattle.std.specs.List.{list_any, flat_map, AllByRecursion}
-use Rattle.krl.specs.declared.fault.KrlFault.{KrlFault}
-use Rattle.krl.specs.declared.fault.KrlFault.TheVariants.{Unsupported, BadSection}
+use Rattle.krl.specs.declared.krl_fault.KrlFault.{KrlFault}
+use Rattle.krl.specs.declared.krl_fault.KrlFault.TheVariants.{Unsupported, BadSection}
 use Rattle.krl.specs.Format.{Part, part_type, part_data, part_text, names, Section, section_type}
 use Rattle.krl.specs.Format.{section_data, section_text, section_revokes, is_supported_section}
 use Rattle.krl.specs.Format.{IsSectionContent, RevocationList, is_supported, revokes, IsCut}

@@ -2,8 +2,8 @@
 #![tactic(auto)]
 
 mod ca_part;
-mod fault;
 mod field;
+mod krl_fault;
 mod krl_head;
 mod laws;
 mod lengths;
@@ -14,7 +14,7 @@ mod runs;
 mod writer;
 
 pub use ca_part::CaPart;
-pub use fault::KrlFault;
+pub use krl_fault::KrlFault;
 pub use krl_head::KrlHead;
 pub use laws::{a_set_has_its_runs, runs_are_maximal, runs_are_one};
 pub use lengths::krl_len;

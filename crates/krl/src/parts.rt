@@ -10,8 +10,8 @@ ghost use Rattle.krl.specs.Format.{IsString, names, part_text};
 ghost use Rattle.krl.specs.Faults.{IsReadPart, IsU64, PartFault, PartsFault};
 ghost use Rattle.krl.specs.Reading.{AreItems, IsBytes, ReadsPart, ReadsPartData, RefusesPartData};
 
-use crate::fault::KrlFault;
 use crate::field::{is_same, next_string, next_tagged};
+use crate::krl_fault::KrlFault;
 use crate::run::Run;
 use wire::Cursor;
 

@@ -9,8 +9,8 @@ ghost use Rattle.krl.specs.Faults.{CertificatesFault, FieldFault, FirstFault, He
 ghost use Rattle.krl.specs.Faults.{IsU64, ItemFault, NothingAfter, SectionFault, accepted, refused_unless};
 ghost use Rattle.krl.specs.Reading.{AreItems, IsBytes, ReadsCertificates, ReadsList, ReadsSection};
 
-use crate::fault::KrlFault;
 use crate::field::{is_same, next_string, next_tagged};
+use crate::krl_fault::KrlFault;
 use crate::parts::read_parts;
 use lines::key_blob_of;
 use wire::Cursor;

@@ -1,12 +1,12 @@
 //! The plain store: an office's register as lists in memory.
 #![tactic(auto)]
 
-mod certificates;
 mod departments;
+mod issued;
 mod judging;
 mod key_ids;
-mod reading;
 mod registry;
+mod shown;
 mod store;
 mod viewing;
 mod writing;

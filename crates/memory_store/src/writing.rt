@@ -4,8 +4,8 @@ ghost use Rattle.std.specs.Prelude.{◌≡◌, OnOk, OnErr};
 ghost use Rattle.office.specs.Decided.{HasRoom, IsLawfulChange, changed};
 ghost use Rattle.memory_store.specs.Contents.{Writes, state_of};
 
-use crate::certificates::sign;
 use crate::departments::put_department;
+use crate::issued::sign;
 use crate::key_ids::put_key_id;
 use crate::store::PlainStore;
 use office::{Arrival, Change, Decision, Kept};

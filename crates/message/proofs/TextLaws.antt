@@ -8,8 +8,8 @@ use Rattle.std.specs.List.{AllByRecursion, slice_split, onto_first, join_with_by
 use Rattle.std.proofs.lemmas.Bool.{cases_order}
 use Rattle.std.proofs.lemmas.List.Splits.{slice_split_at, join_with_byte-slice_split, length-slice_split}
 use Rattle.base64.specs.GeneralPurpose.{IsBytes}
-use Rattle.message.specs.declared.fault.MessageFault.{MessageFault}
-use Rattle.message.specs.declared.fault.MessageFault.TheVariants as fault
+use Rattle.message.specs.declared.message_fault.MessageFault.{MessageFault}
+use Rattle.message.specs.declared.message_fault.MessageFault.TheVariants as fault
 use Rattle.message.specs.declared.kinds.Message.{Message}
 use Rattle.message.specs.Values.{is_message}
 use Rattle.message.specs.Texts.{lines_text, message_lines, message_text}

@@ -17,8 +17,8 @@ use Rattle.lines.specs.Keys.{signature_of}
 use Rattle.lines.specs.Reading.{comment_of, key_line_at, word_of}
 use Rattle.lines.specs.declared.key_line.KeyLine.{KeyLine}
 use Rattle.lines.specs.declared.signature.Signature.{Signature}
-use Rattle.message.specs.declared.fault.MessageFault.{MessageFault}
-use Rattle.message.specs.declared.fault.MessageFault.TheVariants as fault
+use Rattle.message.specs.declared.message_fault.MessageFault.{MessageFault}
+use Rattle.message.specs.declared.message_fault.MessageFault.TheVariants as fault
 use Rattle.message.specs.declared.delivery.Delivery.{Delivery}
 use Rattle.message.specs.declared.department.Department.{Department}
 use Rattle.message.specs.declared.issue.Issue.{Issue}

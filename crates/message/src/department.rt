@@ -12,11 +12,11 @@ ghost use Rattle.message.specs.Values.{
   is_longest_life,
 };
 
-use crate::fault::MessageFault;
 use crate::line::{ends_after, line, list_after, name_after, number_after};
 use crate::lists::{
     are_administrators, are_extension_names, are_namespaces, are_option_names, are_rules,
 };
+use crate::message_fault::MessageFault;
 use std::alloc::Global;
 use text::{NoMemory, Text, Texts};
 use values::{Kind, LONGEST_LIFE};

@@ -3,9 +3,9 @@
 ghost use Rattle.std.specs.Prelude.{◌≡◌, ◌≤◌, IfOk, length, map, []};
 ghost use Rattle.message.specs.Reading.{Gives, issue_in, options_from};
 
-use crate::fault::MessageFault;
 use crate::line::{ends_after, line, name_after};
 use crate::lists::{extensions_in, principals_in};
+use crate::message_fault::MessageFault;
 use crate::option::option_after;
 use crate::value::{end_after, key_id_after, key_line_after};
 use lines::KeyLine;

@@ -6,14 +6,14 @@
 
 mod delivery;
 mod department;
-mod fault;
 mod issue;
 mod kinds;
 mod laws;
 mod line;
 mod lists;
+mod message_fault;
+mod message_reader;
 mod option;
-mod reading;
 mod renewal;
 mod serial_range;
 mod single;
@@ -22,7 +22,6 @@ mod writing;
 
 pub use delivery::Delivery;
 pub use department::{Department, fits_kind};
-pub use fault::MessageFault;
 pub use issue::Issue;
 pub use kinds::Message;
 pub use laws::{
@@ -32,8 +31,9 @@ pub use lists::{
     are_administrators, are_extension_names, are_namespaces, are_option_names, are_principals,
     are_rules,
 };
+pub use message_fault::MessageFault;
+pub use message_reader::read_message;
 pub use option::is_option;
-pub use reading::read_message;
 pub use renewal::Renewal;
 pub use serial_range::SerialRange;
 pub use writing::write_message;

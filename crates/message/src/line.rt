@@ -5,7 +5,7 @@ ghost use Rattle.std.specs.Option.{option_and_then};
 ghost use Rattle.values.specs.Decimals.{number_of};
 ghost use Rattle.message.specs.Reading.{Gives, after, ends_after, line_of, listed, name_after, or_bad};
 
-use crate::fault::MessageFault;
+use crate::message_fault::MessageFault;
 use std::alloc::Global;
 use text::{NoMemory, Text, Texts, cut};
 use values::{is_name, read_decimal};

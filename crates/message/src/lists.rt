@@ -15,8 +15,8 @@ ghost use Rattle.message.specs.Values.{
   are_rules,
 };
 
-use crate::fault::MessageFault;
 use crate::line::{line, list_after};
+use crate::message_fault::MessageFault;
 use std::alloc::Global;
 use text::{Text, Texts};
 use values::{

@@ -3,8 +3,8 @@
 ghost use Rattle.std.specs.Prelude.{map};
 ghost use Rattle.message.specs.Reading.{Gives, renewal_in};
 
-use crate::fault::MessageFault;
 use crate::line::{ends_after, line};
+use crate::message_fault::MessageFault;
 use crate::value::{end_after, serial_after};
 
 /// A certificate once more, with another validity.

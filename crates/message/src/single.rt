@@ -11,8 +11,8 @@ ghost use Rattle.message.specs.Reading.{
 };
 ghost use Rattle.values.specs.Serials.{is_serial};
 
-use crate::fault::MessageFault;
 use crate::line::{ends_after, line};
+use crate::message_fault::MessageFault;
 use crate::serial_range::SerialRange;
 use crate::value::{key_id_after, key_line_after, range_after, serial_after};
 use lines::KeyLine;

@@ -18,8 +18,8 @@ ghost use Rattle.message.specs.Reading.{
 ghost use Rattle.values.specs.Serials.{is_serial};
 ghost use Rattle.message.specs.Values.{is_digest, is_end, is_lower_hex, is_range};
 
-use crate::fault::MessageFault;
 use crate::line::{after, line, number_after};
+use crate::message_fault::MessageFault;
 use crate::serial_range::SerialRange;
 use base64::engine::general_purpose::STANDARD;
 use lines::{KeyLine, LineFault, Signature, read_key_line, read_signature_blob, word_and_rest};

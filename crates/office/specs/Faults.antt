@@ -1,7 +1,7 @@
 -- When a register may answer which fault.
-use Rattle.office.specs.declared.fault.StoreFault.{StoreFault}
-use Rattle.office.specs.declared.fault.StoreFault.TheVariants.{AlreadyAnOffice, NotAnOffice, WrongSchema, Damaged}
-use Rattle.office.specs.declared.fault.StoreFault.TheVariants.{Device, NoMemory}
+use Rattle.office.specs.declared.store_fault.StoreFault.{StoreFault}
+use Rattle.office.specs.declared.store_fault.StoreFault.TheVariants.{AlreadyAnOffice, NotAnOffice, WrongSchema, Damaged}
+use Rattle.office.specs.declared.store_fault.StoreFault.TheVariants.{Device, NoMemory}
 
 -- a failure of the database is answered only where there was one
 abbrev pub HasCause : StoreFault → Type 0 → Type 0

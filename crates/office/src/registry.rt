@@ -14,9 +14,9 @@ ghost use Rattle.office.specs.Registers.{AnswersBy, FailsAsARegister, MeansOneMo
 use crate::arrival::{Arrival, Outcome};
 use crate::ca::Ca;
 use crate::certificate::Certificate;
-use crate::fault::StoreFault;
 use crate::listing::Revocations;
 use crate::publication::{Issued, Revoked};
+use crate::store_fault::StoreFault;
 use message::Department;
 use std::alloc::Global;
 use text::Text;

@@ -1,12 +1,12 @@
 //! What holds of the office after every history: functions without a body, whose contracts are the laws.
 #![tactic(auto)]
 
-mod certificates;
+mod certificate_laws;
 mod messages;
 mod publication;
 mod revocations;
 
-pub use certificates::{a_body_names_its_signer, a_body_stays, serials_count_up};
+pub use certificate_laws::{a_body_names_its_signer, a_body_stays, serials_count_up};
 pub use messages::an_arrival_brings_the_message_of_its_text;
 pub use publication::{
     a_later_list_revokes_as_much, equal_versions_are_equal_lists, the_list_is_exact,

@@ -10,7 +10,7 @@ use Rattle.http_requests.specs.Asks.{Ask, refused, get, post}
 use Rattle.values.specs.declared.limits.TheConstants.{LATEST_MOMENT}
 use Rattle.web.specs.Answers.{arrival_by, with_ask}
 use Rattle.web.specs.Runs.{AllDue}
-use Rattle.server.specs.declared.fault.Fault.{Fault}
+use Rattle.server.specs.declared.connection_fault.Fault.{Fault}
 use Rattle.server.specs.Books.{Book}
 use Rattle.server.specs.Connections.{Talk, Visit, answered, cut, closed, AreServed, Visits, Meets, Extends, IsExtended, IsTimely, exchange_of, given_of}
 

@@ -10,7 +10,7 @@ use Rattle.office.specs.declared.arrival.Arrival.{Arrival}
 use Rattle.office.specs.declared.registry.Registry.{Ghosts}
 use Rattle.web.specs.Answers.{AsksTheRegister, with_ask}
 use Rattle.web.specs.Runs.{AllDue, HasAnswered}
-use Rattle.server.specs.declared.fault.Fault.{Fault}
+use Rattle.server.specs.declared.connection_fault.Fault.{Fault}
 use Rattle.server.specs.Books.{Book, WhereTold}
 use Rattle.server.specs.Connections.{Visit, answered, cut, closed, AreServed, EndsWith, IfGiven, Meets, Tells, TellsAll, Visits, drawn_of, exchange_of, given_of}
 

@@ -13,14 +13,14 @@ use Rattle.web.specs.declared.exchange.Exchange.{Exchange}
 use Rattle.web.specs.declared.exchange.Given.TheVariants.{Answer}
 use Rattle.web.specs.Answers.{IsAnswered, IsOfTheRegister, Keeps, with_ask}
 use Rattle.web.specs.Runs.{Serves}
-use Rattle.serving.specs.declared.fault.ServeFault.{ServeFault}
-use Rattle.serving.specs.declared.fault.ServeFault.TheVariants.{Read, Nonces, Store, NoMemory, Write}
+use Rattle.serving.specs.declared.serve_fault.ServeFault.{ServeFault}
+use Rattle.serving.specs.declared.serve_fault.ServeFault.TheVariants.{Read, Nonces, Store, NoMemory, Write}
 use Rattle.serving.specs.Faults.{IfUnserved}
 use Rattle.serving.specs.Nonces.{Draws}
 use Rattle.serving.specs.Requests.{IsOneRequest}
 use Rattle.serving.specs.Served.{Served}
-use Rattle.server.specs.declared.fault.Fault.{Fault}
-use Rattle.server.specs.declared.fault.Fault.TheVariants.{Socket, Clock, Serving}
+use Rattle.server.specs.declared.connection_fault.Fault.{Fault}
+use Rattle.server.specs.declared.connection_fault.Fault.TheVariants.{Socket, Clock, Serving}
 use Rattle.server.specs.Books.{Book, WhereTold, IsAccepted, IsEnded}
 use Rattle.server.specs.Connections.{Talk, answered, cut, closed, AreServed, IsHeld, IsOfAccepting, IsSilent, Tells, TellsFault, Visits}
 

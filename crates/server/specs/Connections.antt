@@ -11,12 +11,12 @@ use Rattle.web.specs.declared.exchange.Given.{Given}
 use Rattle.web.specs.declared.exchange.Given.TheVariants as given
 use Rattle.web.specs.Answers.{Keeps}
 use Rattle.web.specs.Runs.{Serves}
-use Rattle.serving.specs.declared.fault.ServeFault.TheVariants.{Write}
+use Rattle.serving.specs.declared.serve_fault.ServeFault.TheVariants.{Write}
 use Rattle.serving.specs.Faults.{IfServed}
 use Rattle.serving.specs.Nonces.{IsDrawn}
 use Rattle.serving.specs.Requests.{IsOneRequest}
-use Rattle.server.specs.declared.fault.Fault.{Fault}
-use Rattle.server.specs.declared.fault.Fault.TheVariants.{Socket, Clock, Serving}
+use Rattle.server.specs.declared.connection_fault.Fault.{Fault}
+use Rattle.server.specs.declared.connection_fault.Fault.TheVariants.{Socket, Clock, Serving}
 use Rattle.server.specs.Books.{Coming, Book, IsMet, WhereTold}
 
 -- a request that was served, at a lawful moment and with a whole nonce, and the response

@@ -1,14 +1,14 @@
 -- What is printed.
 use Rattle.std.specs.Prelude.{ℕ, List, [], ◌∷◌, ◌++◌, codes}
 use Rattle.std.specs.Fmt.{decimal}
-use Rattle.serving.specs.declared.fault.ServeFault.{ServeFault}
-use Rattle.serving.specs.declared.fault.ServeFault.TheVariants as serve
-use Rattle.server.specs.declared.fault.Fault.{Fault}
-use Rattle.server.specs.declared.fault.Fault.TheVariants.{Socket, Clock, Serving}
-use Rattle.server.specs.declared.fault.ListenFault.{ListenFault}
-use Rattle.server.specs.declared.fault.ListenFault.TheVariants as listen
-use Rattle.server.specs.declared.fault.SelftestFault.{SelftestFault}
-use Rattle.server.specs.declared.fault.SelftestFault.TheVariants.{Unserved, Mismatch}
+use Rattle.serving.specs.declared.serve_fault.ServeFault.{ServeFault}
+use Rattle.serving.specs.declared.serve_fault.ServeFault.TheVariants as serve
+use Rattle.server.specs.declared.connection_fault.Fault.{Fault}
+use Rattle.server.specs.declared.connection_fault.Fault.TheVariants.{Socket, Clock, Serving}
+use Rattle.server.specs.declared.connection_fault.ListenFault.{ListenFault}
+use Rattle.server.specs.declared.connection_fault.ListenFault.TheVariants as listen
+use Rattle.server.specs.declared.connection_fault.SelftestFault.{SelftestFault}
+use Rattle.server.specs.declared.connection_fault.SelftestFault.TheVariants.{Unserved, Mismatch}
 
 abbrev pub serve_fault_name : ServeFault → List ℕ
 serve_fault_name serve.Read = codes "Read"

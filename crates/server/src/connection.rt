@@ -3,7 +3,7 @@
 ghost use Rattle.std.specs.Prelude.{◌≤◌, ◌<◌, ◌+◌};
 ghost use Rattle.server.specs.Connections.{IfGiven, Visits};
 
-use crate::fault::Fault;
+use crate::connection_fault::Fault;
 use crate::listener::{Connection, Listener};
 use http_requests::Routes;
 use office::Registry;

@@ -8,7 +8,7 @@
 
 mod closing;
 mod connection;
-mod fault;
+mod connection_fault;
 mod listener;
 mod listening;
 mod loopback;
@@ -22,7 +22,7 @@ mod tests;
 mod timed;
 mod watch;
 
-pub use fault::{Fault, ListenFault, SelftestFault};
+pub use connection_fault::{Fault, ListenFault, SelftestFault};
 pub use listener::{Connection, Listener};
 pub use listening::listen;
 pub use loopback::Loopback;

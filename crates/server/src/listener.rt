@@ -5,7 +5,7 @@ ghost use Rattle.values.specs.declared.limits.TheConstants.{LATEST_MOMENT};
 ghost use Rattle.server.specs.Books.{Book, WhereTold, IsAccepted, IsEnded};
 ghost use Rattle.server.specs.Connections.{IsOfAccepting, TellsFault};
 
-use crate::fault::Fault;
+use crate::connection_fault::Fault;
 use wire::{Sink, Source};
 
 /// A connection that was accepted.

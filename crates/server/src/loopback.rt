@@ -4,7 +4,7 @@ ghost use Rattle.std.specs.Prelude.{◌≤◌, IfSome};
 ghost use Rattle.values.specs.declared.limits.TheConstants.{LATEST_MOMENT};
 
 use crate::closing::end_response;
-use crate::fault::Fault;
+use crate::connection_fault::Fault;
 use crate::listener::{Connection, Listener};
 use crate::patience::Patience;
 use crate::timed::Timed;

@@ -4,7 +4,7 @@ ghost use Rattle.std.specs.Prelude.{◌≡◌};
 ghost use Rattle.server.specs.Connections.{Extends};
 
 use crate::connection::serve_connection;
-use crate::fault::{Fault, SelftestFault};
+use crate::connection_fault::{Fault, SelftestFault};
 use crate::listener::Listener;
 use crate::listening::bind;
 use crate::loopback::Loopback;

@@ -4,7 +4,7 @@ ghost use Rattle.std.specs.Prelude.{OnOk};
 ghost use Rattle.std.specs.Io.KnownBytes.{Appends};
 ghost use Rattle.server.specs.Names.{connection_line};
 
-use crate::fault::Fault;
+use crate::connection_fault::Fault;
 use std::io;
 use std::io::Write;
 

@@ -4,7 +4,7 @@ ghost use Rattle.std.specs.Prelude.{◌≡◌, ◌≤◌, ◌<◌, Some, [], len
 ghost use Rattle.values.specs.declared.limits.TheConstants.{LATEST_MOMENT};
 ghost use Rattle.server.specs.Books.{Book};
 
-use crate::fault::Fault;
+use crate::connection_fault::Fault;
 use crate::listener::{Connection, Listener};
 use std::alloc::{AllocError, Global};
 use wire::{Ending, Pace, ScriptedReader, VecSink};

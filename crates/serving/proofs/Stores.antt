@@ -1,11 +1,11 @@
 -- Why a fault of the register is told as `Store`.
 use Rattle.std.proofs.Common.{◌≡◌, sym, ◌∙◌}
 use Rattle.std.specs.Prelude.{Result, Ok, Err, IsErrAnd}
-use Rattle.office.specs.declared.fault.StoreFault.{StoreFault}
-use Rattle.office.specs.declared.fault.StoreFault.TheVariants.{AlreadyAnOffice, NotAnOffice, WrongSchema, Damaged, Device, NoMemory}
+use Rattle.office.specs.declared.store_fault.StoreFault.{StoreFault}
+use Rattle.office.specs.declared.store_fault.StoreFault.TheVariants.{AlreadyAnOffice, NotAnOffice, WrongSchema, Damaged, Device, NoMemory}
 use Rattle.office.specs.Faults.{HasCause, IsOfARegister}
-use Rattle.serving.specs.declared.fault.ServeFault.{ServeFault}
-use Rattle.serving.specs.declared.fault.ServeFault.TheVariants.{Store}
+use Rattle.serving.specs.declared.serve_fault.ServeFault.{ServeFault}
+use Rattle.serving.specs.declared.serve_fault.ServeFault.TheVariants.{Store}
 use Rattle.serving.specs.Faults.{fault_of}
 
 -- of a register that means a history only a fault with a cause is told so

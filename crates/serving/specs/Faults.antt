@@ -1,9 +1,9 @@
 -- What a fault of serving says.
 use Rattle.std.specs.Prelude.{Bool, true, false, Result, Ok, Err}
-use Rattle.office.specs.declared.fault.StoreFault.{StoreFault}
-use Rattle.office.specs.declared.fault.StoreFault.TheVariants as store
-use Rattle.serving.specs.declared.fault.ServeFault.{ServeFault}
-use Rattle.serving.specs.declared.fault.ServeFault.TheVariants.{Read, Nonces, Store, NoMemory, Write}
+use Rattle.office.specs.declared.store_fault.StoreFault.{StoreFault}
+use Rattle.office.specs.declared.store_fault.StoreFault.TheVariants as store
+use Rattle.serving.specs.declared.serve_fault.ServeFault.{ServeFault}
+use Rattle.serving.specs.declared.serve_fault.ServeFault.TheVariants.{Read, Nonces, Store, NoMemory, Write}
 
 -- the fault that a fault of the register is
 abbrev pub fault_of : StoreFault → ServeFault

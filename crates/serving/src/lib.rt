@@ -4,9 +4,9 @@
 //! writes the response. Its contract says exactly which bytes were taken and written, and what each fault leaves.
 #![tactic(auto)]
 
-mod fault;
 mod serve;
+mod serve_fault;
 mod taking;
 
-pub use fault::ServeFault;
 pub use serve::serve_one;
+pub use serve_fault::ServeFault;

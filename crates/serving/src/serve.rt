@@ -12,7 +12,7 @@ ghost use Rattle.serving.specs.Faults.{is_read, is_write, IfServed, IfUnserved};
 ghost use Rattle.serving.specs.Nonces.{Draws, FailsBy};
 ghost use Rattle.serving.specs.Served.{Served, Stopped};
 
-use crate::fault::ServeFault;
+use crate::serve_fault::ServeFault;
 use crate::taking::{take_nonce, take_request};
 use http_requests::Routes;
 use office::Registry;

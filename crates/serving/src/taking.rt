@@ -6,7 +6,7 @@ ghost use Rattle.serving.specs.Faults.{is_read, IsOfTaking};
 ghost use Rattle.serving.specs.Requests.{IsFront, TakesMore, IsOneRequest};
 ghost use Rattle.serving.specs.Nonces.{Draws, FailsBy};
 
-use crate::fault::ServeFault;
+use crate::serve_fault::ServeFault;
 use http_requests::{MAX_HEAD, Progress, Routes, body_size, progress_of, read_head};
 use std::alloc::Global;
 use wire::{Source, read_full};

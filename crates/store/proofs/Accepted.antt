@@ -8,7 +8,7 @@ use Rattle.sqlite.specs.State.{State as Connection, Survives}
 use Rattle.sqlite.proofs.StateLemmas.{survives_weaker}
 use Rattle.message.specs.declared.kinds.Message.{Message}
 use Rattle.store_sql.specs.Contents.{Contents}
-use Rattle.store_sql.specs.declared.fault.Fault.{Fault}
+use Rattle.store_sql.specs.declared.table_fault.Fault.{Fault}
 use Rattle.office.specs.declared.arrival.Arrival.{Arrival}
 use Rattle.office.specs.declared.arrival.Kept.{Kept}
 use Rattle.office.specs.declared.arrival.Outcome.TheVariants as outcome

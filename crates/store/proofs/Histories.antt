@@ -1,7 +1,7 @@
 -- What every history keeps.
 use Rattle.std.proofs.Common.{◌≡◌, ℕ, List, Ok, Err, Result}
 use Rattle.sqlite.specs.State.{State as Connection}
-use Rattle.store_sql.specs.declared.fault.Fault.{Fault}
+use Rattle.store_sql.specs.declared.table_fault.Fault.{Fault}
 use Rattle.krl.specs.declared.run.Run.{Run}
 use Rattle.krl.specs.Sets.{contains}
 use Rattle.office.specs.declared.arrival.Kept.{Kept}

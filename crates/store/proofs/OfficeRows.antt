@@ -9,12 +9,12 @@ use Rattle.store_sql.specs.Look.{is_office_table}
 use Rattle.store_sql.proofs.FirstTable.{first_seen}
 use Rattle.store_sql.specs.Contents.{Contents, HasOffices}
 use Rattle.store_sql.specs.declared.offices.OfficeRow.{OfficeRow}
-use Rattle.office.specs.declared.fault.StoreFault.{StoreFault}
-use Rattle.office.specs.declared.fault.StoreFault.TheVariants.{AlreadyAnOffice, NotAnOffice, WrongSchema, Damaged, Device, NoMemory}
+use Rattle.office.specs.declared.store_fault.StoreFault.{StoreFault}
+use Rattle.office.specs.declared.store_fault.StoreFault.TheVariants.{AlreadyAnOffice, NotAnOffice, WrongSchema, Damaged, Device, NoMemory}
 use Rattle.sqlite.specs.State.{State, IsUnchanged}
 use Rattle.store_sql.specs.Refusals.{HasCauseOr}
-use Rattle.store_sql.specs.declared.fault.Fault.{Fault}
-use Rattle.store_sql.specs.declared.fault.Fault.TheVariants as table_fault
+use Rattle.store_sql.specs.declared.table_fault.Fault.{Fault}
+use Rattle.store_sql.specs.declared.table_fault.Fault.TheVariants as table_fault
 use Rattle.store_rows.specs.Faults.{fault_of}
 use Rattle.store_migration.specs.Migrating.{HasStopped, IsExcused, RefusesFirstCa}
 use Rattle.store.specs.Meaning.{DiskFailed, Looks, LooksOn, opened_by}

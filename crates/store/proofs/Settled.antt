@@ -11,13 +11,13 @@ use Rattle.sqlite.specs.State.{State as Connection, HasCleanDisk, Survives}
 use Rattle.sqlite.proofs.StateLemmas.{survives_weaker}
 use Rattle.message.specs.declared.kinds.Message.{Message}
 use Rattle.message.specs.Reading.{Gives, message_at}
-use Rattle.message.specs.declared.fault.MessageFault.{MessageFault}
-use Rattle.message.specs.declared.fault.MessageFault.TheVariants.{BadLine}
+use Rattle.message.specs.declared.message_fault.MessageFault.{MessageFault}
+use Rattle.message.specs.declared.message_fault.MessageFault.TheVariants.{BadLine}
 use Rattle.store_sql.specs.Contents.{Contents, Means}
 use Rattle.store_sql.specs.Calls as table
 use Rattle.store_sql.proofs.Later.{stops}
-use Rattle.store_sql.specs.declared.fault.Fault.{Fault}
-use Rattle.store_sql.specs.declared.fault.Fault.TheVariants.{NoMemory}
+use Rattle.store_sql.specs.declared.table_fault.Fault.{Fault}
+use Rattle.store_sql.specs.declared.table_fault.Fault.TheVariants.{NoMemory}
 use Rattle.office.specs.declared.arrival.Arrival.{Arrival}
 use Rattle.office.specs.declared.arrival.Kept.{Kept}
 use Rattle.office.specs.declared.arrival.Outcome.{Outcome}

@@ -10,7 +10,7 @@ use Rattle.office.specs.declared.opening.Opening.{Opening}
 use Rattle.office.specs.declared.arrival.Arrival.{Arrival}
 use Rattle.store_rows.specs.Transactions.{Has, IsAsBefore, Rests}
 use Rattle.store_rows.proofs.Before.{fails_before}
-use Rattle.office.specs.declared.fault.StoreFault.{StoreFault}
+use Rattle.office.specs.declared.store_fault.StoreFault.{StoreFault}
 use Rattle.store_rows.specs.Rows.{office_contents}
 use Rattle.store.specs.Meaning.{DiskFailed, IsLeft, LooksOn, Tells}
 

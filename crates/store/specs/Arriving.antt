@@ -6,8 +6,8 @@ use Rattle.values.specs.declared.limits.TheConstants.{LATEST_MOMENT}
 use Rattle.sqlite.specs.Effect.{Database}
 use Rattle.sqlite.specs.State.{State as Connection, HasCleanDisk}
 use Rattle.message.specs.declared.kinds.Message.{Message}
-use Rattle.store_sql.specs.declared.fault.Fault.{Fault}
-use Rattle.store_sql.specs.declared.fault.Fault.TheVariants.{Damaged, Device, NoMemory}
+use Rattle.store_sql.specs.declared.table_fault.Fault.{Fault}
+use Rattle.store_sql.specs.declared.table_fault.Fault.TheVariants.{Damaged, Device, NoMemory}
 use Rattle.store_sql.specs.Contents.{Contents, Means}
 use Rattle.store_sql.specs.Cells.{cert_cells, request_cells}
 use Rattle.store_sql.specs.Refusals.{IsFull, IsTooLong, RefusesDepartment, RefusesSignature}

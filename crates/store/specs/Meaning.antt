@@ -7,13 +7,13 @@ use Rattle.sqlite.specs.Tree.{Trees}
 use Rattle.sqlite.specs.State.{State, HasCleanDisk, IsUnchanged}
 use Rattle.office.specs.declared.opening.Opening.{Opening}
 use Rattle.office.specs.declared.arrival.Arrival.{Arrival}
-use Rattle.office.specs.declared.fault.StoreFault.{StoreFault}
-use Rattle.office.specs.declared.fault.StoreFault.TheVariants.{Device, NoMemory, NotAnOffice, WrongSchema}
+use Rattle.office.specs.declared.store_fault.StoreFault.{StoreFault}
+use Rattle.office.specs.declared.store_fault.StoreFault.TheVariants.{Device, NoMemory, NotAnOffice, WrongSchema}
 use Rattle.office.specs.Shows.{IsOffice}
 use Rattle.store_sql.specs.declared.offices.OfficeRow.{OfficeRow}
 use Rattle.store_sql.specs.Contents.{HasOffices, Kept}
-use Rattle.store_sql.specs.declared.fault.Fault.{Fault}
-use Rattle.store_sql.specs.declared.fault.Fault.TheVariants as table_fault
+use Rattle.store_sql.specs.declared.table_fault.Fault.{Fault}
+use Rattle.store_sql.specs.declared.table_fault.Fault.TheVariants as table_fault
 use Rattle.text.specs.declared.memory.NoMemory as text
 use Rattle.store_sql.specs.Schema.{no_schema}
 use Rattle.store_sql.specs.Calls.{Fails, IsBare}

@@ -8,8 +8,8 @@ use Rattle.office.specs.declared.publication.Revoked.{Revoked}
 use Rattle.office.specs.State.{State}
 use Rattle.office.specs.Parts.{AreParts, numbers}
 use Rattle.office.specs.Publication.{published_parts}
-use Rattle.store_sql.specs.declared.fault.Fault.{Fault}
-use Rattle.store_sql.specs.declared.fault.Fault.TheVariants.{Damaged, Device, NoMemory}
+use Rattle.store_sql.specs.declared.table_fault.Fault.{Fault}
+use Rattle.store_sql.specs.declared.table_fault.Fault.TheVariants.{Damaged, Device, NoMemory}
 use Rattle.office.specs.declared.listing.Revocations.{Revocations}
 
 -- none serves from below this serial, nor from below the one before it

@@ -3,7 +3,7 @@ use Rattle.std.specs.Prelude.{[], List, IsTrue}
 use Rattle.sqlite.specs.State.{State}
 use Rattle.office.specs.declared.opening.Opening.{Opening}
 use Rattle.office.specs.declared.arrival.Arrival.{Arrival}
-use Rattle.office.specs.declared.fault.StoreFault.{StoreFault}
+use Rattle.office.specs.declared.store_fault.StoreFault.{StoreFault}
 use Rattle.store_sql.specs.Contents.{Contents}
 use Rattle.store_rows.specs.Transactions.{Has, Rests}
 use Rattle.store_migration.specs.Former.{Had, TellsBefore, migrated}

@@ -4,7 +4,7 @@ use Rattle.std.specs.Prelude.{◌==◌, if◌then◌else◌, IsPermutation, All}
 use Rattle.std.proofs.lemmas.List.Sorted.{length_permutation, All-permutation}
 use Rattle.std.proofs.lemmas.List.Elements.{All-cons, All-nil}
 use Rattle.sqlite.specs.Effect.{Database}
-use Rattle.office.specs.declared.fault.StoreFault.TheVariants.{Damaged, WrongSchema}
+use Rattle.office.specs.declared.store_fault.StoreFault.TheVariants.{Damaged, WrongSchema}
 use Rattle.store_sql.specs.declared.offices.OfficeRow.{OfficeRow}
 use Rattle.store_sql.specs.declared.cas.CaRow.{CaRow}
 use Rattle.store_sql.specs.Cells.{ca_cells}

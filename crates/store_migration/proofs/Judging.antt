@@ -6,13 +6,13 @@ use Rattle.sqlite.specs.Tree.{Trees}
 use Rattle.sqlite.specs.State.{State, HasCleanDisk, IsUnchanged, Survives}
 use Rattle.office.specs.declared.opening.Opening.{Opening}
 use Rattle.office.specs.declared.arrival.Arrival.{Arrival}
-use Rattle.office.specs.declared.fault.StoreFault.{StoreFault}
-use Rattle.office.specs.declared.fault.StoreFault.TheVariants.{AlreadyAnOffice, Damaged, Device}
-use Rattle.office.specs.declared.fault.StoreFault.TheVariants.{NoMemory, NotAnOffice, WrongSchema}
+use Rattle.office.specs.declared.store_fault.StoreFault.{StoreFault}
+use Rattle.office.specs.declared.store_fault.StoreFault.TheVariants.{AlreadyAnOffice, Damaged, Device}
+use Rattle.office.specs.declared.store_fault.StoreFault.TheVariants.{NoMemory, NotAnOffice, WrongSchema}
 use Rattle.store_sql.specs.declared.offices.OfficeRow.{OfficeRow}
 use Rattle.store_sql.specs.declared.cas.CaRow.{CaRow}
-use Rattle.store_sql.specs.declared.fault.Fault.{Fault}
-use Rattle.store_sql.specs.declared.fault.Fault.TheVariants as table
+use Rattle.store_sql.specs.declared.table_fault.Fault.{Fault}
+use Rattle.store_sql.specs.declared.table_fault.Fault.TheVariants as table
 use Rattle.store_sql.specs.Contents.{Contents, Means}
 use Rattle.store_sql.specs.Calls.{Begins}
 use Rattle.store_sql.specs.Faults.{HasCause, HasFailed}

@@ -4,8 +4,8 @@ use Rattle.std.specs.Prelude.{◌≤◌, IfErr, IsPermutation, OnErr}
 use Rattle.sqlite.specs.Tree.{Trees}
 use Rattle.sqlite.specs.State.{State, HasCleanDisk, IsUnchanged, Survives}
 use Rattle.sqlite.proofs.StateLemmas.{survives_weaker}
-use Rattle.store_sql.specs.declared.fault.Fault.{Fault}
-use Rattle.store_sql.specs.declared.fault.Fault.TheVariants.{Device, Damaged, NoMemory}
+use Rattle.store_sql.specs.declared.table_fault.Fault.{Fault}
+use Rattle.store_sql.specs.declared.table_fault.Fault.TheVariants.{Device, Damaged, NoMemory}
 use Rattle.store_sql.specs.declared.offices.OfficeRow.{OfficeRow}
 use Rattle.store_sql.specs.declared.cas.CaRow.{CaRow}
 use Rattle.store_sql.specs.Schema.{without_ca}
@@ -16,7 +16,7 @@ use Rattle.store_sql.specs.Changes.{with_ca, with_schema}
 use Rattle.store_rows.specs.Transactions.{Goes, Has, Makes, Waits}
 use Rattle.store_rows.proofs.Steps.{Leads, goes, goes_still, goes_then, stops_then}
 use Rattle.store_migration.specs.Former.{Had, ca_of, migrated}
-use Rattle.office.specs.declared.fault.StoreFault.{StoreFault}
+use Rattle.office.specs.declared.store_fault.StoreFault.{StoreFault}
 use Rattle.store_rows.specs.Faults.{told}
 use Rattle.store_migration.specs.Migrating.{HasNoCa, IsRefused, done}
 use Rattle.store_rows.proofs.Causes.{failed_late}

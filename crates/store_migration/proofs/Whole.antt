@@ -4,7 +4,7 @@ use Rattle.std.specs.List.{list_any}
 use Rattle.sqlite.specs.State.{State}
 use Rattle.office.specs.declared.opening.Opening.{Opening}
 use Rattle.office.specs.declared.arrival.Arrival.{Arrival}
-use Rattle.office.specs.declared.fault.StoreFault.{StoreFault}
+use Rattle.office.specs.declared.store_fault.StoreFault.{StoreFault}
 use Rattle.sqlite.specs.Effect.{Database}
 use Rattle.sqlite.specs.Schema.{Schema}
 use Rattle.store_sql.specs.Look.{former_has_no_ca, former_is_office, is_ca_name, is_office_table}

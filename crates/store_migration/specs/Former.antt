@@ -8,8 +8,8 @@ use Rattle.message.specs.declared.kinds.Message.{Message}
 use Rattle.message.specs.declared.kinds.Message.TheVariants as message
 use Rattle.office.specs.declared.opening.Opening.{Opening}
 use Rattle.office.specs.declared.arrival.Arrival.{Arrival}
-use Rattle.office.specs.declared.fault.StoreFault.{StoreFault}
-use Rattle.office.specs.declared.fault.StoreFault.TheVariants.{Damaged, NotAnOffice, WrongSchema}
+use Rattle.office.specs.declared.store_fault.StoreFault.{StoreFault}
+use Rattle.office.specs.declared.store_fault.StoreFault.TheVariants.{Damaged, NotAnOffice, WrongSchema}
 use Rattle.office.specs.Messages.{message_with_text}
 use Rattle.office.specs.History.{state}
 use Rattle.store_sql.specs.declared.offices.OfficeRow.{OfficeRow}

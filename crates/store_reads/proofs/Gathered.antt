@@ -20,8 +20,8 @@ use Rattle.office.specs.Openings.{IsOpening}
 use Rattle.office.specs.State.{State, certificate_of, department_named, next_serial}
 use Rattle.office.proofs.Agreeing.{department_of_named, range_order, range_says, says_of_one, serial_says}
 use Rattle.office.proofs.Ranges.{range_flag}
-use Rattle.store_sql.specs.declared.fault.Fault.{Fault}
-use Rattle.store_sql.specs.declared.fault.Fault.TheVariants.{Damaged, Device, NoMemory}
+use Rattle.store_sql.specs.declared.table_fault.Fault.{Fault}
+use Rattle.store_sql.specs.declared.table_fault.Fault.TheVariants.{Damaged, Device, NoMemory}
 use Rattle.store_rows.specs.Reading.{IsRead}
 use Rattle.store_rows.specs.Showing.{Shows}
 use Rattle.store_rows.specs.declared.office_rows.Office.{Office}

@@ -16,8 +16,8 @@ use Rattle.store_sql.specs.declared.runs.RunRow.{RunRow}
 use Rattle.store_sql.specs.Runs.{last_at, last_run}
 use Rattle.store_sql.proofs.LastRun.{is_last}
 use Rattle.store_sql.specs.Contents.{Contents, Means}
-use Rattle.store_sql.specs.declared.fault.Fault.{Fault}
-use Rattle.store_sql.specs.declared.fault.Fault.TheVariants.{Damaged, Device, NoMemory}
+use Rattle.store_sql.specs.declared.table_fault.Fault.{Fault}
+use Rattle.store_sql.specs.declared.table_fault.Fault.TheVariants.{Damaged, Device, NoMemory}
 use Rattle.store_rows.specs.Lawful.{IsLawful}
 use Rattle.store_rows.specs.Rows.{contents_of, revoked_runs, run_row}
 use Rattle.store_rows.specs.Showing.{Shows}

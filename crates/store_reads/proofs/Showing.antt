@@ -5,7 +5,7 @@ use Rattle.sqlite.specs.Tree.{Trees}
 use Rattle.sqlite.specs.State.{State as Connection, Survives, IsUnchanged}
 use Rattle.sqlite.proofs.StateLemmas.{unchanged}
 use Rattle.store_sql.specs.Contents.{Means}
-use Rattle.store_sql.specs.declared.fault.Fault.{Fault}
+use Rattle.store_sql.specs.declared.table_fault.Fault.{Fault}
 use Rattle.sqlite.proofs.Callers.{unchanged_then}
 use Rattle.store_sql.proofs.Later.{cause_then, stops_then}
 use Rattle.office.specs.declared.arrival.Kept.{Kept}

@@ -4,8 +4,8 @@ use Rattle.std.specs.Prelude.{Err}
 use Rattle.krl.specs.declared.run.Run.{Run}
 use Rattle.krl.specs.Sets.{contains}
 use Rattle.store_sql.specs.declared.runs.RunRow.{RunRow}
-use Rattle.store_sql.specs.declared.fault.Fault.{Fault}
-use Rattle.store_sql.specs.declared.fault.Fault.TheVariants.{Damaged, Device, NoMemory}
+use Rattle.store_sql.specs.declared.table_fault.Fault.{Fault}
+use Rattle.store_sql.specs.declared.table_fault.Fault.TheVariants.{Damaged, Device, NoMemory}
 use Rattle.office.specs.declared.arrival.Kept.{Kept}
 use Rattle.office.specs.State.{State}
 use Rattle.store_rows.specs.Rows.{revoked_runs}

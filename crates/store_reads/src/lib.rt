@@ -4,7 +4,7 @@
 //! fails for want of memory or because the database failed.
 #![tactic(auto)]
 
-mod certificates;
+mod certificate_finder;
 mod concerning;
 mod departments;
 mod kept;
@@ -13,7 +13,7 @@ mod marks;
 mod runs;
 mod subject;
 
-pub use certificates::find_certificate;
+pub use certificate_finder::find_certificate;
 pub use concerning::{Concerned, concerned_rows};
 pub use departments::find_department;
 pub use kept::kept_for;

@@ -10,7 +10,7 @@ ghost use Rattle.store_rows.specs.Showing.{Shows};
 ghost use Rattle.store_reads.specs.Concerning.{IsDepartmentBeside, IsLawfulSubject, IsSubject};
 ghost use Rattle.store_reads.specs.Histories.{IsOfHistory};
 
-use crate::certificates::find_certificate;
+use crate::certificate_finder::find_certificate;
 use crate::departments::find_department;
 use message::{Department, Message};
 use office::{Certificate, concerned};

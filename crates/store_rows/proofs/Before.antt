@@ -3,7 +3,7 @@ use Rattle.std.proofs.Common.{◌≡◌, inl, inr, true, IsTrue, refl, sym, ◌�
 use Rattle.std.specs.Prelude.{Result, Ok, Err, OnErr}
 use Rattle.sqlite.specs.State.{State}
 use Rattle.store_sql.specs.Calls.{Begins, Fails, Stays, OnlyReads}
-use Rattle.store_sql.specs.declared.fault.Fault.{Fault}
+use Rattle.store_sql.specs.declared.table_fault.Fault.{Fault}
 use Rattle.store_rows.specs.Transactions.{Concludes, HasEnded, IsAsBefore}
 
 pub fails_before : (a b : State) → Fails a b → IsAsBefore a b

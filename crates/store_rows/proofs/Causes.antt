@@ -7,8 +7,8 @@ use Rattle.sqlite.specs.Effect.{Database}
 use Rattle.sqlite.specs.State.{State, HasCleanDisk, Survives}
 use Rattle.store_sql.specs.Faults.{HasCause, HasFailed}
 use Rattle.store_sql.specs.Refusals.{HasCauseOr}
-use Rattle.store_sql.specs.declared.fault.Fault.{Fault}
-use Rattle.store_sql.specs.declared.fault.Fault.TheVariants.{Damaged, Device, NoMemory}
+use Rattle.store_sql.specs.declared.table_fault.Fault.{Fault}
+use Rattle.store_sql.specs.declared.table_fault.Fault.TheVariants.{Damaged, Device, NoMemory}
 use Rattle.store_sql.specs.Calls.{Begins}
 use Rattle.store_sql.specs.Contents.{Contents}
 use Rattle.store_rows.specs.Transactions.{Answers, Concludes, EndsFor, FailsFor, StopsFor}

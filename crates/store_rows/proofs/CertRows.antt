@@ -17,7 +17,7 @@ use Rattle.cert.proofs.BodyAgain.{body_at-again}
 use Rattle.office.specs.declared.certificate.Certificate.{Certificate}
 use Rattle.office.specs.Certificates.{IsCertificate}
 use Rattle.store_sql.specs.declared.certs.CertRow.{CertRow}
-use Rattle.store_sql.specs.declared.fault.Fault.{Fault}
+use Rattle.store_sql.specs.declared.table_fault.Fault.{Fault}
 use Rattle.store_rows.specs.Certificates.{AreCounted, IsSigned, certificate_in, certificate_with, fits, is_within, signature_in}
 use Rattle.store_sql.specs.Changes.{is_within as rows_within}
 use Rattle.store_rows.specs.Reading.{IsRead, each}

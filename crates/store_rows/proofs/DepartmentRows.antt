@@ -14,7 +14,7 @@ use Rattle.message.specs.Values.{is_department, are_administrators, are_rules, a
 use Rattle.message.proofs.Fields.{AllLack, split_joined}
 use Rattle.message.proofs.Elements.{administrators_lack, rules_lack, option_names_lack, extension_names_lack, namespaces_lack}
 use Rattle.store_sql.specs.declared.departments.DepartmentRow.{DepartmentRow}
-use Rattle.store_sql.specs.declared.fault.Fault.{Fault}
+use Rattle.store_sql.specs.declared.table_fault.Fault.{Fault}
 use Rattle.cert.specs.Bodies.{kind_number}
 use Rattle.store_rows.specs.Rows.{department_row, joined}
 use Rattle.store_rows.specs.Reading.{IsRead, each}

@@ -13,8 +13,8 @@ use Rattle.office.specs.Openings.{IsOpening, are_serials}
 use Rattle.office.specs.State.{State, next_serial}
 use Rattle.store_sql.specs.Contents.{Contents, Means}
 use Rattle.store_sql.specs.declared.offices.OfficeRow.{OfficeRow}
-use Rattle.store_sql.specs.declared.fault.Fault.{Fault}
-use Rattle.store_sql.specs.declared.fault.Fault.TheVariants.{Damaged, Device, NoMemory}
+use Rattle.store_sql.specs.declared.table_fault.Fault.{Fault}
+use Rattle.store_sql.specs.declared.table_fault.Fault.TheVariants.{Damaged, Device, NoMemory}
 use Rattle.store_rows.specs.declared.office_rows.Office.{Office}
 use Rattle.store_rows.specs.Lawful.{IsLawful}
 use Rattle.store_rows.specs.Offices.{IsOfficeOf, is_opening, office_in, only_office}

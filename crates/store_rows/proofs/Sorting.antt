@@ -13,8 +13,8 @@ use Rattle.sqlite.specs.State.{State as Connection, IsUnchanged}
 use Rattle.store_sql.specs.Contents.{Contents, Means}
 use Rattle.store_sql.specs.Calls.{FailsBy, Finds, Rises, OnlyReads}
 use Rattle.store_sql.specs.Faults.{HasCause}
-use Rattle.store_sql.specs.declared.fault.Fault.{Fault}
-use Rattle.store_sql.specs.declared.fault.Fault.TheVariants.{Damaged, Device, NoMemory}
+use Rattle.store_sql.specs.declared.table_fault.Fault.{Fault}
+use Rattle.store_sql.specs.declared.table_fault.Fault.TheVariants.{Damaged, Device, NoMemory}
 use Rattle.office.specs.declared.arrival.Kept.{Kept}
 use Rattle.office.specs.State.{State}
 use Rattle.store_rows.specs.Lawful.{IsLawful}

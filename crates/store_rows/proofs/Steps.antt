@@ -7,7 +7,7 @@ use Rattle.sqlite.specs.State.{State, HasCleanDisk, Survives, KeepsCommit, IsUnc
 use Rattle.sqlite.proofs.StateLemmas.{survives_then, survives_weaker}
 use Rattle.store_sql.specs.Contents.{Contents, Kept, Means}
 use Rattle.store_sql.specs.Calls.{Steps, Changes, Leaves, Begins}
-use Rattle.store_sql.specs.declared.fault.Fault.{Fault}
+use Rattle.store_sql.specs.declared.table_fault.Fault.{Fault}
 use Rattle.store_sql.proofs.Later.{inside_is, stops}
 use Rattle.store_rows.specs.Transactions.{Has, Goes, Answers, Makes, Waits, HasEnded, Concludes, Commits, Ends, Leaves as AfterAll}
 

@@ -1,9 +1,9 @@
 -- Why a call on the register fails.
 use Rattle.std.specs.Prelude.{Result, Ok, Err}
-use Rattle.store_sql.specs.declared.fault.Fault.{Fault}
-use Rattle.store_sql.specs.declared.fault.Fault.TheVariants as table
-use Rattle.office.specs.declared.fault.StoreFault.{StoreFault}
-use Rattle.office.specs.declared.fault.StoreFault.TheVariants.{Damaged, Device, NoMemory}
+use Rattle.store_sql.specs.declared.table_fault.Fault.{Fault}
+use Rattle.store_sql.specs.declared.table_fault.Fault.TheVariants as table
+use Rattle.office.specs.declared.store_fault.StoreFault.{StoreFault}
+use Rattle.office.specs.declared.store_fault.StoreFault.TheVariants.{Damaged, Device, NoMemory}
 
 -- the register's fault of a fault of the tables
 abbrev pub fault_of : Fault → StoreFault

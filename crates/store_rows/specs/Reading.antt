@@ -5,8 +5,8 @@ use Rattle.std.specs.declared.alloc.Global.{Global}
 use Rattle.lines.specs.Keys.{key_of}
 use Rattle.office.specs.declared.ca.Ca.{Ca}
 use Rattle.store_sql.specs.declared.cas.CaRow.{CaRow}
-use Rattle.store_sql.specs.declared.fault.Fault.{Fault}
-use Rattle.store_sql.specs.declared.fault.Fault.TheVariants.{Damaged, Device, NoMemory}
+use Rattle.store_sql.specs.declared.table_fault.Fault.{Fault}
+use Rattle.store_sql.specs.declared.table_fault.Fault.TheVariants.{Damaged, Device, NoMemory}
 
 -- the value is read, or memory is refused; where there is none the row is damaged
 abbrev pub IsRead : {X : Type 0} → Option X → Result X Fault → Type 0

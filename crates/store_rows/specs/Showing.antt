@@ -5,7 +5,7 @@ use Rattle.sqlite.specs.State.{State as Connection, IsUnchanged}
 use Rattle.store_sql.specs.Contents.{Means}
 use Rattle.store_sql.specs.Calls.{Fails}
 use Rattle.store_sql.specs.Faults.{HasCause}
-use Rattle.store_sql.specs.declared.fault.Fault.{Fault}
+use Rattle.store_sql.specs.declared.table_fault.Fault.{Fault}
 use Rattle.office.specs.declared.arrival.Kept.{Kept}
 use Rattle.office.specs.State.{State}
 use Rattle.office.specs.declared.certificate.Certificate.{Certificate}

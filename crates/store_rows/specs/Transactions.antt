@@ -4,7 +4,7 @@ use Rattle.sqlite.specs.Tree.{Trees}
 use Rattle.sqlite.specs.Effect.{Database}
 use Rattle.sqlite.specs.State.{State, KeepsCommit, Shows}
 use Rattle.store_sql.specs.Contents.{Contents, Kept, Means}
-use Rattle.store_sql.specs.declared.fault.Fault.{Fault}
+use Rattle.store_sql.specs.declared.table_fault.Fault.{Fault}
 use Rattle.store_sql.specs.Faults.{HasCause}
 use Rattle.store_sql.specs.Refusals.{HasCauseOr}
 

@@ -5,7 +5,7 @@ ghost use Rattle.store_sql.specs.Calls.{Never, OnlyReads};
 ghost use Rattle.store_sql.specs.Honest.{On, Outlives};
 ghost use Rattle.store_rows.specs.Showing.{Shows};
 
-use crate::reading::{OfRow, read_each};
+use crate::row_reader::{OfRow, read_each};
 use lines::read_key_blob;
 use office::Ca;
 use sqlite::{Alter, Connection};

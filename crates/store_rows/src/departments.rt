@@ -7,7 +7,7 @@ ghost use Rattle.office.specs.Publication.{departments_of};
 ghost use Rattle.store_rows.specs.Showing.{Shows};
 
 use crate::department_rows::read_department;
-use crate::reading::{OfRow, read_each};
+use crate::row_reader::{OfRow, read_each};
 use message::Department;
 use sqlite::{Alter, Connection};
 use std::alloc::Global;

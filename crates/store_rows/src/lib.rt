@@ -6,23 +6,23 @@
 
 mod cas;
 mod cert_rows;
-mod certificates;
+mod certificate_rows;
 mod department_rows;
 mod departments;
-mod fault;
 mod key_ids;
 mod numbers;
 mod office_rows;
-mod reading;
+mod row_reader;
+mod told_fault;
 mod transaction;
 
 pub use cas::read_cas;
 pub use cert_rows::read_certificate;
-pub use certificates::read_certificates;
+pub use certificate_rows::read_certificates;
 pub use department_rows::{department_row, read_department};
 pub use departments::read_departments;
-pub use fault::{fault_of, told};
 pub use key_ids::read_key_ids;
 pub use numbers::number;
 pub use office_rows::{Office, is_opening, read_office};
+pub use told_fault::{fault_of, told};
 pub use transaction::{close, conclude, undo};

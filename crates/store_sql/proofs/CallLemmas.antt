@@ -21,7 +21,7 @@ use Rattle.sqlite_resolve.specs.declared.compiled.Compiled.{Compiled}
 use Rattle.sqlite.specs.declared.error.Error.{Error}
 use Rattle.sqlite.specs.State.{State, Survives, Writes, Runs, Executes, CommitsBy, Shown, FailsToQuery, CommitsShowing, is_pragma}
 use Rattle.sqlite.proofs.Callers.{IsPlain, command_of, statement_of}
-use Rattle.store_sql.specs.declared.fault.Fault.{Fault}
+use Rattle.store_sql.specs.declared.table_fault.Fault.{Fault}
 use Rattle.store_sql.specs.Schema.{whole}
 use Rattle.store_sql.specs.Contents.{Contents, Holds, Means}
 use Rattle.store_sql.specs.Calls.{Changes, FailsBy, FailsIn, Finds, FindsIn, FindsOne, Leaves, Never, OnlyReads, Stays}

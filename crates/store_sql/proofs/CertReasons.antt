@@ -51,7 +51,7 @@ use Rattle.store_sql.specs.Contents.{Lists, department_places}
 use Rattle.store_sql.proofs.DepartmentTable.{own_text}
 use Rattle.store_sql.proofs.InsertReasons.{all_refer, each_refers, has_department, insert_halted, row_of, taken_number}
 use Rattle.store_sql.proofs.Reasons.{IsPut, halted, is_exact, one, storable, unclashed}
-use Rattle.store_sql.specs.declared.fault.Fault.{Fault}
+use Rattle.store_sql.specs.declared.table_fault.Fault.{Fault}
 use Rattle.store_sql.specs.Calls.{FailsBy}
 use Rattle.store_sql.proofs.FaultLemmas.{HasWriteCause, none_overflows}
 use Rattle.store_sql.proofs.Inserts.{no_works}

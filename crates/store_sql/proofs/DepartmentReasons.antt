@@ -40,7 +40,7 @@ use Rattle.store_sql.specs.Contents.{Contents, IsNumber, Means, department_place
 use Rattle.store_sql.specs.Refusals.{RefusedFor, RefusesDepartment}
 use Rattle.store_sql.specs.declared.departments.DepartmentRow.{DepartmentRow}
 use Rattle.store_sql.proofs.DepartmentTable.{conflict_is, fresh_row, has_id, name_is, named, next_row, none_named, only_one, own_row, put_is, put_query, put_sql, source, terms, the_row, unique}
-use Rattle.store_sql.specs.declared.fault.Fault.{Fault}
+use Rattle.store_sql.specs.declared.table_fault.Fault.{Fault}
 use Rattle.store_sql.specs.Calls.{FailsBy}
 use Rattle.store_sql.proofs.FaultLemmas.{HasWriteCause, none_overflows}
 use Rattle.store_sql.proofs.InsertReasons.{all_refer, each_refers, has_department}

@@ -2,7 +2,7 @@
 use Rattle.std.proofs.Common.{ℕ, Ok, Err, Result, sym, subst, IfErr}
 use Rattle.sqlite.specs.declared.error.Error.{Error}
 use Rattle.sqlite.specs.State.{State}
-use Rattle.store_sql.specs.declared.fault.Fault.{Fault}
+use Rattle.store_sql.specs.declared.table_fault.Fault.{Fault}
 use Rattle.store_sql.specs.Faults.{fault_of}
 use Rattle.store_sql.specs.Done.{IsDone}
 use Rattle.store_sql.specs.Contents.{Contents}

@@ -21,10 +21,10 @@ use Rattle.sqlite.proofs.Callers.{IsPlain, command_of}
 use Rattle.store_sql.specs.Schema.{whole}
 use Rattle.store_sql.specs.Contents.{Contents, Means}
 use Rattle.store_sql.specs.Faults.{is_out_of_memory, fault_of, HasCause, HasFailed}
-use Rattle.store_sql.specs.declared.fault.Fault.TheVariants.{Device, Damaged, NoMemory}
+use Rattle.store_sql.specs.declared.table_fault.Fault.TheVariants.{Device, Damaged, NoMemory}
 use Rattle.sqlite.specs.Command.{Command}
 use Rattle.sqlite.specs.Does.{Does}
-use Rattle.store_sql.specs.declared.fault.Fault.{Fault}
+use Rattle.store_sql.specs.declared.table_fault.Fault.{Fault}
 
 -- the rules of the tables refuse the statement, as for a key that is taken, or a row of it is too big
 abbrev pub IsRefused : List ℕ → Row → State → Type 0

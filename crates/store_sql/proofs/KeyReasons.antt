@@ -38,7 +38,7 @@ use Rattle.store_sql.proofs.InsertReasons.{insert_halted, none_orphaned, taken_n
 use Rattle.store_sql.proofs.Numbering.{ints_of, next_number}
 use Rattle.store_sql.proofs.Queries.{blob_test, text_test}
 use Rattle.store_sql.proofs.Reasons.{HasClash, IsPut, halted, one, storable}
-use Rattle.store_sql.specs.declared.fault.Fault.{Fault}
+use Rattle.store_sql.specs.declared.table_fault.Fault.{Fault}
 use Rattle.store_sql.specs.Calls.{FailsBy}
 use Rattle.store_sql.proofs.FaultLemmas.{HasWriteCause}
 use Rattle.store_sql.proofs.Refused.{Stops, refused_for}

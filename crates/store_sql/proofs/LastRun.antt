@@ -11,7 +11,7 @@ pub use Rattle.sqlite_rules.proofs.ListLemmas.{has_filtered, has_kept, all_has, 
 pub use Rattle.sqlite_rules.proofs.ProbeLemmas.{mapped_has}
 use Rattle.sqlite_trees.proofs.ListLemmas.{all-permutation}
 use Rattle.sqlite.specs.State.{State}
-use Rattle.store_sql.specs.declared.fault.Fault.{Fault}
+use Rattle.store_sql.specs.declared.table_fault.Fault.{Fault}
 use Rattle.store_sql.specs.declared.runs.RunRow.{RunRow}
 use Rattle.store_sql.specs.Contents.{Contents}
 use Rattle.store_sql.specs.Calls.{FindsOne, IsOneOf}

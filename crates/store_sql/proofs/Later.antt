@@ -7,8 +7,8 @@ use Rattle.sqlite.specs.State.{State, Survives, IsUnchanged, KeepsCommit}
 use Rattle.sqlite.proofs.Callers.{unchanged_then}
 use Rattle.store_sql.specs.Calls.{Fails}
 use Rattle.store_sql.specs.Faults.{HasCause, HasFailed}
-use Rattle.store_sql.specs.declared.fault.Fault.{Fault}
-use Rattle.store_sql.specs.declared.fault.Fault.TheVariants.{Damaged, Device, NoMemory}
+use Rattle.store_sql.specs.declared.table_fault.Fault.{Fault}
+use Rattle.store_sql.specs.declared.table_fault.Fault.TheVariants.{Damaged, Device, NoMemory}
 
 -- what a failure leaves in a transaction
 pub stops : (a b : State) → Fails a b → KeepsCommit a b

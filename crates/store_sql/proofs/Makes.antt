@@ -17,7 +17,7 @@ use Rattle.store_sql.specs.declared.sql.TheConstants.{CREATE_OFFICE, CREATE_DEPA
 use Rattle.store_sql.specs.Schema.{no_schema, with_office, with_department, with_cert, with_request, with_run, without_ca, office, department, cert, request, run, revoked_keyid, ca}
 use Rattle.store_sql.specs.Calls.{Creates, Stays, Waits}
 use Rattle.store_sql.specs.Done.{IsDone}
-use Rattle.store_sql.specs.declared.fault.Fault.{Fault}
+use Rattle.store_sql.specs.declared.table_fault.Fault.{Fault}
 use Rattle.store_sql.proofs.Forms.{closes, ends_nowhere, is_compiled}
 use Rattle.store_sql.proofs.Staying.{stays_done}
 use Rattle.store_sql.proofs.Statements.{went, same_value, stopped, commits_as}

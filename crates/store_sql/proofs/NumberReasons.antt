@@ -43,10 +43,10 @@ use Rattle.store_sql.specs.declared.offices.OfficeRow.{OfficeRow}
 use Rattle.store_sql.specs.declared.runs.RunRow.{RunRow}
 use Rattle.store_sql.proofs.OfficeTable as office
 use Rattle.store_sql.proofs.RunTable as run
-use Rattle.store_sql.specs.declared.fault.Fault.{Fault}
+use Rattle.store_sql.specs.declared.table_fault.Fault.{Fault}
 use Rattle.store_sql.specs.Calls.{FailsBy}
 use Rattle.store_sql.proofs.FaultLemmas.{HasWriteCause, none_overflows}
-use Rattle.store_sql.specs.declared.fault.Fault.TheVariants.{Device, Damaged, NoMemory}
+use Rattle.store_sql.specs.declared.table_fault.Fault.TheVariants.{Device, Damaged, NoMemory}
 use Rattle.store_sql.specs.Faults.{HasCause}
 use Rattle.store_sql.proofs.Inserts.{no_works}
 use Rattle.store_sql.proofs.Numbers.{same_number}

@@ -37,7 +37,7 @@ use Rattle.store_sql.specs.Contents.{Contents, HasOffices, Holds, Lists, Means, 
 use Rattle.store_sql.specs.Calls.{FailsIn, FindsIn}
 use Rattle.store_sql.specs.Done.{IsRead}
 use Rattle.store_sql.specs.Faults.{HasCause}
-use Rattle.store_sql.specs.declared.fault.Fault.{Fault}
+use Rattle.store_sql.specs.declared.table_fault.Fault.{Fault}
 use Rattle.store_sql.specs.Changes.{is_first, counted, renumbered, with_office, with_counters, with_schema}
 use Rattle.store_sql.specs.declared.sql.TheConstants.{INSERT_OFFICE, EVERY_OFFICE, COUNT_OFFICE, NUMBER_OFFICE}
 use Rattle.store_sql.specs.declared.offices.OfficeRow.{OfficeRow}

@@ -2,8 +2,8 @@
 use Rattle.std.proofs.Common.{◌≡◌, ◌≢◌, ℕ, zero, suc, List, [], ◌∷◌, map, ◌∙◌, get_or, length, ◌<◌, arith}
 use Rattle.sqlite.specs.Order.{Row}
 use Rattle.store_sql.specs.Faults.{Misread}
-use Rattle.store_sql.specs.declared.fault.Fault.{Fault}
-use Rattle.store_sql.specs.declared.fault.Fault.TheVariants.{Device, Damaged, NoMemory}
+use Rattle.store_sql.specs.declared.table_fault.Fault.{Fault}
+use Rattle.store_sql.specs.declared.table_fault.Fault.TheVariants.{Device, Damaged, NoMemory}
 
 -- what a fault says of a part it says of the whole
 pub misread_more : (P Q : Type 0) (fault : Fault) → (P → Q) → Misread P fault → Misread Q fault

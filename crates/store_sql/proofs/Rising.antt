@@ -16,7 +16,7 @@ use Rattle.sqlite_exec.proofs.PartitionLemmas.{IsSorted-from_map}
 use Rattle.sqlite.specs.declared.error.Error.{Error}
 use Rattle.sqlite.specs.State.{State, Shown}
 use Rattle.sqlite.proofs.Callers.{reads_as}
-use Rattle.store_sql.specs.declared.fault.Fault.{Fault}
+use Rattle.store_sql.specs.declared.table_fault.Fault.{Fault}
 use Rattle.store_sql.specs.declared.runs.RunRow.{RunRow}
 use Rattle.store_sql.specs.Cells.{run_cells}
 use Rattle.store_sql.specs.Schema.{whole}

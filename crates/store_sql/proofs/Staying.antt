@@ -11,7 +11,7 @@ use Rattle.sqlite.specs.declared.error.Error.{Error}
 use Rattle.sqlite.specs.State.{State, Executes, ExecutesIn, IsUnchanged, KeepsCommit, Runs, Shows, Survives, Writes, shows_rows}
 use Rattle.sqlite.proofs.Callers.{unchanged_then}
 use Rattle.sqlite.proofs.StateLemmas.{survives_then}
-use Rattle.store_sql.specs.declared.fault.Fault.{Fault}
+use Rattle.store_sql.specs.declared.table_fault.Fault.{Fault}
 use Rattle.store_sql.specs.Done.{IsDone}
 use Rattle.store_sql.specs.Calls.{Never, OnlyReads, Stays}
 use Rattle.store_sql.proofs.Forms.{closes}

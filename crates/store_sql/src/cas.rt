@@ -10,10 +10,10 @@ ghost use Rattle.store_sql.specs.Faults.{HasCause};
 ghost use Rattle.store_sql.specs.Refusals.{RefusedFor, RefusesCa};
 
 use crate::columns::{Columns, found};
-use crate::fault::{Fault, done};
 use crate::kind::{Kind, blob_at, is_row_of, number_at};
 use crate::number::Number;
 use crate::sql::{EVERY_CA, INSERT_CA};
+use crate::table_fault::{Fault, done};
 use sqlite::types::ValueRef;
 use sqlite::{Alter, Connection, Row};
 use std::alloc::Global;

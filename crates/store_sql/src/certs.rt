@@ -11,10 +11,10 @@ ghost use Rattle.store_sql.specs.Faults.{HasCause};
 ghost use Rattle.store_sql.specs.Refusals.{RefusedFor, RefusesCert, RefusesSignature};
 
 use crate::columns::{Columns, found, found_first};
-use crate::fault::{Fault, done};
 use crate::kind::{Kind, blob_at, is_row_of, number_at, optional_blob, optional_blob_at, text_at};
 use crate::number::Number;
 use crate::sql::{CERTS_WITHIN, FIND_CERT, INSERT_CERT, SIGN_CERT};
+use crate::table_fault::{Fault, done};
 use sqlite::types::ValueRef;
 use sqlite::{Alter, Connection, Row};
 use std::alloc::Global;

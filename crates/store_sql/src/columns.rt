@@ -5,7 +5,7 @@ ghost use Rattle.sqlite_value.specs.Order.{Row as SqlRow};
 ghost use Rattle.store_sql.specs.Faults.{Misread};
 ghost use Rattle.store_sql.specs.Done.{IsFirst, IsRead, IsFirstRead};
 
-use crate::fault::Fault;
+use crate::table_fault::Fault;
 use sqlite::{Error, Row};
 use std::alloc::Global;
 use text::NoMemory;

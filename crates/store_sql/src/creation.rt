@@ -7,11 +7,11 @@ ghost use Rattle.store_sql.specs.Faults.{IsOfStatement};
 ghost use Rattle.store_sql.specs.Calls.{AddsCa, Completes, Creates, FailsWhere, IsBare, Stays, Waits};
 ghost use Rattle.store_sql.specs.Honest.{On, OutlivesBy};
 
-use crate::fault::{Fault, done};
 use crate::sql::{
     CREATE_CA, CREATE_CERT, CREATE_DEPARTMENT, CREATE_OFFICE, CREATE_REQUEST, CREATE_REVOKED,
     CREATE_RUN,
 };
+use crate::table_fault::{Fault, done};
 use sqlite::{Alter, Connection};
 
 fn create_office<S: Alter>(conn: &mut Connection<S>) -> Result<(), Fault>

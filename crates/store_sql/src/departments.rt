@@ -11,10 +11,10 @@ ghost use Rattle.store_sql.specs.Faults.{HasCause};
 ghost use Rattle.store_sql.specs.Refusals.{RefusedFor, RefusesDepartment};
 
 use crate::columns::{Columns, found, found_first};
-use crate::fault::{Fault, done};
 use crate::kind::{Kind, is_row_of, number_at, text_at};
 use crate::number::Number;
 use crate::sql::{EVERY_DEPARTMENT, FIND_DEPARTMENT, PUT_DEPARTMENT};
+use crate::table_fault::{Fault, done};
 use sqlite::types::ValueRef;
 use sqlite::{Alter, Connection, Row};
 use std::alloc::Global;

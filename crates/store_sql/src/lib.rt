@@ -14,7 +14,6 @@ mod certs;
 mod columns;
 mod creation;
 mod departments;
-mod fault;
 mod kind;
 mod look;
 mod number;
@@ -23,13 +22,13 @@ mod requests;
 mod revoked;
 mod runs;
 mod sql;
+mod table_fault;
 mod transaction;
 
 pub use cas::{CaRow, every_ca, insert_ca};
 pub use certs::{CertRow, certs_within, find_cert, insert_cert, update_signature};
 pub use creation::{create_ca, create_tables};
 pub use departments::{DepartmentRow, every_department, find_department, put_department};
-pub use fault::Fault;
 pub use look::{has_any_table, has_ca_table, has_office};
 pub use number::Number;
 pub use offices::{
@@ -39,4 +38,5 @@ pub use offices::{
 pub use requests::{RequestRow, find_request, insert_request};
 pub use revoked::{every_revoked, find_revoked, insert_revoked};
 pub use runs::{RunRow, delete_runs, every_run, insert_run, last_run};
+pub use table_fault::Fault;
 pub use transaction::{begin, commit, rollback};

@@ -12,10 +12,10 @@ ghost use Rattle.store_sql.specs.Faults.{HasCause};
 ghost use Rattle.store_sql.specs.Refusals.{RefusedFor, RefusesCounters, RefusesNumber, RefusesOffice};
 
 use crate::columns::{Columns, found};
-use crate::fault::{Fault, done};
 use crate::kind::{Kind, blob_at, is_row_of, number_at, text_at};
 use crate::number::Number;
 use crate::sql::{COUNT_OFFICE, EVERY_OFFICE, INSERT_OFFICE, NUMBER_OFFICE};
+use crate::table_fault::{Fault, done};
 use sqlite::types::ValueRef;
 use sqlite::{Alter, Connection, Row};
 use std::alloc::Global;

@@ -9,9 +9,9 @@ ghost use Rattle.store_sql.specs.Faults.{HasCause};
 ghost use Rattle.store_sql.specs.Refusals.{RefusedFor, RefusesRequest};
 
 use crate::columns::{Columns, found_first};
-use crate::fault::{Fault, done};
 use crate::kind::{Kind, blob_at, is_row_of, text_at};
 use crate::sql::{FIND_REQUEST, INSERT_REQUEST};
+use crate::table_fault::{Fault, done};
 use sqlite::types::ValueRef;
 use sqlite::{Alter, Connection, Row};
 use std::alloc::Global;

@@ -10,9 +10,9 @@ ghost use Rattle.store_sql.specs.Faults.{HasCause};
 ghost use Rattle.store_sql.specs.Refusals.{RefusedFor, RefusesKeyId};
 
 use crate::columns::{Columns, found, found_first};
-use crate::fault::{Fault, done};
 use crate::kind::{Kind, is_row_of, text_at};
 use crate::sql::{EVERY_REVOKED, FIND_REVOKED, INSERT_REVOKED};
+use crate::table_fault::{Fault, done};
 use sqlite::types::ValueRef;
 use sqlite::{Alter, Connection, Row};
 use std::alloc::Global;

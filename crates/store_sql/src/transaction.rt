@@ -4,7 +4,7 @@ ghost use Rattle.std.specs.Prelude.{◌≡◌, true, false};
 ghost use Rattle.store_sql.specs.Calls.{Begins, Commits, FailsWhere, Never, Undoes};
 ghost use Rattle.store_sql.specs.Honest.{Between, On, Outlives, OutlivesBy};
 
-use crate::fault::{Fault, done};
+use crate::table_fault::{Fault, done};
 use sqlite::{Alter, Connection};
 
 /// Begins a transaction. In one already it fails, and nothing changes.

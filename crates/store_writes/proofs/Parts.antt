@@ -4,7 +4,7 @@ use Rattle.sqlite.specs.Effect.{Database}
 use Rattle.sqlite.specs.State.{State, IsUnchanged, Survives}
 use Rattle.sqlite.proofs.StateLemmas.{survives_weaker}
 use Rattle.store_sql.specs.Contents.{Contents, Means}
-use Rattle.store_sql.specs.declared.fault.Fault.{Fault}
+use Rattle.store_sql.specs.declared.table_fault.Fault.{Fault}
 use Rattle.store_rows.specs.Transactions.{Goes, Has, Makes, Waits}
 use Rattle.store_rows.proofs.Same.{IsSame, means_same}
 use Rattle.store_rows.proofs.Steps.{Leads, goes_still, goes_then, stops_then}

@@ -3,7 +3,7 @@ use Rattle.std.specs.Prelude.{ℕ, codes, ◌++◌, [], ◌∷◌, List, OnOk, R
 use Rattle.sqlite.specs.State.{State}
 use Rattle.office.specs.declared.opening.Opening.{Opening}
 use Rattle.office.specs.declared.arrival.Arrival.{Arrival}
-use Rattle.office.specs.declared.fault.StoreFault.{StoreFault}
+use Rattle.office.specs.declared.store_fault.StoreFault.{StoreFault}
 use Rattle.store.specs.Meaning.{Tells}
 use Rattle.trial.specs.declared.memory.TheConstants.{CA_KEY, MESSAGE, NO_NONCE}
 

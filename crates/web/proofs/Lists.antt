@@ -7,7 +7,7 @@ use Rattle.krl.specs.declared.ca_part.CaPart.{CaPart}
 use Rattle.office.specs.declared.opening.Opening.{Opening}
 use Rattle.office.specs.declared.arrival.Arrival.{Arrival}
 use Rattle.office.specs.declared.ca.Ca.{Ca}
-use Rattle.office.specs.declared.fault.StoreFault.{StoreFault}
+use Rattle.office.specs.declared.store_fault.StoreFault.{StoreFault}
 use Rattle.office.specs.declared.publication.Revoked.{Revoked}
 use Rattle.office.specs.Faults.{HasCause, IsOfARegister}
 use Rattle.office.specs.declared.certificate.Certificate.{Certificate}

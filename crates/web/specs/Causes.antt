@@ -4,8 +4,8 @@ use Rattle.http_requests.specs.Asks.{Asks, post}
 use Rattle.office.specs.declared.opening.Opening.{Opening}
 use Rattle.office.specs.declared.arrival.Arrival.{Arrival}
 use Rattle.office.specs.declared.ca.TheConstants.{MOST_CAS}
-use Rattle.office.specs.declared.fault.StoreFault.{StoreFault}
-use Rattle.office.specs.declared.fault.StoreFault.TheVariants.{Damaged, NoMemory}
+use Rattle.office.specs.declared.store_fault.StoreFault.{StoreFault}
+use Rattle.office.specs.declared.store_fault.StoreFault.TheVariants.{Damaged, NoMemory}
 use Rattle.web.specs.Answers.{arrival_by}
 
 -- the database failed in a call on a register that meant what it had meant before

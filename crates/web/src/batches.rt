@@ -9,7 +9,7 @@ ghost use Rattle.office.specs.Registers.{AnswersBy, FailsAsARegister, MeansTheSa
 ghost use Rattle.web.specs.Causes.{FailsWithin};
 ghost use Rattle.web.specs.Batches.{Says, line_among, line_as};
 
-use crate::certificates::put_pending;
+use crate::certificate_lines::put_pending;
 use crate::report::put_entry;
 use office::{Certificate, Registry, Revocations, StoreFault};
 use std::alloc::Global;

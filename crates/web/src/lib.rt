@@ -8,7 +8,7 @@
 
 mod answering;
 mod batches;
-mod certificates;
+mod certificate_lines;
 mod exchange;
 mod pieces;
 mod publishing;

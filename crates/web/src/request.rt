@@ -10,7 +10,7 @@ ghost use Rattle.web.specs.Answers.{IsAnswered, Keeps, ListFits, arrival_by, res
 ghost use Rattle.web.specs.Causes.{FailsWithin, StopsAt};
 
 use crate::answering::to_arrival;
-use crate::certificates::{to_certificate, to_pending, to_serial_body};
+use crate::certificate_lines::{to_certificate, to_pending, to_serial_body};
 use crate::publishing::{to_cas, to_list, to_signers};
 use crate::report::to_table;
 use crate::room::to_refusal;

@@ -1,9 +1,9 @@
 use Rattle.std.proofs.Common.{◌≡◌, ℕ, List, Option, Some, None, Result, Err, refl, subst, ◌∙◌}
 use Rattle.std.specs.Prelude.{IfSome}
 use Rattle.krl.specs.Faults.{FirstFault}
-use Rattle.krl.specs.declared.fault.KrlFault.{KrlFault}
-use Rattle.jobs.specs.declared.fault.JobFault.{JobFault}
-use Rattle.jobs.specs.declared.fault.JobFault.TheVariants as job
+use Rattle.krl.specs.declared.krl_fault.KrlFault.{KrlFault}
+use Rattle.jobs.specs.declared.job_fault.JobFault.{JobFault}
+use Rattle.jobs.specs.declared.job_fault.JobFault.TheVariants as job
 use Rattle.jobs.proofs.checking.check_list.Goals as goal
 
 -- the fault that is told is the first one of the bytes that were read

@@ -2,7 +2,7 @@ use Rattle.std.proofs.Common.{◌≤◌, ℕ, Result, Ok, Err, sym, subst}
 use Rattle.std.specs.Prelude.{IfOk}
 use Rattle.sqlite.specs.declared.error.Error.{Error}
 use Rattle.jobs.specs.Ending.{closed}
-use Rattle.jobs.specs.declared.fault.JobFault.{JobFault}
+use Rattle.jobs.specs.declared.job_fault.JobFault.{JobFault}
 use Rattle.sshoffice.proofs.database.serve.Goals as goal
 
 -- a status is what it was once the database is closed

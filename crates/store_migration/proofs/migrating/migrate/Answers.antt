@@ -1,5 +1,5 @@
 use Rattle.std.proofs.Common.{sym, ◌∙◌}
-use Rattle.office.specs.declared.fault.StoreFault.TheVariants.{NotAnOffice, WrongSchema}
+use Rattle.office.specs.declared.store_fault.StoreFault.TheVariants.{NotAnOffice, WrongSchema}
 use Rattle.sqlite.specs.Held.{state}
 use Rattle.store_migration.proofs.Whole.{carries, cas_unseen, migrates, not_carried, office_seen}
 use Rattle.store_rows.proofs.Before.{same_before}

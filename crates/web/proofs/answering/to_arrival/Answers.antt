@@ -1,5 +1,5 @@
 use Rattle.std.proofs.Common.{length, sym, ◌∙◌}
-use Rattle.office.specs.declared.fault.StoreFault.TheVariants.{Damaged}
+use Rattle.office.specs.declared.store_fault.StoreFault.TheVariants.{Damaged}
 use Rattle.web.proofs.Replies.{accepted_fits, repeated_fits, only_too_long}
 use Rattle.web.proofs.answering.to_arrival.Goals as goal
 

@@ -1,5 +1,0 @@
-use Rattle.office_laws.proofs.Bodies.{body_names_signer}
-use Rattle.office_laws.proofs.certificates.a_body_names_its_signer.Goals as goal
-
-pub returns : goal.returns
-returns c = body_names_signer

@@ -1,5 +1,0 @@
-use Rattle.office_laws.proofs.Bodies.{body_stays}
-use Rattle.office_laws.proofs.certificates.a_body_stays.Goals as goal
-
-pub returns : goal.returns
-returns c = body_stays

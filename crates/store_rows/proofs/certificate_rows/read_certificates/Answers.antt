@@ -1,0 +1,33 @@
+use Rattle.std.proofs.Common.{filter}
+use Rattle.std.proofs.lemmas.Cmp.{nat_cmp_total}
+use Rattle.std.specs.Ordering.{nat_cmp}
+use Rattle.sqlite.specs.Held.{state}
+use Rattle.store_sql.specs.Changes.{certs_within}
+use Rattle.store_sql.specs.declared.certs.CertRow.{CertRow}
+use Rattle.office.specs.State.{State}
+use Rattle.store_rows.specs.Certificates.{certificate_in, is_within}
+use Rattle.store_rows.specs.Rows.{contents_of}
+use Rattle.store_rows.proofs.CertRows.{within_again, within_rise}
+use Rattle.store_rows.proofs.Sorting.{asked, shows_each}
+use Rattle.store_rows.proofs.certificate_rows.read_certificates.Goals as goal
+
+pub returns-in-Ok-clause-shows : goal.returns-in-Ok-clause-shows
+returns-in-Ok-clause-shows g c clean =
+    let lo = c.args.lo in
+    let hi = c.args.hi in
+    shows_each certificate_in (certs_within lo hi) (λ (r : CertRow). r.serial) nat_cmp nat_cmp_total
+    (λ (s : State). filter (is_within lo hi) s.certificates)
+    (λ s kept lawful. within_rise s.opening.first lo hi s.certificates lawful.serials)
+    (λ s kept lawful. within_again lo hi s.certificates lawful.certificates)
+    (state g.S.Store c.args.conn.now) (state g.S.Store c.certs_within.new.conn) c.in-Ok.rows.items
+    c.read_each.result (c.in-Ok.ensures.finds clean) (c.in-Ok.ensures.sorted clean)
+    (rw c.as_slice.ensures.value at c.read_each.ensures)
+
+pub returns-in-Ok-clause-reads : goal.returns-in-Ok-clause-reads
+returns-in-Ok-clause-reads g c clean =
+    asked (state g.S.Store c.args.conn.now) (state g.S.Store c.certs_within.new.conn)
+    (c.in-Ok.ensures.reads clean) c.read_each.result
+
+pub returns-in-Err-clause-shows : goal.returns-in-Err-clause-shows
+returns-in-Err-clause-shows g c clean s kept lawful means =
+    (c.in-Err.ensures.finds clean (contents_of s kept) means, c.in-Err.ensures.fault clean (contents_of s kept) means)
