@@ -13,12 +13,12 @@ use Rattle.web.specs.declared.exchange.Exchange.{Exchange}
 use Rattle.web.specs.declared.exchange.Given.TheVariants.{Answer}
 use Rattle.web.specs.Answers.{IsAnswered, IsOfTheRegister, Keeps, with_ask}
 use Rattle.web.specs.Runs.{Serves}
-use Rattle.serving.specs.declared.serve_fault.ServeFault.{ServeFault}
-use Rattle.serving.specs.declared.serve_fault.ServeFault.TheVariants.{Read, Nonces, Store, NoMemory, Write}
-use Rattle.serving.specs.Faults.{IfUnserved}
-use Rattle.serving.specs.Nonces.{Draws}
-use Rattle.serving.specs.Requests.{IsOneRequest}
-use Rattle.serving.specs.Served.{Served}
+use Rattle.web.specs.declared.serve_fault.ServeFault.{ServeFault}
+use Rattle.web.specs.declared.serve_fault.ServeFault.TheVariants.{Read, Nonces, Store, NoMemory, Write}
+use Rattle.web.specs.Faults.{IfUnserved}
+use Rattle.web.specs.Nonces.{Draws}
+use Rattle.web.specs.Requests.{IsOneRequest}
+use Rattle.web.specs.Served.{Served}
 use Rattle.server.specs.declared.connection_fault.Fault.{Fault}
 use Rattle.server.specs.declared.connection_fault.Fault.TheVariants.{Socket, Clock, Serving}
 use Rattle.server.specs.Books.{Book, WhereTold, IsAccepted, IsEnded}

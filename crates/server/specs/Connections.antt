@@ -11,10 +11,10 @@ use Rattle.web.specs.declared.exchange.Given.{Given}
 use Rattle.web.specs.declared.exchange.Given.TheVariants as given
 use Rattle.web.specs.Answers.{Keeps}
 use Rattle.web.specs.Runs.{Serves}
-use Rattle.serving.specs.declared.serve_fault.ServeFault.TheVariants.{Write}
-use Rattle.serving.specs.Faults.{IfServed}
-use Rattle.serving.specs.Nonces.{IsDrawn}
-use Rattle.serving.specs.Requests.{IsOneRequest}
+use Rattle.web.specs.declared.serve_fault.ServeFault.TheVariants.{Write}
+use Rattle.web.specs.Faults.{IfServed}
+use Rattle.web.specs.Nonces.{IsDrawn}
+use Rattle.web.specs.Requests.{IsOneRequest}
 use Rattle.server.specs.declared.connection_fault.Fault.{Fault}
 use Rattle.server.specs.declared.connection_fault.Fault.TheVariants.{Socket, Clock, Serving}
 use Rattle.server.specs.Books.{Coming, Book, IsMet, WhereTold}

@@ -1,8 +1,8 @@
 -- What is printed.
 use Rattle.std.specs.Prelude.{ℕ, List, [], ◌∷◌, ◌++◌, codes}
 use Rattle.std.specs.Fmt.{decimal}
-use Rattle.serving.specs.declared.serve_fault.ServeFault.{ServeFault}
-use Rattle.serving.specs.declared.serve_fault.ServeFault.TheVariants as serve
+use Rattle.web.specs.declared.serve_fault.ServeFault.{ServeFault}
+use Rattle.web.specs.declared.serve_fault.ServeFault.TheVariants as serve
 use Rattle.server.specs.declared.connection_fault.Fault.{Fault}
 use Rattle.server.specs.declared.connection_fault.Fault.TheVariants.{Socket, Clock, Serving}
 use Rattle.server.specs.declared.connection_fault.ListenFault.{ListenFault}

@@ -7,7 +7,7 @@ use crate::connection_fault::Fault;
 use crate::listener::{Connection, Listener};
 use http_requests::Routes;
 use office::Registry;
-use serving::serve_one;
+use web::serve_one;
 use wire::Source;
 
 /// Accepts a connection, serves the one request on it, at the moment when it was accepted, and ends it.

@@ -3,8 +3,8 @@
 ghost use Rattle.std.specs.Prelude.{◌≡◌, Some};
 ghost use Rattle.server.specs.Names.{fault_name, listen_fault_name, selftest_fault_name};
 
-use serving::ServeFault;
 use std::fmt;
+use web::ServeFault;
 
 /// Why a connection wasn't served.
 #[derive(Clone, Copy, Debug, PartialEq, Eq)]

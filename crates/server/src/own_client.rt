@@ -11,10 +11,10 @@ use crate::loopback::Loopback;
 use crate::patience::STEP_SECONDS;
 use http_requests::Routes;
 use office::Registry;
-use serving::ServeFault;
 use std::io::Write;
 use std::net::{Net, TcpListener, TcpStream};
 use std::time::{Clock, Duration};
+use web::ServeFault;
 use wire::{FromRead, read_full};
 
 const REQUEST: &[u8] = b"GET /v1/krl HTTP/1.1\r\n\r\n";

@@ -2,10 +2,10 @@
 
 use http_requests::Routes;
 use office::{Registry, StoreFault};
-use serving::{ServeFault, serve_one};
 use std::alloc::Global;
 use std::process::Abort;
 use trial::trial_office;
+use web::{ServeFault, serve_one};
 use wire::{Ending, Pace, ScriptedNonces, ScriptedReader, ScriptedWriter};
 
 const ISSUE: &[u8] = b"POST /v1/callers/ana/requests/i1 HTTP/1.1\r\ncontent-length: 162\r\n\r\n\

@@ -4,8 +4,8 @@ mod register;
 
 use http_requests::Routes;
 use register::Register;
-use serving::{ServeFault, serve_one};
 use std::alloc::{AllocError, Global};
+use web::{ServeFault, serve_one};
 use wire::{Ending, Pace, ScriptedNonces, ScriptedReader, ScriptedWriter};
 
 /// A request of 228 bytes that posts an issue message of 162.

@@ -3,3 +3,7 @@ pub mod Batches
 pub mod Answers
 pub mod Causes
 pub mod Runs
+pub mod Faults
+pub mod Requests
+pub mod Nonces
+pub mod Served

@@ -1,9 +1,12 @@
-//! From the bytes of a request to the bytes of its response.
+//! From the bytes of a request to the bytes of its response, and from a reader to a writer.
 //!
 //! `answer` gives to any bytes the one response that is due to what they ask, after the arrivals so far, over any
 //! register of an office, and `run` does so for exchanges one after the other. The text of each GET is a function of
 //! the plain office's state. Room for a response is reserved before anything is applied, so after a fault the register
 //! means what it meant. A register that has answered is open, so it keeps what it means.
+//!
+//! `serve_one` takes from a reader the bytes of one request and no more, takes a nonce, has a register answer, and
+//! writes the response. Its contract says exactly which bytes were taken and written, and what each fault leaves.
 #![tactic(auto)]
 
 mod answering;
@@ -16,7 +19,12 @@ mod report;
 mod request;
 mod room;
 mod running;
+mod serve;
+mod serve_fault;
+mod taking;
 
 pub use exchange::{Exchange, Given};
 pub use request::{answer, answer_by};
 pub use running::run;
+pub use serve::serve_one;
+pub use serve_fault::ServeFault;

@@ -3,8 +3,8 @@ use Rattle.std.proofs.KnownBytes.{Consumes-nil}
 use Rattle.http_requests.specs.declared.progress.Progress.TheVariants.{Waits}
 use Rattle.http_requests.specs.Reading.{HoldsHead, NeverHolds, HasCome, WaitsBefore}
 use Rattle.http_requests.proofs.Reading.{waits_before_nothing, waits_before_more}
-use Rattle.serving.proofs.Taken.{byte_more}
-use Rattle.serving.proofs.taking.take_front.Goals as goal
+use Rattle.web.proofs.Taken.{byte_more}
+use Rattle.web.proofs.taking.take_front.Goals as goal
 
 pub loop-count-init : goal.loop-count-init
 loop-count-init g c = rw c.new-taken.ensures.items (record {

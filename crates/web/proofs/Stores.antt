@@ -4,9 +4,9 @@ use Rattle.std.specs.Prelude.{Result, Ok, Err, IsErrAnd}
 use Rattle.office.specs.declared.store_fault.StoreFault.{StoreFault}
 use Rattle.office.specs.declared.store_fault.StoreFault.TheVariants.{AlreadyAnOffice, NotAnOffice, WrongSchema, Damaged, Device, NoMemory}
 use Rattle.office.specs.Faults.{HasCause, IsOfARegister}
-use Rattle.serving.specs.declared.serve_fault.ServeFault.{ServeFault}
-use Rattle.serving.specs.declared.serve_fault.ServeFault.TheVariants.{Store}
-use Rattle.serving.specs.Faults.{fault_of}
+use Rattle.web.specs.declared.serve_fault.ServeFault.{ServeFault}
+use Rattle.web.specs.declared.serve_fault.ServeFault.TheVariants.{Store}
+use Rattle.web.specs.Faults.{fault_of}
 
 -- of a register that means a history only a fault with a cause is told so
 cause_of : (e : StoreFault) (stopped : Type 0) → fault_of e ≡ Store → IsOfARegister e → HasCause e stopped → stopped

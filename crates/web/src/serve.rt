@@ -8,16 +8,16 @@ ghost use Rattle.office.specs.declared.arrival.Arrival.{Arrival};
 ghost use Rattle.office.specs.Registers.{MeansTheSame};
 ghost use Rattle.web.specs.Answers.{Keeps};
 ghost use Rattle.web.specs.Causes.{StopsAt};
-ghost use Rattle.serving.specs.Faults.{is_read, is_write, IfServed, IfUnserved};
-ghost use Rattle.serving.specs.Nonces.{Draws, FailsBy};
-ghost use Rattle.serving.specs.Served.{Served, Stopped};
+ghost use Rattle.web.specs.Faults.{is_read, is_write, IfServed, IfUnserved};
+ghost use Rattle.web.specs.Nonces.{Draws, FailsBy};
+ghost use Rattle.web.specs.Served.{Served, Stopped};
 
+use crate::request::answer_by;
 use crate::serve_fault::ServeFault;
 use crate::taking::{take_nonce, take_request};
 use http_requests::Routes;
 use office::Registry;
 use std::alloc::Global;
-use web::answer_by;
 use wire::{Failed, Sink, Source, write_all};
 
 /// Serves one request: takes its bytes from the reader and no byte more, takes a nonce of 32 bytes, has the register

@@ -1,8 +1,8 @@
 //! Why a request wasn't served.
 
 ghost use Rattle.std.specs.Prelude.{◌≡◌};
-ghost use Rattle.serving.specs.declared.serve_fault.ServeFault.TheVariants.{NoMemory};
-ghost use Rattle.serving.specs.Faults.{fault_of};
+ghost use Rattle.web.specs.declared.serve_fault.ServeFault.TheVariants.{NoMemory};
+ghost use Rattle.web.specs.Faults.{fault_of};
 
 use office::StoreFault;
 

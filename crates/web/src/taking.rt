@@ -2,9 +2,9 @@
 
 ghost use Rattle.std.specs.Prelude.{◌≡◌, ◌<◌, ◌+◌, length, IfOk, IfErr, OnOk, if◌then◌else◌};
 ghost use Rattle.std.specs.Io.KnownBytes.{Consumes};
-ghost use Rattle.serving.specs.Faults.{is_read, IsOfTaking};
-ghost use Rattle.serving.specs.Requests.{IsFront, TakesMore, IsOneRequest};
-ghost use Rattle.serving.specs.Nonces.{Draws, FailsBy};
+ghost use Rattle.web.specs.Faults.{is_read, IsOfTaking};
+ghost use Rattle.web.specs.Requests.{IsFront, TakesMore, IsOneRequest};
+ghost use Rattle.web.specs.Nonces.{Draws, FailsBy};
 
 use crate::serve_fault::ServeFault;
 use http_requests::{MAX_HEAD, Progress, Routes, body_size, progress_of, read_head};

@@ -1,8 +1,8 @@
 -- What taking a nonce does to its source.
 use Rattle.std.specs.Prelude.{◌≡◌, ◌⊎◌, ◌<◌, ◌+◌, ℕ, List, [], length, Option, Result, Ok, Err}
 use Rattle.std.specs.Io.KnownBytes.{Consumes, IsAtEnd}
-use Rattle.serving.specs.declared.serve_fault.ServeFault.{ServeFault}
-use Rattle.serving.specs.declared.serve_fault.ServeFault.TheVariants.{Read, Nonces, Store, NoMemory, Write}
+use Rattle.web.specs.declared.serve_fault.ServeFault.{ServeFault}
+use Rattle.web.specs.declared.serve_fault.ServeFault.TheVariants.{Read, Nonces, Store, NoMemory, Write}
 
 -- the source had fewer bytes than a nonce has
 pub record Ends (old new : Option (List ℕ)) : Type 0 where

@@ -2,8 +2,8 @@
 use Rattle.std.specs.Prelude.{Bool, true, false, Result, Ok, Err}
 use Rattle.office.specs.declared.store_fault.StoreFault.{StoreFault}
 use Rattle.office.specs.declared.store_fault.StoreFault.TheVariants as store
-use Rattle.serving.specs.declared.serve_fault.ServeFault.{ServeFault}
-use Rattle.serving.specs.declared.serve_fault.ServeFault.TheVariants.{Read, Nonces, Store, NoMemory, Write}
+use Rattle.web.specs.declared.serve_fault.ServeFault.{ServeFault}
+use Rattle.web.specs.declared.serve_fault.ServeFault.TheVariants.{Read, Nonces, Store, NoMemory, Write}
 
 -- the fault that a fault of the register is
 abbrev pub fault_of : StoreFault → ServeFault

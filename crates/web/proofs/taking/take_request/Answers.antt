@@ -2,7 +2,7 @@ use Rattle.std.proofs.Common.{◌++◌, ◌∙◌, ℕ, List, ap, inl, subst, sy
 use Rattle.http_requests.specs.Heads.{IsGood}
 use Rattle.http_requests.specs.Reading.{IsNoMore}
 use Rattle.http_requests.proofs.Reading.{good_with_body, no_more_of_waits}
-use Rattle.serving.proofs.taking.take_request.Goals as goal
+use Rattle.web.proofs.taking.take_request.Goals as goal
 
 pub returns-clause-one : goal.returns-clause-one
 returns-clause-one g c =

@@ -1,7 +1,7 @@
 use Rattle.std.proofs.Common.{◌≡◌, ℕ, List, Option, length}
 use Rattle.std.specs.Io.KnownBytes.{Consumes}
 use Rattle.http_requests.specs.Reading.{WaitsBefore}
-use Rattle.serving.proofs.taking.take_front.Given as goal
+use Rattle.web.proofs.taking.take_front.Given as goal
 
 -- so many bytes were taken, each while those before it waited, and no call failed
 pub record SoFar (old new : Option (List ℕ)) (was is : ℕ) (taken : List ℕ) (count : ℕ) : Type 0 where

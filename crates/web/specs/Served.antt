@@ -4,7 +4,7 @@ use Rattle.std.specs.Io.KnownBytes.{Consumes}
 use Rattle.office.specs.declared.opening.Opening.{Opening}
 use Rattle.office.specs.declared.arrival.Arrival.{Arrival}
 use Rattle.web.specs.Answers.{IsAnswered}
-use Rattle.serving.specs.Requests.{IsOneRequest}
+use Rattle.web.specs.Requests.{IsOneRequest}
 
 -- Exactly one request and one nonce were taken of what the reader and the nonce source had left, and the response is
 -- the one that is due to them. The register then means the history with the request's arrival, where it has one. Where

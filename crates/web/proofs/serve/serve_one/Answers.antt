@@ -3,8 +3,8 @@ use Rattle.std.specs.Io.KnownBytes.{Appends}
 use Rattle.wire.specs.Streams.{AppendsBeginning}
 use Rattle.web.specs.Answers.{IsAnswered, Keeps}
 use Rattle.web.specs.Causes.{StopsAt}
-use Rattle.serving.proofs.Stores.{cause_of_store}
-use Rattle.serving.proofs.serve.serve_one.Goals as goal
+use Rattle.web.proofs.Stores.{cause_of_store}
+use Rattle.web.proofs.serve.serve_one.Goals as goal
 
 pub returns-in-Ok-clause-ok : goal.returns-in-Ok-clause-ok
 returns-in-Ok-clause-ok g c =

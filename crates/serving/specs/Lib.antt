@@ -1,4 +1,0 @@
-pub mod Faults
-pub mod Requests
-pub mod Nonces
-pub mod Served
