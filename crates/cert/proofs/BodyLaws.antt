@@ -11,8 +11,8 @@ use Rattle.cert.specs.Options.{options_text}
 use Rattle.lines.proofs.Blobs.{key_of_found}
 use Rattle.values.specs.declared.option_field.OptionField.TheVariants.{CriticalOptions, Extensions}
 use Rattle.cert.specs.Bodies.{IsCertFields, cert_type, front, body_text, is_validity, principals_text}
+use Rattle.text.specs.Results.{◌>>=◌}
 use Rattle.cert.specs.Reading.{
-  ◌>>=◌,
   check,
   Gives,
   kind_of,

@@ -12,7 +12,8 @@ use Rattle.values.specs.declared.option_field.OptionField.TheVariants.{CriticalO
 use Rattle.cert.specs.Options.{is_options}
 use Rattle.values.specs.Serials.{is_serial}
 use Rattle.cert.specs.Bodies.{IsCertFields, kind_number, are_principals, is_validity}
-use Rattle.cert.specs.Reading.{◌>>=◌, kind_of}
+use Rattle.text.specs.Results.{◌>>=◌}
+use Rattle.cert.specs.Reading.{kind_of}
 use Rattle.cert.specs.declared.fields.CertFields.{CertFields}
 use Rattle.cert.specs.declared.cert_fault.CertFault.{CertFault}
 

@@ -14,7 +14,8 @@ use Rattle.values.specs.declared.option_field.OptionField.TheVariants.{CriticalO
 use Rattle.cert.specs.Options.{is_options, options_text}
 use Rattle.cert.specs.Bodies.{IsCertFields, are_principals, kind_number}
 use Rattle.cert.specs.Bodies.{principals_text, front, body_text, is_validity}
-use Rattle.cert.specs.Reading.{◌>>=◌, check, kind_of, principals_of, options_of}
+use Rattle.text.specs.Results.{◌>>=◌}
+use Rattle.cert.specs.Reading.{check, kind_of, principals_of, options_of}
 use Rattle.cert.specs.Reading.{kind_at, key_id_at, principals_at, validity_at, options_at, reserved_at, ca_at}
 use Rattle.cert.specs.Faults.{IsFault, ends_at, is_whole}
 use Rattle.cert.specs.declared.fields.CertFields.{CertFields}

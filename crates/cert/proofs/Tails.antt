@@ -10,7 +10,8 @@ use Rattle.values.specs.declared.option_field.OptionField.{OptionField}
 use Rattle.values.specs.declared.option_field.OptionField.TheVariants.{CriticalOptions, Extensions}
 use Rattle.values.specs.Serials.{is_serial}
 use Rattle.cert.specs.Bodies.{cert_type, is_validity}
-use Rattle.cert.specs.Reading.{◌>>=◌, check, kind_of, principals_of, options_of, field_fault}
+use Rattle.text.specs.Results.{◌>>=◌}
+use Rattle.cert.specs.Reading.{check, kind_of, principals_of, options_of, field_fault}
 use Rattle.cert.specs.Reading.{type_at, bytes_32_at, serial_at, kind_at, key_id_at, principals_at}
 use Rattle.cert.specs.Reading.{validity_at, options_at, reserved_at, ca_at, from_key_id_at, body_at}
 use Rattle.cert.specs.declared.fields.CertFields.{CertFields}

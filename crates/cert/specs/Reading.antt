@@ -22,6 +22,7 @@ use Rattle.std.specs.Prelude.{
   Err,
 }
 use Rattle.std.specs.Option.{option_map}
+use Rattle.text.specs.Results.{◌>>=◌, or_fault}
 use Rattle.std.specs.Str.{bytes_eq}
 use Rattle.text.specs.declared.pair.Pair.{Pair}
 use Rattle.wire.specs.Reading.{u32_at, u64_at, string_at}
@@ -55,15 +56,6 @@ use Rattle.cert.specs.declared.cert_fault.CertFault.TheVariants.{
   TrailingBytes,
   NoMemory,
 }
-
-infixl 10 ◌>>=◌
-abbrev pub ◌>>=◌ : {A B : Type 0} → Result A CertFault → (A → Result B CertFault) → Result B CertFault
-(Ok x) >>= f = f x
-(Err e) >>= f = Err e
-
-abbrev pub or_fault : {A : Type 0} → CertFault → Option A → Result A CertFault
-or_fault e (Some x) = Ok x
-or_fault e None = Err e
 
 abbrev pub check : CertFault → Bool → Result (Unit {0}) CertFault
 check e b = if b then Ok tt else Err e

@@ -6,6 +6,7 @@ ghost use Rattle.wire.specs.Reading.{string_at};
 ghost use Rattle.values.specs.Names.{is_principal};
 ghost use Rattle.cert.specs.declared.cert_fault.CertFault.TheVariants.{BadPrincipals};
 ghost use Rattle.cert.specs.Options.{is_option};
+ghost use Rattle.text.specs.Results.{or_fault};
 ghost use Rattle.cert.specs.Reading.{
   Gives,
   GivesPair,
@@ -13,7 +14,6 @@ ghost use Rattle.cert.specs.Reading.{
   field_fault,
   options_of,
   options_within,
-  or_fault,
   pair_at,
   pair_of,
   principals_of,

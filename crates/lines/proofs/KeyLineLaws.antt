@@ -14,7 +14,8 @@ use Rattle.base64.specs.GeneralPurpose.{IsBytes, decode_of, encode_of}
 use Rattle.lines.specs.Keys.{key_blob, key_of}
 use Rattle.lines.specs.KeyLines.{is_base64_letter, is_base64_word, is_key, is_comment, is_comment_or_none}
 use Rattle.lines.specs.KeyLines.{is_key_line, comment_text, key_line_head, key_line_text}
-use Rattle.lines.specs.Reading.{◌>>=◌, or_fault, after_type, word_of, comment_of, blob_of, checked_line}
+use Rattle.text.specs.Results.{◌>>=◌, or_fault}
+use Rattle.lines.specs.Reading.{after_type, word_of, comment_of, blob_of, checked_line}
 use Rattle.lines.specs.Reading.{key_line_at, Gives, IsFault, HasWrongType, HasBadBase64, HasBadBlob, HasBadComment}
 use Rattle.lines.specs.declared.key_line.KeyLine.{KeyLine}
 use Rattle.lines.specs.declared.key_line.LineFault.{LineFault}

@@ -6,6 +6,7 @@ use Rattle.std.specs.Result.{result_ok}
 use Rattle.std.specs.Str.{bytes_eq}
 use Rattle.base64.specs.Engines.{standard}
 use Rattle.base64.specs.GeneralPurpose.{IsBytes, encode_of, decode_of}
+use Rattle.text.specs.Results.{◌>>=◌, or_fault}
 use Rattle.lines.specs.Keys.{key_blob, key_of}
 use Rattle.lines.specs.KeyLines.{is_base64_word, is_key, is_comment, is_comment_or_none}
 use Rattle.lines.specs.KeyLines.{is_key_line, key_line_head, key_line_text}
@@ -34,15 +35,6 @@ blob_of word =
     if length word == 68
     then option_and_then (λ blob. if length blob == 51 then Some blob else None) (result_ok (decode_of standard word))
     else None
-
-infixl 10 ◌>>=◌
-abbrev pub ◌>>=◌ : {A B : Type 0} → Result A LineFault → (A → Result B LineFault) → Result B LineFault
-(Ok x) >>= f = f x
-(Err e) >>= f = Err e
-
-abbrev pub or_fault : {A : Type 0} → LineFault → Option A → Result A LineFault
-or_fault e (Some x) = Ok x
-or_fault e None = Err e
 
 -- the line of a key and a comment, if the comment is lawful
 abbrev pub checked_line : List ℕ → Option (List ℕ) → Result KeyLine LineFault

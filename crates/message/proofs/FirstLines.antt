@@ -2,7 +2,8 @@
 use Rattle.std.proofs.Common.{◌≡◌, ℕ, suc, ◌-◌, ◌<◌, List, [], ◌∷◌, ◌++◌, length, drop, Option, Some}
 use Rattle.std.proofs.Common.{None, Result, Ok, Err, refl, sym, ap, subst, ◌∙◌, arith, length-drop}
 use Rattle.std.proofs.lemmas.Option.{same_Some}
-use Rattle.message.specs.Reading.{◌>>=◌, or_bad, line_of}
+use Rattle.text.specs.Results.{◌>>=◌, or_fault}
+use Rattle.message.specs.Reading.{line_of}
 use Rattle.message.proofs.Lines.{line_there, line_is, Shares, shares_more, shares_less, shares_none}
 use Rattle.message.proofs.Readings.{
   IsField,
@@ -23,10 +24,10 @@ module _ {M X : Type 0} (k : ℕ) (read : List ℕ → Option X) (text : X → L
     (after : (x : X) → IsLawful x → IsReading (suc k) (rest x) (Is x) lines)
     (gets : (x : X) (m : M) → Is x m → get m ≡ x) where
   abbrev reads : List (List ℕ) → Result M ℕ
-  reads ps = or_bad (suc k) (read (line_of (suc k) ps)) >>= (λ x. rest x ps)
+  reads ps = or_fault (suc k) (read (line_of (suc k) ps)) >>= (λ x. rest x ps)
 
   abbrev step : List (List ℕ) → Option X → Result M ℕ
-  step ps o = or_bad (suc k) o >>= (λ x. rest x ps)
+  step ps o = or_fault (suc k) o >>= (λ x. rest x ps)
 
   abbrev Whole : M → Type 0
   Whole m = IsLawful (get m) × Is (get m) m

@@ -9,7 +9,8 @@ use Rattle.lines.specs.declared.key_line.KeyLine.{KeyLine}
 use Rattle.message.specs.declared.issue.Issue.{Issue}
 use Rattle.message.specs.Values.{are_extension_names}
 use Rattle.message.specs.Texts.{list_line, option_line}
-use Rattle.message.specs.Reading.{◌>>=◌, or_bad, line_of, ends_after, list_after}
+use Rattle.text.specs.Results.{◌>>=◌, or_fault}
+use Rattle.message.specs.Reading.{line_of, ends_after, list_after}
 use Rattle.message.specs.Reading.{option_after, is_new_option, options_from}
 use Rattle.message.proofs.Readings.{IsReading}
 use Rattle.message.proofs.FirstLines.{line_then}
@@ -37,7 +38,7 @@ module _ (department key_id : List ℕ) (key : KeyLine) (principals : List (List
   -- the reading of the line of extensions, as line n, and of the end
   abbrev tail_at : ℕ → ℕ → List Pair → List (List ℕ) → Result Issue ℕ
   tail_at n m options ps =
-      or_bad n (list_after are_extension_names (codes "extensions") (line_of n ps)) >>=
+      or_fault n (list_after are_extension_names (codes "extensions") (line_of n ps)) >>=
       (λ extensions. cond (ends_after n ps) (Ok (whole options extensions)) (Err m))
 
   abbrev tail : List Pair → List (List ℕ) → Result Issue ℕ

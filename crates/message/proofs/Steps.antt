@@ -33,19 +33,20 @@ use Rattle.std.proofs.Common.{
   length-append,
 }
 use Rattle.text.specs.declared.pair.Pair.{Pair}
-use Rattle.message.specs.Reading.{◌>>=◌, or_bad, line_of, ends_after, option_after, options_from}
+use Rattle.text.specs.Results.{◌>>=◌, or_fault}
+use Rattle.message.specs.Reading.{line_of, ends_after, option_after, options_from}
 
 -- a line that fits, as it was read, and what follows
 pub on : {A B : Type 0} (n : ℕ) (read : List ℕ → Option A) (l line : List ℕ) (o : Option A) (x : A)
     (f : A → Result B ℕ) (r : Result B ℕ)
-    → o ≡ Some x → o ≡ read l → l ≡ line → f x ≡ r → (or_bad n (read line) >>= f) ≡ r
+    → o ≡ Some x → o ≡ read l → l ≡ line → f x ≡ r → (or_fault n (read line) >>= f) ≡ r
 on {A} n read l line o x f r some is at rest =
-    ap (λ (o : Option A). or_bad n o >>= f) (sym (ap read at) ∙ sym is ∙ some) ∙ rest
+    ap (λ (o : Option A). or_fault n o >>= f) (sym (ap read at) ∙ sym is ∙ some) ∙ rest
 
 -- a line that doesn't fit
 pub off : {A B : Type 0} (n : ℕ) (read : List ℕ → Option A) (l line : List ℕ) (o : Option A) (f : A → Result B ℕ)
-    → o ≡ None → o ≡ read l → l ≡ line → (or_bad n (read line) >>= f) ≡ Err n
-off {A} n read l line o f none is at = ap (λ (o : Option A). or_bad n o >>= f) (sym (ap read at) ∙ sym is ∙ none)
+    → o ≡ None → o ≡ read l → l ≡ line → (or_fault n (read line) >>= f) ≡ Err n
+off {A} n read l line o f none is at = ap (λ (o : Option A). or_fault n o >>= f) (sym (ap read at) ∙ sym is ∙ none)
 
 -- ---- option lines
 
@@ -111,9 +112,9 @@ and_second false b c is e = absurd cc
 pub end_off : {A B : Type 0} (read : List ℕ → Option A) (ps : List (List ℕ)) (options given slice : List Pair)
     (l : List ℕ) (o : Option A) (f : A → Result B ℕ)
     → slice ≡ given → given ≡ options → o ≡ None → o ≡ read l → l ≡ line_of (7 + length slice) ps
-    → (or_bad (7 + length options) (read (line_of (7 + length options) ps)) >>= f) ≡ Err (7 + length slice)
+    → (or_fault (7 + length options) (read (line_of (7 + length options) ps)) >>= f) ≡ Err (7 + length slice)
 end_off {A} {B} read ps options given slice l o f sliced same none is at =
-    subst (λ (x : List Pair). (or_bad (7 + length x) (read (line_of (7 + length x) ps)) >>= f)
+    subst (λ (x : List Pair). (or_fault (7 + length x) (read (line_of (7 + length x) ps)) >>= f)
     ≡ Err (7 + length slice)) (sliced ∙ same)
     (off (7 + length slice) read l (line_of (7 + length slice) ps) o f none is at)
 
@@ -123,13 +124,13 @@ pub end_on : {A B : Type 0} (read : List ℕ → Option A) (ps : List (List ℕ)
     (whole : List Pair → A → B) (ends : Bool)
     → slice ≡ given → given ≡ options → o ≡ Some x → o ≡ read l → l ≡ line_of (7 + length slice) ps → ends
     ≡ ends_after (7 + length slice) ps
-    → (or_bad (7 + length options) (read (line_of (7 + length options) ps)) >>=
+    → (or_fault (7 + length options) (read (line_of (7 + length options) ps)) >>=
     (λ y. cond (ends_after (7 + length options) ps) (Ok (whole options y)) (Err (8 + length options))))
     ≡ cond ends (Ok (whole given x)) (Err (7 + length slice + 1))
 end_on {A} {B} read ps options given slice l o x whole ends sliced same some is at over =
     let number : 8 + length slice ≡ 7 + length slice + 1 = omega arith in
     subst (λ (z : List Pair).
-    (or_bad (7 + length z) (read (line_of (7 + length z) ps)) >>=
+    (or_fault (7 + length z) (read (line_of (7 + length z) ps)) >>=
     (λ y. cond (ends_after (7 + length z) ps) (Ok (whole z y)) (Err (8 + length z))))
     ≡ cond ends (Ok (whole given x)) (Err (7 + length slice + 1))) (sliced ∙ same)
     (on (7 + length slice) read l (line_of (7 + length slice) ps) o x

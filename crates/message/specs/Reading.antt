@@ -5,6 +5,7 @@ use Rattle.std.specs.List.{list_any, slice_split, slice_index_or}
 use Rattle.std.specs.Option.{option_and_then, option_map, is_some}
 use Rattle.std.specs.Result.{result_ok}
 use Rattle.std.specs.Str.{bytes_eq}
+use Rattle.text.specs.Results.{◌>>=◌, or_fault}
 use Rattle.text.specs.declared.pair.Pair.{Pair}
 use Rattle.values.specs.declared.kind.Kind.{Kind}
 use Rattle.values.specs.declared.kind.Kind.TheVariants.{User, Host}
@@ -41,16 +42,6 @@ use Rattle.message.specs.Values.{
   is_digest,
   is_range,
 }
-
-infixl 10 ◌>>=◌
-abbrev pub ◌>>=◌ : {A B : Type 0} → Result A ℕ → (A → Result B ℕ) → Result B ℕ
-(Ok x) >>= f = f x
-(Err e) >>= f = Err e
-
--- a value, or the number of the line that does not give one
-abbrev pub or_bad : {A : Type 0} → ℕ → Option A → Result A ℕ
-or_bad n (Some x) = Ok x
-or_bad n None = Err n
 
 -- What a function returned is what reading gives, unless memory was refused.
 abbrev pub Gives : {X : Type 0} → Result X MessageFault → Result X ℕ → Type 0
@@ -163,15 +154,15 @@ range_after head line = option_and_then (passing is_range) (option_and_then rang
 -- a department, from the pieces of its text
 unfoldable pub department_in : List (List ℕ) → Result Department ℕ
 department_in ps = do
-  name ← or_bad 1 (name_after (codes "department ") (line_of 1 ps))
-  kind ← or_bad 2 (kind_of (line_of 2 ps))
-  administrators ← or_bad 3 (list_after are_administrators (codes "admins") (line_of 3 ps))
-  rules ← or_bad 4 (list_after are_rules (codes "principals") (line_of 4 ps))
-  options ← or_bad 5 (list_after (λ ts. are_option_names ts && fits_kind kind ts) (codes "options") (line_of 5 ps))
-  extensions ← or_bad 6
+  name ← or_fault 1 (name_after (codes "department ") (line_of 1 ps))
+  kind ← or_fault 2 (kind_of (line_of 2 ps))
+  administrators ← or_fault 3 (list_after are_administrators (codes "admins") (line_of 3 ps))
+  rules ← or_fault 4 (list_after are_rules (codes "principals") (line_of 4 ps))
+  options ← or_fault 5 (list_after (λ ts. are_option_names ts && fits_kind kind ts) (codes "options") (line_of 5 ps))
+  extensions ← or_fault 6
       (list_after (λ ts. are_extension_names ts && fits_kind kind ts) (codes "extensions") (line_of 6 ps))
-  longest_life ← or_bad 7 (number_after is_longest_life (codes "maxlife ") (line_of 7 ps))
-  namespaces ← or_bad 8 (list_after (λ ts. are_namespaces ts && fits_kind kind ts) (codes "namespaces") (line_of 8 ps))
+  longest_life ← or_fault 7 (number_after is_longest_life (codes "maxlife ") (line_of 7 ps))
+  namespaces ← or_fault 8 (list_after (λ ts. are_namespaces ts && fits_kind kind ts) (codes "namespaces") (line_of 8 ps))
   if ends_after 8 ps
       then Ok (record {
         name = name;
@@ -188,14 +179,14 @@ department_in ps = do
 -- an issue, from the pieces of its text
 unfoldable pub issue_in : List (List ℕ) → Result Issue ℕ
 issue_in ps = do
-  department ← or_bad 1 (name_after (codes "issue ") (line_of 1 ps))
-  key_id ← or_bad 2 (key_id_after (codes "keyid ") (line_of 2 ps))
-  key ← or_bad 3 (key_line_after (codes "key ") (line_of 3 ps))
-  principals ← or_bad 4 (list_after are_principals (codes "principals") (line_of 4 ps))
-  after ← or_bad 5 (number_after is_end (codes "after ") (line_of 5 ps))
-  before ← or_bad 6 (number_after is_end (codes "before ") (line_of 6 ps))
+  department ← or_fault 1 (name_after (codes "issue ") (line_of 1 ps))
+  key_id ← or_fault 2 (key_id_after (codes "keyid ") (line_of 2 ps))
+  key ← or_fault 3 (key_line_after (codes "key ") (line_of 3 ps))
+  principals ← or_fault 4 (list_after are_principals (codes "principals") (line_of 4 ps))
+  after ← or_fault 5 (number_after is_end (codes "after ") (line_of 5 ps))
+  before ← or_fault 6 (number_after is_end (codes "before ") (line_of 6 ps))
   let options = options_from 3 7 [] ps
-  extensions ← or_bad (7 + length options)
+  extensions ← or_fault (7 + length options)
       (list_after are_extension_names (codes "extensions") (line_of (7 + length options) ps))
   if ends_after (7 + length options) ps
       then Ok (record {
@@ -213,9 +204,9 @@ issue_in ps = do
 -- a renewal, from the pieces of its text
 unfoldable pub renewal_in : List (List ℕ) → Result Renewal ℕ
 renewal_in ps = do
-  serial ← or_bad 1 (number_after is_serial (codes "renew ") (line_of 1 ps))
-  after ← or_bad 2 (number_after is_end (codes "after ") (line_of 2 ps))
-  before ← or_bad 3 (number_after is_end (codes "before ") (line_of 3 ps))
+  serial ← or_fault 1 (number_after is_serial (codes "renew ") (line_of 1 ps))
+  after ← or_fault 2 (number_after is_end (codes "after ") (line_of 2 ps))
+  before ← or_fault 3 (number_after is_end (codes "before ") (line_of 3 ps))
   if ends_after 3 ps
       then Ok (record { serial = serial; after = after; before = before })
       else Err 4
@@ -223,9 +214,9 @@ renewal_in ps = do
 -- a delivery, from the pieces of its text
 unfoldable pub delivery_in : List (List ℕ) → Result Delivery ℕ
 delivery_in ps = do
-  serial ← or_bad 1 (number_after is_serial (codes "deliver ") (line_of 1 ps))
-  digest ← or_bad 2 (digest_after (codes "digest ") (line_of 2 ps))
-  signature ← or_bad 3 (signature_after (codes "signature ") (line_of 3 ps))
+  serial ← or_fault 1 (number_after is_serial (codes "deliver ") (line_of 1 ps))
+  digest ← or_fault 2 (digest_after (codes "digest ") (line_of 2 ps))
+  signature ← or_fault 3 (signature_after (codes "signature ") (line_of 3 ps))
   if ends_after 3 ps
       then Ok (record { serial = serial; digest = digest; signature = signature })
       else Err 4
@@ -233,7 +224,7 @@ delivery_in ps = do
 -- the value of a message of one line, from the pieces of its text
 unfoldable pub one_line_in : {A : Type 0} → (List ℕ → Option A) → List (List ℕ) → Result A ℕ
 one_line_in read ps = do
-  x ← or_bad 1 (read (line_of 1 ps))
+  x ← or_fault 1 (read (line_of 1 ps))
   if ends_after 1 ps then Ok x else Err 2
 
 -- whether line 1 begins with these bytes

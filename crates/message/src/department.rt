@@ -1,7 +1,8 @@
 //! What a department is.
 
 ghost use Rattle.std.specs.Prelude.{◌≡◌, ◌&&◌, IfOk, codes, map};
-ghost use Rattle.message.specs.Reading.{Gives, department_in, kind_of, line_of, list_after, number_after, or_bad};
+ghost use Rattle.text.specs.Results.{or_fault};
+ghost use Rattle.message.specs.Reading.{Gives, department_in, kind_of, line_of, list_after, number_after};
 ghost use Rattle.message.specs.Values.{
   are_administrators,
   are_extension_names,
@@ -66,7 +67,7 @@ impl Department {
 
 /// The kind of line 2.
 fn kind_in(pieces: &[&[u8]]) -> Result<Kind, MessageFault>
-    ensures { Gives result (or_bad 2 (kind_of (line_of 2 (map (λ x. x.now) pieces.now)))) }
+    ensures { Gives result (or_fault 2 (kind_of (line_of 2 (map (λ x. x.now) pieces.now)))) }
 {
     let line = line(pieces, 2);
     if line == b"kind user".as_slice() {
@@ -91,7 +92,7 @@ pub fn fits_kind(kind: Kind, texts: &[Text]) -> bool
 /// The administrators of line 3.
 fn administrators_in(alloc: Global, pieces: &[&[u8]]) -> Result<Texts, MessageFault>
     ensures { Gives result
-        (or_bad 3 (list_after are_administrators (codes "admins") (line_of 3 (map (λ x. x.now) pieces.now)))) }
+        (or_fault 3 (list_after are_administrators (codes "admins") (line_of 3 (map (λ x. x.now) pieces.now)))) }
 {
     match list_after(alloc, line(pieces, 3), b"admins")? {
         Some(texts) if are_administrators(texts.as_slice()) => Ok(texts),
@@ -102,7 +103,7 @@ fn administrators_in(alloc: Global, pieces: &[&[u8]]) -> Result<Texts, MessageFa
 /// The rules of line 4.
 fn rules_in(alloc: Global, pieces: &[&[u8]]) -> Result<Texts, MessageFault>
     ensures { Gives result
-        (or_bad 4 (list_after are_rules (codes "principals") (line_of 4 (map (λ x. x.now) pieces.now)))) }
+        (or_fault 4 (list_after are_rules (codes "principals") (line_of 4 (map (λ x. x.now) pieces.now)))) }
 {
     match list_after(alloc, line(pieces, 4), b"principals")? {
         Some(texts) if are_rules(texts.as_slice()) => Ok(texts),
@@ -112,7 +113,7 @@ fn rules_in(alloc: Global, pieces: &[&[u8]]) -> Result<Texts, MessageFault>
 
 /// The names of options of line 5.
 fn options_in(alloc: Global, kind: Kind, pieces: &[&[u8]]) -> Result<Texts, MessageFault>
-    ensures { Gives result (or_bad 5 (list_after (λ ts. are_option_names ts && fits_kind kind ts) (codes "options")
+    ensures { Gives result (or_fault 5 (list_after (λ ts. are_option_names ts && fits_kind kind ts) (codes "options")
         (line_of 5 (map (λ x. x.now) pieces.now)))) }
 {
     match list_after(alloc, line(pieces, 5), b"options")? {
@@ -124,7 +125,7 @@ fn options_in(alloc: Global, kind: Kind, pieces: &[&[u8]]) -> Result<Texts, Mess
 
 /// The names of extensions of line 6.
 fn extensions_in(alloc: Global, kind: Kind, pieces: &[&[u8]]) -> Result<Texts, MessageFault>
-    ensures { Gives result (or_bad 6 (list_after (λ ts. are_extension_names ts && fits_kind kind ts)
+    ensures { Gives result (or_fault 6 (list_after (λ ts. are_extension_names ts && fits_kind kind ts)
         (codes "extensions") (line_of 6 (map (λ x. x.now) pieces.now)))) }
 {
     match list_after(alloc, line(pieces, 6), b"extensions")? {
@@ -137,7 +138,7 @@ fn extensions_in(alloc: Global, kind: Kind, pieces: &[&[u8]]) -> Result<Texts, M
 /// The longest life of line 7.
 fn longest_life_in(pieces: &[&[u8]]) -> Result<u64, MessageFault>
     ensures { Gives result
-        (or_bad 7 (number_after is_longest_life (codes "maxlife ") (line_of 7 (map (λ x. x.now) pieces.now)))) }
+        (or_fault 7 (number_after is_longest_life (codes "maxlife ") (line_of 7 (map (λ x. x.now) pieces.now)))) }
 {
     match number_after(line(pieces, 7), b"maxlife ") {
         Some(seconds) if 1 <= seconds && seconds <= LONGEST_LIFE => Ok(seconds),
@@ -147,7 +148,7 @@ fn longest_life_in(pieces: &[&[u8]]) -> Result<u64, MessageFault>
 
 /// The namespaces of line 8.
 fn namespaces_in(alloc: Global, kind: Kind, pieces: &[&[u8]]) -> Result<Texts, MessageFault>
-    ensures { Gives result (or_bad 8 (list_after (λ ts. are_namespaces ts && fits_kind kind ts) (codes "namespaces")
+    ensures { Gives result (or_fault 8 (list_after (λ ts. are_namespaces ts && fits_kind kind ts) (codes "namespaces")
         (line_of 8 (map (λ x. x.now) pieces.now)))) }
 {
     match list_after(alloc, line(pieces, 8), b"namespaces")? {

@@ -3,7 +3,8 @@
 ghost use Rattle.std.specs.Prelude.{◌≡◌, ◌≤◌, map, IfOk, option_copied};
 ghost use Rattle.std.specs.Option.{option_and_then};
 ghost use Rattle.values.specs.Decimals.{number_of};
-ghost use Rattle.message.specs.Reading.{Gives, after, ends_after, line_of, listed, name_after, or_bad};
+ghost use Rattle.text.specs.Results.{or_fault};
+ghost use Rattle.message.specs.Reading.{Gives, after, ends_after, line_of, listed, name_after};
 
 use crate::message_fault::MessageFault;
 use std::alloc::Global;
@@ -45,7 +46,7 @@ pub(crate) fn name_after(
     head: &[u8],
 ) -> Result<Text, MessageFault>
     requires { 1 ≤ n }
-    ensures { Gives result (or_bad n (name_after head.now (line_of n (map (λ x. x.now) pieces.now)))) }
+    ensures { Gives result (or_fault n (name_after head.now (line_of n (map (λ x. x.now) pieces.now)))) }
 {
     match after(line(pieces, n), head) {
         Some(name) if is_name(name) => Ok(Text::from_slice(alloc, name)?),

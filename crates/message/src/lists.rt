@@ -4,7 +4,8 @@ ghost use Rattle.std.specs.Prelude.{◌≡◌, ◌≤◌, ◌&&◌, codes, map, 
 ghost use Rattle.std.specs.List.{list_all};
 ghost use Rattle.values.specs.Names.{is_name, is_namespace, is_principal, is_rule};
 ghost use Rattle.values.specs.Options.{is_known};
-ghost use Rattle.message.specs.Reading.{Gives, line_of, list_after, or_bad};
+ghost use Rattle.text.specs.Results.{or_fault};
+ghost use Rattle.message.specs.Reading.{Gives, line_of, list_after};
 ghost use Rattle.message.specs.Values.{
   are_administrators,
   are_distinct_and,
@@ -134,7 +135,7 @@ pub(crate) fn principals_in(
 ) -> Result<Texts, MessageFault>
     requires { 1 ≤ n }
     ensures { Gives result
-        (or_bad n (list_after are_principals (codes "principals") (line_of n (map (λ x. x.now) pieces.now)))) }
+        (or_fault n (list_after are_principals (codes "principals") (line_of n (map (λ x. x.now) pieces.now)))) }
 {
     match list_after(alloc, line(pieces, n), b"principals")? {
         Some(principals) if are_principals(principals.as_slice()) => Ok(principals),
@@ -150,7 +151,7 @@ pub(crate) fn extensions_in(
 ) -> Result<Texts, MessageFault>
     requires { 1 ≤ n }
     ensures { Gives result
-        (or_bad n (list_after are_extension_names (codes "extensions") (line_of n (map (λ x. x.now) pieces.now)))) }
+        (or_fault n (list_after are_extension_names (codes "extensions") (line_of n (map (λ x. x.now) pieces.now)))) }
 {
     match list_after(alloc, line(pieces, n), b"extensions")? {
         Some(extensions) if are_extension_names(extensions.as_slice()) => Ok(extensions),

@@ -2,6 +2,7 @@
 
 ghost use Rattle.std.specs.Prelude.{◌≡◌, ◌≤◌, map};
 ghost use Rattle.std.specs.List.{list_all};
+ghost use Rattle.text.specs.Results.{or_fault};
 ghost use Rattle.message.specs.Reading.{
   Gives,
   digest_after,
@@ -9,7 +10,6 @@ ghost use Rattle.message.specs.Reading.{
   key_line_after,
   line_of,
   number_after,
-  or_bad,
   range_after,
   range_of,
   signature_after,
@@ -35,7 +35,7 @@ pub(crate) fn key_id_after(
     head: &[u8],
 ) -> Result<Text, MessageFault>
     requires { 1 ≤ n }
-    ensures { Gives result (or_bad n (key_id_after head.now (line_of n (map (λ x. x.now) pieces.now)))) }
+    ensures { Gives result (or_fault n (key_id_after head.now (line_of n (map (λ x. x.now) pieces.now)))) }
 {
     match after(line(pieces, n), head) {
         Some(key_id) if is_key_id(key_id) => Ok(Text::from_slice(alloc, key_id)?),
@@ -51,7 +51,7 @@ pub(crate) fn key_line_after(
     head: &[u8],
 ) -> Result<KeyLine, MessageFault>
     requires { 1 ≤ n }
-    ensures { Gives result (or_bad n (key_line_after head.now (line_of n (map (λ x. x.now) pieces.now)))) }
+    ensures { Gives result (or_fault n (key_line_after head.now (line_of n (map (λ x. x.now) pieces.now)))) }
 {
     let Some(text) = after(line(pieces, n), head) else {
         return Err(MessageFault::BadLine(n as u64));
@@ -69,7 +69,7 @@ pub(crate) fn key_line_after(
 /// The end of a validity behind these bytes on line `n`.
 pub(crate) fn end_after(pieces: &[&[u8]], n: usize, head: &[u8]) -> Result<u64, MessageFault>
     requires { 1 ≤ n }
-    ensures { Gives result (or_bad n (number_after is_end head.now (line_of n (map (λ x. x.now) pieces.now)))) }
+    ensures { Gives result (or_fault n (number_after is_end head.now (line_of n (map (λ x. x.now) pieces.now)))) }
 {
     match number_after(line(pieces, n), head) {
         Some(end) if end <= LATEST_MOMENT => Ok(end),

@@ -10,7 +10,8 @@ use Rattle.office.specs.Messages.{message_with_text}
 use Rattle.office.specs.declared.arrival.Arrival.{Arrival}
 use Rattle.office.specs.declared.arrival.Kept.{Kept}
 use Rattle.office.specs.Machine.{State, Stepped, after, reply_to, refusals, first_holding, refused_or, step}
-use Rattle.office.specs.History.{◌>>=◌, First, has_key, judged, first_of_step, or_refuse, refuse_if}
+use Rattle.text.specs.Results.{◌>>=◌, or_fault}
+use Rattle.office.specs.History.{First, has_key, judged, first_of_step, refuse_if}
 
 pub record IsFirst (s : State) (kept : List Kept) (a : Arrival) (f : First) : Type 0 where
   pub arrival : f.arrival ≡ a
@@ -33,7 +34,7 @@ allowed_step a m None x f e = (refl, cc)
 
 found_through : (s : State) (kept : List Kept) (a : Arrival) (o : Option Message) (late known : Bool) (f : First)
     → message_with_text a.bytes ≡ o → nat_lt LATEST_MOMENT a.moment ≡ late → list_any (has_key a) kept ≡ known
-    → (or_refuse o BadMessage >>= λ m. refuse_if late BadMoment >>= λ _. refuse_if known KeyReused >>= λ _. step s a.caller m a.moment a.nonce >>= λ st. Ok (first_of_step a m st)) ≡ Ok f
+    → (or_fault BadMessage o >>= λ m. refuse_if late BadMoment >>= λ _. refuse_if known KeyReused >>= λ _. step s a.caller m a.moment a.nonce >>= λ st. Ok (first_of_step a m st)) ≡ Ok f
     → IsFirst s kept a f
 found_through s kept a None late known f is-m is-late is-known e = absurd cc
 found_through s kept a (Some m) true known f is-m is-late is-known e = absurd cc

@@ -14,7 +14,8 @@ use Rattle.office.specs.declared.arrival.Arrival.{Arrival}
 use Rattle.office.specs.declared.arrival.Kept.{Kept}
 use Rattle.office.specs.declared.arrival.Outcome.TheVariants as outcome
 use Rattle.office.specs.Machine.{State, opened, step}
-use Rattle.office.specs.History.{◌>>=◌, First, has_key, reply_kept, kept_row, kept_by, judged, first_of_step, or_refuse, refuse_if, due_on, due, add_accepted, with_arrival, first_accepted, state, state_after, change}
+use Rattle.text.specs.Results.{◌>>=◌, or_fault}
+use Rattle.office.specs.History.{First, has_key, reply_kept, kept_row, kept_by, judged, first_of_step, refuse_if, due_on, due, add_accepted, with_arrival, first_accepted, state, state_after, change}
 use Rattle.office.specs.Shows.{IsOffice, Shows}
 
 -- a message that is kept has its key kept
@@ -27,7 +28,7 @@ has_key_kept (k ∷ kept) a r e = by_key (has_key a k) (has_key_kept kept a r) r
     by_key false rest is e = rw is (rest (rw is at e))
 
 known_key_is_refused : (s : State) (a : Arrival) (m : Option Message) (late : Bool)
-    → IsErr {T = First} {E = Refusal} (or_refuse m BadMessage >>= λ message. refuse_if late BadMoment >>= λ _. refuse_if true KeyReused >>= λ _.
+    → IsErr {T = First} {E = Refusal} (or_fault BadMessage m >>= λ message. refuse_if late BadMoment >>= λ _. refuse_if true KeyReused >>= λ _.
     step s a.caller message a.moment a.nonce >>= λ stepped. Ok (first_of_step a message stepped))
 known_key_is_refused s a None late = refl
 known_key_is_refused s a (Some m) true = refl

@@ -4,6 +4,7 @@ use Rattle.std.specs.Prelude.{None, Result, Ok, Err}
 use Rattle.std.specs.List.{list_any}
 use Rattle.std.specs.Option.{option_map}
 use Rattle.std.specs.Str.{bytes_eq}
+use Rattle.text.specs.Results.{◌>>=◌, or_fault}
 use Rattle.values.specs.declared.limits.TheConstants.{LATEST_MOMENT}
 use Rattle.values.specs.declared.refusal.Refusal.{Refusal}
 use Rattle.values.specs.declared.refusal.Refusal.TheVariants.{BadMessage, BadMoment, KeyReused}
@@ -37,15 +38,6 @@ has_key a k = bytes_eq k.caller a.caller && bytes_eq k.key a.key
 abbrev pub is_repeat : Arrival → Kept → Bool
 is_repeat a k = has_key a k && bytes_eq k.bytes a.bytes
 
-infixl 10 ◌>>=◌
-abbrev pub ◌>>=◌ : {A B : Type 0} → Result A Refusal → (A → Result B Refusal) → Result B Refusal
-(Ok x) >>= f = f x
-(Err e) >>= f = Err e
-
-abbrev pub or_refuse : {A : Type 0} → Option A → Refusal → Result A Refusal
-or_refuse (Some x) r = Ok x
-or_refuse None r = Err r
-
 abbrev pub refuse_if : Bool → Refusal → Result (Unit {0}) Refusal
 refuse_if b r = if b then Err r else Ok tt
 
@@ -55,7 +47,7 @@ first_of_step a m stepped = record { arrival = a; message = m; reply = stepped.r
 -- what an arrival that is no repeat gives: the refusal with the least number, or a first acceptance
 abbrev pub judged : State → List Kept → Arrival → Result First Refusal
 judged s kept a = do
-  m ← or_refuse (message_with_text a.bytes) BadMessage
+  m ← or_fault BadMessage (message_with_text a.bytes)
   _ ← refuse_if (nat_lt LATEST_MOMENT a.moment) BadMoment
   _ ← refuse_if (list_any (has_key a) kept) KeyReused
   stepped ← step s a.caller m a.moment a.nonce

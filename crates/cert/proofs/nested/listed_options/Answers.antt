@@ -3,7 +3,8 @@ use Rattle.text.specs.declared.pair.Pair.{Pair}
 use Rattle.values.specs.declared.option_field.OptionField.{OptionField}
 use Rattle.values.specs.declared.option_field.OptionField.TheVariants.{CriticalOptions, Extensions}
 use Rattle.cert.specs.declared.cert_fault.CertFault.{CertFault}
-use Rattle.cert.specs.Reading.{Gives, or_fault, field_fault, pair_of}
+use Rattle.text.specs.Results.{or_fault}
+use Rattle.cert.specs.Reading.{Gives, field_fault, pair_of}
 use Rattle.cert.proofs.Elements.{option_goes_on, option_cut, option_fails, options_left}
 use Rattle.cert.proofs.nested.listed_options.Goals as goal
 
