@@ -6,7 +6,9 @@
            those below, or any; LAST is 0 where there is no last one. HOW is the number of an error; or short, and a
            read or a write moves half of its bytes; or kill, and the process dies before the call; or torn, and the
            process dies after half of a write
-   ROOM    WHERE COUNT: out, the standard output, or peer, a socket, takes so many bytes. Then one write fails
+   AFTER   FILE CALL: calls are counted only from the first of these on
+   ROOM    WHERE COUNT: out, the standard output, or peer, a socket, takes so many bytes. Then each write of the
+           standard output fails, or one of the socket: the next is that of another connection
    MARK    a file that gets a line for each call that failed
    SYNCED  a folder. The files db and log in it are what the disk holds once the power has failed
    SEED    a number, from which random bytes are made, so that the same calls leave the same bytes
@@ -66,12 +68,21 @@ static void mark(const char *file, const char *call) {
 
 static char how[16];
 
+/* Whether calls are counted by now. */
+static int is_counting(int file, const char *call) {
+    static int is_begun;
+    char words[64];
+    snprintf(words, sizeof words, "%s %s", NAMES[file], call);
+    if (!*value("AFTER") || !strcmp(value("AFTER"), words)) is_begun = 1;
+    return is_begun;
+}
+
 /* Whether the call fails. It sets the error, and a call that is to kill the process doesn't come back. */
 static int fails(int file, const char *call) {
     static char wanted[16], kind[16];
     static long count, first = -1, last;
     if (first < 0 && sscanf(value("FAIL"), "%15s %15s %ld %ld %15s", wanted, kind, &first, &last, how) != 5) first = 0;
-    if (!first || file == NONE) return 0;
+    if (!first || file == NONE || !is_counting(file, call)) return 0;
     if (strcmp(wanted, "any") && strcmp(wanted, NAMES[file])) return 0;
     if (strcmp(kind, "any") && strcmp(kind, call)) return 0;
     if (++count < first || (last && count > last)) return 0;
@@ -199,7 +210,7 @@ static long room_for(const char *where, long size, int error) {
     if (room < 0 || strcmp(which, where) || !size) return size;
     if (!room) {
         mark(where, "write");
-        room = -1;
+        if (!strcmp(where, "peer")) room = -1;
         errno = error;
         return -1;
     }

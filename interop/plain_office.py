@@ -1,4 +1,4 @@
-"""An office of some lines of Python, written from docs/FORMATS.md alone: what an office answers, and the rows that it has.
+"""An office of some hundred lines of Python, written from docs/FORMATS.md alone: its answers, and its rows.
 
 It keeps nothing in a file and knows no fault. So it says what is due to a program that it shares no line with.
 """
@@ -208,7 +208,7 @@ class PlainOffice:
             return kept[1]
         kind, said = read(text)
         do = getattr(self, "do_" + kind.replace("-", "_"))
-        # A value that no message may have is found before anything else is.
+        # A value that no message may have is found before anything else is looked at.
         done = do(*said)
         if moment > MOST_MOMENT:
             raise Refused(8)
