@@ -39,6 +39,24 @@ def written(path, requests):
     return path
 
 
+def exchanges_of(file):
+    """The exchanges of a file's bytes, each as request, moment and nonce."""
+    found = []
+    while file:
+        line, _, rest = file.partition(b"\n")
+        _, moment, nonce, length = line.split(b" ")
+        found.append((rest[:int(length)], int(moment), bytes.fromhex(nonce.decode())))
+        file = rest[int(length):]
+    return tuple(found)
+
+
+def write_exchanges(path, exchanges):
+    """Writes a file of exchanges, each given as request, moment and nonce."""
+    with open(path, "wb") as file:
+        for request, moment, nonce in exchanges:
+            file.write(b"exchange %d %s %d\n" % (moment, nonce.hex().encode(), len(request)) + request)
+
+
 def new_office(program, db, last):
     """Makes a file of an office whose first serial is 1, and the CA's file."""
     with open("ca.pub", "w") as file:
