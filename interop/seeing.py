@@ -1,4 +1,5 @@
-"""For the scripts beside it: says and counts what was seen, runs the program, and cuts what it prints into answers."""
+"""For the scripts beside it: says and counts what was seen, runs the program, and cuts what it prints into answers, and
+files of exchanges into records."""
 import difflib
 import os
 import pathlib
@@ -85,3 +86,12 @@ def answers(expected):
         length = int(line.removeprefix(b"answer "))
         yield line + b"\n" + rest[:length]
         expected = rest[length:]
+
+
+def records(file):
+    """The moment, the nonce and the request of each record of an exchange file."""
+    while file:
+        line, _, rest = file.partition(b"\n")
+        _, moment, nonce, length = line.split(b" ")
+        yield int(moment), nonce, rest[:int(length)]
+        file = rest[int(length):]

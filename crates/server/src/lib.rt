@@ -17,8 +17,6 @@ mod patience;
 mod report;
 mod scripted;
 mod serve;
-#[cfg(test)]
-mod tests;
 mod timed;
 mod watch;
 

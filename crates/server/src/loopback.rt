@@ -18,27 +18,13 @@ use values::LATEST_MOMENT;
 pub struct Loopback<'a, C> {
     listener: &'a TcpListener,
     clock: &'a C,
-    patience: Patience,
 }
 
 impl<'a, C: Clock> Loopback<'a, C> {
     /// The listener, where a read and a write wait `STEP_SECONDS` at most, and a connection takes `CONNECTION_SECONDS`
     /// at most.
     pub fn new(listener: &'a TcpListener, clock: &'a C) -> Loopback<'a, C> {
-        Loopback::with_patience(listener, clock, Patience::usual())
-    }
-
-    /// The listener with another patience.
-    pub(crate) fn with_patience(
-        listener: &'a TcpListener,
-        clock: &'a C,
-        patience: Patience,
-    ) -> Loopback<'a, C> {
-        Loopback {
-            listener,
-            clock,
-            patience,
-        }
+        Loopback { listener, clock }
     }
 }
 
@@ -71,7 +57,7 @@ impl<'a, C: Clock> Listener for Loopback<'a, C> {
         let Some(moment) = moment_of(self.clock) else {
             return Err(Fault::Clock);
         };
-        let Some(watch) = Watch::new(self.clock, self.patience) else {
+        let Some(watch) = Watch::new(self.clock, Patience::usual()) else {
             return Err(Fault::Clock);
         };
         let Ok(twin) = stream.try_clone() else {

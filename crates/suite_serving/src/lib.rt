@@ -1,8 +1,11 @@
-//! The tests of `serving`: readers and writers that end, fail and go step by step.
+//! The tests of `serving` and of `server`: readers and writers that end, fail and go step by step, and connections in
+//! memory.
 //!
 //! They call what any crate can call. What a request is answered by its bytes alone, and which words are a job, the
-//! built program shows, in `interop/requests` and `interop/answers`.
+//! built program shows, in `interop/requests` and `interop/answers`; sockets and clocks it shows in `interop/serving`.
 #![tactic(auto)]
 
+#[cfg(test)]
+mod of_server;
 #[cfg(test)]
 mod of_serving;
