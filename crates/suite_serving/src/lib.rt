@@ -1,4 +1,4 @@
-//! The tests of `serving` and of `server`: readers and writers that end, fail and go step by step, and connections in
+//! The tests of `serve_one` and of `server`: readers and writers that end, fail and go step by step, and connections in
 //! memory.
 //!
 //! They call what any crate can call. What a request is answered by its bytes alone, and which words are a job, the
