@@ -24,8 +24,10 @@ fn put<S: Alter>(conn: &mut Connection<S>, ca: &CaRow) -> Result<(), Fault>
     ensures stays { On S.Store Stays conn.old conn.new result }
     ensures survives { OutlivesBy S.Store (Waits Has) conn.old conn.new }
 {
-    insert_ca(conn, ca)?;
-    update_schema(conn, number(SCHEMA))
+    match insert_ca(conn, ca) {
+        Ok(()) => update_schema(conn, number(SCHEMA)),
+        Err(fault) => Err(fault),
+    }
 }
 
 /// Fills the tables of schema 2, of which that of the CAs has no row yet.
@@ -36,10 +38,10 @@ fn fill<S: Alter>(alloc: Global, conn: &mut Connection<S>) -> Result<(), StoreFa
     ensures survives { OutlivesBy S.Store (Waits HasNoCa) conn.old conn.new }
 {
     match every_office(alloc, conn) {
-        Ok(rows) => {
-            let ca = ca_of(alloc, rows.as_slice())?;
-            told(put(conn, &ca))
-        }
+        Ok(rows) => match ca_of(alloc, rows.as_slice()) {
+            Ok(ca) => told(put(conn, &ca)),
+            Err(fault) => Err(fault),
+        },
         Err(fault) => Err(fault_of(fault)),
     }
 }

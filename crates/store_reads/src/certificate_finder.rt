@@ -34,7 +34,10 @@ fn read_found(alloc: Global, found: Option<CertRow>) -> Result<Option<Certificat
     let Some(row) = found else {
         return Ok(None);
     };
-    Ok(Some(read_certificate(alloc, &row)?))
+    match read_certificate(alloc, &row) {
+        Ok(certificate) => Ok(Some(certificate)),
+        Err(fault) => Err(fault),
+    }
 }
 
 fn find_numbered<S: Alter>(
@@ -47,8 +50,10 @@ fn find_numbered<S: Alter>(
     ensures reads { On S.Store OnlyReads conn.old conn.new result }
     ensures survives { Outlives S.Store Never conn.old conn.new }
 {
-    let found = find_cert(alloc, conn, serial)?;
-    read_found(alloc, found)
+    match find_cert(alloc, conn, serial) {
+        Ok(found) => read_found(alloc, found),
+        Err(fault) => Err(fault),
+    }
 }
 
 /// The certificate of this serial, or `None` where it wasn't issued. What is read is lawful, or told damaged.

@@ -95,12 +95,14 @@ fn with_any_key_id<S: Alter>(
     ensures reads { OnOpen S.Store OnlyReads conn.old conn.new result }
     ensures survives { Outlives S.Store Never conn.old conn.new }
 {
-    let has_revoked_key_ids = is_any_key_id_revoked(alloc, conn, message)?;
-    Ok(Marks {
-        is_revoked,
-        is_key_id_revoked,
-        has_revoked_key_ids,
-    })
+    match is_any_key_id_revoked(alloc, conn, message) {
+        Ok(has_revoked_key_ids) => Ok(Marks {
+            is_revoked,
+            is_key_id_revoked,
+            has_revoked_key_ids,
+        }),
+        Err(fault) => Err(fault),
+    }
 }
 
 fn with_key_ids<S: Alter>(
@@ -115,8 +117,16 @@ fn with_key_ids<S: Alter>(
     ensures reads { OnOpen S.Store OnlyReads conn.old conn.new result }
     ensures survives { Outlives S.Store Never conn.old conn.new }
 {
-    let is_key_id_revoked = is_concerned_key_id_revoked(alloc, conn, message, certificate)?;
-    with_any_key_id(alloc, conn, message, is_revoked, is_key_id_revoked)
+    match is_concerned_key_id_revoked(alloc, conn, message, certificate) {
+        Ok(is_key_id_revoked) => with_any_key_id(
+            alloc,
+            conn,
+            message,
+            is_revoked,
+            is_key_id_revoked,
+        ),
+        Err(fault) => Err(fault),
+    }
 }
 
 /// What is revoked of what a message concerns, where it concerns this certificate.
@@ -132,6 +142,8 @@ pub(crate) fn marks_of<S: Alter>(
     ensures reads { OnOpen S.Store OnlyReads conn.old conn.new result }
     ensures survives { Outlives S.Store Never conn.old conn.new }
 {
-    let is_revoked = is_revoked(alloc, conn, message)?;
-    with_key_ids(alloc, conn, message, certificate, is_revoked)
+    match is_revoked(alloc, conn, message) {
+        Ok(is_revoked) => with_key_ids(alloc, conn, message, certificate, is_revoked),
+        Err(fault) => Err(fault),
+    }
 }

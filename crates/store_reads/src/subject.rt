@@ -77,11 +77,13 @@ fn with_department<S: Alter>(
     ensures reads { OnOpen S.Store OnlyReads conn.old conn.new result }
     ensures survives { Outlives S.Store Never conn.old conn.new }
 {
-    let department = department_of(alloc, conn, message, certificate.as_ref())?;
-    Ok(Subject {
-        certificate,
-        department,
-    })
+    match department_of(alloc, conn, message, certificate.as_ref()) {
+        Ok(department) => Ok(Subject {
+            certificate,
+            department,
+        }),
+        Err(fault) => Err(fault),
+    }
 }
 
 /// The certificate and the department that a message concerns.
@@ -96,6 +98,8 @@ pub(crate) fn subject_of<S: Alter>(
     ensures reads { OnOpen S.Store OnlyReads conn.old conn.new result }
     ensures survives { Outlives S.Store Never conn.old conn.new }
 {
-    let certificate = certificate_of(alloc, conn, message)?;
-    with_department(alloc, conn, message, certificate)
+    match certificate_of(alloc, conn, message) {
+        Ok(certificate) => with_department(alloc, conn, message, certificate),
+        Err(fault) => Err(fault),
+    }
 }

@@ -86,6 +86,8 @@ pub fn read_office<S: Alter>(alloc: Global, conn: &mut Connection<S>) -> Result<
     ensures reads { On S.Store OnlyReads conn.old conn.new result }
     ensures survives { Outlives S.Store Never conn.old conn.new }
 {
-    let rows = every_office(alloc, conn)?;
-    only_office(alloc, rows.as_slice())
+    match every_office(alloc, conn) {
+        Ok(rows) => only_office(alloc, rows.as_slice()),
+        Err(fault) => Err(fault),
+    }
 }

@@ -69,7 +69,10 @@ pub(crate) fn read_first<T: Columns>(alloc: Global, rows: &[Row]) -> Result<Opti
 {
     match rows {
         [] => Ok(None),
-        [first, ..] => Ok(Some(read(alloc, first)?)),
+        [first, ..] => match read(alloc, first) {
+            Ok(columns) => Ok(Some(columns)),
+            Err(fault) => Err(fault),
+        },
     }
 }
 

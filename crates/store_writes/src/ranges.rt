@@ -65,9 +65,13 @@ fn put_from<S: Alter>(
     ensures stays { On S.Store Stays conn.old conn.new result }
     ensures survives { OutlivesBy S.Store (Waits Has) conn.old conn.new }
 {
-    let found = last_run(alloc, conn, number(range.hi + 1))?;
-    let hi = joined_high(range.hi, found);
-    replace(conn, &RunRow { lo, hi })
+    match last_run(alloc, conn, number(range.hi + 1)) {
+        Ok(found) => {
+            let hi = joined_high(range.hi, found);
+            replace(conn, &RunRow { lo, hi })
+        }
+        Err(fault) => Err(fault),
+    }
 }
 
 /// Puts a range among the runs: it and those that it touches or overlaps become one. It reads two runs, however many
@@ -83,6 +87,8 @@ pub(crate) fn put_range<S: Alter>(
     ensures stays { On S.Store Stays conn.old conn.new result }
     ensures survives { OutlivesBy S.Store (Waits Has) conn.old conn.new }
 {
-    let found = last_run(alloc, conn, number(range.lo))?;
-    put_from(alloc, conn, range, joined_low(range.lo, found))
+    match last_run(alloc, conn, number(range.lo)) {
+        Ok(found) => put_from(alloc, conn, range, joined_low(range.lo, found)),
+        Err(fault) => Err(fault),
+    }
 }

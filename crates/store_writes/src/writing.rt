@@ -29,8 +29,10 @@ fn record<S: Alter>(
     ensures stays { On S.Store Stays conn.old conn.new result }
     ensures survives { OutlivesBy S.Store (Waits Has) conn.old conn.new }
 {
-    update_office(conn, counters)?;
-    insert_request(conn, request)
+    match update_office(conn, counters) {
+        Ok(()) => insert_request(conn, request),
+        Err(fault) => Err(fault),
+    }
 }
 
 fn write_rows<S: Alter>(
@@ -49,8 +51,10 @@ fn write_rows<S: Alter>(
     ensures stays { On S.Store Stays conn.old conn.new result }
     ensures survives { OutlivesBy S.Store (Waits Has) conn.old conn.new }
 {
-    record(conn, counters, request)?;
-    make(alloc, conn, number, counters.next, change)
+    match record(conn, counters, request) {
+        Ok(()) => make(alloc, conn, number, counters.next, change),
+        Err(fault) => Err(fault),
+    }
 }
 
 /// Writes what was decided of an arrival, inside a transaction: the change, the counters and a row for the request.
