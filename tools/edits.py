@@ -9,10 +9,12 @@ ITEM = re.compile(r"\b(?:fn\s+(?P<fn>\w+)|impl\b(?P<impl>[^{;]*)|const\s+(?P<con
 
 
 class Item:
-    """A function or a constant of a source file: its name as a check prints it, and where its text lies."""
+    """A function or a constant of a source file: its name as a check prints it, and where its text lies. For a function
+    `start` is the brace before its body, and `head` is where its first attribute or its own first word stands."""
 
-    def __init__(self, name, start, end, is_constant=False):
-        self.name, self.start, self.end, self.is_constant = name, start, end, is_constant
+    def __init__(self, name, start, end, head=None):
+        self.name, self.start, self.end, self.head = name, start, end, head
+        self.is_constant, self.can_have_twins = head is None, False
 
     def holds(self, start, end):
         return self.start < start and end <= self.end
@@ -99,21 +101,32 @@ def module_of(path):
     return [] if module in (["lib"], ["main"]) else module
 
 
+def head_of(text, at):
+    """Where the text of a function begins whose word `fn` stands here: at its first attribute, or else its line."""
+    start = text.rfind("\n", 0, at) + 1
+    while (above := text.rfind("\n", 0, max(start - 1, 0)) + 1) < start and text[above:start].strip().startswith("#["):
+        start = above
+    return start
+
+
 def items_in(path, text, types):
     """The functions and constants of a source file, whose comments and literals have been made blank. The module that
     declares a type of the crate is in `types`."""
     module, impls, found = module_of(path), [], []
     for item in ITEM.finditer(text):
-        within = [name for start, end, name in impls if start < item.start() < end]
+        within = [it for it in impls if it[0] < item.start() < it[1]]
         if item["const"]:
-            end = text.find(";", item.end())
-            found.append(Item(item["const"], item.start(), end, is_constant=True))
+            found.append(Item(item["const"], item.start(), text.find(";", item.end())))
         elif item["fn"]:
             body = body_of(text, item.end())
             if body:
-                found.append(Item("::".join([*(within[-1:] or module), item["fn"]]), *body))
+                name = "::".join([*([it[2] for it in within[-1:]] or module), item["fn"]])
+                found.append(Item(name, *body, head_of(text, item.start())))
+                # The functions of a trait are those that the trait names, and a cycle of calls has one proof.
+                found[-1].can_have_twins = not (within and within[-1][3]) and "#[cycle" not in text
         elif text[item.end() : item.end() + 1] == "{" and not re.search(r"[(,&=:>]\s*$", text[: item.start()]):
-            impls.append((item.end(), closing(text, item.end()), impl_name(item["impl"], module, types)))
+            is_of_trait = " for " in item["impl"]
+            impls.append((item.end(), closing(text, item.end()), impl_name(item["impl"], module, types), is_of_trait))
     return found
 
 
@@ -141,7 +154,7 @@ class Sources:
     """The sources of a crate, and the functions and constants in them."""
 
     def __init__(self, folder, blanked):
-        self.texts, self.blank = {}, {}
+        self.folder, self.texts, self.blank = folder, {}, {}
         for file, text in blanked.items():
             if not file.endswith(".rt"):
                 continue
@@ -177,6 +190,11 @@ class Sources:
         names = {it.name if it and it.is_constant else None for it in items}
         return names.pop() if len(names) == 1 else None
 
+    def can_have_twins(self, edit):
+        """Whether an edit changes one function, of which a copy of the crate can hold several."""
+        items = {self.item_of(it) for it in pairs_of(edit)}
+        return len(items) == 1 and items.pop().can_have_twins
+
     def users(self, constant):
         """The names of the functions whose bodies name a constant."""
         users = []
@@ -186,15 +204,49 @@ class Sources:
         return users
 
     def edited(self, edits):
-        """The texts of the files that these edits change, each of which changes another function."""
-        places = {}
+        """A copy of the crate in which these edits are: the texts of its files, the functions that each edit changes
+        there, and for each edit of a twin the one that no edit changes.
+
+        Where several edits change one function, each behind the first is put into a twin of the function, which has
+        the function's contract and proof files under a name of its own. One more twin is as the function was: as long
+        as that one is proved, what refuses the others is what was changed in them."""
+        places, texts, changed, unchanged, seen = {}, {}, {}, {}, {}
         for edit in edits:
-            for pair in pairs_of(edit):
-                places.setdefault(pair.path, []).append((pair.place(self.texts), pair))
-        texts = {}
-        for path, pairs in places.items():
+            changed[edit], pairs = self.changed(edit), pairs_of(edit)
+            number = seen[tuple(changed[edit])] = seen.get(tuple(changed[edit]), 0) + 1
+            if number == 1:
+                for pair in pairs:
+                    places.setdefault(pair.path, []).append((pair.place(self.texts), len(pair.old), pair.new))
+                continue
+            item, path = self.item_of(pairs[0]), pairs[0].path
+            for of, count in [([], 1)] * (number == 2) + [(pairs, number)]:
+                places.setdefault(path, []).append(self.twin(item, path, of, f"_twin{count}"))
+                texts |= self.proofs_of_twin(item.name, f"_twin{count}")
+            changed[edit], unchanged[edit] = [f"{item.name}_twin{number}"], f"{item.name}_twin1"
+        for path, found in places.items():
             text = self.texts[path]
-            for at, pair in sorted(pairs, key=lambda it: -it[0]):
-                text = text[:at] + pair.new + text[at + len(pair.old) :]
+            for at, length, new in sorted(found, key=lambda it: -it[0]):
+                text = text[:at] + new + text[at + length :]
             texts[path] = text
+        return texts, changed, unchanged
+
+    def twin(self, item, path, pairs, twin):
+        """Where a twin is put into the function's file, the length that it replaces, and its text with these pairs."""
+        start, end = (len(self.texts[path].encode()[:at].decode()) for at in (item.head, item.end + 1))
+        text = self.texts[path][start:end]
+        for pair in sorted(pairs, key=lambda it: -it.place(self.texts)):
+            at = pair.place(self.texts) - start
+            text = text[:at] + pair.new + text[at + len(pair.old) :]
+        name = item.name.split("::")[-1]
+        return end, 0, "\n\n" + re.sub(rf"\bfn {name}\b", f"fn {name}{twin}", text, count=1)
+
+    def proofs_of_twin(self, name, twin):
+        """The proof files of a twin: those of the function, in which the function's name is the twin's."""
+        folder, texts = f"proofs/{name.replace('::', '/')}", {}
+        at = f"{self.folder}/{folder}"
+        for file in sorted(os.listdir(at)) if os.path.isdir(at) else []:
+            if file.endswith(".antt"):
+                with open(f"{at}/{file}", encoding="utf-8") as it:
+                    own = re.escape("." + name.replace("::", "."))
+                    texts[f"{folder}{twin}/{file}"] = re.sub(rf"({own})(?=[.\s]|$)", rf"\1{twin}", it.read())
         return texts

@@ -8,7 +8,9 @@ import importlib.machinery
 import importlib.util
 import os
 import shutil
+import subprocess
 import sys
+import tempfile
 
 TOP = os.path.dirname(os.path.dirname(os.path.realpath(__file__)))
 
@@ -29,13 +31,28 @@ def load():
     module = importlib.util.module_from_spec(importlib.util.spec_from_loader("rt", loader))
     sys.modules["rt"] = module
     loader.exec_module(module)
-    wanted = ("checked", "read_edit", "unread", "edits_of", "need", "free", "processors", "in_lanes", "rtlib", "share_work")
+    wanted = ("read_edit", "unread", "edits_of", "need", "free", "processors", "in_lanes", "rtlib", "share_work")
     missing = [name for name in wanted if not hasattr(module, name)]
     if missing:
         stop(f"this toolchain's rt has no {', '.join(missing)}: these scripts were written for rattle-kit-13f")
     # Its first call sets a signal's handler, which only the main thread may do.
     module.rtlib.guarded()
     return module
+
+
+def checked(rt, crate, texts, flags, kept):
+    """Checks a copy of the crate with these texts in place of its own or beside them, over what earlier checks kept."""
+    with tempfile.TemporaryDirectory(prefix=f"wrong-{os.getpid()}-") as room:
+        for part in rt.rtlib.PARTS:
+            if os.path.isdir(f"{crate.folder}/{part}"):
+                shutil.copytree(f"{crate.folder}/{part}", f"{room}/{part}")
+        for path, text in texts.items():
+            os.makedirs(os.path.dirname(f"{room}/{path}"), exist_ok=True)
+            with open(f"{room}/{path}", "w", encoding="utf-8") as it:
+                it.write(text)
+        words = [rt.rtlib.RATTLE, "check", *crate.words(flags, keeps=False), "--incremental", kept]
+        how = {"cwd": room, "stdin": subprocess.DEVNULL, "stdout": subprocess.PIPE, "stderr": subprocess.STDOUT}
+        return subprocess.run([*rt.rtlib.guarded(), *words], text=True, errors="replace", **how)
 
 
 def crates_of(rt, names=()):
