@@ -1,7 +1,4 @@
 use Rattle.std.proofs.lemmas.Result.{err_from_is_err_and}
-use Rattle.std.proofs.Common.{IsTrue}
-use Rattle.std.specs.Prelude.{◌↔◌}
-use Rattle.krl.specs.Sets.{HasAll}
 use Rattle.store_rows.specs.Rows.{contents_of}
 use Rattle.store_reads.proofs.RunsShown.{all_reached}
 use Rattle.store_reads.proofs.runs.are_revoked.Goals as goal
