@@ -1,15 +1,17 @@
 -- What an accepted message adds: a certificate has the next serial and a department that is there, and a CA is new.
-use Rattle.std.proofs.Common.{◌≡◌, ℕ, ◌-◌, List, [], ◌∷◌, ◌++◌, length, length-append, map, drop, Bool, true, false, cond, not, Option, Some, None, Result, Ok, Err, refl, sym, ap, subst, ◌∙◌, arith}
+use Rattle.std.proofs.Common.{◌≡◌, ℕ, ◌-◌, List, [], ◌∷◌, ◌++◌, length, length-append, map, drop, Bool, true, false}
+use Rattle.std.proofs.Common.{cond, not, Option, Some, None, Result, Ok, Err, refl, sym, ap, subst, ◌∙◌, arith}
 use Rattle.std.specs.Prelude.{IsOkAnd}
 use Rattle.lines.specs.KeyLines.{is_comment_or_none, is_key}
-use Rattle.message.specs.Values.{is_message}
-use Rattle.office.specs.Machine.{renewed}
+use Rattle.message.specs.Values.{is_message, is_department}
+use Rattle.office.specs.Machine.{renewed, after, ca_from_now, first_holding, issued, newest_key, next_serial, refusals}
+use Rattle.office.specs.Machine.{republished, with_ca, with_key_id, with_one_more, with_range}
 use Rattle.office.specs.Messages.{message_with_text}
-use Rattle.office.specs.State.{is_ca}
+use Rattle.office.specs.State.{is_ca, State, certificate_of, department_named, department_of_serial, has_any}
+use Rattle.office.specs.State.{is_key_id_revoked, is_range_revoked}
 use Rattle.std.specs.List.{AllByRecursion, list_any}
 use Rattle.std.proofs.lemmas.Bool.{and_parts, eqb-true}
 use Rattle.values.specs.declared.refusal.Refusal.{Refusal}
-use Rattle.message.specs.Values.{is_department}
 use Rattle.message.specs.declared.renewal.Renewal.{Renewal}
 use Rattle.message.specs.declared.department.Department.{Department}
 use Rattle.std.specs.Option.{option_map}
@@ -21,11 +23,9 @@ use Rattle.office.specs.declared.ca.Ca.{Ca}
 use Rattle.office.specs.declared.view.Decision.{Decision}
 use Rattle.office.specs.Decided.{written}
 use Rattle.office.specs.History.{First, change as change_by, has_key, judged}
-use Rattle.office.specs.Machine.{after, ca_from_now, first_holding, issued, newest_key, next_serial, refusals, republished, with_ca, with_key_id, with_one_more, with_range}
 use Rattle.office.specs.Refusals.{is_missing, is_one_that}
 use Rattle.office.specs.Certificates.{renewed_certificate}
 use Rattle.office.specs.Permissions.{is_renewal_permitted_by}
-use Rattle.office.specs.State.{State, certificate_of, department_named, department_of_serial, has_any, is_key_id_revoked, is_range_revoked}
 use Rattle.office.proofs.Judged.{judged_is_first, none_holds}
 use Rattle.store_sql.specs.Refusals.{HasOne}
 use Rattle.store_rows.specs.Lawful.{IsLawful}
@@ -54,7 +54,8 @@ pub record IsStep (a : Arrival) (d : Decision) (s : State) : Type 0 where
   pub allowed : first_holding (refusals s a.caller message a.moment) ≡ None
   pub made : written d s ≡ after s message a.moment a.nonce
 
-pub step_of : (p : Past) (a : Arrival) (d : Decision) (serving : List Ca) → IsAccepted a d serving p → IsStep a d (state_at p)
+pub step_of : (p : Past) (a : Arrival) (d : Decision) (serving : List Ca) → IsAccepted a d serving p
+    → IsStep a d (state_at p)
 step_of p a d serving is = go (judged (state_at p) (kept_at p) a) refl is.judged
   where
     go : (j : Result First Refusal) → judged (state_at p) (kept_at p) a ≡ j
@@ -92,7 +93,8 @@ permitted_some None c r e = absurd cc
 -- a certificate that is made has the next serial, and its department is there
 module _ (s : State) (lawful : IsLawful s) (caller : List ℕ) (moment : ℕ) (nonce : List ℕ) (cert : Certificate) where
   abbrev HasOwn : Type 0
-  HasOwn = HasOne (λ r. r.name ≡ cert.department) (map (λ e. department_row e.1) s.departments) × (cert.fields.serial ≡ next_serial s)
+  HasOwn = HasOne (λ r. r.name ≡ cert.department) (map (λ e. department_row e.1) s.departments)
+      × (cert.fields.serial ≡ next_serial s)
 
   names : AllByRecursion (λ e. e.0 ≡ e.1.name) s.departments
   names = go s.departments lawful.departments
@@ -105,15 +107,16 @@ module _ (s : State) (lawful : IsLawful s) (caller : List ℕ) (moment : ℕ) (n
   own : (made : Certificate) (d : Department) → cert ≡ made → made.fields.serial ≡ next_serial s
       → department_named s made.department ≡ Some d → HasOwn
   own made d is serial found = (
-    subst (λ (c : Certificate). HasOne (λ r. r.name ≡ c.department) (map (λ e. department_row e.1) s.departments)) (sym is)
-        (named_row made.department s.departments d names found),
+    subst (λ (c : Certificate). HasOne (λ r. r.name ≡ c.department) (map (λ e. department_row e.1) s.departments))
+        (sym is) (named_row made.department s.departments d names found),
     ap (λ (c : Certificate). c.fields.serial) is ∙ serial,
   )
 
   renewed_own : (r : Renewal) (o : Option Certificate) → certificate_of s r.serial ≡ o
       → is_one_that (λ c. not (is_renewal_permitted_by (department_of_serial s r.serial) c r)) o ≡ false
       → s.certificates ++ cert ∷ []
-      ≡ (with_one_more s (option_map (λ c. renewed_certificate c r (next_serial s) (newest_key s.opening s.cas) nonce) o)).certificates
+      ≡ (with_one_more s
+      (option_map (λ c. renewed_certificate c r (next_serial s) (newest_key s.opening s.cas) nonce) o)).certificates
       → HasOwn
   renewed_own r None e permitted same = absurd (no_longer s.certificates cert same)
   renewed_own r (Some old) e permitted same =
@@ -154,7 +157,8 @@ module _ (s : State) (lawful : IsLawful s) (caller : List ℕ) (moment : ℕ) (n
   own_department (message.Rollover k) allowed same = go (has_any s.revoked_key_ids) same
     where
       go : (b : Bool) → s.certificates ++ cert ∷ []
-          ≡ (cond b (republished (with_ca s (ca_from_now s k.key)) moment) (with_ca s (ca_from_now s k.key))).certificates → HasOwn
+          ≡ (cond b (republished (with_ca s (ca_from_now s k.key)) moment)
+          (with_ca s (ca_from_now s k.key))).certificates → HasOwn
       go true same = absurd (no_longer s.certificates cert same)
       go false same = absurd (no_longer s.certificates cert same)
 

@@ -1,5 +1,6 @@
 -- The state of an office is lawful after every history.
-use Rattle.std.proofs.Common.{◌≡◌, ℕ, zero, suc, ◌-◌, List, [], ◌∷◌, length, Bool, true, false, cond, None, Result, Ok, Err, refl, sym, subst}
+use Rattle.std.proofs.Common.{◌≡◌, ℕ, zero, suc, ◌-◌, List, [], ◌∷◌, length, Bool, true, false, cond, None, Result, Ok}
+use Rattle.std.proofs.Common.{Err, refl, sym, subst}
 use Rattle.std.specs.List.{AllByRecursion, fold}
 use Rattle.std.proofs.lemmas.Bool.{and_parts, eqb-true}
 use Rattle.std.proofs.lemmas.List.Sums.{fold_push}
@@ -17,7 +18,10 @@ use Rattle.office.specs.declared.certificate.Certificate.{Certificate}
 use Rattle.office.specs.Openings.{IsOpening}
 use Rattle.office.specs.Permissions.{is_permitted_by}
 use Rattle.office.specs.Certificates.{IsCertificate}
-use Rattle.office.specs.Machine.{State, after, ca_from_now, certificate_of, department_named, department_of_serial, first_holding, has_any, is_key_id_revoked, is_range_revoked, issued, newest_key, opened, refusals, republished, signed_at, with_ca, with_department, with_key_id, with_range, with_signature}
+use Rattle.office.specs.Machine.{State, after, ca_from_now, certificate_of, department_named, department_of_serial}
+use Rattle.office.specs.Machine.{first_holding, has_any, is_key_id_revoked, is_range_revoked, issued, newest_key}
+use Rattle.office.specs.Machine.{opened, refusals, republished, signed_at, with_ca, with_department, with_key_id}
+use Rattle.office.specs.Machine.{with_range, with_signature}
 use Rattle.office.specs.History.{First, add_accepted, change, judged, kept_by, state, state_after, with_arrival}
 use Rattle.office.proofs.Histories.{message_lawful}
 use Rattle.office.proofs.Judged.{judged_is_first, none_holds}
@@ -118,7 +122,8 @@ signature_size d e =
     eqb-true _ _ (and_parts _ _ signature).0
 
 pub keeps_lawful : (s : State) (caller : List ℕ) (m : Message) (moment : ℕ) (nonce : List ℕ) → is_message m ≡ true
-    → first_holding (refusals s caller m moment) ≡ None → length nonce ≡ 32 → IsLawful s → IsLawful (after s m moment nonce)
+    → first_holding (refusals s caller m moment) ≡ None → length nonce ≡ 32 → IsLawful s
+    → IsLawful (after s m moment nonce)
 keeps_lawful s caller (message.Department d) moment nonce is allowed size lawful = department_kept s d lawful is
 keeps_lawful s caller (message.Issue i) moment nonce is allowed size lawful =
     let tests = none_holds (refusals s caller (message.Issue i) moment) allowed in
@@ -141,7 +146,8 @@ keeps_lawful s caller (message.RevokeRange r) moment nonce is allowed size lawfu
     either (is_range_revoked s r) s t lawful (same_rows s t lawful refl refl refl refl refl)
 keeps_lawful s caller (message.RevokeKeyId key_id) moment nonce is allowed size lawful =
     let t = with_key_id s key_id in
-    either (is_key_id_revoked s key_id) s (republished t moment) lawful (republished_kept t moment (key_id_kept s key_id lawful))
+    either (is_key_id_revoked s key_id) s (republished t moment) lawful
+    (republished_kept t moment (key_id_kept s key_id lawful))
 keeps_lawful s caller (message.Rollover k) moment nonce is allowed size lawful =
     let t = with_ca s (ca_from_now s k.key) in
     let kept : IsLawful t = ca_kept s (ca_from_now s k.key) lawful (key_size k is) in
@@ -157,7 +163,8 @@ first_keeps o fs a (Ok f) e size lawful =
     let s = state_after o fs in
     let is = judged_is_first s (kept_by fs) a f e in
     let kept : IsLawful (after s f.message a.moment a.nonce) =
-    keeps_lawful s a.caller f.message a.moment a.nonce (message_lawful a.bytes f.message is.message) is.allowed size lawful in
+    keeps_lawful s a.caller f.message a.moment a.nonce (message_lawful a.bytes f.message is.message) is.allowed size
+    lawful in
     subst IsLawful (sym (fold_push change (opened o) fs f))
     (subst (λ (x : Arrival). IsLawful (after s f.message x.moment x.nonce)) (sym is.arrival) kept)
 

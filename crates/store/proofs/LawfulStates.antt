@@ -28,7 +28,8 @@ IsIssued c = IsCertificate c × IsSigned c
 -- the certificate of a serial
 pub issued_lawful : (s : State) (serial : ℕ) → IsLawful s → IfSome (certificate_of s serial) IsIssued
 issued_lawful s serial lawful =
-    elim (nat_lt serial s.opening.first) as (λ b. IfSome (cond b None (slice_get s.certificates (serial - s.opening.first))) IsIssued) [
+    elim (nat_lt serial s.opening.first)
+    as (λ b. IfSome (cond b None (slice_get s.certificates (serial - s.opening.first))) IsIssued) [
       | true ↦ tt
       | false ↦ all_get IsIssued s.certificates (serial - s.opening.first) lawful.certificates
     ]
@@ -37,13 +38,15 @@ find_lawful : (name : List ℕ) (es : List (List ℕ × Department)) → AllByRe
     → IfSome (find (slice_cmp nat_cmp) name es) (λ d. is_department d ≡ true)
 find_lawful name [] all = tt
 find_lawful name (e ∷ es) all =
-    elim (eq_by_cmp (slice_cmp nat_cmp) name e.0) as (λ b. IfSome (cond b (Some e.1) (find (slice_cmp nat_cmp) name es)) (λ d. is_department d ≡ true)) [
+    elim (eq_by_cmp (slice_cmp nat_cmp) name e.0)
+    as (λ b. IfSome (cond b (Some e.1) (find (slice_cmp nat_cmp) name es)) (λ d. is_department d ≡ true)) [
       | true ↦ all.0.0
       | false ↦ find_lawful name es all.1
     ]
 
 -- the department of a name
-pub named_lawful : (s : State) (name : List ℕ) → IsLawful s → IfSome (department_named s name) (λ d. is_department d ≡ true)
+pub named_lawful : (s : State) (name : List ℕ) → IsLawful s
+    → IfSome (department_named s name) (λ d. is_department d ≡ true)
 named_lawful s name lawful = find_lawful name s.departments lawful.departments
 
 newest_size : (o : Opening) (ca : Option Ca) → length o.ca ≡ 32 → IfSome ca (λ ca. length ca.key ≡ 32)

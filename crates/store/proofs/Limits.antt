@@ -1,5 +1,6 @@
 -- Why the rows of an accepted arrival are kept out: one is too long, or there is no room for one more.
-use Rattle.std.proofs.Common.{◌≡◌, inl, inr, ℕ, ◌+◌, ◌<◌, ◌≤◌, List, [], ◌∷◌, ◌++◌, length, true, not, refl, sym, ap, subst, ◌∙◌, arith}
+use Rattle.std.proofs.Common.{◌≡◌, inl, inr, ℕ, ◌+◌, ◌<◌, ◌≤◌, List, [], ◌∷◌, ◌++◌, length, true, not, refl, sym, ap}
+use Rattle.std.proofs.Common.{subst, ◌∙◌, arith}
 use Rattle.std.specs.Prelude.{◌^◌, filter}
 use Rattle.krl.proofs.Counting.{runs_in_runs}
 use Rattle.message.specs.Values.{is_range}
@@ -14,14 +15,14 @@ use Rattle.store_sql.specs.Cells.{cert_cells}
 use Rattle.store_sql.specs.Changes.{with_counters, with_request}
 use Rattle.store_sql.specs.Runs as runs
 use Rattle.store_sql.specs.Contents.{Contents}
-use Rattle.store_sql.specs.Refusals.{RefusesCa, RefusesCert}
-use Rattle.store_rows.specs.Rows.{office_contents, revoked_runs}
+use Rattle.store_sql.specs.Refusals.{RefusesCa, RefusesCert, IsTooLong}
+use Rattle.store_rows.specs.Rows.{office_contents, revoked_runs, cert_row, request_row}
 use Rattle.store_writes.specs.Changing.{ca_from}
 use Rattle.store_writes.specs.Due.{counters_of, kept_of}
 use Rattle.store_writes.specs.Ranges.{joined_run}
 use Rattle.store_writes.specs.Refused.{RefusesChange, RefusesDecision, RefusesRange}
 use Rattle.store_writes.proofs.Joined.{rows_joined}
-use Rattle.store.specs.Arriving.{IsTooMuch, IsTooMuchToChange}
+use Rattle.store.specs.Arriving.{IsTooMuch, IsTooMuchToChange, IsAccepted, Past, kept_at, state_at}
 use Rattle.store.specs.Meaning.{IsHistory}
 use Rattle.office.proofs.Sizes.{last_of}
 use Rattle.store.proofs.Lawful.{lawful_after}
@@ -32,16 +33,14 @@ use Rattle.office.specs.declared.ca.Ca.{Ca}
 use Rattle.office.specs.declared.view.Decision.{Decision}
 use Rattle.office.specs.Machine.{after, next_serial, with_range}
 use Rattle.office.specs.State.{State}
-use Rattle.store_sql.specs.Refusals.{IsTooLong}
 use Rattle.store_rows.specs.Lawful.{IsLawful}
-use Rattle.store_rows.specs.Rows.{cert_row, request_row}
-use Rattle.store.specs.Arriving.{IsAccepted, Past, kept_at, state_at}
 use Rattle.store.proofs.ShortRows.{counters_fit, key_id_short}
 use Rattle.store.proofs.NewRows.{ca_free, request_new, serial_new}
 use Rattle.store.proofs.Additions.{IsStep, new_ca, own_department, step_of, unused}
 use Rattle.store.proofs.LoneRuns.{alone_there}
 
-module _ (p : Past) (a : Arrival) (d : Decision) (serving : List Ca) (history : IsHistory p.0 p.1) (is : IsAccepted a d serving p) where
+module _ (p : Past) (a : Arrival) (d : Decision) (serving : List Ca) (history : IsHistory p.0 p.1)
+    (is : IsAccepted a d serving p) where
   abbrev s : State
   s = state_at p
 
@@ -70,11 +69,13 @@ module _ (p : Past) (a : Arrival) (d : Decision) (serving : List Ca) (history : 
         | inr (inr long) ↦ long
       ]
 
-  ca_limited : (since : ℕ) (ca : Ca) → d.change ≡ change.Ca ca → RefusesCa (ca_from (length serving + 1) since ca) rows → ⊥
+  ca_limited : (since : ℕ) (ca : Ca) → d.change ≡ change.Ca ca
+      → RefusesCa (ca_from (length serving + 1) since ca) rows → ⊥
   ca_limited since ca e why =
       let same : s.cas ++ ca ∷ [] ≡ (after s step.message a.moment a.nonce).cas =
       sym (ap (λ ch. (changed ch s).cas) e) ∙ ap (λ (t : State). t.cas) step.made in
-      let new = new_ca s a.caller a.moment a.nonce ca step.message (message_lawful a.bytes step.message step.text) step.allowed same in
+      let lawful_message = message_lawful a.bytes step.message step.text in
+      let new = new_ca s a.caller a.moment a.nonce ca step.message lawful_message step.allowed same in
       let count : length serving ≡ length s.cas = ap (λ (cas : List Ca). length cas) is.cas in
       elim why [
         | inl taken ↦ ca_free 1 s.cas (length serving + 1) ca.key (omega (arith, count)) new.1 lawful.cas new.0 taken
@@ -90,7 +91,8 @@ module _ (p : Past) (a : Arrival) (d : Decision) (serving : List Ca) (history : 
       let fits : next_serial s ≤ 2 ^ 64 = omega (arith, in_range, opening, top) in
       let t = with_range s r in
       alone_there (joined_run r rows) (filter (λ q. not (runs.begins (joined_run r rows) q)) rows.runs) (revoked_runs t)
-      (runs_in_runs t.revoked t.opening.first (length t.certificates) fits) (rows_joined s r range room.0 room.1 fits) why
+      (runs_in_runs t.revoked t.opening.first (length t.certificates) fits)
+      (rows_joined s r range room.0 room.1 fits) why
 
   change_limited : (ch : Change) (since : ℕ) → d.change ≡ ch → IsLawfulChange ch
       → RefusesChange (length serving + 1) since ch recorded → IsTooMuchToChange ch rows

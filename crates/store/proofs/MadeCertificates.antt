@@ -1,5 +1,6 @@
 -- A certificate that is made is lawful, and so is the state with it.
-use Rattle.std.proofs.Common.{◌≡◌, ℕ, suc, ◌+◌, List, [], ◌∷◌, ◌++◌, length, Bool, true, false, not, Option, Some, None, refl, sym, subst, arith}
+use Rattle.std.proofs.Common.{◌≡◌, ℕ, suc, ◌+◌, List, [], ◌∷◌, ◌++◌, length, Bool, true, false, not, Option, Some, None}
+use Rattle.std.proofs.Common.{refl, sym, subst, arith}
 use Rattle.std.specs.Prelude.{IfSome, nat_lt}
 use Rattle.std.proofs.lemmas.Bool.{and_parts, ltb-false, ltb-true}
 use Rattle.lines.specs.declared.signature.Signature.{Signature}
@@ -10,10 +11,12 @@ use Rattle.message.specs.Values.{is_department, is_issue, is_renewal}
 use Rattle.office.specs.declared.certificate.Certificate.{Certificate}
 use Rattle.office.specs.declared.view.View.{View}
 use Rattle.office.specs.Views.{HasSerial}
-use Rattle.office.specs.Permissions.{are_listed, is_permitted_by, is_renewal_permitted_by, is_life_permitted, meet_rules}
+use Rattle.office.specs.Permissions.{are_listed, is_permitted_by, is_renewal_permitted_by, is_life_permitted}
+use Rattle.office.specs.Permissions.{meet_rules}
 use Rattle.office.specs.Certificates.{IsCertificate, certificate_for, kind_or_user, renewed_certificate}
 use Rattle.office.specs.Refusals.{is_one_that}
-use Rattle.office.specs.Machine.{State, certificate_of, newest_key, next_serial, renewed, with_certificate, with_one_more}
+use Rattle.office.specs.Machine.{State, certificate_of, newest_key, next_serial, renewed, with_certificate}
+use Rattle.office.specs.Machine.{with_one_more}
 use Rattle.office.proofs.Issuable.{issuable_certificate, renewable_certificate}
 use Rattle.store_rows.specs.Certificates.{AreCounted}
 use Rattle.store_rows.specs.Lawful.{IsLawful}
@@ -77,13 +80,14 @@ with_one_lawful s c lawful is unsigned serial = record {
   key_ids = lawful.key_ids;
 }
 
-pub renewed_lawful : (s : State) (r : Renewal) (nonce : List ℕ) (o : Option Certificate) (d : Option Department) → IsLawful s
-    → HasSerial (counters s) → is_renewal r ≡ true → length nonce ≡ 32 → IfSome o IsIssued
+pub renewed_lawful : (s : State) (r : Renewal) (nonce : List ℕ) (o : Option Certificate) (d : Option Department)
+    → IsLawful s → HasSerial (counters s) → is_renewal r ≡ true → length nonce ≡ 32 → IfSome o IsIssued
     → is_one_that (λ c. not (is_renewal_permitted_by d c r)) o ≡ false → certificate_of s r.serial ≡ o
     → IsLawful (with_one_more s (renewed s r nonce))
 renewed_lawful s r nonce None d lawful left renewal size is permitted e = rw e lawful
 renewed_lawful s r nonce (Some c) d lawful left renewal size is permitted e =
-    let order : nat_lt r.after r.before ≡ true = renewal_order d c r (not_false (is_renewal_permitted_by d c r) permitted) in
+    let order : nat_lt r.after r.before ≡ true =
+    renewal_order d c r (not_false (is_renewal_permitted_by d c r) permitted) in
     let ca = newest_key s.opening s.cas in
     let made : IsCertificate (renewed_certificate c r (next_serial s) ca nonce) =
     renewable_certificate (counters s) c r ca nonce

@@ -1,9 +1,10 @@
--- No row has the key of a new request, the next serial, or the number and the key of a new CA; and a department has a row.
-use Rattle.std.proofs.Common.{◌≡◌, ◌⊎◌, inl, inr, ℕ, suc, ◌+◌, ◌≤◌, List, [], ◌∷◌, length, map, Bool, true, false, Some, refl, sym, ap, ◌∙◌, arith}
+-- No row has the key of a new request, the next serial, or the number or the key of a new CA. A department has a row.
+use Rattle.std.proofs.Common.{◌≡◌, ◌⊎◌, inl, inr, ℕ, suc, ◌+◌, ◌≤◌, List, [], ◌∷◌, length, map, Bool, true, false, Some}
+use Rattle.std.proofs.Common.{refl, sym, ap, ◌∙◌, arith}
 use Rattle.lines.specs.Keys.{key_blob, key_of}
 use Rattle.lines.proofs.Blobs.{key_of_again}
 use Rattle.office.specs.State.{is_ca}
-use Rattle.store_rows.specs.Rows.{ca_rows}
+use Rattle.store_rows.specs.Rows.{ca_rows, cert_row, department_row, request_row}
 use Rattle.std.specs.List.{AllByRecursion, list_any}
 use Rattle.std.specs.Ordering.{eq_by_cmp, nat_cmp}
 use Rattle.std.specs.Cmp.Lexicographic.{slice_cmp}
@@ -20,7 +21,6 @@ use Rattle.office.specs.declared.ca.Ca.{Ca}
 use Rattle.office.specs.History.{has_key}
 use Rattle.store_sql.specs.Refusals.{HasOne}
 use Rattle.store_rows.specs.Certificates.{AreCounted}
-use Rattle.store_rows.specs.Rows.{cert_row, department_row, request_row}
 
 -- ---- the request
 
@@ -29,7 +29,8 @@ pub request_new : (a : Arrival) (kept : List Kept) → list_any (has_key a) kept
     → HasOne (λ k. (k.caller ≡ a.caller) × (k.key ≡ a.key)) (map request_row kept) → ⊥
 request_new a [] none (k, here, same) = here
 request_new a (j ∷ kept) none (k, inl is, (caller, key)) =
-    let one : bytes_eq j.caller a.caller ≡ true = (bytes_eq-Decides j.caller a.caller).1 (ap (λ r. r.caller) (sym is) ∙ caller) in
+    let one : bytes_eq j.caller a.caller ≡ true =
+    (bytes_eq-Decides j.caller a.caller).1 (ap (λ r. r.caller) (sym is) ∙ caller) in
     let two : bytes_eq j.key a.key ≡ true = (bytes_eq-Decides j.key a.key).1 (ap (λ r. r.key) (sym is) ∙ key) in
     let hit : has_key a j ≡ true = rw (one, two) refl in
     let wrong : true ≡ false = sym hit ∙ (or_parts (has_key a j) (list_any (has_key a) kept) none).0 in cc
@@ -79,5 +80,5 @@ ca_free n (c ∷ cas) number key high size sizes none (d, inl is, inr same) =
     let hit : bytes_eq c.key key ≡ true = (bytes_eq-Decides c.key key).1 alike in
     let wrong : true ≡ false = sym hit ∙ (or_parts (bytes_eq c.key key) (is_ca cas key) none).0 in cc
 ca_free n (c ∷ cas) number key high size sizes none (d, inr here, same) =
-    ca_free (suc n) cas number key (omega (arith, high)) size sizes.1 (or_parts (bytes_eq c.key key) (is_ca cas key) none).1
-    (d, here, same)
+    ca_free (suc n) cas number key (omega (arith, high)) size sizes.1
+    (or_parts (bytes_eq c.key key) (is_ca cas key) none).1 (d, here, same)

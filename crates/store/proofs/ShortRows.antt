@@ -2,26 +2,24 @@
 use Rattle.std.proofs.Common.{◌≡◌, inl, inr, ℕ, ◌≤◌, List, length, drop, true, subst, arith}
 use Rattle.std.specs.Prelude.{nat_le}
 use Rattle.std.proofs.lemmas.List.{length-drop}
-use Rattle.values.specs.Names.{department_of, is_key_id, is_key_id_end}
+use Rattle.values.specs.Names.{department_of, is_key_id, is_key_id_end, has_size, is_name, is_name_byte}
 use Rattle.office.specs.declared.opening.Opening.{Opening}
 use Rattle.store_migration.specs.Former.{first_ca, former_contents}
 use Rattle.store_migration.specs.Migrating.{RefusesFirstCa}
 use Rattle.store_sql.specs.declared.cas.CaRow.{CaRow}
-use Rattle.store_sql.specs.Cells.{ca_cells, key_id_cells}
+use Rattle.store_sql.specs.Cells.{ca_cells, key_id_cells, office_cells}
 use Rattle.office.specs.Openings.{IsOpening}
 use Rattle.store.specs.Creating.{RefusesOpening}
 use Rattle.store.specs.Meaning.{IsHistory}
 use Rattle.store.proofs.Lawful.{lawful_after}
 use Rattle.std.specs.List.{list_all}
 use Rattle.std.proofs.lemmas.Bool.{and_parts, leb-true}
-use Rattle.values.specs.Names.{has_size, is_name, is_name_byte}
 use Rattle.lines.proofs.Blobs.{length-key_blob}
 use Rattle.office.specs.declared.arrival.Arrival.{Arrival}
 use Rattle.office.specs.declared.arrival.Kept.{Kept}
 use Rattle.office.specs.State.{State}
 use Rattle.store_sql.specs.declared.offices.Counters.{Counters}
 use Rattle.store_sql.specs.declared.offices.OfficeRow.{OfficeRow}
-use Rattle.store_sql.specs.Cells.{office_cells}
 use Rattle.store_sql.specs.Changes.{counted, renumbered}
 use Rattle.store_sql.specs.Refusals.{IsTooLong, RefusesCounters}
 use Rattle.store_rows.specs.Lawful.{IsLawful}
@@ -37,7 +35,8 @@ name_short t is =
     (and_parts (has_size 1 32 t) (list_all is_name_byte t) is).0).1
 
 -- the row of an office stays short
-pub counters_fit : (k : Counters) (s : State) (kept : List Kept) → IsLawful s → RefusesCounters k (contents_of s kept) → ⊥
+pub counters_fit : (k : Counters) (s : State) (kept : List Kept) → IsLawful s → RefusesCounters k (contents_of s kept)
+    → ⊥
 counters_fit k s kept lawful (o, inl same, (id, long)) =
     let long_row : IsTooLong (office_cells (counted k (office_row s))) =
     subst (λ (r : OfficeRow). IsTooLong (office_cells (counted k r))) same long in
@@ -71,7 +70,8 @@ first_ca_fits o l history (ca, is, why) =
     elim why [
       | inl (inl (d, none, taken)) ↦ none
       | inl (inr long) ↦
-          (let long_row : IsTooLong (ca_cells (first_ca row)) = subst (λ (c : CaRow). IsTooLong (ca_cells c)) same long in
+          (let long_row : IsTooLong (ca_cells (first_ca row)) =
+          subst (λ (c : CaRow). IsTooLong (ca_cells c)) same long in
           omega (arith, long_row, blob, lawful.opening.ca))
       | inr (r, inl here, (id, long)) ↦
           (let long_row : IsTooLong (office_cells (renumbered 2 row)) =
