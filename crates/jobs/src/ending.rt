@@ -84,10 +84,8 @@ pub fn finish<W: Write>(
     ensures ok { OnOk result (Appends (W.contents out.old) (W.contents out.new) (told_text job.now)) }
     ensures only { IsOk done → IfErr result (λ e. e ≡ JobFault.Write) }
 {
-    match done {
-        Ok(()) => tell(out, job),
-        Err(fault) => Err(fault),
-    }
+    done?;
+    tell(out, job)
 }
 
 /// Prints that an office passed its own test, where it did.

@@ -1,18 +1,17 @@
 -- What is read as a key line is its text, its text is read, and each fault says what is wrong with the whole text.
-use Rattle.std.proofs.Common.{◌≡◌, ◌≢◌, ℕ, true, false, cond, eqb, ◌⊎◌, ◌↔◌, List, ◌++◌, length, take, drop}
+use Rattle.std.proofs.Common.{◌≡◌, ◌≢◌, ℕ, true, ◌⊎◌, List, ◌++◌, length, take, drop}
 use Rattle.std.proofs.Common.{Option, Some, None, Result, Ok, Err, refl, sym, ap, subst, ◌∙◌, arith, inl, inr}
 use Rattle.std.specs.Prelude.{IfOk, IsTrue}
-use Rattle.std.specs.List.{list_all}
-use Rattle.std.specs.Result.{MatchResult, result_ok}
+use Rattle.std.specs.Result.{MatchResult}
 use Rattle.std.specs.Str.{bytes_eq}
-use Rattle.std.proofs.lemmas.Bool.{and_parts, and_from, eqb-true, eq-eqb, both_ways, cases_Bool, cond-true, cond-false}
+use Rattle.std.proofs.lemmas.Bool.{and_parts, and_from, eqb-true, both_ways, cases_Bool, cond-true, cond-false}
 use Rattle.std.proofs.lemmas.List.{take-append-drop}
-use Rattle.std.proofs.lemmas.Option.{option_and_then_some, same_Some}
+use Rattle.std.proofs.lemmas.Option.{same_Some}
 use Rattle.std.proofs.lemmas.Slice.Eq.{bytes_eq-Decides}
 use Rattle.base64.specs.Engines.{standard}
-use Rattle.base64.specs.GeneralPurpose.{IsBytes, decode_of, encode_of}
+use Rattle.base64.specs.GeneralPurpose.{IsBytes, encode_of}
 use Rattle.lines.specs.Keys.{key_blob, key_of}
-use Rattle.lines.specs.KeyLines.{is_base64_letter, is_base64_word, is_key, is_comment, is_comment_or_none}
+use Rattle.lines.specs.KeyLines.{is_base64_word, is_key, is_comment, is_comment_or_none}
 use Rattle.lines.specs.KeyLines.{is_key_line, comment_text, key_line_head, key_line_text}
 use Rattle.text.specs.Results.{◌>>=◌, or_fault}
 use Rattle.lines.specs.Reading.{after_type, word_of, comment_of, blob_of, checked_line}
@@ -20,11 +19,10 @@ use Rattle.lines.specs.Reading.{key_line_at, Gives, IsFault, HasWrongType, HasBa
 use Rattle.lines.specs.declared.key_line.KeyLine.{KeyLine}
 use Rattle.lines.specs.declared.key_line.LineFault.{LineFault}
 use Rattle.lines.specs.declared.key_line.LineFault.TheVariants.{WrongType, BadBase64, BadBlob, BadComment, NoMemory}
-use Rattle.lines.proofs.Alphabet.{word_again, word_found}
-use Rattle.lines.proofs.Base64.{IsBytes-decode_of, IsBytes-drop, IsBytes-take}
-use Rattle.lines.proofs.Base64.{IsFreeOfSpace-encode_of, base64_again, base64_found, length-encode_of}
+use Rattle.lines.proofs.Alphabet.{word_again}
+use Rattle.lines.proofs.Base64.{IsBytes-drop, IsBytes-take, IsFreeOfSpace-encode_of}
+use Rattle.lines.proofs.BlobWords.{blob_of_again, blob_of_found, blob_of_none}
 use Rattle.lines.proofs.Blobs.{IsBytes-key_blob, is_key_from, is_key_parts, key_of_again, key_of_found, length-key_blob}
-use Rattle.lines.proofs.Cases.{ok_of}
 use Rattle.lines.proofs.Words.{comment_of-text, text_is, word_of-text}
 
 -- nothing, or something
@@ -48,49 +46,6 @@ after_type_found line rest e = elim (cases_Bool (bytes_eq (take 12 line) key_lin
 -- what is put behind the type is found there
 after_type_again : (rest : List ℕ) → after_type (key_line_head ++ rest) ≡ Some rest
 after_type_again rest = refl
-
--- ---- the blob
-
--- the blob that a word stands for
-blob_of_found : (word blob : List ℕ) → IsBytes word → blob_of word ≡ Some blob → (word ≡ encode_of standard blob)
-    × (length blob ≡ 51) × IsBytes blob
-blob_of_found word blob fits e = elim (cases_Bool (eqb (length word) 68)) [
-  | inl long ↦
-      let read = sym (cond-true _ _ None long) ∙ e in
-      let kept = λ (b : List ℕ). cond (eqb (length b) 51) (Some b) None in
-      option_and_then_some kept (result_ok (decode_of standard word)) blob read (λ b decoded is. whole b decoded is)
-  | inr other ↦ absurd (cc (sym (cond-false _ _ None other) ∙ e))
-]
-  where
-    whole : (b : List ℕ) → result_ok (decode_of standard word) ≡ Some b
-        → cond (eqb (length b) 51) (Some b) None ≡ Some blob → (word ≡ encode_of standard blob) × (length blob ≡ 51)
-        × IsBytes blob
-    whole b decoded kept = elim (cases_Bool (eqb (length b) 51)) [
-      | inl passed ↦
-          let same : b ≡ blob = same_Some _ _ (sym (cond-true _ (Some b) None passed) ∙ kept) in
-          let read : decode_of standard word ≡ Ok b = ok_of _ b decoded in
-          subst (λ (x : List ℕ). (word ≡ encode_of standard x) × (length x ≡ 51) × IsBytes x) same
-          (base64_found word b fits read, eqb-true _ _ passed, IsBytes-decode_of standard word b fits read)
-      | inr failed ↦ absurd (cc (sym (cond-false _ (Some b) None failed) ∙ kept))
-    ]
-
--- the base64 of a blob stands for it
-blob_of_again : (blob : List ℕ) → length blob ≡ 51 → IsBytes blob → blob_of (encode_of standard blob) ≡ Some blob
-blob_of_again blob len fits =
-    let long : length (encode_of standard blob) ≡ 68 = length-encode_of blob ∙ rw len refl in
-    cond-true _ _ None (eq-eqb _ _ long) ∙ rw (base64_again blob fits) (cond-true _ (Some blob) None (eq-eqb _ _ len))
-
--- a word that stands for no blob is not 68 letters
-blob_of_none : (word : List ℕ) → IsBytes word → blob_of word ≡ None → is_base64_word word ≡ false
-blob_of_none word fits none = elim (cases_Bool (is_base64_word word)) [
-  | inl is_word ↦
-      let blob = word_found word fits is_word in
-      let long = (and_parts (eqb (length word) 68) (list_all is_base64_letter word) is_word).0 in
-      let some : blob_of word ≡ Some blob.0 = cond-true _ _ None long
-      ∙ rw (blob.1) (cond-true _ (Some blob.0) None (eq-eqb _ _ blob.2)) in
-      absurd (cc (sym none ∙ some))
-  | inr no_word ↦ no_word
-]
 
 -- ---- the steps of reading
 
@@ -284,17 +239,6 @@ key_line_unique a b lawful_a lawful_b same =
 
     ok_is : (x y : KeyLine) → read x ≡ read y → x ≡ y
     ok_is x y e = cc
-
--- 68 characters of the alphabet, as the base64 of 51 bytes.
-pub word_is_blob : (word : List ℕ) → IsBytes word → IsTrue (is_base64_word word)
-    ↔ ((blob : List ℕ) × IsBytes blob × (length blob ≡ 51) × (word ≡ encode_of standard blob))
-word_is_blob word fits = (
-  λ is_word.
-      let found = word_found word fits is_word in
-      let blob_fits = IsBytes-decode_of standard word found.0 fits found.1 in
-      (found.0, blob_fits, found.2, base64_found word found.0 fits found.1),
-  λ is_blob. ap is_base64_word is_blob.3 ∙ word_again is_blob.0 is_blob.2 is_blob.1,
-)
 
 -- its key has 32 bytes
 pub key_size : (k : KeyLine) → is_key_line k ≡ true → length k.key ≡ 32

@@ -3,6 +3,7 @@ pub mod Base64
 pub mod Alphabet
 pub mod Blobs
 pub mod Words
+pub mod BlobWords
 pub mod KeyLineLaws
 pub mod KeyLineAnswers
 pub mod Pieces

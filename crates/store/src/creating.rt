@@ -58,10 +58,8 @@ fn fill<S: Alter>(conn: &mut Connection<S>, office: &OfficeRow, ca: &CaRow) -> R
     ensures stays { On S.Store Stays conn.old conn.new result }
     ensures survives { OutlivesBy S.Store (Waits Has) conn.old conn.new }
 {
-    match insert_office(conn, office) {
-        Ok(()) => insert_ca(conn, ca),
-        Err(fault) => Err(fault),
-    }
+    insert_office(conn, office)?;
+    insert_ca(conn, ca)
 }
 
 fn make<S: Alter>(conn: &mut Connection<S>, office: &OfficeRow, ca: &CaRow) -> Result<(), Fault>
@@ -70,10 +68,8 @@ fn make<S: Alter>(conn: &mut Connection<S>, office: &OfficeRow, ca: &CaRow) -> R
     ensures stays { On S.Store Stays conn.old conn.new result }
     ensures survives { OutlivesBy S.Store WaitsFirst conn.old conn.new }
 {
-    match create_tables(conn) {
-        Ok(()) => fill(conn, office, ca),
-        Err(fault) => Err(fault),
-    }
+    create_tables(conn)?;
+    fill(conn, office, ca)
 }
 
 fn make_whole<S: Alter>(
@@ -86,13 +82,9 @@ fn make_whole<S: Alter>(
     ensures before { On S.Store KeepsOnErr conn.old conn.new result }
     ensures survives { OutlivesBy S.Store (LeavesFirst office.now ca.now) conn.old conn.new }
 {
-    match begin(conn) {
-        Ok(()) => {
-            let made = make(conn, office, ca);
-            conclude(conn, made)
-        }
-        Err(fault) => Err(fault),
-    }
+    begin(conn)?;
+    let made = make(conn, office, ca);
+    conclude(conn, made)
 }
 
 /// Makes the tables of the office that begins so in a database without tables, all of them or none.

@@ -26,10 +26,8 @@ fn with_key_ids<S: Alter>(
     ensures reads { On S.Store OnlyReads conn.old conn.new result }
     ensures survives { Outlives S.Store Never conn.old conn.new }
 {
-    match read_key_ids(alloc, conn) {
-        Ok(key_ids) => Ok(Revocations { serials, key_ids }),
-        Err(fault) => Err(fault),
-    }
+    let key_ids = read_key_ids(alloc, conn)?;
+    Ok(Revocations { serials, key_ids })
 }
 
 /// The serials and the key ids that are revoked.
@@ -41,10 +39,8 @@ pub(crate) fn read_revocations<S: Alter>(
     ensures reads { On S.Store OnlyReads conn.old conn.new result }
     ensures survives { Outlives S.Store Never conn.old conn.new }
 {
-    match revoked_runs(alloc, conn) {
-        Ok(serials) => with_key_ids(alloc, conn, serials),
-        Err(fault) => Err(fault),
-    }
+    let serials = revoked_runs(alloc, conn)?;
+    with_key_ids(alloc, conn, serials)
 }
 
 /// The number, as a column can hold it: the greatest that it holds in place of a greater one.
@@ -80,8 +76,6 @@ pub(crate) fn read_batch<S: Alter>(
     ensures reads { On S.Store OnlyReads conn.old conn.new result }
     ensures survives { Outlives S.Store Never conn.old conn.new }
 {
-    match read_office(alloc, conn) {
-        Ok(office) => batch_from(alloc, conn, office.opening.first, place),
-        Err(fault) => Err(fault),
-    }
+    let office = read_office(alloc, conn)?;
+    batch_from(alloc, conn, office.opening.first, place)
 }

@@ -49,10 +49,8 @@ fn read_serving_cas<S: Alter>(alloc: Global, conn: &mut Connection<S>) -> Result
     ensures reads { On S.Store OnlyReads conn.old conn.new result }
     ensures survives { Outlives S.Store Never conn.old conn.new }
 {
-    match read_cas(alloc, conn) {
-        Ok(cas) => ordered(cas),
-        Err(fault) => Err(fault),
-    }
+    let cas = read_cas(alloc, conn)?;
+    ordered(cas)
 }
 
 fn revoked_of(
@@ -84,10 +82,8 @@ fn revoked_under<S: Alter>(
     ensures reads { On S.Store OnlyReads conn.old conn.new result }
     ensures survives { Outlives S.Store Never conn.old conn.new }
 {
-    match read_revocations(alloc, conn) {
-        Ok(revocations) => made(revoked_of(alloc, head, cas, revocations)),
-        Err(fault) => Err(fault),
-    }
+    let revocations = read_revocations(alloc, conn)?;
+    made(revoked_of(alloc, head, cas, revocations))
 }
 
 fn revoked_with<S: Alter>(
@@ -100,10 +96,8 @@ fn revoked_with<S: Alter>(
     ensures reads { On S.Store OnlyReads conn.old conn.new result }
     ensures survives { Outlives S.Store Never conn.old conn.new }
 {
-    match read_serving_cas(alloc, conn) {
-        Ok(cas) => revoked_under(alloc, conn, head, cas.as_slice()),
-        Err(fault) => Err(fault),
-    }
+    let cas = read_serving_cas(alloc, conn)?;
+    revoked_under(alloc, conn, head, cas.as_slice())
 }
 
 /// What the published list is made of.
@@ -115,15 +109,13 @@ pub(crate) fn read_revoked<S: Alter>(
     ensures reads { On S.Store OnlyReads conn.old conn.new result }
     ensures survives { Outlives S.Store Never conn.old conn.new }
 {
-    match read_office(alloc, conn) {
-        Ok(office) => revoked_with(
-            alloc,
-            conn,
-            KrlHead {
-                version: office.version,
-                date: office.date,
-            },
-        ),
-        Err(fault) => Err(fault),
-    }
+    let office = read_office(alloc, conn)?;
+    revoked_with(
+        alloc,
+        conn,
+        KrlHead {
+            version: office.version,
+            date: office.date,
+        },
+    )
 }

@@ -35,10 +35,8 @@ pub(crate) fn read_body_of<S: Alter>(
     ensures reads { On S.Store OnlyReads conn.old conn.new result }
     ensures survives { Outlives S.Store Never conn.old conn.new }
 {
-    match find_certificate(alloc, conn, serial) {
-        Ok(found) => Ok(body_in(found)),
-        Err(fault) => Err(fault),
-    }
+    let found = find_certificate(alloc, conn, serial)?;
+    Ok(body_in(found))
 }
 
 fn issued_in(alloc: Global, found: Option<Certificate>) -> Result<Option<Issued>, NoMemory>
@@ -60,8 +58,6 @@ pub(crate) fn read_issued<S: Alter>(
     ensures reads { On S.Store OnlyReads conn.old conn.new result }
     ensures survives { Outlives S.Store Never conn.old conn.new }
 {
-    match find_certificate(alloc, conn, serial) {
-        Ok(found) => made(issued_in(alloc, found)),
-        Err(fault) => Err(fault),
-    }
+    let found = find_certificate(alloc, conn, serial)?;
+    made(issued_in(alloc, found))
 }

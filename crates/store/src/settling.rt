@@ -40,13 +40,9 @@ fn accept<S: Alter>(
     ensures survives { OutlivesBy S.Store (Waits (IsAfter (IsAccepted arrival.now decision.now cas.now)))
         conn.old conn.new }
 {
-    let Ok(reply) = decision.reply.copied(alloc) else {
-        return Err(Fault::NoMemory);
-    };
-    match write(alloc, conn, arrival, decision, cas) {
-        Ok(()) => Ok(Outcome::Accepted(reply)),
-        Err(fault) => Err(fault),
-    }
+    let reply = decision.reply.copied(alloc)?;
+    write(alloc, conn, arrival, decision, cas)?;
+    Ok(Outcome::Accepted(reply))
 }
 
 fn stopped(stop: Stop) -> Result<Outcome, Fault>
@@ -113,10 +109,8 @@ fn consider<S: Alter>(
     ensures stays { On S.Store Stays conn.old conn.new result }
     ensures survives { OutlivesBy S.Store (Waits (IsAfter (IsNew arrival.now message.now))) conn.old conn.new }
 {
-    match concerned_rows(alloc, conn, message) {
-        Ok(rows) => weigh(alloc, conn, arrival, message, &rows),
-        Err(fault) => Err(fault),
-    }
+    let rows = concerned_rows(alloc, conn, message)?;
+    weigh(alloc, conn, arrival, message, &rows)
 }
 
 /// Reads the message of an arrival that is no repeat.
@@ -180,13 +174,11 @@ pub(crate) fn settle<S: Alter>(
     ensures stays { On S.Store Stays conn.old conn.new result }
     ensures survives { OutlivesBy S.Store (Waits (IsAfter IsAny)) conn.old conn.new }
 {
-    match kept_for(
+    let found = kept_for(
         alloc,
         conn,
         arrival.caller.as_slice(),
         arrival.key.as_slice(),
-    ) {
-        Ok(found) => settle_beside(alloc, conn, arrival, found),
-        Err(fault) => Err(fault),
-    }
+    )?;
+    settle_beside(alloc, conn, arrival, found)
 }

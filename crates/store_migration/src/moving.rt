@@ -24,10 +24,8 @@ fn put<S: Alter>(conn: &mut Connection<S>, ca: &CaRow) -> Result<(), Fault>
     ensures stays { On S.Store Stays conn.old conn.new result }
     ensures survives { OutlivesBy S.Store (Waits Has) conn.old conn.new }
 {
-    match insert_ca(conn, ca) {
-        Ok(()) => update_schema(conn, number(SCHEMA)),
-        Err(fault) => Err(fault),
-    }
+    insert_ca(conn, ca)?;
+    update_schema(conn, number(SCHEMA))
 }
 
 /// Fills the tables of schema 2, of which that of the CAs has no row yet.
@@ -38,10 +36,10 @@ fn fill<S: Alter>(alloc: Global, conn: &mut Connection<S>) -> Result<(), StoreFa
     ensures survives { OutlivesBy S.Store (Waits HasNoCa) conn.old conn.new }
 {
     match every_office(alloc, conn) {
-        Ok(rows) => match ca_of(alloc, rows.as_slice()) {
-            Ok(ca) => told(put(conn, &ca)),
-            Err(fault) => Err(fault),
-        },
+        Ok(rows) => {
+            let ca = ca_of(alloc, rows.as_slice())?;
+            told(put(conn, &ca))
+        }
         Err(fault) => Err(fault_of(fault)),
     }
 }

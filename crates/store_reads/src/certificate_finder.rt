@@ -34,10 +34,7 @@ fn read_found(alloc: Global, found: Option<CertRow>) -> Result<Option<Certificat
     let Some(row) = found else {
         return Ok(None);
     };
-    match read_certificate(alloc, &row) {
-        Ok(certificate) => Ok(Some(certificate)),
-        Err(fault) => Err(fault),
-    }
+    Ok(Some(read_certificate(alloc, &row)?))
 }
 
 fn find_numbered<S: Alter>(
@@ -50,10 +47,8 @@ fn find_numbered<S: Alter>(
     ensures reads { On S.Store OnlyReads conn.old conn.new result }
     ensures survives { Outlives S.Store Never conn.old conn.new }
 {
-    match find_cert(alloc, conn, serial) {
-        Ok(found) => read_found(alloc, found),
-        Err(fault) => Err(fault),
-    }
+    let found = find_cert(alloc, conn, serial)?;
+    read_found(alloc, found)
 }
 
 /// The certificate of this serial, or `None` where it wasn't issued. What is read is lawful, or told damaged.

@@ -71,10 +71,8 @@ fn lawful_office<S: Alter>(alloc: Global, conn: &mut Connection<S>) -> Result<Of
     ensures reads { On S.Store OnlyReads conn.old conn.new result }
     ensures survives { Outlives S.Store Never conn.old conn.new }
 {
-    match read_office(alloc, conn) {
-        Ok(office) => if_lawful(office),
-        Err(fault) => Err(fault),
-    }
+    let office = read_office(alloc, conn)?;
+    if_lawful(office)
 }
 
 fn with_subject<S: Alter>(
@@ -94,15 +92,13 @@ fn with_subject<S: Alter>(
     ensures reads { OnOpen S.Store OnlyReads conn.old conn.new result }
     ensures survives { Outlives S.Store Never conn.old conn.new }
 {
-    match marks_of(alloc, conn, message, subject.certificate.as_ref()) {
-        Ok(marks) => Ok(Concerned {
-            office,
-            cas,
-            subject,
-            marks,
-        }),
-        Err(fault) => Err(fault),
-    }
+    let marks = marks_of(alloc, conn, message, subject.certificate.as_ref())?;
+    Ok(Concerned {
+        office,
+        cas,
+        subject,
+        marks,
+    })
 }
 
 fn with_cas<S: Alter>(
@@ -119,10 +115,8 @@ fn with_cas<S: Alter>(
     ensures reads { OnOpen S.Store OnlyReads conn.old conn.new result }
     ensures survives { Outlives S.Store Never conn.old conn.new }
 {
-    match subject_of(alloc, conn, message) {
-        Ok(subject) => with_subject(alloc, conn, message, office, cas, subject),
-        Err(fault) => Err(fault),
-    }
+    let subject = subject_of(alloc, conn, message)?;
+    with_subject(alloc, conn, message, office, cas, subject)
 }
 
 fn with_office<S: Alter>(
@@ -138,10 +132,8 @@ fn with_office<S: Alter>(
     ensures reads { On S.Store OnlyReads conn.old conn.new result }
     ensures survives { Outlives S.Store Never conn.old conn.new }
 {
-    match read_cas(alloc, conn) {
-        Ok(cas) => with_cas(alloc, conn, message, office, cas),
-        Err(fault) => Err(fault),
-    }
+    let cas = read_cas(alloc, conn)?;
+    with_cas(alloc, conn, message, office, cas)
 }
 
 /// The rows that a lawful message concerns: the office's own row, the CAs, the certificate and the department, and what
@@ -158,8 +150,6 @@ pub fn concerned_rows<S: Alter>(
     ensures reads { On S.Store OnlyReads conn.old conn.new result }
     ensures survives { Outlives S.Store Never conn.old conn.new }
 {
-    match lawful_office(alloc, conn) {
-        Ok(office) => with_office(alloc, conn, message, office),
-        Err(fault) => Err(fault),
-    }
+    let office = lawful_office(alloc, conn)?;
+    with_office(alloc, conn, message, office)
 }

@@ -23,10 +23,7 @@ fn read_found(alloc: Global, found: Option<DepartmentRow>) -> Result<Option<Depa
     let Some(row) = found else {
         return Ok(None);
     };
-    match read_department(alloc, &row) {
-        Ok(department) => Ok(Some(department)),
-        Err(fault) => Err(fault),
-    }
+    Ok(Some(read_department(alloc, &row)?))
 }
 
 /// The department of this name, if it is there. What is read is lawful, or told damaged.
@@ -40,8 +37,6 @@ pub fn find_department<S: Alter>(
     ensures reads { On S.Store OnlyReads conn.old conn.new result }
     ensures survives { Outlives S.Store Never conn.old conn.new }
 {
-    match find_row(alloc, conn, name) {
-        Ok(found) => read_found(alloc, found),
-        Err(fault) => Err(fault),
-    }
+    let found = find_row(alloc, conn, name)?;
+    read_found(alloc, found)
 }

@@ -39,8 +39,6 @@ pub fn kept_for<S: Alter>(
     ensures reads { On S.Store OnlyReads conn.old conn.new result }
     ensures survives { Outlives S.Store Never conn.old conn.new }
 {
-    match find_request(alloc, conn, caller, key) {
-        Ok(found) => Ok(kept_of(found)),
-        Err(fault) => Err(fault),
-    }
+    let found = find_request(alloc, conn, caller, key)?;
+    Ok(kept_of(found))
 }

@@ -21,10 +21,8 @@ pub fn is_key_id_revoked<S: Alter>(
     ensures reads { On S.Store OnlyReads conn.old conn.new result }
     ensures survives { Outlives S.Store Never conn.old conn.new }
 {
-    match find_revoked(alloc, conn, key_id) {
-        Ok(found) => Ok(found.is_some()),
-        Err(fault) => Err(fault),
-    }
+    let found = find_revoked(alloc, conn, key_id)?;
+    Ok(found.is_some())
 }
 
 /// Whether any key id is revoked.
@@ -33,8 +31,6 @@ pub fn has_revoked_key_ids<S: Alter>(alloc: Global, conn: &mut Connection<S>) ->
     ensures reads { On S.Store OnlyReads conn.old conn.new result }
     ensures survives { Outlives S.Store Never conn.old conn.new }
 {
-    match read_key_ids(alloc, conn) {
-        Ok(ids) => Ok(!ids.is_empty()),
-        Err(fault) => Err(fault),
-    }
+    let ids = read_key_ids(alloc, conn)?;
+    Ok(!ids.is_empty())
 }

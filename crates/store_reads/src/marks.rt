@@ -95,14 +95,12 @@ fn with_any_key_id<S: Alter>(
     ensures reads { OnOpen S.Store OnlyReads conn.old conn.new result }
     ensures survives { Outlives S.Store Never conn.old conn.new }
 {
-    match is_any_key_id_revoked(alloc, conn, message) {
-        Ok(has_revoked_key_ids) => Ok(Marks {
-            is_revoked,
-            is_key_id_revoked,
-            has_revoked_key_ids,
-        }),
-        Err(fault) => Err(fault),
-    }
+    let has_revoked_key_ids = is_any_key_id_revoked(alloc, conn, message)?;
+    Ok(Marks {
+        is_revoked,
+        is_key_id_revoked,
+        has_revoked_key_ids,
+    })
 }
 
 fn with_key_ids<S: Alter>(
@@ -117,16 +115,8 @@ fn with_key_ids<S: Alter>(
     ensures reads { OnOpen S.Store OnlyReads conn.old conn.new result }
     ensures survives { Outlives S.Store Never conn.old conn.new }
 {
-    match is_concerned_key_id_revoked(alloc, conn, message, certificate) {
-        Ok(is_key_id_revoked) => with_any_key_id(
-            alloc,
-            conn,
-            message,
-            is_revoked,
-            is_key_id_revoked,
-        ),
-        Err(fault) => Err(fault),
-    }
+    let is_key_id_revoked = is_concerned_key_id_revoked(alloc, conn, message, certificate)?;
+    with_any_key_id(alloc, conn, message, is_revoked, is_key_id_revoked)
 }
 
 /// What is revoked of what a message concerns, where it concerns this certificate.
@@ -142,8 +132,6 @@ pub(crate) fn marks_of<S: Alter>(
     ensures reads { OnOpen S.Store OnlyReads conn.old conn.new result }
     ensures survives { Outlives S.Store Never conn.old conn.new }
 {
-    match is_revoked(alloc, conn, message) {
-        Ok(is_revoked) => with_key_ids(alloc, conn, message, certificate, is_revoked),
-        Err(fault) => Err(fault),
-    }
+    let is_revoked = is_revoked(alloc, conn, message)?;
+    with_key_ids(alloc, conn, message, certificate, is_revoked)
 }

@@ -54,10 +54,8 @@ fn every_revoked_run<S: Alter>(alloc: Global, conn: &mut Connection<S>) -> Resul
     ensures reads { On S.Store OnlyReads conn.old conn.new result }
     ensures survives { Outlives S.Store Never conn.old conn.new }
 {
-    match every_run(alloc, conn) {
-        Ok(rows) => read_runs(alloc, rows.as_slice()),
-        Err(fault) => Err(fault),
-    }
+    let rows = every_run(alloc, conn)?;
+    read_runs(alloc, rows.as_slice())
 }
 
 /// The maximal runs of the revoked serials. `Damaged` where the rows are no such runs.
@@ -93,8 +91,6 @@ pub fn are_revoked<S: Alter>(
     ensures reads { On S.Store OnlyReads conn.old conn.new result }
     ensures survives { Outlives S.Store Never conn.old conn.new }
 {
-    match last_run(alloc, conn, number(lo)) {
-        Ok(found) => Ok(reaches(found, hi)),
-        Err(fault) => Err(fault),
-    }
+    let found = last_run(alloc, conn, number(lo))?;
+    Ok(reaches(found, hi))
 }

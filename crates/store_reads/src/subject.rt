@@ -77,13 +77,11 @@ fn with_department<S: Alter>(
     ensures reads { OnOpen S.Store OnlyReads conn.old conn.new result }
     ensures survives { Outlives S.Store Never conn.old conn.new }
 {
-    match department_of(alloc, conn, message, certificate.as_ref()) {
-        Ok(department) => Ok(Subject {
-            certificate,
-            department,
-        }),
-        Err(fault) => Err(fault),
-    }
+    let department = department_of(alloc, conn, message, certificate.as_ref())?;
+    Ok(Subject {
+        certificate,
+        department,
+    })
 }
 
 /// The certificate and the department that a message concerns.
@@ -98,8 +96,6 @@ pub(crate) fn subject_of<S: Alter>(
     ensures reads { OnOpen S.Store OnlyReads conn.old conn.new result }
     ensures survives { Outlives S.Store Never conn.old conn.new }
 {
-    match certificate_of(alloc, conn, message) {
-        Ok(certificate) => with_department(alloc, conn, message, certificate),
-        Err(fault) => Err(fault),
-    }
+    let certificate = certificate_of(alloc, conn, message)?;
+    with_department(alloc, conn, message, certificate)
 }

@@ -1,5 +1,5 @@
 -- What leaves a database as it was, whatever its tables mean.
-use Rattle.std.proofs.Common.{◌≡◌, inl, inr, true, IsTrue, refl, sym, ◌∙◌}
+use Rattle.std.proofs.Common.{◌≡◌, inl, inr, IsTrue, refl, sym, ◌∙◌}
 use Rattle.std.specs.Prelude.{Result, Ok, Err, OnErr}
 use Rattle.sqlite.specs.State.{State}
 use Rattle.store_sql.specs.Calls.{Begins, Fails, Stays, OnlyReads}

@@ -1,5 +1,5 @@
 -- Rows that are found in order are those of the state, and so are their values.
-use Rattle.std.proofs.Common.{◌≡◌, ℕ, inl, List, Option, Some, None, Ok, Err, Result, sym, ap, ◌∙◌, Ordering, Less, IsPermutation, IsTrue}
+use Rattle.std.proofs.Common.{◌≡◌, ℕ, inl, List, Option, Some, None, Ok, Err, Result, sym, ap, ◌∙◌, Ordering, Less, IsPermutation}
 use Rattle.std.specs.Prelude.{Vec, IsSortedByKey}
 use Rattle.std.specs.declared.alloc.Global.{Global}
 use Rattle.std.specs.Cmp.{IsTotalOrder}

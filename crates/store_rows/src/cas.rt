@@ -34,8 +34,6 @@ pub fn read_cas<S: Alter>(alloc: Global, conn: &mut Connection<S>) -> Result<Vec
     ensures reads { On S.Store OnlyReads conn.old conn.new result }
     ensures survives { Outlives S.Store Never conn.old conn.new }
 {
-    match every_ca(alloc, conn) {
-        Ok(rows) => read_each(alloc, rows.as_slice()),
-        Err(fault) => Err(fault),
-    }
+    let rows = every_ca(alloc, conn)?;
+    read_each(alloc, rows.as_slice())
 }

@@ -33,8 +33,6 @@ pub fn read_certificates<S: Alter>(
     ensures reads { On S.Store OnlyReads conn.old conn.new result }
     ensures survives { Outlives S.Store Never conn.old conn.new }
 {
-    match certs_within(alloc, conn, lo, hi) {
-        Ok(rows) => read_each(alloc, rows.as_slice()),
-        Err(fault) => Err(fault),
-    }
+    let rows = certs_within(alloc, conn, lo, hi)?;
+    read_each(alloc, rows.as_slice())
 }

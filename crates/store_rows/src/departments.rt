@@ -32,8 +32,6 @@ pub fn read_departments<S: Alter>(
     ensures reads { On S.Store OnlyReads conn.old conn.new result }
     ensures survives { Outlives S.Store Never conn.old conn.new }
 {
-    match every_department(alloc, conn) {
-        Ok(rows) => read_each(alloc, rows.as_slice()),
-        Err(fault) => Err(fault),
-    }
+    let rows = every_department(alloc, conn)?;
+    read_each(alloc, rows.as_slice())
 }

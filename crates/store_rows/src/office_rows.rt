@@ -86,8 +86,6 @@ pub fn read_office<S: Alter>(alloc: Global, conn: &mut Connection<S>) -> Result<
     ensures reads { On S.Store OnlyReads conn.old conn.new result }
     ensures survives { Outlives S.Store Never conn.old conn.new }
 {
-    match every_office(alloc, conn) {
-        Ok(rows) => only_office(alloc, rows.as_slice()),
-        Err(fault) => Err(fault),
-    }
+    let rows = every_office(alloc, conn)?;
+    only_office(alloc, rows.as_slice())
 }

@@ -42,10 +42,10 @@ pub fn conclude<S: Alter, T: Drop>(
     ensures survives { OutlivesBy S.Store (Commits answer) conn.old conn.new }
 {
     match answer {
-        Ok(value) => match close(conn) {
-            Ok(()) => Ok(value),
-            Err(fault) => Err(fault),
-        },
+        Ok(value) => {
+            close(conn)?;
+            Ok(value)
+        }
         Err(fault) => {
             undo(conn);
             Err(fault)

@@ -1,5 +1,5 @@
 -- What the calls do, from what their texts mean.
-use Rattle.std.proofs.Common.{◌≡◌, ◌⊎◌, inl, inr, ℕ, List, [], length, true, false, None, Option, Ok, Err, Result, refl, sym, ap, ◌∙◌, subst, IfOk, IfErr}
+use Rattle.std.proofs.Common.{◌≡◌, ◌⊎◌, inl, inr, ℕ, List, [], length, true, false, None, Option, Ok, Result, refl, sym, ap, ◌∙◌, subst, IfOk, IfErr}
 use Rattle.std.specs.Prelude.{Vec, ◌||◌}
 use Rattle.std.specs.declared.alloc.Global.{Global}
 use Rattle.std.specs.List.Sorted.{IsPermutation}
@@ -28,7 +28,8 @@ use Rattle.store_sql.specs.Calls.{Changes, FailsBy, FailsIn, Finds, FindsIn, Fin
 use Rattle.store_sql.specs.Done.{IsDone, IsRead, IsFirstRead}
 use Rattle.store_sql.specs.Faults.{fault_of, HasCause}
 use Rattle.store_sql.proofs.Statements.{mode, survives_as}
-use Rattle.store_sql.proofs.Forms.{closes, ends_nowhere, is_compiled, query_everywhere}
+use Rattle.store_sql.proofs.Commands.{closes}
+use Rattle.store_sql.proofs.Forms.{ends_nowhere, is_compiled, query_everywhere}
 use Rattle.store_sql.proofs.Staying.{stays_done}
 use Rattle.store_sql.proofs.Queries.{answers_still, shown_never}
 use Rattle.store_sql.proofs.Texts.{Shows, changes, leaves, finds}

@@ -48,7 +48,7 @@ use Rattle.sqlite_trees.proofs.TreeLemmas.{all-put_row}
 use Rattle.std.proofs.lemmas.Bool.{or_right, lt-ltb}
 use Rattle.store_sql.specs.Cells.{department_cells}
 use Rattle.store_sql.specs.Contents.{Lists, department_places}
-use Rattle.store_sql.proofs.DepartmentTable.{own_text}
+use Rattle.store_sql.proofs.RowTests.{own_text}
 use Rattle.store_sql.proofs.InsertReasons.{all_refer, each_refers, has_department, insert_halted, row_of, taken_number}
 use Rattle.store_sql.proofs.Reasons.{IsPut, halted, is_exact, one, storable, unclashed}
 use Rattle.store_sql.specs.declared.table_fault.Fault.{Fault}

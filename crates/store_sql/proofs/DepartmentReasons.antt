@@ -39,7 +39,8 @@ use Rattle.store_sql.specs.Cells.{department_cells}
 use Rattle.store_sql.specs.Contents.{Contents, IsNumber, Means, department_places}
 use Rattle.store_sql.specs.Refusals.{RefusedFor, RefusesDepartment}
 use Rattle.store_sql.specs.declared.departments.DepartmentRow.{DepartmentRow}
-use Rattle.store_sql.proofs.DepartmentTable.{conflict_is, fresh_row, has_id, name_is, named, next_row, none_named, only_one, own_row, put_is, put_query, put_sql, source, terms, the_row, unique}
+use Rattle.store_sql.proofs.DepartmentUpsert.{conflict_is, fresh_row, has_id, name_is, named, next_row, none_named, own_row, put_is, put_query, put_sql, source, terms, the_row, unique}
+use Rattle.store_sql.proofs.RowTests.{only_one}
 use Rattle.store_sql.specs.declared.table_fault.Fault.{Fault}
 use Rattle.store_sql.specs.Calls.{FailsBy}
 use Rattle.store_sql.proofs.FaultLemmas.{HasWriteCause, none_overflows}

@@ -1,74 +1,33 @@
--- The statements on the table of departments.
-use Rattle.std.proofs.Common.{◌≡◌, ℕ, pos, length, List, [], ◌∷◌, ◌++◌, codes, map, Bool, true, false, not, Option, None, Some, Ok, refl, sym, ap, ap₂, subst, subst₂, ◌∙◌, inl, inr, is_eq, arith}
-use Rattle.std.specs.Prelude.{◌&&◌, bytes_eq, filter}
+-- The queries on the table of departments.
+use Rattle.std.proofs.Common.{◌≡◌, ℕ, List, [], ◌∷◌, codes, map, true, false, refl, subst, ◌∙◌, inl, inr}
+use Rattle.std.specs.Prelude.{◌&&◌}
 use Rattle.std.specs.List.Sorted.{IsPermutation}
-use Rattle.std.proofs.Math.Bool.{and-true, or-false}
-use Rattle.std.proofs.lemmas.List.Sorted.{IsPermutation-map, IsPermutation-trans, IsPermutation-cons}
-use Rattle.sqlite.specs.Order.{Row, column, value_cmp}
-use Rattle.sqlite.specs.declared.types.Value.TheVariants.{Null, Text}
-use Rattle.sqlite_value.specs.Keys.{ascending, first_key}
-use Rattle.sqlite_value.proofs.OrderLemmas.{value_cmp_total}
-use Rattle.std.proofs.lemmas.Cmp.{tied_itself}
-use Rattle.std.proofs.lemmas.Bool.{and_parts, cases_Bool, not-true}
-use Rattle.std.specs.List.{list_any}
-use Rattle.std.specs.declared.cmp.Ordering.TheVariants.{Less, Equal, Greater}
-use Rattle.std.specs.declared.cmp.Ordering.{Ordering}
-use Rattle.sqlite_trees.proofs.TreeLemmas.{IsTable-put_row}
-use Rattle.sqlite_trees.proofs.ListLemmas.{all-permutation}
-use Rattle.sqlite_rules.proofs.ListLemmas.{all_has, all_from, some_from, has_filtered}
-use Rattle.sqlite_rules.proofs.TableLemmas.{int_is}
-use Rattle.sqlite_rules.proofs.PlaceLemmas.{tied_same}
-use Rattle.sqlite_schema.specs.declared.schema.Constraint.TheVariants.{Unique}
-use Rattle.sqlite_value.proofs.OrderLemmas.{value_cmp-Text, value_cmp-Int}
-use Rattle.sqlite.specs.declared.types.Value.{Value}
-use Rattle.sqlite.specs.Rows.{shown}
-use Rattle.std.proofs.lemmas.Map.Text.{is_eq-slice_cmp}
-use Rattle.std.proofs.lemmas.Slice.Eq.{bytes_eq-Decides}
-use Rattle.std.specs.Ordering.{is_ne}
-use Rattle.store_sql.proofs.Upserts.{Upserted, upserts}
-use Rattle.sqlite.specs.Term.{Term, lit, col, op2}
+use Rattle.std.proofs.Math.Bool.{and-true}
+use Rattle.sqlite.specs.Order.{Row, column}
+use Rattle.sqlite.specs.declared.types.Value.TheVariants.{Text}
+use Rattle.sqlite_value.specs.Keys.{ascending}
+use Rattle.sqlite.specs.Term.{col, op2}
 use Rattle.sqlite.specs.Ops.{binary, is_true}
 use Rattle.sqlite_sql.specs.declared.ops.BinaryOp.TheVariants.{Compare}
-use Rattle.sqlite_sql.specs.declared.ops.CompareOp.TheVariants.{Eq, Ne}
+use Rattle.sqlite_sql.specs.declared.ops.CompareOp.TheVariants.{Eq}
 use Rattle.sqlite.specs.Collation.TheVariants.{Binary}
 use Rattle.sqlite.specs.Query.{Query, IsAnswer}
 use Rattle.sqlite.specs.Program.{overlay}
-use Rattle.sqlite.specs.Source.TheVariants.{Values}
-use Rattle.sqlite.specs.Command.TheVariants.{InsertOr, Select}
-use Rattle.sqlite.specs.Tree.{Trees, rowid, IsTable}
-use Rattle.sqlite_trees.specs.View.{is_int}
-use Rattle.sqlite.specs.Edit.{edit_of, Applies, with_rowid, id_in}
-use Rattle.sqlite_rules.specs.Edit.{next_rowid}
-use Rattle.std.proofs.lemmas.List.Filters.{length-filter_both}
-use Rattle.std.proofs.lemmas.List.Sorted.{length_permutation}
-use Rattle.store_sql.proofs.Numbering.{ints_of, more_numbered, next_number, still_numbered}
-use Rattle.sqlite.specs.Rowids.TheVariants.{Chosen, Given}
-use Rattle.sqlite.specs.Cast.{cast_row}
-use Rattle.sqlite_schema.specs.declared.schema.Keys.TheVariants.{Enforced}
-use Rattle.sqlite_rules.specs.Calls.{ids_of}
-use Rattle.sqlite_rules.specs.Lists.{Has}
-use Rattle.sqlite_rules.specs.Keys.{AreConflicts, conflicts}
-use Rattle.sqlite_schema.specs.declared.command.Conflict.TheVariants.{Abort}
-use Rattle.sqlite.specs.Does.{Tally, Does}
-use Rattle.sqlite.specs.Effect.{Database}
+use Rattle.sqlite.specs.Command.TheVariants.{Select}
+use Rattle.sqlite.specs.Tree.{Trees}
 use Rattle.sqlite_tied.specs.Compute.{everything}
 use Rattle.sqlite.specs.Listing.{understood, reads_listing}
-use Rattle.sqlite.proofs.Callers.{IsPlain, command_of, statement_of}
-use Rattle.store_sql.specs.Schema.{whole, department_at}
+use Rattle.sqlite.proofs.Callers.{IsPlain, command_of}
+use Rattle.store_sql.specs.Schema.{whole}
 use Rattle.store_sql.specs.Cells.{department_cells}
-use Rattle.store_sql.specs.Contents.{Contents, Holds, IsNumber, Kept, Means, at_places, department_places}
-use Rattle.store_sql.specs.Changes.{has_name, departments_named, with_department}
-use Rattle.store_sql.specs.declared.sql.TheConstants.{PUT_DEPARTMENT, FIND_DEPARTMENT, EVERY_DEPARTMENT}
-use Rattle.store_sql.specs.declared.departments.DepartmentRow.{DepartmentRow}
+use Rattle.store_sql.specs.Contents.{Contents, Holds, department_places}
+use Rattle.store_sql.specs.Changes.{has_name, departments_named}
+use Rattle.store_sql.specs.declared.sql.TheConstants.{FIND_DEPARTMENT, EVERY_DEPARTMENT}
 use Rattle.store_sql.proofs.Apart.{department_apart}
-use Rattle.store_sql.proofs.CallLemmas.{Write, Find}
-use Rattle.store_sql.proofs.Edits.{keep_all, equal_is, filter_alike, of_record, updated, updated_apart}
-use Rattle.store_sql.proofs.Elsewhere.{spares, in_department}
+use Rattle.store_sql.proofs.CallLemmas.{Find}
+use Rattle.store_sql.proofs.Edits.{keep_all}
 use Rattle.store_sql.proofs.FaultLemmas.{IsWhole, none_overflows}
-use Rattle.store_sql.proofs.Inserts.{no_works}
-use Rattle.store_sql.proofs.Queries.{on_table, in_order, selected, chosen, lists_left, text_test, int_test, int_ne_test}
-use Rattle.store_sql.proofs.Rows.{cast_null, cast_int, put_adds, and_first}
-use Rattle.store_sql.proofs.Statements.{mode}
+use Rattle.store_sql.proofs.Queries.{on_table, in_order, selected, chosen, text_test}
 use Rattle.store_sql.proofs.Rising.{AscendBy}
 
 -- ---- SELECT of one
@@ -145,287 +104,6 @@ every = record {
   sure = λ trees h. elim h [ inl over ↦ over | inr fold ↦ none_overflows _ fold ];
   apart = department_apart;
   answers = every_answers;
-}
-
--- ---- the upsert
-
-abbrev pub put_sql : List ℕ
-put_sql = PUT_DEPARTMENT.now
-
-abbrev pub terms : List Term
-terms = lit Null ∷ col 0 0 ∷ col 0 1 ∷ col 0 2 ∷ col 0 3 ∷ col 0 4 ∷ col 0 5 ∷ col 0 6 ∷ col 0 7 ∷ []
-
--- the parameters, the rowid of the row that is there at 8, the rowid of the new row at 9, and its columns from 10
-abbrev pub put_query : Query
-put_query = on_table 1 (op2 (Compare Eq Binary) (col 1 0) (col 0 8) ∷ [])
-    (col 1 0 ∷ col 1 0 ∷ col 1 1 ∷ col 0 11 ∷ col 0 12 ∷ col 0 13 ∷ col 0 14 ∷ col 0 15 ∷ col 0 16 ∷ col 0 17 ∷ []) []
-
-pub put_is : (command_of (understood whole put_sql) ≡ InsertOr 1 Abort (Values terms 9)
-    (record { target = Some (1 ∷ []); update = Some (record { lets = []; body = put_query }) } ∷ []))
-    × IsPlain (understood whole put_sql) × IsWhole put_sql 8 (understood whole put_sql)
-unfolding understood everything
-put_is = (refl, (refl, refl), (refl, refl))
-
--- tests of two integers, as their order
-eq_tie : (a b : Value) → is_int a ≡ true → is_int b ≡ true
-    → is_true (binary (Compare Eq Binary) a b) ≡ is_eq (value_cmp a b)
-eq_tie a b m n = rw (int_is a m, int_is b n)
-    (int_test (id_in a) (id_in b) ∙ ap is_eq (sym (value_cmp-Int (id_in a) (id_in b))))
-
-ne_tie : (a b : Value) → is_int a ≡ true → is_int b ≡ true
-    → is_true (binary (Compare Ne Binary) a b) ≡ is_ne (value_cmp a b)
-ne_tie a b m n = rw (int_is a m, int_is b n)
-    (int_ne_test (id_in a) (id_in b) ∙ ap is_ne (sym (value_cmp-Int (id_in a) (id_in b))))
-
-not_ne : (o : Ordering) → is_ne o ≡ false → is_eq o ≡ true
-not_ne Less h = absurd cc
-not_ne Equal h = refl
-not_ne Greater h = absurd cc
-
-pub same_text : (a b : List ℕ) → bytes_eq a b ≡ true → a ≡ b
-same_text a b e = (bytes_eq-Decides a b).0 e
-
-pub own_text : (a : List ℕ) → is_true (binary (Compare Eq Binary) (Text a) (Text a)) ≡ true
-own_text a = text_test a a ∙ sym (is_eq-slice_cmp a a) ∙ ap is_eq (sym (value_cmp-Text a a))
-    ∙ ap is_eq (tied_itself value_cmp_total (Text a))
-
--- a test that no element passes
-pub none_passes : {X : Type 0} (p : X → Bool) (xs : List X) → list_any p xs ≡ false → (x : X) → Has xs x → p x ≡ false
-none_passes p xs none x here = elim (cases_Bool (p x))
-    [ inl hit ↦ absurd (let some : true ≡ false = sym (some_from p xs x here hit) ∙ none in cc) | inr miss ↦ miss ]
-
--- the one row of a table that passes a test
-pub only_one : (p : Row → Bool) (rows : List Row) (r : Row) → IsTable rows → Has rows r → p r ≡ true
-    → ((s : Row) → Has rows s → p s ≡ true → s ≡ r) → filter p rows ≡ r ∷ []
-only_one p (x ∷ rows) r up here hit only = elim (cases_Bool (p x)) [
-  | inl first ↦ rw first (ap₂ ◌∷◌ (only x (inl refl) first) (none_pass rows (λ s later. go s later first)))
-  | inr miss ↦ rw miss (elim here [
-    | inl same ↦ absurd (let wrong : true ≡ false = sym hit ∙ ap p same ∙ miss in cc)
-    | inr later ↦ only_one p rows r up.1 later hit (λ s there. only s (inr there))
-  ])
-]
-  where
-    none_pass : (ys : List Row) → ((s : Row) → Has ys s → p s ≡ false) → filter p ys ≡ []
-    none_pass [] none = refl
-    none_pass (y ∷ ys) none = rw (none y (inl refl)) (none_pass ys (λ s later. none s (inr later)))
-
-    go : (s : Row) → Has rows s → p x ≡ true → p s ≡ false
-    go s later first = elim (cases_Bool (p s)) [
-      | inl also ↦ absurd (
-          let same : s ≡ x = only s (inr later) also ∙ sym (only x (inl refl) first) in
-          let below = all_has _ rows s up.0 later in
-          let tied : value_cmp (rowid x) (rowid x) ≡ Less = subst (λ t. value_cmp (rowid x) (rowid t) ≡ Less) same
-          below in
-          let itself = tied_itself value_cmp_total (rowid x) in cc)
-      | inr not_it ↦ not_it
-    ]
-only_one p [] r up here hit only = absurd here
-
--- whether the row has the name
-abbrev pub named : List ℕ → Row → Bool
-named name r = is_true (binary (Compare Eq Binary) (column r 1) (Text name)) && true
-
-module _ (d : DepartmentRow) where
-  abbrev pub source : Row
-  source = Null ∷ department_cells d
-
-  abbrev pub fresh_row : List Row → Row
-  fresh_row rows = with_rowid Chosen rows (cast_row department_at source)
-
-  -- the rows that conflict are those of the name
-  pub conflict_is : (rows : List Row) (r : Row) → conflicts (Some (1 ∷ [])) whole.indexes department_at (fresh_row rows) r
-      ≡ named d.name r
-  unfolding first_key
-  conflict_is rows r = rw cast_null (or-false _)
-
-  -- what the row is after an update, where the new row that was refused is this one
-  abbrev pub next_row : Row → Row → Row
-  next_row new r = column r 0 ∷ column r 1 ∷ column new 2 ∷ column new 3 ∷ column new 4 ∷ column new 5 ∷ column new 6
-      ∷ column new 7 ∷ column new 8 ∷ []
-
-  put_in : (rows : List Row) → at_places department_places (cast_row department_at (fresh_row rows)) ≡
-      department_cells d
-  put_in rows = rw cast_null (simp cast_int)
-
-  put_over : (rows : List Row) (r : Row) → column r 1 ≡ Text d.name
-      → at_places department_places (cast_row department_at (next_row (fresh_row rows) r)) ≡ department_cells d
-  put_over rows r is = rw (cast_null, is) (simp cast_int)
-
-  -- no row has the name where none conflicts
-  pub none_named : (rows : List Row) → AreConflicts (Some (1 ∷ [])) whole.indexes department_at rows (fresh_row rows) []
-      → (r : Row) → Has rows r → named d.name r ≡ false
-  none_named rows none r here = elim (cases_Bool (named d.name r))
-      [ inl hit ↦ absurd (none.complete r here (conflict_is rows r ∙ hit)) | inr miss ↦ miss ]
-
-  -- the row of the new struct, beside those of other names
-  replaced : (c : Contents) (db after : Trees) (new : Row) → Holds db c
-      → at_places department_places new ≡ department_cells d
-      → IsPermutation (new ∷ filter (λ r. not (named d.name r)) (db 1)) (after 1)
-      → IsPermutation (map department_cells (d ∷ filter (λ e. not (has_name d.name e)) c.departments))
-      (map (at_places department_places) (after 1))
-  replaced c db after new h is put =
-      let left = filter (λ r. not (named d.name r)) (db 1) in
-      let others = filter (λ e. not (has_name d.name e)) c.departments in
-      let rest : IsPermutation (map department_cells others) (map (at_places department_places) left) =
-      lists_left department_cells (λ e. not (has_name d.name e)) department_places
-      (λ v. not (is_true (binary (Compare Eq Binary) (column v 0) (Text d.name)) && true))
-      (λ e. ap not (and-true _ ∙ text_test e.name d.name)) (db 1) c.departments h.departments in
-      IsPermutation-trans _ _ _
-      (subst (λ v. IsPermutation (department_cells d ∷ map department_cells others)
-      (v ∷ map (at_places department_places) left)) (sym is) (IsPermutation-cons (department_cells d) _ _ rest))
-      (IsPermutation-map (at_places department_places) _ _ put)
-
-  -- the row that is put in where none conflicts
-  put_new : (c : Contents) (db after : Trees) → Holds db c
-      → AreConflicts (Some (1 ∷ [])) whole.indexes department_at (db 1) (fresh_row (db 1)) []
-      → Applies whole Enforced db (edit_of db department_at [] Given 0 (fresh_row (db 1) ∷ [])) after
-      → Holds after (with_department d c)
-  put_new c db after h none did =
-      let new = cast_row department_at (fresh_row (db 1)) in
-      let left : filter (λ r. not (named d.name r)) (db 1) ≡ db 1 =
-      filter_alike (λ r. not (named d.name r)) (λ r. true) (db 1) (λ r here. ap not (none_named (db 1) none r here))
-      ∙ keep_all (db 1) in
-      let put : IsPermutation (new ∷ db 1) (after 1) = subst (IsPermutation (new ∷ db 1)) (sym did.rows)
-      (put_adds new (db 1) (and_first _ _ did.fresh)) in
-      in_department db after c h _ (spares (edit_of db department_at [] Given 0 (fresh_row (db 1) ∷ [])) db after did)
-      (record {
-        same = replaced c db after new h (put_in (db 1))
-            (subst (λ l. IsPermutation (new ∷ l) (after 1)) (sym left) put);
-        apart = subst IsTable (sym did.rows) (IsTable-put_row new (db 1) h.departments.apart);
-      })
-      (more_numbered (db 1) (after 1) new put
-      (rw (cast_null, cast_int (next_rowid (db 1))) (next_number (db 1) h.departments_numbered)) h.departments_numbered)
-
-  -- where a row of the name is there
-  module _ (c : Contents) (db : Trees) (kept : Kept db c) (r0 : Row) (here0 : Has (db 1) r0)
-      (hit0 : named d.name r0 ≡ true) where
-    abbrev h : Holds db c
-    h = kept.holds
-
-    abbrev new : Row
-    new = fresh_row (db 1)
-
-    ints : (r : Row) → Has (db 1) r → is_int (rowid r) ≡ true
-    ints r here = all_has (λ r. is_int (rowid r) ≡ true) (db 1) r (ints_of (db 1) h.departments_numbered) here
-
-    pub name_is : (r : Row) → Has (db 1) r → named d.name r ≡ true → column r 1 ≡ Text d.name
-    name_is r here hit =
-        let it = of_record department_cells department_places (db 1) c.departments r h.departments here in
-        let name : column r 1 ≡ Text it.0.name = ap (λ v. column v 0) it.2 in
-        let test : is_true (binary (Compare Eq Binary) (Text it.0.name) (Text d.name)) ≡ true =
-        (rw (← name) (and_parts _ _ hit).0) in
-        name ∙ ap Text (same_text it.0.name d.name (sym (text_test it.0.name d.name) ∙ test))
-
-    -- another row of the name would break the rule that names are unique
-    pub unique : (r : Row) → Has (db 1) r → named d.name r ≡ true → is_eq (value_cmp (rowid r) (rowid r0)) ≡ true
-    unfolding first_key
-    unique r here hit =
-        let rule = all_has _ (db 1) r0 (kept.sound.obeys.rules Unique).1.0 here0 in
-        let clear : list_any (λ other. (is_true (binary (Compare Eq Binary) (column other 1) (column r0 1)) && true)
-        && is_true (binary (Compare Ne Binary) (rowid other) (rowid r0))) (db 1) ≡ false = not-true _
-        (and_parts _ _ rule).0 in
-        let mine = none_passes _ (db 1) clear r here in
-        let same : is_true (binary (Compare Eq Binary) (column r 1) (column r0 1)) ≡ true = rw
-        (name_is r here hit, name_is r0 here0 hit0) (own_text d.name) in
-        let apart : is_true (binary (Compare Ne Binary) (rowid r) (rowid r0)) ≡ false = rw same at mine in
-        not_ne (value_cmp (rowid r) (rowid r0))
-        (sym (ne_tie (rowid r) (rowid r0) (ints r here) (ints r0 here0)) ∙ apart)
-
-    -- whether the row has the rowid of that row
-    abbrev pub has_id : Row → Bool
-    has_id r = is_true (binary (Compare Eq Binary) (column r 0) (rowid r0)) && true
-
-    id_is : (r : Row) → Has (db 1) r → has_id r ≡ is_eq (value_cmp (rowid r) (rowid r0))
-    id_is r here = and-true _ ∙ eq_tie (rowid r) (rowid r0) (ints r here) (ints r0 here0)
-
-    pub the_row : (r : Row) → Has (db 1) r → has_id r ≡ true → r ≡ r0
-    the_row r here hit = tied_same (db 1) r r0 h.departments.apart here here0 (equal_is _ (sym (id_is r here) ∙ hit))
-
-    pub own_row : has_id r0 ≡ true
-    own_row = id_is r0 here0 ∙ ap is_eq (tied_itself value_cmp_total (rowid r0))
-
-    same_rows : (r : Row) → Has (db 1) r → has_id r ≡ named d.name r
-    same_rows r here = elim (cases_Bool (named d.name r)) [
-      | inl hit ↦ id_is r here ∙ unique r here hit ∙ sym hit
-      | inr miss ↦ elim (cases_Bool (has_id r)) [
-        | inl found ↦ absurd (let wrong : true ≡ false = sym hit0 ∙ ap (named d.name) (sym (the_row r here found))
-            ∙ miss in cc)
-        | inr lost ↦ lost ∙ sym miss
-      ]
-    ]
-
-    -- the row that is put in its place
-    put_same : (after : Trees) (rows : List Row) → IsPermutation
-        (map (λ r. rowid r ∷ next_row new r) (filter has_id (db 1))) rows
-        → Applies whole Enforced db (edit_of db department_at (ids_of rows) Given 1 rows) after
-        → Holds after (with_department d c)
-    put_same after rows all did =
-        let next = cast_row department_at (next_row new r0) in
-        let one : filter has_id (db 1) ≡ r0 ∷ [] = only_one has_id (db 1) r0 h.departments.apart here0 own_row the_row
-        in
-        let left : filter (λ r. not (has_id r)) (db 1) ≡ filter (λ r. not (named d.name r)) (db 1) = filter_alike _ _
-        (db 1) (λ r here. ap not (same_rows r here)) in
-        let moved = updated whole department_at db after rows has_id (next_row new) h.departments.apart ints all did in
-        let put : IsPermutation (next ∷ filter (λ r. not (named d.name r)) (db 1)) (after 1) =
-        subst₂ (λ f l. IsPermutation (map (λ r. cast_row department_at (next_row new r)) f ++ l) (after 1)) one left
-        moved in
-        let rest = filter (λ r. not (named d.name r)) (db 1) in
-        let was = all_has (λ r. IsNumber (length (db 1)) (rowid r)) (db 1) r0 h.departments_numbered here0 in
-        let id : IsNumber (length (db 1)) (rowid next) = rw was.1 (rw (cast_int (pos was.0)) (was.0, refl, was.2)) in
-        let count : length (after 1) ≡ length (db 1) =
-        let all_of = length_permutation (next ∷ rest) (after 1) put in
-        let others = ap (λ (l : List Row). length l) left in
-        let alone = ap (λ (l : List Row). length l) one in
-        let both = length-filter_both has_id (λ r. not (has_id r)) (λ r. refl) (db 1) in
-        omega (arith, all_of, others, alone, both) in
-        in_department db after c h _ (spares (edit_of db department_at (ids_of rows) Given 1 rows) db after did)
-        (record {
-          same = replaced c db after next h (put_over (db 1) r0 (name_is r0 here0 hit0)) put;
-          apart = updated_apart whole department_at db after rows has_id (next_row new) h.departments.apart ints all
-              did;
-        })
-        (still_numbered (db 1) (after 1) count
-        (all-permutation (λ r. IsNumber (length (db 1)) (rowid r)) (next ∷ rest) (after 1) put (
-          id,
-          all_from (λ r. IsNumber (length (db 1)) (rowid r)) rest (λ r here.
-              all_has (λ r. IsNumber (length (db 1)) (rowid r)) (db 1) r h.departments_numbered
-              (has_filtered (λ r. not (named d.name r)) (db 1) r here).0),
-        )))
-
-  put_does : (limit : Option ℕ) (db next : Database) (tally : Tally) (c : Contents) → Means db c
-      → Does limit mode (department_cells d) db (statement_of put_sql (understood whole put_sql)) None
-      (InsertOr 1 Abort (Values terms 9)
-      (record { target = Some (1 ∷ []); update = Some (record { lets = []; body = put_query }) } ∷ []))
-      (Ok (tally, next))
-      → (next.schema ≡ whole) × Holds next.trees (with_department d c)
-  put_does limit db next tally c means did =
-      let it = upserts limit db next tally whole means.schema 1 department_at refl (department_cells d)
-      (statement_of put_sql (understood whole put_sql)) (Some (1 ∷ [])) (record { lets = []; body = put_query })
-      (no_works 1) terms 9 source refl did in
-      (it.1, go it.0)
-    where
-      go : Upserted limit db next tally whole means.schema 1 department_at refl (department_cells d)
-          (statement_of put_sql (understood whole put_sql)) (Some (1 ∷ [])) (record { lets = []; body = put_query })
-          (no_works 1) (fresh_row (db.trees 1)) next.trees
-          → Holds next.trees (with_department d c)
-      go (inl it) = put_new c db.trees next.trees means.kept.holds it.0 it.1
-      go (inr it) =
-          let there = it.0 in
-          let met = it.2.sound there (inl refl) in
-          let hit : named d.name met.0 ≡ true = sym (conflict_is (db.trees 1) met.0) ∙ met.2 in
-          let params = department_cells d ++ rowid there ∷ shown department_at (fresh_row (db.trees 1)) in
-          let all = selected 1 _ _ [] db.trees params it.3 refl (it.4.answer Null) in
-          put_same c db.trees means.kept met.0 met.1 hit next.trees it.3 (rw (met.3) at all) it.5
-
-pub put : (d : DepartmentRow) → Write put_sql (department_cells d) (with_department d)
-put d = record {
-  command = InsertOr 1 Abort (Values terms 9)
-      (record { target = Some (1 ∷ []); update = Some (record { lets = []; body = put_query }) } ∷ []);
-  is = put_is.0;
-  plain = put_is.1;
-  one = put_is.2;
-  on_rows = tt;
-  does = put_does d;
 }
 
 pub every_rises : (trees : Trees) (rows : List Row) → IsAnswer every.query (overlay trees []) ([]) rows

@@ -1,184 +1,24 @@
 -- What a text is, whatever the tables are: a query under one schema is a query under each, and a text that ends no
 -- transaction under one ends none under each.
-use Rattle.std.proofs.Common.{◌≡◌, ◌⊎◌, inl, inr, ℕ, Bool, true, false, List, [], length, ◌+◌, Option, Some, None, Ok, Err, Result, refl, sym, ap, subst, ◌∙◌}
-use Rattle.std.specs.Prelude.{if◌then◌else◌, is_some, not, ◌&&◌, ◌==◌}
-use Rattle.sqlite_ast.specs.declared.Expr.{Expr}
+use Rattle.std.proofs.Common.{◌≡◌, ◌⊎◌, inl, inr, ℕ, Bool, true, false, List, length, ◌+◌, Option, None, Ok, Err, Result, refl, sym, subst, ◌∙◌}
+use Rattle.std.specs.Prelude.{if◌then◌else◌, ◌==◌}
 use Rattle.sqlite_ast.specs.declared.Statement.{Statement}
 use Rattle.sqlite_ast.specs.declared.Statement.TheVariants as written
 use Rattle.sqlite_ast.specs.declared.Conflict.TheVariants as conflict
-use Rattle.sqlite_ast.specs.declared.Rows.{Rows as Given}
-use Rattle.sqlite_ast.specs.declared.Upsert.{Upsert}
-use Rattle.sqlite_ast.specs.declared.CreateTable.{CreateTable as Definition}
-use Rattle.sqlite_ast.specs.declared.CreateIndex.{CreateIndex as IndexDefinition}
-use Rattle.sqlite_ast.specs.declared.Select as written_select
 use Rattle.sqlite_syntax.specs.declared.statement.Parsed.{Parsed}
 use Rattle.sqlite_schema.specs.declared.schema.Schema.{Schema}
-use Rattle.sqlite_schema.specs.declared.schema.Table.{Table}
 use Rattle.sqlite_schema.specs.declared.command.Command.{Command}
-use Rattle.sqlite_schema.specs.declared.command.Command.TheVariants.{Select, Commit, Rollback, Release, Nothing, DropTable, DropView, DropIndex}
-use Rattle.sqlite_schema.specs.declared.command.Conflict.{Conflict}
 use Rattle.sqlite_schema.specs.declared.command.Returning.{Returning}
 use Rattle.sqlite_resolve.specs.declared.compiled.Compiled.{Compiled}
 use Rattle.sqlite_resolve.specs.declared.error.CompileError.{CompileError}
-use Rattle.sqlite_resolve.specs.declared.error.CompileError.TheVariants.{NoSuchTable, NoSuchIndex, Unsupported}
+use Rattle.sqlite_resolve.specs.declared.error.CompileError.TheVariants.{NoSuchTable}
 use Rattle.sqlite_resolve.specs.Lowering.{Checked, and_then}
 use Rattle.sqlite_resolve.specs.Scope.{Name}
-use Rattle.sqlite_resolve.specs.Compile.{command, command_by, compiled, create_index, create_table, create_view, creates, delete, drop_index, drop_table, drop_view, dropped, first, insert, insert_or, insert_or_abort, is_attached, is_reserved, meaning, new_rows, on_table, planned, read, returning, returning_by, small, target, timed, untimed, update, with_command}
-use Rattle.sqlite_resolve.specs.declared.pragma.Known.{Known}
-use Rattle.sqlite_resolve.specs.declared.pragma.Known.TheVariants.{ForeignKeys, JournalMode, BusyTimeout, Synchronous, Optimize, Hint, Unknown}
+use Rattle.sqlite_resolve.specs.Compile.{command, command_by, compiled, first, meaning, planned, returning, returning_by, small, timed, with_command}
 use Rattle.sqlite_schema.specs.declared.command.Conflict.TheVariants as how
-use Rattle.sqlite_schema.specs.Names.{index_named, table_named, view_named}
-use Rattle.std.specs.Option.{option_or}
-use Rattle.sqlite_resolve.specs.Body.{table_at}
-use Rattle.sqlite_resolve.specs.Program.{program, query}
-use Rattle.sqlite_resolve.specs.Write.{updated, deleted}
-use Rattle.sqlite_resolve.specs.Given.{upserts}
-use Rattle.sqlite_resolve.specs.Define as define
-use Rattle.sqlite_resolve.specs.Pragma.{foreign_keys, is_on, known, pragma, pragma_by}
 use Rattle.sqlite.proofs.Callers.{IsPlain}
 use Rattle.sqlite.specs.Listing.{if_select, is_select, listing_schema, reads_listing, understood}
-
--- ---- steps
-
-same_ok : {A : Type 0} {a b : A} → ◌≡◌ {A = Checked A} (Ok a) (Ok b) → a ≡ b
-same_ok e = cc
-
--- what gave a value gave it from the value of its first part
-gone : {A B : Type 0} (r : Checked A) (f : A → Checked B) (b : B) → and_then r f ≡ Ok b → (a : A) × (r ≡ Ok a) × (f a ≡ Ok b)
-gone (Ok a) f b h = (a, refl, h)
-gone (Err e) f b h = absurd (cc)
-
--- ---- what a command is: whether it is a query, and whether it may end a transaction
-
-abbrev pub closes : Command → Bool
-closes Commit = true
-closes Rollback = true
-closes (Release name) = true
-closes _ = false
-
-abbrev pub Is : Bool → Bool → Checked Command → Type 0
-Is asks ends (Ok c) = (is_select c ≡ asks) × (closes c ≡ ends)
-Is asks ends (Err e) = Unit {0}
-
--- what follows in each case follows
-follows : {A : Type 0} (asks ends : Bool) (r : Checked A) (f : A → Checked Command) → ((a : A) → Is asks ends (f a))
-    → Is asks ends (and_then r f)
-follows asks ends (Ok a) f each = each a
-follows asks ends (Err e) f each = tt
-
-either : (asks ends b : Bool) (r q : Checked Command) → Is asks ends r → Is asks ends q → Is asks ends (if b then r else q)
-either asks ends true r q one two = one
-either asks ends false r q one two = two
-
-on_table_is : (asks ends : Bool) (schema : Schema) (name : Name) (f : ℕ → Table → Checked Command)
-    → ((at : ℕ) (table : Table) → Is asks ends (f at table)) → Is asks ends (on_table schema name f)
-on_table_is asks ends schema name f each =
-    follows asks ends (target schema name) _ (λ at. follows asks ends (table_at schema at) _ (λ table. each at table))
-
-read_is : (schema : Schema) (s : written_select.Select) → Is true false (read schema s)
-unfolding read
-read_is schema s =
-    follows true false (query schema s) _ (λ q. follows true false (program schema q.1 q.0.0) _ (λ p. (refl, refl)))
-
-insert_is : (schema : Schema) (base : ℕ) (name : Name) (columns : List Name) (rows : Given)
-    → Is false false (insert schema base name columns rows)
-unfolding insert
-insert_is schema base name columns rows =
-    on_table_is false false schema name _ (λ at table. follows false false (new_rows schema table base columns rows) _ (λ s. (refl, refl)))
-
-insert_or_is : (schema : Schema) (base : ℕ) (way : Conflict) (name : Name) (columns : List Name) (rows : Given) (clauses : List Upsert)
-    → Is false false (insert_or schema base way name columns rows clauses)
-unfolding insert_or
-insert_or_is schema base way name columns rows clauses =
-    on_table_is false false schema name _ (λ at table. follows false false (new_rows schema table base columns rows) _
-    (λ s. follows false false (upserts schema at table base clauses) _ (λ found. (refl, refl))))
-
-insert_or_abort_is : (schema : Schema) (base : ℕ) (name : Name) (columns : List Name) (rows : Given) (clauses : List Upsert)
-    → Is false false (insert_or_abort schema base name columns rows clauses)
-unfolding insert_or_abort
-insert_or_abort_is schema base name columns rows clauses =
-    either false false (length clauses == 0) _ _ (insert_is schema base name columns rows)
-    (insert_or_is schema base how.Abort name columns rows clauses)
-
-create_table_is : (schema : Schema) (formats : List Name) (def : Definition) → Is false false (create_table schema formats def)
-unfolding create_table
-create_table_is schema formats def =
-    either false false (is_attached schema def.name) _ _ tt (follows false false
-    (creates def.if_missing def.name (option_or (table_named schema def.name) (view_named schema def.name)) (index_named schema def.name)) _
-    (λ is_new. either false false is_new _ _ (follows false false (define.table formats def) _
-    (λ t. either false false (length t.computed == length t.stamps.places && not def.resolves) _ _ (refl, refl) tt)) (refl, refl)))
-
-create_index_is : (schema : Schema) (def : IndexDefinition) → Is false false (create_index schema def)
-unfolding create_index
-create_index_is schema def =
-    either false false (is_reserved def.table) _ _ tt (on_table_is false false schema def.table _ (λ at table. follows false false
-    (creates def.if_missing def.name (index_named schema def.name) (option_or (table_named schema def.name) (view_named schema def.name))) _
-    (λ is_new. either false false is_new _ _ (follows false false (define.index table def) _ (λ x. (refl, refl))) (refl, refl))))
-
-create_view_is : (schema : Schema) (if_missing : Bool) (name : Name) (columns : List Name) (s : written_select.Select)
-    → Is false false (create_view schema if_missing name columns s)
-unfolding create_view
-create_view_is schema if_missing name columns s =
-    either false false (is_attached schema name) _ _ tt (follows false false
-    (creates if_missing name (option_or (table_named schema name) (view_named schema name)) (index_named schema name)) _
-    (λ is_new. either false false is_new _ _ (follows false false (read schema s) _ (λ x. (refl, refl))) (refl, refl)))
-
-update_is : (schema : Schema) (name : Name) (sets : List (Name × Expr)) (test : Option Expr)
-    → Is false false (update schema name sets test)
-unfolding update
-update_is schema name sets test =
-    on_table_is false false schema name _ (λ at table. follows false false (updated schema at table sets test) _
-    (λ d. follows false false (program schema [] d) _ (λ p. (refl, refl))))
-
-delete_is : (schema : Schema) (name : Name) (test : Option Expr) → Is false false (delete schema name test)
-unfolding delete
-delete_is schema name test =
-    on_table_is false false schema name _ (λ at table. follows false false (deleted schema at table test) _
-    (λ d. follows false false (program schema [] d) _ (λ p. (refl, refl))))
-
-dropped_is : (command : ℕ → Command) (missing : CompileError) (if_exists : Bool) (at : Option ℕ)
-    → ((n : ℕ) → (is_select (command n) ≡ false) × (closes (command n) ≡ false)) → Is false false (dropped command missing if_exists at)
-dropped_is command missing if_exists (Some at) is = is at
-dropped_is command missing true None is = (refl, refl)
-dropped_is command missing false None is = tt
-
-drop_table_is : (schema : Schema) (if_exists : Bool) (name : Name) → Is false false (drop_table schema if_exists name)
-unfolding drop_table
-drop_table_is schema if_exists name =
-    either false false (is_reserved name) _ _ tt (either false false (is_some (view_named schema name)) _ _ tt
-    (dropped_is DropTable NoSuchTable if_exists (table_named schema name) (λ n. (refl, refl))))
-
-drop_view_is : (schema : Schema) (if_exists : Bool) (name : Name) → Is false false (drop_view schema if_exists name)
-unfolding drop_view
-drop_view_is schema if_exists name =
-    either false false (is_some (table_named schema name)) _ _ tt
-    (dropped_is DropView NoSuchTable if_exists (view_named schema name) (λ n. (refl, refl)))
-
-drop_index_is : (schema : Schema) (if_exists : Bool) (name : Name) → Is false false (drop_index schema if_exists name)
-unfolding drop_index
-drop_index_is schema if_exists name =
-    either false false (is_reserved name) _ _ tt (either false false (is_attached schema name) _ _ tt
-    (dropped_is DropIndex NoSuchIndex if_exists (index_named schema name) (λ n. (refl, refl))))
-
-foreign_keys_is : (value : Option Name) → Is false false (foreign_keys value)
-unfolding is_on
-foreign_keys_is None = (refl, refl)
-foreign_keys_is (Some value) = either false false (is_on value) (Ok Nothing) (Err Unsupported) (refl, refl) tt
-
-pragma_by_is : (value : Option Name) (k : Known) → Is false false (pragma_by value k)
-pragma_by_is value ForeignKeys = foreign_keys_is value
-pragma_by_is value JournalMode = (refl, refl)
-pragma_by_is value BusyTimeout = (refl, refl)
-pragma_by_is None Synchronous = (refl, refl)
-pragma_by_is (Some name) Synchronous = (refl, refl)
-pragma_by_is value Optimize = (refl, refl)
-pragma_by_is None Hint = tt
-pragma_by_is (Some name) Hint = (refl, refl)
-pragma_by_is value Unknown = tt
-
-pragma_is : (name : Name) (value : Option Name) → Is false false (pragma name value)
-unfolding pragma
-pragma_is name value = pragma_by_is value (known name)
+use Rattle.store_sql.proofs.Commands.{Is, closes, same_ok, gone, either, read_is, insert_or_is, insert_or_abort_is, create_table_is, create_index_is, create_view_is, update_is, delete_is, drop_table_is, drop_view_is, drop_index_is, pragma_is}
 
 -- ---- what the written statement says of it
 

@@ -1,5 +1,5 @@
 -- From what a query shows to what a call finds.
-use Rattle.std.proofs.Common.{◌≡◌, ◌≢◌, inl, inr, IsTrue, arith, List, [], ◌∷◌, map, Option, None, Some, Ok, Err, Result, refl, sym, ap, subst, ◌∙◌, IfErr}
+use Rattle.std.proofs.Common.{◌≡◌, ◌≢◌, inl, arith, List, [], ◌∷◌, map, Option, None, Some, Ok, Err, Result, refl, sym, ap, subst, ◌∙◌, IfErr}
 use Rattle.std.specs.Prelude.{true, false, if◌then◌else◌, Vec, OnOk}
 use Rattle.std.specs.declared.alloc.Global.{Global}
 use Rattle.std.specs.List.Sorted.{IsPermutation}
@@ -13,7 +13,7 @@ use Rattle.store_sql.specs.declared.table_fault.Fault.TheVariants.{Device, Damag
 use Rattle.store_sql.specs.Faults.{fault_of, is_out_of_memory, HasCause, Misread}
 use Rattle.store_sql.specs.Done.{IsFirst, IsRead, IsFirstRead}
 use Rattle.store_sql.specs.Contents.{Contents, Means}
-use Rattle.store_sql.specs.Calls.{Fails, FindsIn, FindsOne, IsOneOf, OnlyReads}
+use Rattle.store_sql.specs.Calls.{FindsIn, FindsOne, IsOneOf, OnlyReads}
 use Rattle.store_sql.proofs.Texts.{Shows}
 use Rattle.store_sql.proofs.Unmapped.{unmapped}
 

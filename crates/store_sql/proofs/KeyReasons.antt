@@ -1,19 +1,17 @@
--- Why a request, a revoked key id or a CA is refused.
-use Rattle.std.proofs.Common.{◌≡◌, ◌⊎◌, inl, inr, ℕ, pos, ◌<◌, ◌^◌, ◌≤◌, List, [], ◌∷◌, drop, length, true, false, Result, refl, sym, ap, subst, ◌∙◌, arith}
-use Rattle.std.specs.Prelude.{◌&&◌, ◌||◌, bytes_eq}
-use Rattle.std.specs.List.{AllByRecursion}
-use Rattle.std.proofs.lemmas.Bool.{and_parts, ltb-false, lt-ltb}
+-- Why a request or a revoked key id is refused.
+use Rattle.std.proofs.Common.{◌≡◌, inl, inr, ℕ, pos, ◌^◌, ◌≤◌, List, [], ◌∷◌, length, true, false, Result, refl, sym, ap, subst, ◌∙◌, arith}
+use Rattle.std.specs.Prelude.{◌&&◌}
+use Rattle.std.proofs.lemmas.Bool.{and_parts, ltb-false}
 use Rattle.std.proofs.lemmas.List.Sorted.{length_permutation}
 use Rattle.std.proofs.lemmas.List.{length-map}
 use Rattle.std.proofs.lemmas.Slice.Eq.{bytes_eq-Decides}
 use Rattle.sqlite_value.specs.Keys.{first_key, joined}
 use Rattle.sqlite_schema.specs.Names.{same_name}
-use Rattle.sqlite.specs.declared.types.Value.TheVariants.{Null, Int, Text, Blob}
+use Rattle.sqlite.specs.declared.types.Value.TheVariants.{Int, Text}
 use Rattle.sqlite.specs.Collation.TheVariants.{Binary}
 use Rattle.sqlite.specs.Order.{Row, column}
-use Rattle.sqlite.specs.Tree.{Trees}
 use Rattle.sqlite.specs.Cast.{cast_row}
-use Rattle.sqlite.specs.Edit.{left_by, with_rowid}
+use Rattle.sqlite.specs.Edit.{with_rowid}
 use Rattle.sqlite.specs.Rowids.TheVariants.{Chosen}
 use Rattle.sqlite.specs.State.{State}
 use Rattle.sqlite.specs.Source.TheVariants.{Values}
@@ -24,25 +22,23 @@ use Rattle.sqlite_rules.proofs.ListLemmas.{all_from, all_has}
 use Rattle.sqlite_rules.proofs.PlaceLemmas.{next_is_free}
 use Rattle.sqlite_schema.specs.declared.schema.Constraint.TheVariants.{Unique, ForeignKey}
 use Rattle.sqlite_schema.specs.Rules.{agree, equal, guards}
-use Rattle.store_sql.specs.Schema.{whole, request_at, revoked_at, ca_at}
-use Rattle.store_sql.specs.Cells.{request_cells, key_id_cells, ca_cells}
-use Rattle.store_sql.specs.Contents.{AreNumbered, Contents, Lists, Means, at_places, request_places, key_id_places, ca_places}
-use Rattle.store_sql.specs.Refusals.{HasOne, IsFull, RefusedFor, RefusesCa, RefusesKeyId, RefusesRequest}
-use Rattle.store_sql.specs.declared.cas.CaRow.{CaRow}
+use Rattle.store_sql.specs.Schema.{whole, request_at, revoked_at}
+use Rattle.store_sql.specs.Cells.{request_cells, key_id_cells}
+use Rattle.store_sql.specs.Contents.{AreNumbered, Contents, Lists, Means, at_places, request_places, key_id_places}
+use Rattle.store_sql.specs.Refusals.{HasOne, IsFull, RefusedFor, RefusesKeyId, RefusesRequest}
 use Rattle.store_sql.specs.declared.requests.RequestRow.{RequestRow}
 use Rattle.store_sql.proofs.RequestTable as request
 use Rattle.store_sql.proofs.RevokedTable as revoked
-use Rattle.store_sql.proofs.CaTable as ca
 use Rattle.store_sql.proofs.Edits.{of_record}
-use Rattle.store_sql.proofs.InsertReasons.{insert_halted, none_orphaned, taken_number}
+use Rattle.store_sql.proofs.InsertReasons.{insert_halted, none_orphaned}
 use Rattle.store_sql.proofs.Numbering.{ints_of, next_number}
-use Rattle.store_sql.proofs.Queries.{blob_test, text_test}
+use Rattle.store_sql.proofs.Queries.{text_test}
 use Rattle.store_sql.proofs.Reasons.{HasClash, IsPut, halted, one, storable}
 use Rattle.store_sql.specs.declared.table_fault.Fault.{Fault}
 use Rattle.store_sql.specs.Calls.{FailsBy}
 use Rattle.store_sql.proofs.FaultLemmas.{HasWriteCause}
 use Rattle.store_sql.proofs.Refused.{Stops, refused_for}
-use Rattle.store_sql.proofs.Rows.{cast_int, cast_null}
+use Rattle.store_sql.proofs.Rows.{cast_null}
 
 -- ---- what every such table has in common
 
@@ -75,9 +71,6 @@ free rows rest all up taken =
 
 pub same_text : (a b : List ℕ) → equal Binary (Text a) (Text b) ≡ true → a ≡ b
 same_text a b h = (bytes_eq-Decides a b).0 (sym (text_test a b) ∙ h)
-
-pub same_blob : (a b : List ℕ) → equal Binary (Blob a) (Blob b) ≡ true → a ≡ b
-same_blob a b h = (bytes_eq-Decides a b).0 (sym (blob_test a b) ∙ h)
 
 -- ---- a request
 
@@ -216,71 +209,6 @@ refuses_key_id x s c means stops =
     (insert_halted revoked.insert_sql key_id_cells 5 revoked_at revoked.terms 2 revoked.source revoked_row refl (λ y. refl)
     (λ y. refl) revoked_made x s c means stops)
 
--- ---- a CA
-
-abbrev ca_row : CaRow → Row
-ca_row a = Int (pos a.number) ∷ Null ∷ Blob a.ca ∷ Int (pos a.since) ∷ []
-
-ca_made : (a : CaRow) (rows : List Row) → with_rowid Chosen rows (cast_row ca_at (ca.source a)) ≡ ca_row a
-ca_made a rows = simp (cast_int, cast_null)
-
-ca_put : (a : CaRow) (s : State) (c : Contents) → Means s.now c → IsPut s.now.trees ca_at [] (ca_row a)
-unfolding same_name joined
-ca_put a s c means = record {
-  listed = inr (inr (inr (inr (inr (inr (inl refl))))));
-  ordered = means.kept.holds.cas.apart;
-  typed = refl;
-  present = refl;
-  checked = refl;
-  keyed = refl;
-  referred = refl;
-  unique = means.kept.sound.obeys.rules Unique;
-  short = λ fits. (storable _ (ca_row a) refl (refl, (refl, (refl, (refl, tt)))) (omega arith, omega arith) fits, omega arith);
-  entries = λ fits. (
-    (λ e. cc),
-    (
-      (λ e. cc),
-      (
-        (λ e. cc),
-        (
-          (λ e. storable _ (Blob a.ca ∷ Int (pos a.number) ∷ []) refl (refl, (refl, tt))
-              (omega arith, omega arith) (omega (arith, fits))),
-          tt,
-        ),
-      ),
-    ),
-  );
-}
-
--- the key is there
-ca_clash : (a : CaRow) (s : State) (c : Contents) → Means s.now c → HasClash s.now.trees ca_at [] (ca_row a)
-    → HasOne (λ d. (d.number ≡ a.number) ⊎ (d.ca ≡ a.ca)) c.cas
-unfolding first_key
-ca_clash a s c means (i, here, on, other, there, same) =
-    let it = of_record ca_cells ca_places (s.now.trees 9) c.cas other means.kept.holds.cas there in
-    let blob : column other 2 ≡ Blob it.0.ca = ap (λ v. column v 1) it.2 in
-    let both = all_has (λ j. guards j ca_at ≡ true → agree j.order j.columns other j.columns (ca_row a) ≡ true
-    → (equal Binary (column other 2) (Blob a.ca) && true) ≡ true) whole.indexes i
-    ((λ e. cc), ((λ e. cc), ((λ e. cc), ((λ e same. same), tt)))) here on same in
-    let first = and_parts (equal Binary (column other 2) (Blob a.ca)) true both in
-    (it.0, it.1, inr (same_blob it.0.ca a.ca (subst (λ v. equal Binary v (Blob a.ca) ≡ true) blob first.0)))
-
-pub refuses_ca : (x : CaRow) → x.number < 2 ^ 63 → (s : State) (c : Contents) → Means s.now c
-    → Stops ca.insert_sql (ca_cells x) (Insert 6 (Values ca.terms 4)) s → RefusesCa x c
-refuses_ca x below s c means stops =
-    let db = s.now.trees in
-    let row = ca_row x in
-    halted db ca_at [] row (ca_put x s c means)
-    (λ out. absurd (let wrong : true ≡ false = sym (lt-ltb x.number (2 ^ 63) below) ∙ out in cc))
-    (λ taken. let it = taken_number ca_cells ca_places (λ y. y.number) (db 9) c.cas x.number (drop 1 row)
-    (λ y r is. ap (λ v. column v 0) is) means.kept.holds.cas taken in inl (it.0, it.1, inl it.2))
-    (λ clash. inl (ca_clash x s c means clash))
-    (λ long. inr (omega (arith, long)))
-    (λ next did broken. absurd (none_orphaned db next (one db ca_at [] row) (means.kept.sound.obeys.rules ForeignKey) did
-    (λ e. cc) (λ e. cc) broken))
-    (insert_halted ca.insert_sql ca_cells 6 ca_at ca.terms 4 ca.source (λ y rows. ca_row y) refl (λ y. refl) (λ y. refl)
-    ca_made x s c means stops)
-
 -- ---- the calls
 
 pub request_fails : {X : Type 0} (x : RequestRow) (old new : State) (r : Result X Fault)
@@ -294,9 +222,3 @@ pub key_id_fails : {X : Type 0} (x : List ℕ) (old new : State) (r : Result X F
 key_id_fails x old new r =
     refused_for revoked.insert_sql (key_id_cells x) (Insert 5 (Values revoked.terms 2)) revoked.insert_is.0 revoked.insert_is.2
     (RefusesKeyId x) (refuses_key_id x) old new r
-
-pub ca_fails : {X : Type 0} (x : CaRow) → x.number < 2 ^ 63 → (old new : State) (r : Result X Fault)
-    → FailsBy (HasWriteCause ca.insert_sql (ca_cells x)) old new r → RefusedFor (RefusesCa x) old new r
-ca_fails x below old new r =
-    refused_for ca.insert_sql (ca_cells x) (Insert 6 (Values ca.terms 4)) ca.insert_is.0 ca.insert_is.2 (RefusesCa x)
-    (refuses_ca x below) old new r

@@ -1,12 +1,15 @@
 pub mod Apart
 pub mod CallLemmas
+pub mod CaReasons
 pub mod CaTable
 pub mod CreateFaults
 pub mod CertReasons
 pub mod CertTable
 pub mod ColumnNames
+pub mod Commands
 pub mod DepartmentReasons
 pub mod DepartmentTable
+pub mod DepartmentUpsert
 pub mod DoneLemmas
 pub mod Edits
 pub mod Elsewhere
@@ -24,10 +27,11 @@ pub mod LastRun
 pub mod Later
 pub mod Makeable
 pub mod Makes
-pub mod NumberReasons
 pub mod Numbering
 pub mod Numbers
+pub mod OfficeReasons
 pub mod OfficeTable
+pub mod OfficeUpdates
 pub mod Queries
 pub mod Reasons
 pub mod Refused
@@ -36,6 +40,8 @@ pub mod RequestTable
 pub mod RevokedTable
 pub mod Rising
 pub mod Rows
+pub mod RowTests
+pub mod RunReasons
 pub mod RunTable
 pub mod Statements
 pub mod Staying

@@ -18,7 +18,8 @@ use Rattle.store_sql.specs.Schema.{no_schema, with_office, with_department, with
 use Rattle.store_sql.specs.Calls.{Creates, Stays, Waits}
 use Rattle.store_sql.specs.Done.{IsDone}
 use Rattle.store_sql.specs.declared.table_fault.Fault.{Fault}
-use Rattle.store_sql.proofs.Forms.{closes, ends_nowhere, is_compiled}
+use Rattle.store_sql.proofs.Commands.{closes}
+use Rattle.store_sql.proofs.Forms.{ends_nowhere, is_compiled}
 use Rattle.store_sql.proofs.Staying.{stays_done}
 use Rattle.store_sql.proofs.Statements.{went, same_value, stopped, commits_as}
 

@@ -14,7 +14,7 @@ use Rattle.sqlite.proofs.StateLemmas.{survives_then}
 use Rattle.store_sql.specs.declared.table_fault.Fault.{Fault}
 use Rattle.store_sql.specs.Done.{IsDone}
 use Rattle.store_sql.specs.Calls.{Never, OnlyReads, Stays}
-use Rattle.store_sql.proofs.Forms.{closes}
+use Rattle.store_sql.proofs.Commands.{closes}
 use Rattle.store_sql.proofs.Later.{inside_is, stops, stops_then as later_fails}
 use Rattle.store_sql.proofs.Statements.{stopped}
 

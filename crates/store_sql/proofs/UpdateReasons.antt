@@ -22,7 +22,7 @@ use Rattle.sqlite_schema.specs.declared.schema.Constraint.TheVariants.{Datatype,
 use Rattle.sqlite_rules.proofs.PlaceLemmas.{tied_same}
 use Rattle.store_sql.specs.Schema.{whole}
 use Rattle.store_sql.specs.Contents.{Lists, at_places}
-use Rattle.store_sql.proofs.DepartmentTable.{none_passes, only_one}
+use Rattle.store_sql.proofs.RowTests.{none_passes, only_one}
 use Rattle.store_sql.proofs.Edits.{of_record}
 use Rattle.store_sql.proofs.InsertReasons.{all_refer, each_refers}
 use Rattle.store_sql.proofs.Stops.{IsHalted}

@@ -69,10 +69,7 @@ pub(crate) fn read_first<T: Columns>(alloc: Global, rows: &[Row]) -> Result<Opti
 {
     match rows {
         [] => Ok(None),
-        [first, ..] => match read(alloc, first) {
-            Ok(columns) => Ok(Some(columns)),
-            Err(fault) => Err(fault),
-        },
+        [first, ..] => Ok(Some(read(alloc, first)?)),
     }
 }
 

@@ -65,10 +65,9 @@ fn add_key_id<S: Alter>(alloc: Global, conn: &mut Connection<S>, key_id: &Text) 
     ensures stays { On S.Store Stays conn.old conn.new result }
     ensures survives { OutlivesBy S.Store (Waits Has) conn.old conn.new }
 {
-    match find_revoked(alloc, conn, key_id.as_slice()) {
-        Ok(None) => insert_revoked(conn, key_id.as_slice()),
-        Ok(Some(_)) => Ok(()),
-        Err(fault) => Err(fault),
+    match find_revoked(alloc, conn, key_id.as_slice())? {
+        None => insert_revoked(conn, key_id.as_slice()),
+        Some(_) => Ok(()),
     }
 }
 

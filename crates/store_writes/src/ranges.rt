@@ -65,13 +65,9 @@ fn put_from<S: Alter>(
     ensures stays { On S.Store Stays conn.old conn.new result }
     ensures survives { OutlivesBy S.Store (Waits Has) conn.old conn.new }
 {
-    match last_run(alloc, conn, number(range.hi + 1)) {
-        Ok(found) => {
-            let hi = joined_high(range.hi, found);
-            replace(conn, &RunRow { lo, hi })
-        }
-        Err(fault) => Err(fault),
-    }
+    let found = last_run(alloc, conn, number(range.hi + 1))?;
+    let hi = joined_high(range.hi, found);
+    replace(conn, &RunRow { lo, hi })
 }
 
 /// Puts a range among the runs: it and those that it touches or overlaps become one. It reads two runs, however many
@@ -87,8 +83,6 @@ pub(crate) fn put_range<S: Alter>(
     ensures stays { On S.Store Stays conn.old conn.new result }
     ensures survives { OutlivesBy S.Store (Waits Has) conn.old conn.new }
 {
-    match last_run(alloc, conn, number(range.lo)) {
-        Ok(found) => put_from(alloc, conn, range, joined_low(range.lo, found)),
-        Err(fault) => Err(fault),
-    }
+    let found = last_run(alloc, conn, number(range.lo))?;
+    put_from(alloc, conn, range, joined_low(range.lo, found))
 }

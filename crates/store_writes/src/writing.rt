@@ -29,10 +29,8 @@ fn record<S: Alter>(
     ensures stays { On S.Store Stays conn.old conn.new result }
     ensures survives { OutlivesBy S.Store (Waits Has) conn.old conn.new }
 {
-    match update_office(conn, counters) {
-        Ok(()) => insert_request(conn, request),
-        Err(fault) => Err(fault),
-    }
+    update_office(conn, counters)?;
+    insert_request(conn, request)
 }
 
 fn write_rows<S: Alter>(
@@ -51,10 +49,8 @@ fn write_rows<S: Alter>(
     ensures stays { On S.Store Stays conn.old conn.new result }
     ensures survives { OutlivesBy S.Store (Waits Has) conn.old conn.new }
 {
-    match record(conn, counters, request) {
-        Ok(()) => make(alloc, conn, number, counters.next, change),
-        Err(fault) => Err(fault),
-    }
+    record(conn, counters, request)?;
+    make(alloc, conn, number, counters.next, change)
 }
 
 /// Writes what was decided of an arrival, inside a transaction: the change, the counters and a row for the request.

@@ -1,4 +1,4 @@
-use Rattle.lines.proofs.KeyLineLaws.{word_is_blob}
+use Rattle.lines.proofs.BlobWords.{word_is_blob}
 use Rattle.lines.proofs.laws.base64_words_are_blobs.Goals as goal
 
 pub returns : goal.returns

@@ -1,3 +1,4 @@
+use Rattle.std.proofs.lemmas.Result.{err_from_is_err_and}
 use Rattle.std.proofs.Common.{arith, refl}
 use Rattle.sqlite.specs.Held.{state}
 use Rattle.sqlite.specs.State.{HasCleanDisk}
@@ -13,12 +14,12 @@ use Rattle.store.proofs.Bare.{bare_leads, bare_waits}
 use Rattle.store_sql.proofs.Staying.{stays_then}
 use Rattle.store.proofs.creating.make.Goals as goal
 
-pub returns-in-Err-clause-survives : goal.returns-in-Err-clause-survives
-returns-in-Err-clause-survives g c =
+pub returns-in_err-create_tables-clause-survives : goal.returns-in_err-create_tables-clause-survives
+returns-in_err-create_tables-clause-survives g c =
     bare_waits (state g.S.Store c.args.conn.now) (state g.S.Store c.create_tables.new.conn) c.create_tables.ensures.survives
 
-pub returns-in-Ok-clause-makes : goal.returns-in-Ok-clause-makes
-returns-in-Ok-clause-makes g c clean =
+pub returns-clause-makes : goal.returns-clause-makes
+returns-clause-makes g c clean =
     let old = state g.S.Store c.args.conn.now in
     let mid = state g.S.Store c.create_tables.new.conn in
     let new = state g.S.Store c.fill.new.conn in
@@ -26,41 +27,42 @@ returns-in-Ok-clause-makes g c clean =
     answers_then (λ (_ : Unit {0}). IsBare no_schema) (λ _ _. Unit {0})
     (λ _. with_ca c.args.ca.now (with_office c.args.office.now no_contents)) Has (λ _ _. Unit {0})
     (λ x. with_ca c.args.ca.now (with_office c.args.office.now x)) (λ _. no_contents) old mid new c.fill.result
-    (bare_leads old mid (c.in-Ok.ensures.completes still)) (c.fill.ensures.makes clean)
+    (bare_leads old mid (c.in_ok-create_tables.ensures.completes still)) (c.fill.ensures.makes clean)
     (λ _ _ _. tt) (λ _. refl)
 
-pub returns-in-Err-clause-fails : goal.returns-in-Err-clause-fails
-returns-in-Err-clause-fails g c clean x bare =
+pub returns-in_err-create_tables-clause-fails : goal.returns-in_err-create_tables-clause-fails
+returns-in_err-create_tables-clause-fails g c clean =
+    let p = err_from_is_err_and c.from_residual.result c.from_residual.ensures.1 in
     let old = state g.S.Store c.args.conn.now in
     let new = state g.S.Store c.create_tables.new.conn in
-    cause_of (RefusesFirst c.args.office.now c.args.ca.now no_contents) old new c.in-Err.fault
-    (c.in-Err.ensures.fault clean bare)
+    rw (p.1, p.2) (λ x bare. cause_of (RefusesFirst c.args.office.now c.args.ca.now no_contents) old new c.in_err-create_tables.field-0.0
+    (c.in_err-create_tables.ensures.fault clean bare))
 
-pub returns-in-Ok-clause-fails : goal.returns-in-Ok-clause-fails
-returns-in-Ok-clause-fails g c clean =
+pub returns-clause-fails : goal.returns-clause-fails
+returns-clause-fails g c clean =
     let old = state g.S.Store c.args.conn.now in
     let mid = state g.S.Store c.create_tables.new.conn in
     let new = state g.S.Store c.fill.new.conn in
     let still : HasCleanDisk mid = omega (arith, c.fill.ensures.survives.clean) in
     let refused = RefusesFirst c.args.office.now c.args.ca.now in
     fails_then (λ (_ : Unit {0}). IsBare no_schema) Has refused (λ _. refused no_contents) (λ _. no_contents)
-    (WaitsAt no_schema old) old mid new c.fill.result (bare_leads old mid (c.in-Ok.ensures.completes still))
+    (WaitsAt no_schema old) old mid new c.fill.result (bare_leads old mid (c.in_ok-create_tables.ensures.completes still))
     (λ x bare why. why) c.create_tables.ensures.survives still c.fill.ensures.survives.counts (c.fill.ensures.fails clean)
 
-pub returns-in-Ok-clause-survives : goal.returns-in-Ok-clause-survives
-returns-in-Ok-clause-survives g c =
+pub returns-clause-survives : goal.returns-clause-survives
+returns-clause-survives g c =
     let old = state g.S.Store c.args.conn.now in
     let mid = state g.S.Store c.create_tables.new.conn in
     let new = state g.S.Store c.fill.new.conn in
     waits_then (λ (_ : Unit {0}). IsBare no_schema) Has (λ _. no_contents) old mid new
-    (λ clean. bare_leads old mid (c.in-Ok.ensures.completes clean))
+    (λ clean. bare_leads old mid (c.in_ok-create_tables.ensures.completes clean))
     (bare_waits old mid c.create_tables.ensures.survives) c.fill.ensures.survives
 
-pub returns-in-Ok-clause-stays : goal.returns-in-Ok-clause-stays
-returns-in-Ok-clause-stays g c clean =
+pub returns-clause-stays : goal.returns-clause-stays
+returns-clause-stays g c clean =
     let old = state g.S.Store c.args.conn.now in
     let mid = state g.S.Store c.create_tables.new.conn in
     let new = state g.S.Store c.fill.new.conn in
     let still : HasCleanDisk mid = omega (arith, c.fill.ensures.survives.clean) in
-    stays_then {X = Unit {0}} old mid new tt c.fill.result (c.in-Ok.ensures.stays still)
+    stays_then {X = Unit {0}} old mid new tt c.fill.result (c.in_ok-create_tables.ensures.stays still)
     (c.fill.ensures.stays clean)

@@ -1,3 +1,4 @@
+use Rattle.std.proofs.lemmas.Result.{err_from_is_err_and}
 use Rattle.std.proofs.Common.{arith}
 use Rattle.std.proofs.lemmas.Result.{IfErr-weaker}
 use Rattle.sqlite.specs.Held.{state}
@@ -13,8 +14,8 @@ use Rattle.store.specs.Creating.{RefusesFirst}
 use Rattle.store_rows.proofs.Before.{concludes_before, fails_before}
 use Rattle.store.proofs.creating.make_whole.Goals as goal
 
-pub returns-in-Ok-clause-ends : goal.returns-in-Ok-clause-ends
-returns-in-Ok-clause-ends g c clean =
+pub returns-clause-ends : goal.returns-clause-ends
+returns-clause-ends g c clean =
     let old = state g.S.Store c.args.conn.now in
     let first = state g.S.Store c.begin.new.conn in
     let last = state g.S.Store c.make-made.new.conn in
@@ -23,18 +24,19 @@ returns-in-Ok-clause-ends g c clean =
     let early : HasCleanDisk first = omega (arith, c.conclude.ensures.survives.clean, c.make-made.ensures.survives.clean) in
     ends (λ (_ : Unit {0}). IsBare no_schema) (λ _ _. Unit {0})
     (λ _. with_ca c.args.ca.now (with_office c.args.office.now no_contents)) old first last new c.make-made.result
-    c.conclude.result (c.in-Ok.ensures.begins early) (c.make-made.ensures.makes late)
+    c.conclude.result (c.in_ok-begin.ensures.begins early) (c.make-made.ensures.makes late)
     (c.conclude.ensures.concludes clean)
 
-pub returns-in-Err-clause-cause : goal.returns-in-Err-clause-cause
-returns-in-Err-clause-cause g c clean rests =
+pub returns-in_err-begin-clause-cause : goal.returns-in_err-begin-clause-cause
+returns-in_err-begin-clause-cause g c clean =
+    let p = err_from_is_err_and c.from_residual.result c.from_residual.ensures.1 in
     let old = state g.S.Store c.args.conn.now in
     let new = state g.S.Store c.begin.new.conn in
-    cause_of (RefusesFirst c.args.office.now c.args.ca.now no_contents) old new c.in-Err.fault
-    (c.in-Err.ensures.fault clean rests.autocommit)
+    rw (p.1, p.2) (λ rests. cause_of (RefusesFirst c.args.office.now c.args.ca.now no_contents) old new c.in_err-begin.field-0.0
+    (c.in_err-begin.ensures.fault clean rests.autocommit))
 
-pub returns-in-Ok-clause-cause : goal.returns-in-Ok-clause-cause
-returns-in-Ok-clause-cause g c clean rests =
+pub returns-clause-cause : goal.returns-clause-cause
+returns-clause-cause g c clean rests =
     let old = state g.S.Store c.args.conn.now in
     let first = state g.S.Store c.begin.new.conn in
     let last = state g.S.Store c.make-made.new.conn in
@@ -46,32 +48,33 @@ returns-in-Ok-clause-cause g c clean rests =
     (stops_for (λ (_ : Unit {0}). IsBare no_schema) (λ _ _. Unit {0})
     (λ _. with_ca c.args.ca.now (with_office c.args.office.now no_contents)) (λ _. refused)
     (Waits (λ (_ : Unit {0}). IsBare no_schema) first) old first last new c.begin.ensures.survives c.make-made.ensures.survives
-    early late c.conclude.ensures.survives.counts c.make-made.result c.conclude.result (c.in-Ok.ensures.begins early)
+    early late c.conclude.ensures.survives.counts c.make-made.result c.conclude.result (c.in_ok-begin.ensures.begins early)
     (c.make-made.ensures.makes late) (c.make-made.ensures.fails late) (c.conclude.ensures.concludes clean)
     (c.conclude.ensures.cause clean))
 
-pub returns-in-Ok-clause-survives : goal.returns-in-Ok-clause-survives
-returns-in-Ok-clause-survives g c =
+pub returns-clause-survives : goal.returns-clause-survives
+returns-clause-survives g c =
     let old = state g.S.Store c.args.conn.now in
     let first = state g.S.Store c.begin.new.conn in
     let last = state g.S.Store c.make-made.new.conn in
     let new = state g.S.Store c.conclude.new.conn in
     left (λ (_ : Unit {0}). IsBare no_schema) (λ _ _. Unit {0})
     (λ _. with_ca c.args.ca.now (with_office c.args.office.now no_contents)) old first last new c.make-made.result
-    c.in-Ok.ensures.begins c.make-made.ensures.makes c.begin.ensures.survives c.make-made.ensures.survives
+    c.in_ok-begin.ensures.begins c.make-made.ensures.makes c.begin.ensures.survives c.make-made.ensures.survives
     c.conclude.ensures.survives
 
-pub returns-in-Ok-clause-before : goal.returns-in-Ok-clause-before
-returns-in-Ok-clause-before g c clean =
+pub returns-clause-before : goal.returns-clause-before
+returns-clause-before g c clean =
     let old = state g.S.Store c.args.conn.now in
     let first = state g.S.Store c.begin.new.conn in
     let last = state g.S.Store c.make-made.new.conn in
     let new = state g.S.Store c.conclude.new.conn in
     let late : HasCleanDisk last = omega (arith, c.conclude.ensures.survives.clean) in
     let early : HasCleanDisk first = omega (arith, c.conclude.ensures.survives.clean, c.make-made.ensures.survives.clean) in
-    concludes_before old first last new c.make-made.result c.conclude.result (c.in-Ok.ensures.begins early)
+    concludes_before old first last new c.make-made.result c.conclude.result (c.in_ok-begin.ensures.begins early)
     (c.make-made.ensures.stays late) (c.conclude.ensures.concludes clean)
 
-pub returns-in-Err-clause-before : goal.returns-in-Err-clause-before
-returns-in-Err-clause-before g c clean =
-    fails_before (state g.S.Store c.args.conn.now) (state g.S.Store c.begin.new.conn) (c.in-Err.ensures.begins clean)
+pub returns-in_err-begin-clause-before : goal.returns-in_err-begin-clause-before
+returns-in_err-begin-clause-before g c clean =
+    let p = err_from_is_err_and c.from_residual.result c.from_residual.ensures.1 in
+    rw p.1 (fails_before (state g.S.Store c.args.conn.now) (state g.S.Store c.begin.new.conn) (c.in_err-begin.ensures.begins clean))

@@ -1,3 +1,4 @@
+use Rattle.std.proofs.lemmas.Result.{err_from_is_err_and}
 use Rattle.std.proofs.Common.{ℕ, List, Ok, Err, sym, subst}
 use Rattle.sqlite.specs.Held.{state}
 use Rattle.office.specs.declared.arrival.Outcome.TheVariants as outcome
@@ -11,38 +12,40 @@ use Rattle.store.proofs.Accepted.{is_due, settles_unwritten, settles_written, wa
 use Rattle.store.proofs.Limits.{limited}
 use Rattle.store.proofs.settling.accept.Goals as goal
 
-pub returns-in-Ok-write-clause-settles : goal.returns-in-Ok-write-clause-settles
-returns-in-Ok-write-clause-settles g c clean =
+pub returns-clause-settles : goal.returns-clause-settles
+returns-clause-settles g c clean =
     let a = c.args.arrival.now in
     let d = c.args.decision.now in
     let cas = c.args.cas.now in
     let old = state g.S.Store c.args.conn.now in
     let new = state g.S.Store c.write.new.conn in
-    subst (λ (x : List ℕ). Settles a (IsAccepted a d cas) old new (Ok (outcome.Accepted x))) (sym c.in-Ok.ensures)
-    (settles_written a d cas old new c.requires.nonce (c.in-Ok-write.ensures.makes clean))
+    subst (λ (x : List ℕ). Settles a (IsAccepted a d cas) old new (Ok (outcome.Accepted x))) (sym c.in_ok-reply.ensures)
+    (settles_written a d cas old new c.requires.nonce (c.in_ok-write.ensures.makes clean))
 
-pub returns-in-Ok-write-clause-survives : goal.returns-in-Ok-write-clause-survives
-returns-in-Ok-write-clause-survives g c =
+pub returns-clause-survives : goal.returns-clause-survives
+returns-clause-survives g c =
     waits_written c.args.arrival.now c.args.decision.now c.args.cas.now (state g.S.Store c.args.conn.now)
     (state g.S.Store c.write.new.conn) c.write.ensures.survives
 
-pub returns-in-Err-clause-settles : goal.returns-in-Err-clause-settles
-returns-in-Err-clause-settles g c clean =
-    settles_unwritten c.args.arrival.now c.args.decision.now c.args.cas.now (state g.S.Store c.args.conn.now)
-    (state g.S.Store c.write.new.conn) c.in-Err.fault (c.in-Err.ensures.makes clean)
+pub returns-in_err-write-clause-settles : goal.returns-in_err-write-clause-settles
+returns-in_err-write-clause-settles g c clean =
+    let p = err_from_is_err_and c.from_residual-in_err-write.result c.from_residual-in_err-write.ensures.1 in
+    rw p.1 (settles_unwritten c.args.arrival.now c.args.decision.now c.args.cas.now (state g.S.Store c.args.conn.now)
+    (state g.S.Store c.write.new.conn) c.in_err-write.field-0.0 (c.in_err-write.ensures.makes clean))
 
-pub returns-in-Err-clause-fails : goal.returns-in-Err-clause-fails
-returns-in-Err-clause-fails g c clean =
+pub returns-in_err-write-clause-fails : goal.returns-in_err-write-clause-fails
+returns-in_err-write-clause-fails g c clean =
+    let p = err_from_is_err_and c.from_residual-in_err-write.result c.from_residual-in_err-write.ensures.1 in
     let a = c.args.arrival.now in
     let d = c.args.decision.now in
     let cas = c.args.cas.now in
     let old = state g.S.Store c.args.conn.now in
     let new = state g.S.Store c.write.new.conn in
-    fails_weaker {X = Outcome} (IsAfter (IsAccepted a d cas)) (IsDue d cas) (λ x. RefusesDecision d a cas (contents_of x.0 x.1)) (ExceedsTables a)
-    (λ p. (state_at p, kept_at p)) old new (Err c.in-Err.fault) (λ p after. is_due p a d cas old.now after)
-    (λ p after why. (d, cas, after.known, limited p a d cas after.history after.known c.requires.lawful why)) (c.in-Err.ensures.fault clean)
+    rw (p.1, p.2) (fails_weaker {X = Outcome} (IsAfter (IsAccepted a d cas)) (IsDue d cas) (λ x. RefusesDecision d a cas (contents_of x.0 x.1)) (ExceedsTables a)
+    (λ p. (state_at p, kept_at p)) old new (Err c.in_err-write.field-0.0) (λ p after. is_due p a d cas old.now after)
+    (λ p after why. (d, cas, after.known, limited p a d cas after.history after.known c.requires.lawful why)) (c.in_err-write.ensures.fault clean))
 
-pub returns-in-Err-clause-survives : goal.returns-in-Err-clause-survives
-returns-in-Err-clause-survives g c =
+pub returns-in_err-write-clause-survives : goal.returns-in_err-write-clause-survives
+returns-in_err-write-clause-survives g c =
     waits_written c.args.arrival.now c.args.decision.now c.args.cas.now (state g.S.Store c.args.conn.now)
     (state g.S.Store c.write.new.conn) c.write.ensures.survives

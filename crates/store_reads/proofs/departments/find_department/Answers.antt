@@ -1,3 +1,4 @@
+use Rattle.std.proofs.lemmas.Result.{err_from_is_err_and}
 use Rattle.sqlite.specs.Held.{state}
 use Rattle.office.specs.State.{department_named}
 use Rattle.store_sql.specs.Changes.{departments_named}
@@ -8,18 +9,20 @@ use Rattle.store_reads.proofs.Named.{department_again, named}
 use Rattle.store_reads.proofs.OneRow.{shows_one}
 use Rattle.store_reads.proofs.departments.find_department.Goals as goal
 
-pub returns-in-Ok-clause-shows : goal.returns-in-Ok-clause-shows
-returns-in-Ok-clause-shows g c clean =
+pub returns-clause-shows : goal.returns-clause-shows
+returns-clause-shows g c clean =
     shows_one department_in department_row (departments_named c.args.name.now)
     (λ s. department_named s c.args.name.now) (named c.args.name.now) (department_again c.args.name.now)
-    (state g.S.Store c.args.conn.now) (state g.S.Store c.find_department.new.conn) c.in-Ok.found c.read_found.result
-    (c.in-Ok.ensures.finds clean) c.read_found.ensures.exact
+    (state g.S.Store c.args.conn.now) (state g.S.Store c.find_department.new.conn) c.in_ok-found.found c.read_found.result
+    (c.in_ok-found.ensures.finds clean) c.read_found.ensures.exact
 
-pub returns-in-Ok-clause-reads : goal.returns-in-Ok-clause-reads
-returns-in-Ok-clause-reads g c clean =
+pub returns-clause-reads : goal.returns-clause-reads
+returns-clause-reads g c clean =
     asked (state g.S.Store c.args.conn.now) (state g.S.Store c.find_department.new.conn)
-    (c.in-Ok.ensures.reads clean) c.read_found.result
+    (c.in_ok-found.ensures.reads clean) c.read_found.result
 
-pub returns-in-Err-clause-shows : goal.returns-in-Err-clause-shows
-returns-in-Err-clause-shows g c clean s kept lawful means =
-    (c.in-Err.ensures.finds clean (contents_of s kept) means, c.in-Err.ensures.fault clean (contents_of s kept) means)
+pub returns-in_err-found-clause-shows : goal.returns-in_err-found-clause-shows
+returns-in_err-found-clause-shows g c clean =
+    let p = err_from_is_err_and c.from_residual.result c.from_residual.ensures.1 in
+    rw (p.1, p.2) (λ s kept lawful means.
+    (c.in_err-found.ensures.finds clean (contents_of s kept) means, c.in_err-found.ensures.fault clean (contents_of s kept) means))

@@ -1,3 +1,4 @@
+use Rattle.std.proofs.lemmas.Result.{err_from_is_err_and}
 use Rattle.std.proofs.Common.{filter}
 use Rattle.std.proofs.lemmas.Cmp.{nat_cmp_total}
 use Rattle.std.specs.Ordering.{nat_cmp}
@@ -11,23 +12,25 @@ use Rattle.store_rows.proofs.CertRows.{within_again, within_rise}
 use Rattle.store_rows.proofs.Sorting.{asked, shows_each}
 use Rattle.store_rows.proofs.certificate_rows.read_certificates.Goals as goal
 
-pub returns-in-Ok-clause-shows : goal.returns-in-Ok-clause-shows
-returns-in-Ok-clause-shows g c clean =
+pub returns-clause-shows : goal.returns-clause-shows
+returns-clause-shows g c clean =
     let lo = c.args.lo in
     let hi = c.args.hi in
     shows_each certificate_in (certs_within lo hi) (λ (r : CertRow). r.serial) nat_cmp nat_cmp_total
     (λ (s : State). filter (is_within lo hi) s.certificates)
     (λ s kept lawful. within_rise s.opening.first lo hi s.certificates lawful.serials)
     (λ s kept lawful. within_again lo hi s.certificates lawful.certificates)
-    (state g.S.Store c.args.conn.now) (state g.S.Store c.certs_within.new.conn) c.in-Ok.rows.items
-    c.read_each.result (c.in-Ok.ensures.finds clean) (c.in-Ok.ensures.sorted clean)
+    (state g.S.Store c.args.conn.now) (state g.S.Store c.certs_within.new.conn) c.in_ok-rows.rows.items
+    c.read_each.result (c.in_ok-rows.ensures.finds clean) (c.in_ok-rows.ensures.sorted clean)
     (rw c.as_slice.ensures.value at c.read_each.ensures)
 
-pub returns-in-Ok-clause-reads : goal.returns-in-Ok-clause-reads
-returns-in-Ok-clause-reads g c clean =
+pub returns-clause-reads : goal.returns-clause-reads
+returns-clause-reads g c clean =
     asked (state g.S.Store c.args.conn.now) (state g.S.Store c.certs_within.new.conn)
-    (c.in-Ok.ensures.reads clean) c.read_each.result
+    (c.in_ok-rows.ensures.reads clean) c.read_each.result
 
-pub returns-in-Err-clause-shows : goal.returns-in-Err-clause-shows
-returns-in-Err-clause-shows g c clean s kept lawful means =
-    (c.in-Err.ensures.finds clean (contents_of s kept) means, c.in-Err.ensures.fault clean (contents_of s kept) means)
+pub returns-in_err-rows-clause-shows : goal.returns-in_err-rows-clause-shows
+returns-in_err-rows-clause-shows g c clean =
+    let p = err_from_is_err_and c.from_residual.result c.from_residual.ensures.1 in
+    rw (p.1, p.2) (λ s kept lawful means.
+    (c.in_err-rows.ensures.finds clean (contents_of s kept) means, c.in_err-rows.ensures.fault clean (contents_of s kept) means))

@@ -1,5 +1,5 @@
 use Rattle.sqlite.specs.Held.{state}
-use Rattle.store_sql.proofs.KeyReasons.{ca_fails}
+use Rattle.store_sql.proofs.CaReasons.{ca_fails}
 use Rattle.store_sql.proofs.CallLemmas.{write_changes, write_fails, write_stays, write_survives}
 use Rattle.store_sql.proofs.CaTable.{put}
 use Rattle.store_sql.proofs.cas.insert_ca.Goals as goal

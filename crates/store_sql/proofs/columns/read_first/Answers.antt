@@ -1,8 +1,10 @@
 use Rattle.std.proofs.Common.{arith}
+use Rattle.std.proofs.lemmas.Result.{err_from_is_err_and}
 use Rattle.store_sql.proofs.Reading.{misread_one}
 use Rattle.store_sql.proofs.columns.read_first.Goals as goal
 
-pub returns-in-Err-clause-err : goal.returns-in-Err-clause-err
-returns-in-Err-clause-err g c =
-    misread_one g.T.Columns.cells c.args.rows.now 0 c.first-item.result c.in-Err.fault (omega arith) c.first-item.is
-    c.in-Err.ensures.err
+pub returns-in_err-read-in-len1-up-clause-err : goal.returns-in_err-read-in-len1-up-clause-err
+returns-in_err-read-in-len1-up-clause-err g c =
+    let p = err_from_is_err_and c.from_residual.result c.from_residual.ensures.1 in
+    rw (p.1, p.2) (misread_one g.T.Columns.cells c.args.rows.now 0 c.first-item.result c.in_err-read-in-len1-up.field-0.0 (omega arith)
+    c.first-item.is c.in_err-read-in-len1-up.ensures.err)

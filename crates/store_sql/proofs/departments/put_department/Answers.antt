@@ -1,7 +1,7 @@
 use Rattle.sqlite.specs.Held.{state}
 use Rattle.store_sql.proofs.DepartmentReasons.{department_fails}
 use Rattle.store_sql.proofs.CallLemmas.{write_changes, write_fails, write_stays, write_survives}
-use Rattle.store_sql.proofs.DepartmentTable.{put}
+use Rattle.store_sql.proofs.DepartmentUpsert.{put}
 use Rattle.store_sql.proofs.departments.put_department.Goals as goal
 
 pub returns : goal.returns

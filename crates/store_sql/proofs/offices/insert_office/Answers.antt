@@ -1,5 +1,5 @@
 use Rattle.sqlite.specs.Held.{state}
-use Rattle.store_sql.proofs.NumberReasons.{office_fails}
+use Rattle.store_sql.proofs.OfficeReasons.{office_fails}
 use Rattle.store_sql.proofs.CallLemmas.{write_changes, write_fails, write_stays, write_survives}
 use Rattle.store_sql.proofs.OfficeTable.{put}
 use Rattle.store_sql.proofs.offices.insert_office.Goals as goal

@@ -1,7 +1,7 @@
 use Rattle.sqlite.specs.Held.{state}
-use Rattle.store_sql.proofs.NumberReasons.{counters_fail}
+use Rattle.store_sql.proofs.OfficeReasons.{counters_fail}
 use Rattle.store_sql.proofs.CallLemmas.{write_changes, write_fails, write_stays, write_survives}
-use Rattle.store_sql.proofs.OfficeTable.{count}
+use Rattle.store_sql.proofs.OfficeUpdates.{count}
 use Rattle.store_sql.proofs.offices.update_office.Goals as goal
 
 pub returns : goal.returns

@@ -1,7 +1,7 @@
 use Rattle.sqlite.specs.Held.{state}
-use Rattle.store_sql.proofs.NumberReasons.{number_fails}
+use Rattle.store_sql.proofs.OfficeReasons.{number_fails}
 use Rattle.store_sql.proofs.CallLemmas.{write_changes, write_fails, write_stays, write_survives}
-use Rattle.store_sql.proofs.OfficeTable.{number}
+use Rattle.store_sql.proofs.OfficeUpdates.{number}
 use Rattle.store_sql.proofs.offices.update_schema.Goals as goal
 
 pub returns : goal.returns

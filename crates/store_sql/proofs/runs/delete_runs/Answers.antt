@@ -1,5 +1,5 @@
 use Rattle.sqlite.specs.Held.{state}
-use Rattle.store_sql.proofs.NumberReasons.{deletion_fails}
+use Rattle.store_sql.proofs.RunReasons.{deletion_fails}
 use Rattle.store_sql.proofs.CallLemmas.{write_changes, write_fails, write_stays, write_survives}
 use Rattle.store_sql.proofs.RunTable.{delete}
 use Rattle.store_sql.proofs.runs.delete_runs.Goals as goal

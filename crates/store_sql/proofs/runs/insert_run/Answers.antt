@@ -1,5 +1,5 @@
 use Rattle.sqlite.specs.Held.{state}
-use Rattle.store_sql.proofs.NumberReasons.{run_fails}
+use Rattle.store_sql.proofs.RunReasons.{run_fails}
 use Rattle.store_sql.proofs.CallLemmas.{write_changes, write_fails, write_stays, write_survives}
 use Rattle.store_sql.proofs.RunTable.{put}
 use Rattle.store_sql.proofs.runs.insert_run.Goals as goal

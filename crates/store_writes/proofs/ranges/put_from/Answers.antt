@@ -1,3 +1,4 @@
+use Rattle.std.proofs.lemmas.Result.{err_from_is_err_and}
 use Rattle.std.proofs.Common.{◌≡◌, ℕ, ◌+◌, ap, subst, ◌∙◌, arith, Ok, Err}
 use Rattle.sqlite.specs.Held.{state}
 use Rattle.sqlite.specs.State.{HasCleanDisk}
@@ -11,8 +12,8 @@ use Rattle.store_writes.proofs.Parts.{found_leads, found_then}
 use Rattle.store_sql.proofs.Staying.{reads_stay, stays_then}
 use Rattle.store_writes.proofs.ranges.put_from.Goals as goal
 
-pub returns-in-Ok-clause-makes : goal.returns-in-Ok-clause-makes
-returns-in-Ok-clause-makes g c clean =
+pub returns-clause-makes : goal.returns-clause-makes
+returns-clause-makes g c clean =
     let old = state g.S.Store c.args.conn.now in
     let mid = state g.S.Store c.last_run.new.conn in
     let new = state g.S.Store c.replace.new.conn in
@@ -20,38 +21,39 @@ returns-in-Ok-clause-makes g c clean =
     let range = c.args.range in
     found_then (λ d. with_joined (run_from c.args.lo range d) d) (with_joined (record { lo = c.args.lo; hi = c.joined_high-hi.result })) old mid new c.replace.result
     (λ d means.
-    let found = c.in-Ok.ensures.finds still d means in
+    let found = c.in_ok-found.ensures.finds still d means in
     let is : c.joined_high-hi.result ≡ joined_high range.hi (last_run (range.hi + 1) d) =
     c.joined_high-hi.ensures ∙ ap (joined_high range.hi) (found.1 ∙ ap (λ (n : ℕ). last_run n d) c.number.ensures) in
     (found.0, ap (λ (n : ℕ). with_joined (record { lo = c.args.lo; hi = n }) d) is))
     (c.replace.ensures.makes clean)
 
-pub returns-in-Ok-clause-fault : goal.returns-in-Ok-clause-fault
-returns-in-Ok-clause-fault g c clean =
+pub returns-clause-fault : goal.returns-clause-fault
+returns-clause-fault g c clean =
     let old = state g.S.Store c.args.conn.now in
     let mid = state g.S.Store c.last_run.new.conn in
     let new = state g.S.Store c.replace.new.conn in
     let still : HasCleanDisk mid = omega (arith, c.replace.ensures.survives.clean) in
     let range = c.args.range in
     fails_then Has Has (RefusesJoined (record { lo = c.args.lo; hi = c.joined_high-hi.result })) (λ d. RefusesJoined (run_from c.args.lo range d) d) (λ d. d) Never old mid new c.replace.result
-    (found_leads old mid (λ d means. (c.in-Ok.ensures.finds still d means).0))
+    (found_leads old mid (λ d means. (c.in_ok-found.ensures.finds still d means).0))
     (λ d means why.
-    let found = c.in-Ok.ensures.finds still d means in
+    let found = c.in_ok-found.ensures.finds still d means in
     let is : c.joined_high-hi.result ≡ joined_high range.hi (last_run (range.hi + 1) d) =
     c.joined_high-hi.ensures ∙ ap (joined_high range.hi) (found.1 ∙ ap (λ (n : ℕ). last_run n d) c.number.ensures) in
     subst (λ (n : ℕ). RefusesJoined (record { lo = c.args.lo; hi = n }) d) is why)
     c.last_run.ensures.survives still c.replace.ensures.survives.counts (c.replace.ensures.fault clean)
 
-pub returns-in-Ok-clause-stays : goal.returns-in-Ok-clause-stays
-returns-in-Ok-clause-stays g c clean =
+pub returns-clause-stays : goal.returns-clause-stays
+returns-clause-stays g c clean =
     let old = state g.S.Store c.args.conn.now in
     let mid = state g.S.Store c.last_run.new.conn in
     let new = state g.S.Store c.replace.new.conn in
     let still : HasCleanDisk mid = omega (arith, c.replace.ensures.survives.clean) in
-    stays_then old mid new c.in-Ok.found c.replace.result (reads_stay old mid (Ok c.in-Ok.found) (c.in-Ok.ensures.reads still))
+    stays_then old mid new c.in_ok-found.found c.replace.result (reads_stay old mid (Ok c.in_ok-found.found) (c.in_ok-found.ensures.reads still))
     (c.replace.ensures.stays clean)
 
-pub returns-in-Err-clause-stays : goal.returns-in-Err-clause-stays
-returns-in-Err-clause-stays g c clean =
-    reads_stay {X = Unit {0}} (state g.S.Store c.args.conn.now) (state g.S.Store c.last_run.new.conn) (Err c.in-Err.fault)
-    (c.in-Err.ensures.reads clean)
+pub returns-in_err-found-clause-stays : goal.returns-in_err-found-clause-stays
+returns-in_err-found-clause-stays g c clean =
+    let p = err_from_is_err_and c.from_residual.result c.from_residual.ensures.1 in
+    rw p.1 (reads_stay {X = Unit {0}} (state g.S.Store c.args.conn.now) (state g.S.Store c.last_run.new.conn) (Err c.in_err-found.field-0.0)
+    (c.in_err-found.ensures.reads clean))

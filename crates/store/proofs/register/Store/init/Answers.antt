@@ -10,7 +10,7 @@ use Rattle.store_rows.specs.Rows.{office_contents}
 use Rattle.store_rows.specs.Transactions.{Leaves}
 use Rattle.store_reads.proofs.Showing.{survives_still}
 use Rattle.store.specs.Creating.{RefusesOpening}
-use Rattle.store.proofs.Limits.{opening_fits}
+use Rattle.store.proofs.ShortRows.{opening_fits}
 use Rattle.store.proofs.OfficeRows.{excused_unless}
 use Rattle.store.proofs.Telling.{left_committed}
 use Rattle.store_rows.proofs.Before.{same_before}

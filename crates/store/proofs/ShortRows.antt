@@ -1,0 +1,91 @@
+-- Rows that are never too long: those of an office, of its first CA, and of a key id.
+use Rattle.std.proofs.Common.{◌≡◌, inl, inr, ℕ, ◌≤◌, List, length, drop, true, subst, arith}
+use Rattle.std.specs.Prelude.{nat_le}
+use Rattle.std.proofs.lemmas.List.{length-drop}
+use Rattle.values.specs.Names.{department_of, is_key_id, is_key_id_end, has_size, is_name, is_name_byte}
+use Rattle.office.specs.declared.opening.Opening.{Opening}
+use Rattle.store_migration.specs.Former.{first_ca, former_contents}
+use Rattle.store_migration.specs.Migrating.{RefusesFirstCa}
+use Rattle.store_sql.specs.declared.cas.CaRow.{CaRow}
+use Rattle.store_sql.specs.Cells.{ca_cells, key_id_cells, office_cells}
+use Rattle.office.specs.Openings.{IsOpening}
+use Rattle.store.specs.Creating.{RefusesOpening}
+use Rattle.store.specs.Meaning.{IsHistory}
+use Rattle.store.proofs.Lawful.{lawful_after}
+use Rattle.std.specs.List.{list_all}
+use Rattle.std.proofs.lemmas.Bool.{and_parts, leb-true}
+use Rattle.lines.proofs.Blobs.{length-key_blob}
+use Rattle.office.specs.declared.arrival.Arrival.{Arrival}
+use Rattle.office.specs.declared.arrival.Kept.{Kept}
+use Rattle.office.specs.State.{State}
+use Rattle.store_sql.specs.declared.offices.Counters.{Counters}
+use Rattle.store_sql.specs.declared.offices.OfficeRow.{OfficeRow}
+use Rattle.store_sql.specs.Changes.{counted, renumbered}
+use Rattle.store_sql.specs.Refusals.{IsTooLong, RefusesCounters}
+use Rattle.store_rows.specs.Lawful.{IsLawful}
+use Rattle.store_rows.specs.Rows.{contents_of, office_row}
+use Rattle.store.specs.Arriving.{state_at}
+use Rattle.cert.proofs.Sizes.{key_id_end-le}
+
+-- ---- the office
+
+name_short : (t : List ℕ) → is_name t ≡ true → length t ≤ 32
+name_short t is =
+    leb-true (length t) 32 (and_parts (nat_le 1 (length t)) (nat_le (length t) 32)
+    (and_parts (has_size 1 32 t) (list_all is_name_byte t) is).0).1
+
+-- the row of an office stays short
+pub counters_fit : (k : Counters) (s : State) (kept : List Kept) → IsLawful s → RefusesCounters k (contents_of s kept)
+    → ⊥
+counters_fit k s kept lawful (o, inl same, (id, long)) =
+    let long_row : IsTooLong (office_cells (counted k (office_row s))) =
+    subst (λ (r : OfficeRow). IsTooLong (office_cells (counted k r))) same long in
+    let blob = length-key_blob s.opening.ca in
+    let root = name_short s.opening.root lawful.opening.root in
+    let station = name_short s.opening.station lawful.opening.station in
+    omega (arith, long_row, blob, lawful.opening.ca, root, station)
+counters_fit k s kept lawful (o, inr none, rest) = none
+
+-- so does what an office begins with
+pub opening_fits : (o : Opening) → IsOpening o → RefusesOpening o → ⊥
+opening_fits o is (inl (inl (p, none, same))) = none
+opening_fits o is (inl (inr long)) =
+    let blob = length-key_blob o.ca in
+    let root = name_short o.root is.root in
+    let station = name_short o.station is.station in
+    omega (arith, long, blob, is.ca, root, station)
+opening_fits o is (inr (inl (c, none, same))) = none
+opening_fits o is (inr (inr long)) = let blob = length-key_blob o.ca in omega (arith, long, blob, is.ca)
+
+-- in a file of schema 1 CA 1 is refused nothing
+pub first_ca_fits : (o : Opening) (l : List Arrival) → IsHistory o l → RefusesFirstCa (former_contents o l) → ⊥
+first_ca_fits o l history (ca, is, why) =
+    let s = state_at (o, l) in
+    let row = renumbered 1 (office_row s) in
+    let lawful = lawful_after o l history in
+    let blob = length-key_blob s.opening.ca in
+    let root = name_short s.opening.root lawful.opening.root in
+    let station = name_short s.opening.station lawful.opening.station in
+    let same : ca ≡ first_ca row = cc in
+    elim why [
+      | inl (inl (d, none, taken)) ↦ none
+      | inl (inr long) ↦
+          (let long_row : IsTooLong (ca_cells (first_ca row)) =
+          subst (λ (c : CaRow). IsTooLong (ca_cells c)) same long in
+          omega (arith, long_row, blob, lawful.opening.ca))
+      | inr (r, inl here, (id, long)) ↦
+          (let long_row : IsTooLong (office_cells (renumbered 2 row)) =
+          subst (λ (r : OfficeRow). IsTooLong (office_cells (renumbered 2 r))) here long in
+          omega (arith, long_row, blob, lawful.opening.ca, root, station))
+      | inr (r, inr none, rest) ↦ none
+    ]
+
+-- ---- a key id
+
+pub key_id_short : (t : List ℕ) → is_key_id t ≡ true → IsTooLong (key_id_cells t) → ⊥
+key_id_short t is long =
+    let parts = and_parts (is_name (department_of t)) (is_key_id_end (drop (length (department_of t)) t)) is in
+    let name = name_short (department_of t) parts.0 in
+    let rest = key_id_end-le (drop (length (department_of t)) t) parts.1 in
+    let left = length-drop (length (department_of t)) t in
+    omega (arith, name, rest, left, long)
