@@ -1,6 +1,8 @@
 -- Why a table can't be made beside the others: memory is refused, or the database fails.
-use Rattle.std.proofs.Common.{◌≡◌, inl, inr, ℕ, ◌≤◌, ◌+◌, ◌^◌, List, [], length, true, false, Option, None, Some, Ok, Err, Result, refl, sym, ap, subst, subst₂, ◌∙◌, append-nil, IfErr}
-use Rattle.std.specs.Prelude.{IsUtf8, ◌||◌, ◌*◌, codes}
+use Rattle.std.proofs.Common.{◌≡◌, inl, inr, ℕ, ◌≤◌, ◌+◌, ◌^◌, List, [], length, true, false, Option, None, Some, Ok, Err, Result, refl, sym, ap, subst, subst₂, ◌∙◌, append-nil, not, arith, IfErr}
+use Rattle.std.specs.Prelude.{IsUtf8, ◌||◌, ◌*◌, codes, nat_lt}
+use Rattle.std.proofs.lemmas.Bool.{ltb-true}
+use Rattle.sqlite_rules.proofs.ListLemmas.{test_has}
 use Rattle.std.proofs.lemmas.Str.{IsUtf8-from_is_utf8}
 use Rattle.sqlite_schema.specs.Rules.{table_reals, index_reals}
 use Rattle.sqlite_value.specs.declared.value.Value.TheVariants.{Text}
@@ -44,22 +46,27 @@ module _ {text : List ℕ} {before : Schema} {table : Table} (m : IsMakeable tex
       let same = is_table other is in
       let wrong : true ≡ false = sym used ∙ (ap (λ (t : Table). is_used before t.name) (sym same) ∙ m.free) in cc
   no_reason NameTaken (other, is, inr (index, has, used)) =
-      let same = is_table other is in
-      let wrong : true ≡ false = sym used
-      ∙ m.index_free index (subst (λ (t : Table). Has (automatics t 0 0 t.uniques) index) (sym same) has) in cc
+      let none = test_has (λ i. not (is_used before i.name)) (automatics table 0 0 table.uniques) index m.index_free
+      (subst (λ (t : Table). Has (automatics t 0 0 t.uniques) index) (sym (is_table other is)) has) in
+      let wrong = rw used at none in cc
   no_reason BadName (other, is, inl bad) =
       bad (subst (λ (t : Table). IsUtf8 t.name) (is_table other is) (IsUtf8-from_is_utf8 table.name m.is_name))
   no_reason BadName (other, is, inr bad) =
       let wrong : true ≡ false = sym bad.0
       ∙ (ap (λ (t : Table). is_reserved t.name) (sym (is_table other is)) ∙ m.unreserved) in cc
   no_reason TooBig (other, is, inl many) =
-      m.few_trees (subst (λ (t : Table). 65536 ≤ next_tree before + length t.uniques) (sym (is_table other is)) many)
+      let few = ltb-true (next_tree before + length table.uniques) 65536 m.few_trees in
+      let all = subst (λ (t : Table). 65536 ≤ next_tree before + length t.uniques) (sym (is_table other is)) many in
+      omega (arith, few, all)
   no_reason TooBig (other, is, inr (inl many)) =
-      m.few_reals (subst (λ (t : Table). 2 ^ 64 ≤ table_reals t) (sym (is_table other is)) many)
+      let few = ltb-true (table_reals table) (2 ^ 64) m.few_reals in
+      let all = subst (λ (t : Table). 2 ^ 64 ≤ table_reals t) (sym (is_table other is)) many in omega (arith, few, all)
   no_reason TooBig (other, is, inr (inr (key, has, many))) =
       let same = sym (is_table other is) in
-      m.small_keys key (subst (λ (t : Table). Has t.uniques key) same has)
-      (subst (λ (t : Table). 2 ^ 64 ≤ index_reals (table_reals t) key) same many)
+      let few = ltb-true (index_reals (table_reals table) key) (2 ^ 64)
+      (test_has (λ k. nat_lt (index_reals (table_reals table) k) (2 ^ 64)) table.uniques key m.small_keys
+      (subst (λ (t : Table). Has t.uniques key) same has)) in
+      let all = subst (λ (t : Table). 2 ^ 64 ≤ index_reals (table_reals t) key) same many in omega (arith, few, all)
   no_reason BadKey (other, is, bad) =
       let wrong : true ≡ false = sym m.formed ∙ (ap is_formed (is_table other is) ∙ bad) in cc
   no_reason BadText (other, is, bad) =
@@ -69,7 +76,9 @@ module _ {text : List ℕ} {before : Schema} {table : Table} (m : IsMakeable tex
 
   not_long : IsLongTable text → ⊥
   not_long (other, is, many) =
-      m.short (subst (λ (t : Table). 10 ^ 9 ≤ 2 * length t.name + length text + 200) (sym (is_table other is)) many)
+      let few = ltb-true (2 * length table.name + length text + 200) (10 ^ 9) m.short in
+      let all = subst (λ (t : Table). 10 ^ 9 ≤ 2 * length t.name + length text + 200) (sym (is_table other is)) many in
+      omega (arith, few, all)
 
   -- ---- so it is made, or memory is refused, or the database fails
 
