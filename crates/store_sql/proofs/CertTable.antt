@@ -1,7 +1,6 @@
 -- The statements on the table of certificates.
-use Rattle.std.proofs.Common.{◌≡◌, ℕ, pos, List, [], ◌∷◌, codes, map, true, false, Option, None, Ok, refl, ap, ap₂, ◌∙◌, inl, inr, Bool}
+use Rattle.std.proofs.Common.{◌≡◌, ℕ, pos, List, [], ◌∷◌, codes, true, Option, None, Ok, refl, ap, ap₂, ◌∙◌, Bool}
 use Rattle.std.specs.Prelude.{◌&&◌}
-use Rattle.std.specs.List.Sorted.{IsPermutation}
 use Rattle.std.proofs.Math.Bool.{and-true}
 use Rattle.sqlite.specs.Order.{Row, column}
 use Rattle.sqlite.specs.Values.{or_null}
@@ -15,7 +14,7 @@ use Rattle.sqlite.specs.Collation.TheVariants.{Binary}
 use Rattle.sqlite.specs.Query.{Query, IsAnswer}
 use Rattle.sqlite.specs.Program.{overlay}
 use Rattle.sqlite.specs.Source.TheVariants.{Values}
-use Rattle.sqlite.specs.Command.TheVariants.{Insert, Select, Update}
+use Rattle.sqlite.specs.Command.TheVariants.{Insert, Update}
 use Rattle.sqlite.specs.Tree.{Trees}
 use Rattle.sqlite_trees.specs.View.{is_int}
 use Rattle.sqlite.specs.Edit.{edit_of}
@@ -25,8 +24,9 @@ use Rattle.sqlite_rules.specs.Calls.{ids_of}
 use Rattle.sqlite.specs.Does.{Tally, Does}
 use Rattle.sqlite.specs.Effect.{Database}
 use Rattle.sqlite_tied.specs.Compute.{everything}
-use Rattle.sqlite.specs.Listing.{understood, reads_listing}
+use Rattle.sqlite.specs.Listing.{understood}
 use Rattle.sqlite.proofs.Callers.{IsPlain, command_of, statement_of}
+use Rattle.store_sql.proofs.Selects.{IsSelect, IsTreeOf, select}
 use Rattle.store_sql.specs.Schema.{whole, cert_at}
 use Rattle.store_sql.specs.Cells.{cert_cells}
 use Rattle.store_sql.specs.Contents.{Contents, Holds, Means, at_places, cert_places}
@@ -36,10 +36,10 @@ use Rattle.store_sql.specs.declared.certs.CertRow.{CertRow}
 use Rattle.store_sql.proofs.Apart.{cert_apart}
 use Rattle.store_sql.proofs.CallLemmas.{Write, Find}
 use Rattle.store_sql.proofs.Elsewhere.{spares, in_cert}
-use Rattle.store_sql.proofs.FaultLemmas.{IsWhole, none_overflows}
+use Rattle.store_sql.proofs.FaultLemmas.{IsWhole}
 use Rattle.store_sql.proofs.Inserts.{no_works}
 use Rattle.store_sql.proofs.Inserts as insert
-use Rattle.store_sql.proofs.Queries.{on_table, in_order, selected, chosen, int_test, int_le_test, int_ge_test}
+use Rattle.store_sql.proofs.Queries.{on_table, in_order, selected, int_test, int_le_test, int_ge_test}
 use Rattle.store_sql.proofs.Rows.{cast_int}
 use Rattle.store_sql.proofs.Statements.{mode, updates}
 use Rattle.store_sql.proofs.Rising.{AscendBy}
@@ -69,56 +69,34 @@ put = insert.put insert_sql cert_cells cert_places 2 cert_at terms 6 source with
 
 -- ---- SELECT of one
 
-abbrev find_sql : List ℕ
-find_sql = FIND_CERT.now
+abbrev columns : List Term
+columns = col 1 0 ∷ col 1 2 ∷ col 1 3 ∷ col 1 4 ∷ col 1 5 ∷ []
 
-abbrev find_query : Query
-find_query = on_table 3 (op2 (Compare Eq Binary) (col 1 0) (col 0 0) ∷ [])
-    (col 1 0 ∷ col 1 2 ∷ col 1 3 ∷ col 1 4 ∷ col 1 5 ∷ []) []
+abbrev shown : Row → Row
+shown v = column v 0 ∷ column v 1 ∷ column v 2 ∷ column v 3 ∷ column v 4 ∷ []
 
-find_is : (command_of (understood whole find_sql) ≡ Select (record { lets = []; body = find_query }) (codes "serial" ∷ codes "department" ∷ codes "keyid" ∷ codes "body" ∷ codes "signature" ∷ [])) × (reads_listing whole find_sql ≡ false)
-    × IsPlain (understood whole find_sql) × IsWhole find_sql 1 (understood whole find_sql)
+abbrev names : List (List ℕ)
+names = codes "serial" ∷ codes "department" ∷ codes "keyid" ∷ codes "body" ∷ codes "signature" ∷ []
+
+pub tree : IsTreeOf Holds cert_cells cert_places 3 (λ c. c.certs)
+tree = record { stored = λ trees. refl; held = λ trees c h. h.certs; apart = cert_apart }
+
+find_is : IsSelect whole FIND_CERT.now (on_table 3 (op2 (Compare Eq Binary) (col 1 0) (col 0 0) ∷ []) columns []) names 1
 unfolding understood everything
 find_is = (refl, refl, (refl, refl), (refl, refl))
 
-find_answers : (serial : ℕ) → (trees : Trees) (rows : List Row) (c : Contents) → Holds trees c
-    → IsAnswer find_query (overlay trees []) (Int (pos serial) ∷ []) rows
-    → IsPermutation (map cert_cells (certs_numbered serial c)) rows
-find_answers serial trees rows c h answer =
-    chosen cert_cells cert_cells (has_serial serial) cert_places
-    (λ v. is_true (binary (Compare Eq Binary) (column v 0) (Int (pos serial))) && true)
-    (λ v. column v 0 ∷ column v 1 ∷ column v 2 ∷ column v 3 ∷ column v 4 ∷ [])
-    (λ x. and-true _ ∙ int_test (pos x.serial) (pos serial) ∙ same_number x.serial serial) (λ x. refl) (trees 3) rows
-    c.certs h.certs (selected 3 _ _ _ trees (Int (pos serial) ∷ []) rows refl answer)
-
-pub find : (serial : ℕ) → Find find_sql (Int (pos serial) ∷ []) cert_cells (certs_numbered serial)
-find serial = record {
-  query = find_query;
-  names = codes "serial" ∷ codes "department" ∷ codes "keyid" ∷ codes "body" ∷ codes "signature" ∷ [];
-  is = find_is.0;
-  unlisted = find_is.1;
-  plain = find_is.2;
-  one = find_is.3;
-  typed = refl;
-  sure = λ trees h. elim h [ inl over ↦ over | inr fold ↦ none_overflows _ fold ];
-  apart = cert_apart;
-  answers = find_answers serial;
-}
+pub find : (serial : ℕ) → Find FIND_CERT.now (Int (pos serial) ∷ []) cert_cells (certs_numbered serial)
+find serial =
+    select tree find_is (has_serial serial) (λ v. is_true (binary (Compare Eq Binary) (column v 0) (Int (pos serial))) && true)
+    shown (λ x. and-true _ ∙ int_test (pos x.serial) (pos serial) ∙ same_number x.serial serial) (λ x. refl) (λ r. refl)
+    (λ r. refl) refl (λ c. refl)
 
 -- ---- SELECT of those between two serials
-
-abbrev within_sql : List ℕ
-within_sql = CERTS_WITHIN.now
 
 abbrev within_tests : List Term
 within_tests = op2 (Compare Ge Binary) (col 1 0) (col 0 0) ∷ op2 (Compare Le Binary) (col 1 0) (col 0 1) ∷ []
 
-abbrev within_query : Query
-within_query = on_table 3 within_tests (col 1 0 ∷ col 1 2 ∷ col 1 3 ∷ col 1 4 ∷ col 1 5 ∷ [])
-    ((col 1 0, ascending Binary) ∷ [])
-
-within_is : (command_of (understood whole within_sql) ≡ Select (record { lets = []; body = within_query }) (codes "serial" ∷ codes "department" ∷ codes "keyid" ∷ codes "body" ∷ codes "signature" ∷ [])) × (reads_listing whole within_sql ≡ false)
-    × IsPlain (understood whole within_sql) × IsWhole within_sql 2 (understood whole within_sql)
+within_is : IsSelect whole CERTS_WITHIN.now (on_table 3 within_tests columns ((col 1 0, ascending Binary) ∷ [])) names 2
 unfolding understood everything
 within_is = (refl, refl, (refl, refl), (refl, refl))
 
@@ -134,33 +112,15 @@ module _ (lo hi : ℕ) where
   passes_is x = ap₂ ◌&&◌ (int_ge_test (pos x.serial) (pos lo) ∙ ge_number x.serial lo)
       (and-true _ ∙ int_le_test (pos x.serial) (pos hi) ∙ le_number x.serial hi)
 
-  within_answers : (trees : Trees) (rows : List Row) (c : Contents) → Holds trees c
-      → IsAnswer within_query (overlay trees []) ends rows → IsPermutation (map cert_cells (certs_within lo hi c)) rows
-  within_answers trees rows c h answer =
-      chosen cert_cells cert_cells (is_within lo hi) cert_places passes
-      (λ v. column v 0 ∷ column v 1 ∷ column v 2 ∷ column v 3 ∷ column v 4 ∷ []) passes_is (λ x. refl) (trees 3)
-      rows c.certs h.certs (selected 3 _ _ _ trees ends rows refl answer)
-
-  pub within : Find within_sql ends cert_cells (certs_within lo hi)
-  within = record {
-    query = within_query;
-    names = codes "serial" ∷ codes "department" ∷ codes "keyid" ∷ codes "body" ∷ codes "signature" ∷ [];
-    is = within_is.0;
-    unlisted = within_is.1;
-    plain = within_is.2;
-    one = within_is.3;
-    typed = refl;
-    sure = λ trees h. elim h [ inl over ↦ over | inr fold ↦ none_overflows _ fold ];
-    apart = cert_apart;
-    answers = within_answers;
-  }
+  pub within : Find CERTS_WITHIN.now ends cert_cells (certs_within lo hi)
+  within = select tree within_is (is_within lo hi) passes shown passes_is (λ x. refl) (λ r. refl) (λ r. refl) refl (λ c. refl)
 
   pub within_rises : (trees : Trees) (rows : List Row) → IsAnswer within.query (overlay trees []) ends rows
       → AscendBy 0 rows
-  unfolding within
+  unfolding within select
   within_rises trees rows answer =
-      in_order 3 within_tests (col 1 0 ∷ col 1 2 ∷ col 1 3 ∷ col 1 4 ∷ col 1 5 ∷ []) ((col 1 0, ascending Binary) ∷ [])
-      trees ends rows (λ v. column v 0 ∷ []) (λ r. refl) refl answer
+      in_order 3 within_tests columns ((col 1 0, ascending Binary) ∷ []) trees ends rows (λ v. column v 0 ∷ []) (λ r. refl)
+      refl answer
 
 -- ---- UPDATE of the signature
 

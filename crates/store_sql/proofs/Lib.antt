@@ -43,6 +43,7 @@ pub mod Rows
 pub mod RowTests
 pub mod RunReasons
 pub mod RunTable
+pub mod Selects
 pub mod Statements
 pub mod Staying
 pub mod Stops

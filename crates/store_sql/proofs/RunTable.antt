@@ -1,5 +1,5 @@
 -- The statements on the table of runs.
-use Rattle.std.proofs.Common.{◌≡◌, ℕ, pos, List, [], ◌∷◌, codes, map, Bool, true, false, not, Option, None, Ok, refl, sym, ap, ap₂, subst, ◌∙◌, inl, inr, take, IsSorted}
+use Rattle.std.proofs.Common.{◌≡◌, ℕ, pos, List, [], ◌∷◌, codes, map, Bool, true, not, Option, None, Ok, refl, sym, ap, ap₂, subst, ◌∙◌, inl, inr, take, IsSorted}
 use Rattle.std.specs.Prelude.{◌&&◌, filter, nat_le}
 use Rattle.std.specs.List.Sorted.{IsPermutation}
 use Rattle.std.proofs.Math.Bool.{and-true}
@@ -22,7 +22,7 @@ use Rattle.sqlite.specs.Collation.TheVariants.{Binary}
 use Rattle.sqlite.specs.Query.{Query, IsAnswer, Output}
 use Rattle.sqlite.specs.Program.{overlay}
 use Rattle.sqlite.specs.Source.TheVariants.{Values}
-use Rattle.sqlite.specs.Command.TheVariants.{Insert, Select, Delete}
+use Rattle.sqlite.specs.Command.TheVariants.{Insert, Delete}
 use Rattle.sqlite.specs.Tree.{Trees, rowid}
 use Rattle.sqlite_trees.specs.View.{is_int}
 use Rattle.sqlite.specs.Edit.{edit_of, Applies, id_in}
@@ -33,8 +33,9 @@ use Rattle.sqlite_rules.specs.Lists.{Has}
 use Rattle.sqlite.specs.Does.{Tally, Does}
 use Rattle.sqlite.specs.Effect.{Database}
 use Rattle.sqlite_tied.specs.Compute.{everything}
-use Rattle.sqlite.specs.Listing.{understood, reads_listing}
+use Rattle.sqlite.specs.Listing.{understood}
 use Rattle.sqlite.proofs.Callers.{IsPlain, command_of, statement_of}
+use Rattle.store_sql.proofs.Selects.{IsSelect, IsTreeOf, select}
 use Rattle.store_sql.specs.Schema.{whole, run_at}
 use Rattle.store_sql.specs.Cells.{run_cells}
 use Rattle.store_sql.specs.Contents.{Contents, Holds, Means, Lists, at_places, run_places}
@@ -80,37 +81,19 @@ put = insert.put insert_sql run_cells run_places 4 run_at terms 3 source with_ru
 
 -- ---- SELECT of all
 
-abbrev every_sql : List ℕ
-every_sql = EVERY_RUN.now
+abbrev columns : List Term
+columns = col 1 0 ∷ col 1 2 ∷ []
 
-abbrev every_query : Query
-every_query = on_table 6 [] (col 1 0 ∷ col 1 2 ∷ []) ((col 1 0, ascending Binary) ∷ [])
-
-every_is : (command_of (understood whole every_sql) ≡ Select (record { lets = []; body = every_query }) (codes "lo" ∷ codes "hi" ∷ [])) × (reads_listing whole every_sql ≡ false)
-    × IsPlain (understood whole every_sql) × IsWhole every_sql 0 (understood whole every_sql)
+every_is : IsSelect whole EVERY_RUN.now (on_table 6 [] columns ((col 1 0, ascending Binary) ∷ [])) (codes "lo" ∷ codes "hi" ∷ []) 0
 unfolding understood everything
 every_is = (refl, refl, (refl, refl), (refl, refl))
 
-every_answers : (trees : Trees) (rows : List Row) (c : Contents) → Holds trees c
-    → IsAnswer every_query (overlay trees []) ([]) rows → IsPermutation (map run_cells c.runs) rows
-every_answers trees rows c h answer =
-    subst (λ xs. IsPermutation (map run_cells xs) rows) (keep_all c.runs)
-    (chosen run_cells run_cells (λ x. true) run_places (λ v. true) (λ v. column v 0 ∷ column v 1 ∷ []) (λ x. refl)
-    (λ x. refl) (trees 6) rows c.runs h.runs (selected 6 _ _ _ trees [] rows refl answer))
+pub tree : IsTreeOf Holds run_cells run_places 6 (λ c. c.runs)
+tree = record { stored = λ trees. refl; held = λ trees c h. h.runs; apart = run_apart }
 
-pub every : Find every_sql ([]) run_cells (λ c. c.runs)
-every = record {
-  query = every_query;
-  names = codes "lo" ∷ codes "hi" ∷ [];
-  is = every_is.0;
-  unlisted = every_is.1;
-  plain = every_is.2;
-  one = every_is.3;
-  typed = refl;
-  sure = λ trees h. elim h [ inl over ↦ over | inr fold ↦ none_overflows _ fold ];
-  apart = run_apart;
-  answers = every_answers;
-}
+pub every : Find EVERY_RUN.now ([]) run_cells (λ c. c.runs)
+every = select tree every_is (λ x. true) (λ v. true) (λ v. column v 0 ∷ column v 1 ∷ []) (λ x. refl) (λ x. refl)
+    (λ r. refl) (λ r. refl) refl (λ c. keep_all c.runs)
 
 -- no two begin with the same serial
 begin_apart : (trees : Trees) (c : Contents) → Holds trees c → (x y : RunRow) → Has c.runs x → Has c.runs y
@@ -137,15 +120,12 @@ abbrev downwards : List (Term × Key)
 downwards = (col 1 0, record { collation = Binary; descending = true }) ∷ []
 
 abbrev low_query : Query
-low_query = on_table 6 low_test (col 1 0 ∷ col 1 2 ∷ []) downwards
+low_query = on_table 6 low_test columns downwards
 
 abbrev last_query : Query
 last_query = record low_query { limit = lit (Int (pos 1)) }
 
-last_is : (command_of (understood whole last_sql)
-    ≡ Select (record { lets = []; body = last_query }) (codes "lo" ∷ codes "hi" ∷ []))
-    × (reads_listing whole last_sql ≡ false)
-    × IsPlain (understood whole last_sql) × IsWhole last_sql 1 (understood whole last_sql)
+last_is : IsSelect whole last_sql last_query (codes "lo" ∷ codes "hi" ∷ []) 1
 unfolding understood everything
 last_is = (refl, refl, (refl, refl), (refl, refl))
 
@@ -173,12 +153,12 @@ module _ (n : ℕ) (trees : Trees) (rows : List Row) (c : Contents) (h : Holds t
       chosen run_cells run_cells (λ r. nat_le r.lo n) run_places
       (λ v. is_true (binary (Compare Le Binary) (column v 0) (Int (pos n))) && true) (λ v. column v 0 ∷ column v 1 ∷ [])
       (λ x. low_passes n x) (λ x. refl) (trees 6) (map (λ (o : Output). o.1) answer.ordered) c.runs h.runs
-      (selected 6 low_test (col 1 0 ∷ col 1 2 ∷ []) downwards trees (Int (pos n) ∷ [])
+      (selected 6 low_test columns downwards trees (Int (pos n) ∷ [])
       (map (λ (o : Output). o.1) answer.ordered) refl low_answer)
 
   low_fall : DescendBy 0 (map (λ (o : Output). o.1) answer.ordered)
   low_fall =
-      in_order 6 low_test (col 1 0 ∷ col 1 2 ∷ []) downwards trees (Int (pos n) ∷ [])
+      in_order 6 low_test columns downwards trees (Int (pos n) ∷ [])
       (map (λ (o : Output). o.1) answer.ordered) (λ v. column v 0 ∷ []) (λ r. refl) refl low_answer
 
   last_answers : IsPermutation (map run_cells (listed (last_run n c))) rows
@@ -283,7 +263,6 @@ delete ends = record {
 
 pub every_rises : (trees : Trees) (rows : List Row) → IsAnswer every.query (overlay trees []) ([]) rows
     → AscendBy 0 rows
-unfolding every
+unfolding every select
 every_rises trees rows answer =
-    in_order 6 [] (col 1 0 ∷ col 1 2 ∷ []) ((col 1 0, ascending Binary) ∷ []) trees ([]) rows (λ v. column v 0 ∷ [])
-    (λ r. refl) refl answer
+    in_order 6 [] columns ((col 1 0, ascending Binary) ∷ []) trees ([]) rows (λ v. column v 0 ∷ []) (λ r. refl) refl answer
