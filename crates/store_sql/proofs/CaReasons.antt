@@ -24,7 +24,7 @@ use Rattle.store_sql.specs.Refusals.{HasOne, RefusedFor, RefusesCa}
 use Rattle.store_sql.specs.declared.cas.CaRow.{CaRow}
 use Rattle.store_sql.proofs.CaTable as ca
 use Rattle.store_sql.proofs.Edits.{of_record}
-use Rattle.store_sql.proofs.InsertReasons.{insert_halted, none_orphaned, taken_number}
+use Rattle.store_sql.proofs.InsertReasons.{insert_halted, refers_still, taken_number}
 use Rattle.store_sql.proofs.Queries.{blob_test}
 use Rattle.store_sql.proofs.Reasons.{HasClash, IsPut, halted, one, storable}
 use Rattle.store_sql.specs.declared.table_fault.Fault.{Fault}
@@ -94,8 +94,8 @@ refuses_ca x below s c means stops =
     (λ y r is. ap (λ v. column v 0) is) means.kept.holds.cas taken in inl (it.0, it.1, inl it.2))
     (λ clash. inl (ca_clash x s c means clash))
     (λ long. inr (omega (arith, long)))
-    (λ next did broken. absurd (none_orphaned db next (one db ca_at [] row) (means.kept.sound.obeys.rules ForeignKey) did
-    (λ e. cc) (λ e. cc) broken))
+    (λ next did broken. absurd (broken (refers_still db next (one db ca_at [] row) (means.kept.sound.obeys.rules ForeignKey) did
+    (λ e. cc) (λ e. cc))))
     (insert_halted ca.insert_sql ca_cells 6 ca_at ca.terms 4 ca.source (λ y rows. ca_row y) refl (λ y. refl) (λ y. refl)
     ca_made x s c means stops)
 

@@ -1,5 +1,5 @@
 -- The statements on the table of certificates.
-use Rattle.std.proofs.Common.{◌≡◌, ℕ, pos, List, [], ◌∷◌, codes, true, Option, None, Ok, refl, ap, ap₂, ◌∙◌, Bool}
+use Rattle.std.proofs.Common.{◌≡◌, ℕ, pos, List, [], ◌∷◌, codes, true, refl, ap, ap₂, ◌∙◌, Bool}
 use Rattle.std.specs.Prelude.{◌&&◌}
 use Rattle.std.proofs.Math.Bool.{and-true}
 use Rattle.sqlite.specs.Order.{Row, column}
@@ -11,40 +11,33 @@ use Rattle.sqlite.specs.Ops.{binary, is_true}
 use Rattle.sqlite_sql.specs.declared.ops.BinaryOp.TheVariants.{Compare}
 use Rattle.sqlite_sql.specs.declared.ops.CompareOp.TheVariants.{Eq, Ge, Le}
 use Rattle.sqlite.specs.Collation.TheVariants.{Binary}
-use Rattle.sqlite.specs.Query.{Query, IsAnswer}
+use Rattle.sqlite.specs.Query.{IsAnswer}
 use Rattle.sqlite.specs.Program.{overlay}
 use Rattle.sqlite.specs.Source.TheVariants.{Values}
 use Rattle.sqlite.specs.Command.TheVariants.{Insert, Update}
 use Rattle.sqlite.specs.Tree.{Trees}
-use Rattle.sqlite_trees.specs.View.{is_int}
-use Rattle.sqlite.specs.Edit.{edit_of}
-use Rattle.sqlite.specs.Rowids.TheVariants.{Given}
 use Rattle.sqlite.specs.Cast.{cast_row}
-use Rattle.sqlite_rules.specs.Calls.{ids_of}
-use Rattle.sqlite.specs.Does.{Tally, Does}
-use Rattle.sqlite.specs.Effect.{Database}
 use Rattle.sqlite_tied.specs.Compute.{everything}
 use Rattle.sqlite.specs.Listing.{understood}
-use Rattle.sqlite.proofs.Callers.{IsPlain, command_of, statement_of}
+use Rattle.sqlite.proofs.Callers.{IsPlain, command_of}
 use Rattle.store_sql.proofs.Selects.{IsSelect, IsTreeOf, select}
 use Rattle.store_sql.specs.Schema.{whole, cert_at}
 use Rattle.store_sql.specs.Cells.{cert_cells}
-use Rattle.store_sql.specs.Contents.{Contents, Holds, Means, at_places, cert_places}
+use Rattle.store_sql.specs.Contents.{Holds, at_places, cert_places}
 use Rattle.store_sql.specs.Changes.{has_serial, certs_numbered, certs_within, is_within, signed, with_cert, with_signature}
 use Rattle.store_sql.specs.declared.sql.TheConstants.{INSERT_CERT, FIND_CERT, CERTS_WITHIN, SIGN_CERT}
 use Rattle.store_sql.specs.declared.certs.CertRow.{CertRow}
 use Rattle.store_sql.proofs.Apart.{cert_apart}
 use Rattle.store_sql.proofs.CallLemmas.{Write, Find}
-use Rattle.store_sql.proofs.Elsewhere.{spares, in_cert}
+use Rattle.store_sql.proofs.Elsewhere.{in_cert}
 use Rattle.store_sql.proofs.FaultLemmas.{IsWhole}
 use Rattle.store_sql.proofs.Inserts.{no_works}
 use Rattle.store_sql.proofs.Inserts as insert
-use Rattle.store_sql.proofs.Queries.{on_table, in_order, selected, int_test, int_le_test, int_ge_test}
-use Rattle.store_sql.proofs.Rows.{cast_int}
-use Rattle.store_sql.proofs.Statements.{mode, updates}
+use Rattle.store_sql.proofs.Queries.{on_table, in_order, int_test, int_le_test, int_ge_test}
+use Rattle.store_sql.proofs.Rows.{cast_int, cast_null}
 use Rattle.store_sql.proofs.Rising.{AscendBy}
 use Rattle.store_sql.proofs.Numbers.{same_number, le_number, ge_number}
-use Rattle.store_sql.proofs.Updates.{lists_changed}
+use Rattle.store_sql.proofs.NumberUpdates.{IsUpdate, update}
 
 -- ---- INSERT
 
@@ -124,15 +117,18 @@ module _ (lo hi : ℕ) where
 
 -- ---- UPDATE of the signature
 
-abbrev pub sign_sql : List ℕ
-sign_sql = SIGN_CERT.now
+abbrev pub sign_test : List Term
+sign_test = op2 (Compare Eq Binary) (col 1 0) (col 0 0) ∷ []
 
-abbrev pub sign_query : Query
-sign_query = on_table 3 (op2 (Compare Eq Binary) (col 1 0) (col 0 0) ∷ [])
-    (col 1 0 ∷ col 1 0 ∷ lit Null ∷ col 1 2 ∷ col 1 3 ∷ col 1 4 ∷ col 0 1 ∷ []) []
+abbrev pub sign_project : List Term
+sign_project = col 1 0 ∷ col 1 0 ∷ lit Null ∷ col 1 2 ∷ col 1 3 ∷ col 1 4 ∷ col 0 1 ∷ []
 
-pub sign_is : (command_of (understood whole sign_sql) ≡ Update 2 (record { lets = []; body = sign_query }))
-    × IsPlain (understood whole sign_sql) × IsWhole sign_sql 2 (understood whole sign_sql)
+abbrev pub cert_row : CertRow → Row
+cert_row x = Int (pos x.serial) ∷ Null ∷ Text x.department ∷ Text x.key_id ∷ Blob x.body ∷ or_null Blob x.signature ∷ []
+
+pub sign_is : (command_of (understood whole SIGN_CERT.now)
+    ≡ Update 2 (record { lets = []; body = on_table 3 sign_test sign_project [] }))
+    × IsPlain (understood whole SIGN_CERT.now) × IsWhole SIGN_CERT.now 2 (understood whole SIGN_CERT.now)
 unfolding understood everything
 sign_is = (refl, (refl, refl), (refl, refl))
 
@@ -140,48 +136,38 @@ module _ (serial : ℕ) (signature : List ℕ) where
   abbrev pub sign_params : Row
   sign_params = Int (pos serial) ∷ Blob signature ∷ []
 
-  abbrev pub sign_row : Row → Row
+  abbrev sign_row : Row → Row
   sign_row r = column r 0 ∷ Null ∷ column r 2 ∷ column r 3 ∷ column r 4 ∷ Blob signature ∷ []
 
-  abbrev sign_change : Row → Row
-  sign_change v = column v 0 ∷ column v 1 ∷ column v 2 ∷ column v 3 ∷ Blob signature ∷ []
-
-  sign_back : (x : CertRow) (r : Row) → at_places cert_places r ≡ cert_cells x
-      → at_places cert_places (cast_row cert_at (sign_row r)) ≡ sign_change (at_places cert_places r)
-  sign_back x r is =
+  signed_row : (x : CertRow) (r : Row) → at_places cert_places r ≡ cert_cells x
+      → cast_row cert_at (sign_row r) ≡ cert_row (signed signature x)
+  signed_row x r is =
       let c0 : column r 0 ≡ Int (pos x.serial) = ap (λ v. column v 0) is in
       let c2 : column r 2 ≡ Text x.department = ap (λ v. column v 1) is in
       let c3 : column r 3 ≡ Text x.key_id = ap (λ v. column v 2) is in
       let c4 : column r 4 ≡ Blob x.body = ap (λ v. column v 3) is in
-      rw (c0, c2, c3, c4) (simp cast_int)
+      rw (c0, c2, c3, c4) (simp (cast_int, cast_null))
 
-  sign_does : (limit : Option ℕ) (db next : Database) (tally : Tally) (c : Contents) → Means db c
-      → Does limit mode sign_params db (statement_of sign_sql (understood whole sign_sql)) None
-      (Update 2 (record { lets = []; body = sign_query })) (Ok (tally, next))
-      → (next.schema ≡ whole) × Holds next.trees (with_signature serial signature c)
-  sign_does limit db next tally c means h =
-      let did = updates limit db next tally whole means.schema 2 cert_at refl sign_params
-      (statement_of sign_sql (understood whole sign_sql)) (record { lets = []; body = sign_query }) h (no_works 3)
-      in
-      let all = selected 3 _ _ [] db.trees sign_params did.0 refl (did.1.answer Null) in
-      let now = lists_changed cert_cells cert_places cert_at db.trees next.trees did.0 c.certs (has_serial serial)
-      (signed signature) (λ v. is_true (binary (Compare Eq Binary) (column v 0) (Int (pos serial))) && true)
-      sign_change sign_row
-      (λ x. and-true _ ∙ int_test (pos x.serial) (pos serial) ∙ same_number x.serial serial) (λ x. refl)
-      (λ x r is. let id : column r 0 ≡ Int (pos x.serial) = ap (λ v. column v 0) is in ap is_int id) sign_back
-      means.kept.holds.certs all did.2 in (
-        did.3,
-        in_cert db.trees next.trees c means.kept.holds _
-            (spares (edit_of db.trees cert_at (ids_of did.0) Given 1 did.0) db.trees next.trees did.2) now,
-      )
-
-  pub sign : Write sign_sql sign_params (with_signature serial signature)
-  sign = record {
-    command = Update 2 (record { lets = []; body = sign_query });
+  pub signs : IsUpdate SIGN_CERT.now sign_params cert_cells cert_places 2 cert_at sign_test sign_project (λ c. c.certs)
+      (with_signature serial signature) (λ x. x.serial) serial (signed signature) cert_row
+  signs = record {
+    tree = tree;
+    found = refl;
     is = sign_is.0;
     plain = sign_is.1;
-    one
-        = sign_is.2;
-    on_rows = tt;
-    does = sign_does;
+    one = sign_is.2;
+    typed = refl;
+    next_row = sign_row;
+    change = λ v. column v 0 ∷ column v 1 ∷ column v 2 ∷ column v 3 ∷ Blob signature ∷ [];
+    leads = λ r. refl;
+    first = λ x. refl;
+    passing = λ r. refl;
+    showing = λ r. refl;
+    changed = λ x. refl;
+    made = signed_row;
+    row_is = λ x. refl;
+    held = λ db next c h o. in_cert db next c h _ o;
   }
+
+  pub sign : Write SIGN_CERT.now sign_params (with_signature serial signature)
+  sign = update signs

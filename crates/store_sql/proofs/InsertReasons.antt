@@ -116,14 +116,14 @@ each_refers trees keeps = all_from (λ r. has_department trees r ≡ true) (tree
     keeps.1.1.0 there) (inl refl))
 
 -- an edit of another table breaks none
-pub none_orphaned : (db next : Trees) (edit : Edit) → Keeps ForeignKey whole db → Applies whole Enforced db edit next
-    → 1 ≢ edit.table.tree → 3 ≢ edit.table.tree → (Refers All whole next → ⊥) → ⊥
-none_orphaned db next edit keeps did one three broken =
+pub refers_still : (db next : Trees) (edit : Edit) → Keeps ForeignKey whole db → Applies whole Enforced db edit next
+    → 1 ≢ edit.table.tree → 3 ≢ edit.table.tree → Refers All whole next
+refers_still db next edit keeps did one three =
     let departments : next 1 ≡ db 1 = did.tables.1.0 one in
     let certs : next 3 ≡ db 3 = did.tables.1.1.0 three in
-    broken (all_refer next (rw certs (subst
+    all_refer next (rw certs (subst
     (λ ds. AllByRecursion (λ r. (has_null (2 ∷ []) r || list_any (λ d. agree plain (1 ∷ []) d (2 ∷ []) r) ds) ≡ true) (db 3))
-    (sym departments) (each_refers db keeps))))
+    (sym departments) (each_refers db keeps)))
 
 -- ---- INSERT
 

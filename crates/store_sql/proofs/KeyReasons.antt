@@ -30,7 +30,7 @@ use Rattle.store_sql.specs.declared.requests.RequestRow.{RequestRow}
 use Rattle.store_sql.proofs.RequestTable as request
 use Rattle.store_sql.proofs.RevokedTable as revoked
 use Rattle.store_sql.proofs.Edits.{of_record}
-use Rattle.store_sql.proofs.InsertReasons.{insert_halted, none_orphaned}
+use Rattle.store_sql.proofs.InsertReasons.{insert_halted, refers_still}
 use Rattle.store_sql.proofs.Numbering.{ints_of, next_number}
 use Rattle.store_sql.proofs.Queries.{text_test}
 use Rattle.store_sql.proofs.Reasons.{HasClash, IsPut, halted, one, storable}
@@ -140,8 +140,8 @@ refuses_request x s c means stops =
     (λ taken. free (db 4) (request_cells x) h.requests_numbered h.requests.apart taken)
     (λ clash. inl (request_clash x s c means clash))
     (λ long. inr (inl (omega (arith, long))))
-    (λ next did broken. absurd (none_orphaned db next (one db request_at [] row) (means.kept.sound.obeys.rules ForeignKey) did
-    (λ e. cc) (λ e. cc) broken))
+    (λ next did broken. absurd (broken (refers_still db next (one db request_at [] row) (means.kept.sound.obeys.rules ForeignKey) did
+    (λ e. cc) (λ e. cc))))
     (insert_halted request.insert_sql request_cells 3 request_at request.terms 5 request.source request_row refl (λ y. refl)
     (λ y. refl) request_made x s c means stops)
 
@@ -204,8 +204,8 @@ refuses_key_id x s c means stops =
     (λ taken. free (db 7) (key_id_cells x) h.revoked_numbered h.revoked.apart taken)
     (λ clash. inl (revoked_clash x s c means clash))
     (λ long. inr (inl (omega (arith, long))))
-    (λ next did broken. absurd (none_orphaned db next (one db revoked_at [] row) (means.kept.sound.obeys.rules ForeignKey) did
-    (λ e. cc) (λ e. cc) broken))
+    (λ next did broken. absurd (broken (refers_still db next (one db revoked_at [] row) (means.kept.sound.obeys.rules ForeignKey) did
+    (λ e. cc) (λ e. cc))))
     (insert_halted revoked.insert_sql key_id_cells 5 revoked_at revoked.terms 2 revoked.source revoked_row refl (λ y. refl)
     (λ y. refl) revoked_made x s c means stops)
 

@@ -28,6 +28,7 @@ pub mod Later
 pub mod Makeable
 pub mod Makes
 pub mod Numbering
+pub mod NumberUpdates
 pub mod Numbers
 pub mod OfficeReasons
 pub mod OfficeTable

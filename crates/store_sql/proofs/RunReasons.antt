@@ -37,7 +37,7 @@ use Rattle.store_sql.proofs.FaultLemmas.{HasWriteCause, none_overflows}
 use Rattle.store_sql.specs.declared.table_fault.Fault.TheVariants.{Device, Damaged, NoMemory}
 use Rattle.store_sql.specs.Faults.{HasCause}
 use Rattle.store_sql.proofs.Inserts.{no_works}
-use Rattle.store_sql.proofs.InsertReasons.{insert_halted, none_orphaned, taken_number}
+use Rattle.store_sql.proofs.InsertReasons.{insert_halted, refers_still, taken_number}
 use Rattle.store_sql.proofs.Reasons.{IsPut, halted, one, other_tree, storable, unclashed}
 use Rattle.store_sql.proofs.Refused.{Stops, refused_for}
 use Rattle.store_sql.proofs.Rows.{cast_int, cast_null}
@@ -77,8 +77,8 @@ refuses_run x below s c means stops =
     (λ y r is. ap (λ v. column v 0) is) means.kept.holds.runs)
     (λ clash. absurd (unclashed db run_at [] row ((λ e. cc), ((λ e. cc), ((λ e. cc), ((λ e. cc), tt)))) clash))
     (λ long. absurd (omega (arith, long)))
-    (λ next did broken. absurd (none_orphaned db next (one db run_at [] row) (means.kept.sound.obeys.rules ForeignKey) did
-    (λ e. cc) (λ e. cc) broken))
+    (λ next did broken. absurd (broken (refers_still db next (one db run_at [] row) (means.kept.sound.obeys.rules ForeignKey) did
+    (λ e. cc) (λ e. cc))))
     (insert_halted run.insert_sql run_cells 4 run_at run.terms 3 run.source (λ y rows. run_row y) refl (λ y. refl) (λ y. refl)
     run_made x s c means stops)
 
@@ -133,8 +133,8 @@ deletes_runs ends s c means stops =
     go ids (inl (TooDeep, h)) = h
     go ids (inr (inl (row, none, big))) = none
     go ids (inr (inr (next, did, broken))) =
-        none_orphaned s.now.trees next (record { table = run_at; gone = ids; news = [] }) (means.kept.sound.obeys.rules ForeignKey) did
-        (λ e. cc) (λ e. cc) broken
+        broken (refers_still s.now.trees next (record { table = run_at; gone = ids; news = [] })
+        (means.kept.sound.obeys.rules ForeignKey) did (λ e. cc) (λ e. cc))
 
 -- ---- the calls
 
