@@ -1,22 +1,11 @@
 -- Why a CA is refused.
 use Rattle.std.proofs.Common.{◌≡◌, ◌⊎◌, inl, inr, ℕ, pos, ◌<◌, ◌^◌, List, [], ◌∷◌, drop, true, false, Result, refl, sym, ap, subst, ◌∙◌, arith}
+use Rattle.store_sql.proofs.Words.{Binary, Blob, Chosen, ForeignKey, Insert, Int, Null, Row, State, Unique, Values}
+use Rattle.store_sql.proofs.Words.{agree, all_has, and_parts, bytes_eq-Decides, cast_row, column, equal, guards}
+use Rattle.store_sql.proofs.Words.{lt-ltb, with_rowid}
 use Rattle.std.specs.Prelude.{◌&&◌}
-use Rattle.std.proofs.lemmas.Bool.{and_parts, lt-ltb}
-use Rattle.std.proofs.lemmas.Slice.Eq.{bytes_eq-Decides}
 use Rattle.sqlite_value.specs.Keys.{first_key, joined}
 use Rattle.sqlite_schema.specs.Names.{same_name}
-use Rattle.sqlite.specs.declared.types.Value.TheVariants.{Null, Int, Blob}
-use Rattle.sqlite.specs.Collation.TheVariants.{Binary}
-use Rattle.sqlite.specs.Order.{Row, column}
-use Rattle.sqlite.specs.Cast.{cast_row}
-use Rattle.sqlite.specs.Edit.{with_rowid}
-use Rattle.sqlite.specs.Rowids.TheVariants.{Chosen}
-use Rattle.sqlite.specs.State.{State}
-use Rattle.sqlite.specs.Source.TheVariants.{Values}
-use Rattle.sqlite.specs.Command.TheVariants.{Insert}
-use Rattle.sqlite_rules.proofs.ListLemmas.{all_has}
-use Rattle.sqlite_schema.specs.declared.schema.Constraint.TheVariants.{Unique, ForeignKey}
-use Rattle.sqlite_schema.specs.Rules.{agree, equal, guards}
 use Rattle.store_sql.specs.Schema.{whole, ca_at}
 use Rattle.store_sql.specs.Cells.{ca_cells}
 use Rattle.store_sql.specs.Contents.{Contents, Means, ca_places}

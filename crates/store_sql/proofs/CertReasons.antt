@@ -1,47 +1,24 @@
 -- Why a certificate is refused.
 use Rattle.std.proofs.Common.{◌≡◌, inl, inr, ℕ, ℤ, pos, ◌<◌, ◌^◌, List, [], ◌∷◌, drop, true, false, not, None, Some, Result, refl, sym, ap, subst, ◌∙◌, arith}
+use Rattle.store_sql.proofs.Words.{All, AllByRecursion, Applies, Binary, Blob, Chosen, Enforced, ForeignKey, Has}
+use Rattle.store_sql.proofs.Words.{Insert, Null, Refers, Row, State, Text, Trees, Unique, Values, accepts_terms}
+use Rattle.store_sql.proofs.Words.{agree, all_has, and-true, are_typed, cast_row, column, equal, has_null, has_rowid}
+use Rattle.store_sql.proofs.Words.{is_referred, list_any, lt-ltb, or_null, or_right, plain, references_fit, some_from}
+use Rattle.store_sql.proofs.Words.{stamped, with_rowid, without_rowid}
 use Rattle.std.specs.Prelude.{◌||◌, ◌&&◌}
-use Rattle.std.specs.List.{AllByRecursion, list_any}
-use Rattle.std.proofs.Math.Bool.{and-true}
-use Rattle.sqlite.specs.declared.types.Value.TheVariants.{Null, Text, Blob}
-use Rattle.sqlite.specs.Values.{or_null}
-use Rattle.sqlite.specs.Order.{Row, column}
-use Rattle.sqlite.specs.Tree.{Trees, has_rowid, without_rowid}
-use Rattle.sqlite.specs.Edit.{Applies}
-use Rattle.sqlite.specs.State.{State}
-use Rattle.sqlite.specs.Source.TheVariants.{Values}
-use Rattle.sqlite.specs.Command.TheVariants.{Insert}
-use Rattle.sqlite_rules.specs.Edit.{is_referred}
 use Rattle.sqlite_trees.proofs.ListLemmas.{all-filter}
-use Rattle.sqlite_value.specs.Keys.{first_key, joined, plain}
+use Rattle.sqlite_value.specs.Keys.{first_key, joined}
 use Rattle.sqlite_schema.specs.Names.{same_name}
-use Rattle.sqlite_schema.specs.declared.schema.Among.TheVariants.{All}
-use Rattle.sqlite_schema.specs.declared.schema.Constraint.TheVariants.{Unique, ForeignKey}
-use Rattle.sqlite_schema.specs.declared.schema.Keys.TheVariants.{Enforced}
-use Rattle.sqlite_schema.specs.Rules.{Refers, references_fit}
-use Rattle.sqlite_rules.specs.Lists.{Has}
-use Rattle.sqlite_rules.proofs.ListLemmas.{all_has}
 use Rattle.store_sql.specs.Schema.{whole, cert_at}
-use Rattle.store_sql.specs.Cells.{cert_cells}
-use Rattle.store_sql.specs.Contents.{Contents, Means, at_places, cert_places}
+use Rattle.store_sql.specs.Cells.{cert_cells, department_cells}
+use Rattle.store_sql.specs.Contents.{Contents, Means, at_places, cert_places, Lists, department_places}
 use Rattle.store_sql.specs.Changes.{signed}
 use Rattle.store_sql.specs.Refusals.{HasOne, RefusedFor, RefusesCert, RefusesSignature}
 use Rattle.store_sql.specs.declared.certs.CertRow.{CertRow}
 use Rattle.store_sql.proofs.CertTable.{cert_row, insert_is, insert_sql, sign_params, signs, source, terms}
 use Rattle.store_sql.proofs.NumberUpdates.{update_fails}
 use Rattle.store_sql.specs.declared.sql.TheConstants.{SIGN_CERT}
-use Rattle.sqlite.specs.Collation.TheVariants.{Binary}
-use Rattle.sqlite.specs.Cast.{cast_row}
-use Rattle.sqlite.specs.Edit.{with_rowid}
-use Rattle.sqlite.specs.Rowids.TheVariants.{Chosen}
-use Rattle.sqlite.specs.Rows.{stamped}
-use Rattle.sqlite_schema.specs.Rules.{agree, are_typed, equal, has_null}
-use Rattle.sqlite_typing.specs.Types.{accepts_terms}
-use Rattle.sqlite_rules.proofs.ListLemmas.{some_from}
 use Rattle.sqlite_trees.proofs.TreeLemmas.{all-put_row}
-use Rattle.std.proofs.lemmas.Bool.{or_right, lt-ltb}
-use Rattle.store_sql.specs.Cells.{department_cells}
-use Rattle.store_sql.specs.Contents.{Lists, department_places}
 use Rattle.store_sql.proofs.RowTests.{own_text}
 use Rattle.store_sql.proofs.InsertReasons.{all_refer, each_refers, has_department, insert_halted, row_of, taken_number}
 use Rattle.store_sql.proofs.Reasons.{IsPut, halted, is_exact, one, storable, unclashed}

@@ -1,25 +1,12 @@
 -- The statements on the table of certificates.
 use Rattle.std.proofs.Common.{◌≡◌, ℕ, pos, List, [], ◌∷◌, codes, true, refl, ap, ap₂, ◌∙◌, Bool}
+use Rattle.store_sql.proofs.Words.{Binary, Blob, Compare, Eq, Ge, Insert, Int, IsAnswer, IsPlain, Le, Null, Row, Term}
+use Rattle.store_sql.proofs.Words.{Text, Trees, Update, Values, and-true, ascending, cast_row, col, column}
+use Rattle.store_sql.proofs.Words.{command_of, is_true, lit, op2, or_null, overlay}
 use Rattle.std.specs.Prelude.{◌&&◌}
-use Rattle.std.proofs.Math.Bool.{and-true}
-use Rattle.sqlite.specs.Order.{Row, column}
-use Rattle.sqlite.specs.Values.{or_null}
-use Rattle.sqlite.specs.declared.types.Value.TheVariants.{Null, Int, Text, Blob}
-use Rattle.sqlite_value.specs.Keys.{ascending}
-use Rattle.sqlite.specs.Term.{Term, lit, col, op2}
-use Rattle.sqlite.specs.Ops.{binary, is_true}
-use Rattle.sqlite_sql.specs.declared.ops.BinaryOp.TheVariants.{Compare}
-use Rattle.sqlite_sql.specs.declared.ops.CompareOp.TheVariants.{Eq, Ge, Le}
-use Rattle.sqlite.specs.Collation.TheVariants.{Binary}
-use Rattle.sqlite.specs.Query.{IsAnswer}
-use Rattle.sqlite.specs.Program.{overlay}
-use Rattle.sqlite.specs.Source.TheVariants.{Values}
-use Rattle.sqlite.specs.Command.TheVariants.{Insert, Update}
-use Rattle.sqlite.specs.Tree.{Trees}
-use Rattle.sqlite.specs.Cast.{cast_row}
+use Rattle.sqlite.specs.Ops.{binary}
 use Rattle.sqlite_tied.specs.Compute.{everything}
 use Rattle.sqlite.specs.Listing.{understood}
-use Rattle.sqlite.proofs.Callers.{IsPlain, command_of}
 use Rattle.store_sql.proofs.Selects.{IsSelect, IsTreeOf, select}
 use Rattle.store_sql.specs.Schema.{whole, cert_at}
 use Rattle.store_sql.specs.Cells.{cert_cells}

@@ -1,28 +1,20 @@
 -- Why a table can't be made beside the others: memory is refused, or the database fails.
 use Rattle.std.proofs.Common.{◌≡◌, inl, inr, ℕ, ◌≤◌, ◌+◌, ◌^◌, List, [], length, true, false, Option, None, Some, Ok, Err, Result, refl, sym, ap, subst, subst₂, ◌∙◌, append-nil, not, arith, IfErr}
-use Rattle.std.specs.Prelude.{IsUtf8, ◌||◌, ◌*◌, codes, nat_lt}
+use Rattle.store_sql.proofs.Words.{CreateTable, Database, Does, Error, Executes, Has, IsMisplaced, IsPlain, Mode}
+use Rattle.store_sql.proofs.Words.{Schema, State, Table, automatics, codes, command_of, index_reals, is_fit}
+use Rattle.store_sql.proofs.Words.{is_formed, is_pragma, is_query, is_reserved, is_used, lacks_sequence, mode_of}
+use Rattle.store_sql.proofs.Words.{nat_lt, next_tree, statement_of, table_defined_by, table_reals, test_has, text_of}
+use Rattle.std.specs.Prelude.{IsUtf8, ◌||◌, ◌*◌}
 use Rattle.std.proofs.lemmas.Bool.{ltb-true}
-use Rattle.sqlite_rules.proofs.ListLemmas.{test_has}
 use Rattle.std.proofs.lemmas.Str.{IsUtf8-from_is_utf8}
-use Rattle.sqlite_schema.specs.Rules.{table_reals, index_reals}
 use Rattle.sqlite_value.specs.declared.value.Value.TheVariants.{Text}
-use Rattle.sqlite_rules.specs.Lists.{Has}
-use Rattle.sqlite.specs.Compile.{table_defined_by}
-use Rattle.sqlite_catalog.specs.Change.{automatics, created, is_reserved, is_used, next_tree}
-use Rattle.sqlite_catalog.specs.Listing.{is_fit, is_formed}
+use Rattle.sqlite_catalog.specs.Change.{created}
 use Rattle.sqlite_catalog.specs.Calls.{RefusesTable, IsLongTable}
 use Rattle.sqlite_catalog.specs.declared.error.Refusal as alter
 use Rattle.sqlite_catalog.specs.declared.error.Refusal.TheVariants.{Invalid, NameTaken, BadName, TooBig, BadKey, BadText, Violates}
-use Rattle.sqlite.specs.Schema.{Schema}
-use Rattle.sqlite.specs.Table.{Table}
-use Rattle.sqlite.specs.Command.TheVariants.{CreateTable}
-use Rattle.sqlite.specs.declared.error.Error.{Error}
-use Rattle.sqlite.specs.declared.run.Mode.{Mode}
-use Rattle.sqlite.specs.Effect.{Database, is_query}
-use Rattle.sqlite.specs.Does.{Does, MakesTable, lacks_sequence}
+use Rattle.sqlite.specs.Does.{MakesTable}
 use Rattle.sqlite.specs.Listing.{understood}
-use Rattle.sqlite.specs.State.{State, Executes, ExecutesIn, IsMisplaced, is_pragma, mode_of, text_of}
-use Rattle.sqlite.proofs.Callers.{IsPlain, command_of, statement_of}
+use Rattle.sqlite.specs.State.{ExecutesIn}
 use Rattle.store_sql.specs.Faults.{fault_of, HasCause}
 use Rattle.store_sql.proofs.Makeable.{IsMakeable}
 use Rattle.store_sql.proofs.FaultLemmas.{IsWhole, failed, not_run}

@@ -1,18 +1,9 @@
 -- The queries on the table of departments.
 use Rattle.std.proofs.Common.{ℕ, List, [], ◌∷◌, codes, true, refl, ◌∙◌}
+use Rattle.store_sql.proofs.Words.{Binary, Compare, Eq, IsAnswer, Row, Term, Text, Trees, and-true, ascending, col}
+use Rattle.store_sql.proofs.Words.{column, is_true, op2, overlay}
 use Rattle.std.specs.Prelude.{◌&&◌}
-use Rattle.std.proofs.Math.Bool.{and-true}
-use Rattle.sqlite.specs.Order.{Row, column}
-use Rattle.sqlite.specs.declared.types.Value.TheVariants.{Text}
-use Rattle.sqlite_value.specs.Keys.{ascending}
-use Rattle.sqlite.specs.Term.{Term, col, op2}
-use Rattle.sqlite.specs.Ops.{binary, is_true}
-use Rattle.sqlite_sql.specs.declared.ops.BinaryOp.TheVariants.{Compare}
-use Rattle.sqlite_sql.specs.declared.ops.CompareOp.TheVariants.{Eq}
-use Rattle.sqlite.specs.Collation.TheVariants.{Binary}
-use Rattle.sqlite.specs.Query.{IsAnswer}
-use Rattle.sqlite.specs.Program.{overlay}
-use Rattle.sqlite.specs.Tree.{Trees}
+use Rattle.sqlite.specs.Ops.{binary}
 use Rattle.sqlite_tied.specs.Compute.{everything}
 use Rattle.sqlite.specs.Listing.{understood}
 use Rattle.store_sql.proofs.Selects.{IsSelect, IsTreeOf, select}

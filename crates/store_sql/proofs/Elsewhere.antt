@@ -1,9 +1,6 @@
 -- A statement on one table leaves what the others hold.
 use Rattle.std.proofs.Common.{◌≡◌, ◌≢◌, ℕ, List, subst, sym, arith}
-use Rattle.sqlite_schema.specs.declared.schema.Keys.TheVariants.{Enforced}
-use Rattle.sqlite.specs.Order.{Row}
-use Rattle.sqlite.specs.Tree.{Trees}
-use Rattle.sqlite.specs.Edit.{Edit, Applies}
+use Rattle.store_sql.proofs.Words.{Applies, Edit, Enforced, Row, Trees}
 use Rattle.store_sql.specs.declared.offices.OfficeRow.{OfficeRow}
 use Rattle.store_sql.specs.declared.departments.DepartmentRow.{DepartmentRow}
 use Rattle.store_sql.specs.declared.certs.CertRow.{CertRow}

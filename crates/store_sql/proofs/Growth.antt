@@ -1,18 +1,11 @@
 -- One table after the other.
 use Rattle.std.proofs.Common.{◌≡◌, inl, ℕ, ◌+◌, ◌<◌, drop, get_or, Bool, true, false, IsTrue, List, [], ◌∷◌, ◌++◌, length, Ok, Err, refl, sym, ap, Result, subst, ◌∙◌, arith}
+use Rattle.store_sql.proofs.Words.{AllByRecursion, IsDatabase, IsPermutation-refl, IsSound, KeepsRows, Row, Schema}
+use Rattle.store_sql.proofs.Words.{State, Survives, Table, Trees, created, survives_then}
 use Rattle.std.specs.Prelude.{if◌then◌else◌}
-use Rattle.std.specs.List.{AllByRecursion}
-use Rattle.std.proofs.lemmas.List.Sorted.{IsPermutation-refl}
 use Rattle.std.proofs.lemmas.List.{drop_more}
-use Rattle.sqlite.specs.Effect.{IsDatabase}
-use Rattle.sqlite.specs.Schema.{Schema}
-use Rattle.sqlite.specs.Table.{Table}
-use Rattle.sqlite.specs.Order.{Row}
-use Rattle.sqlite.specs.Tree.{Trees}
-use Rattle.sqlite_catalog.specs.Listing.{IsSound}
-use Rattle.sqlite.specs.Change.{created, next_tree, KeepsRows}
-use Rattle.sqlite.specs.State.{State, HasCleanDisk, Survives}
-use Rattle.sqlite.proofs.StateLemmas.{survives_then}
+use Rattle.sqlite.specs.Change.{next_tree}
+use Rattle.sqlite.specs.State.{HasCleanDisk}
 use Rattle.store_sql.specs.declared.creation.TableName.{TableName}
 use Rattle.store_sql.specs.declared.table_fault.Fault.{Fault}
 use Rattle.store_sql.specs.Schema.{no_schema, whole, without_ca, ca}

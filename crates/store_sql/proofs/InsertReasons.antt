@@ -1,39 +1,18 @@
 -- Why INSERT of one struct is refused.
 use Rattle.std.proofs.Common.{◌≡◌, ◌≢◌, inl, inr, ℕ, pos, ◌/◌, List, [], ◌∷◌, length, map, slice_get, Bool, true, Some, refl, sym, ap, subst, ◌∙◌, is_eq}
+use Rattle.store_sql.proofs.Words.{All, AllByRecursion, Applies, Chosen, Edit, Enforced, ForeignKey, Has, Insert, Int}
+use Rattle.store_sql.proofs.Words.{IsPermutation-sym, Keeps, Refers, Row, State, Table, Term, Trees, Values}
+use Rattle.store_sql.proofs.Words.{accepts_terms, agree, all-permutation, all_from, all_has, cast_row, edit_of}
+use Rattle.store_sql.proofs.Words.{eqb-true, has_null, is_taken, list_any, mapped_has, plain, rowid}
+use Rattle.store_sql.proofs.Words.{some_has, stamped, statement_of, test_has, value_cmp-Int, value_rows, with_rowid}
 use Rattle.std.specs.Prelude.{◌||◌, ◌==◌}
-use Rattle.std.specs.List.{AllByRecursion, list_any}
-use Rattle.std.specs.Ordering.{int_cmp}
-use Rattle.std.proofs.lemmas.List.Sorted.{IsPermutation-sym}
-use Rattle.std.proofs.lemmas.Bool.{eqb-true}
-use Rattle.sqlite_value.proofs.OrderLemmas.{value_cmp-Int}
-use Rattle.sqlite.specs.declared.types.Value.TheVariants.{Int}
-use Rattle.sqlite.specs.Order.{Row, value_cmp}
-use Rattle.sqlite.specs.Term.{Term}
-use Rattle.sqlite.specs.Table.{Table}
-use Rattle.sqlite.specs.Tree.{Trees, rowid}
-use Rattle.sqlite.specs.Source.TheVariants.{Values}
-use Rattle.sqlite.specs.Command.TheVariants.{Insert}
-use Rattle.sqlite.specs.Edit.{Applies, Edit, edit_of, is_taken, with_rowid}
-use Rattle.sqlite.specs.Rowids.TheVariants.{Chosen}
-use Rattle.sqlite.specs.Cast.{cast_row}
-use Rattle.sqlite.specs.State.{State}
-use Rattle.sqlite.specs.Rows.{stamped}
-use Rattle.sqlite.specs.Effect.{value_rows}
+use Rattle.sqlite.specs.Order.{value_cmp}
 use Rattle.sqlite.specs.Listing.{understood}
-use Rattle.sqlite.proofs.Callers.{statement_of}
-use Rattle.sqlite_schema.specs.declared.schema.Among.TheVariants.{All}
-use Rattle.sqlite_schema.specs.declared.schema.Constraint.TheVariants.{ForeignKey}
-use Rattle.sqlite_schema.specs.declared.schema.Keys.TheVariants.{Enforced}
 use Rattle.sqlite_schema.specs.declared.schema.Reference.{Reference}
 use Rattle.sqlite_schema.specs.Names.{same_name}
-use Rattle.sqlite_schema.specs.Rules.{Keeps, Refers, agree, has_null, has_parent}
-use Rattle.sqlite_value.specs.Keys.{joined, plain}
-use Rattle.sqlite_typing.specs.Types.{accepts_terms}
-use Rattle.sqlite_rules.specs.Lists.{Has}
-use Rattle.sqlite_rules.proofs.ListLemmas.{all_from, all_has, some_has, test_has}
-use Rattle.sqlite_rules.proofs.ProbeLemmas.{mapped_has}
+use Rattle.sqlite_schema.specs.Rules.{has_parent}
+use Rattle.sqlite_value.specs.Keys.{joined}
 use Rattle.sqlite_rules.proofs.RuleLemmas.{refers_from}
-use Rattle.sqlite_trees.proofs.ListLemmas.{all-permutation}
 use Rattle.store_sql.specs.Schema.{whole, cert_at, to_department}
 use Rattle.store_sql.specs.Contents.{Contents, Lists, Means, at_places}
 use Rattle.store_sql.proofs.Edits.{mapped_from, of_record}

@@ -1,27 +1,15 @@
 -- INSERT of the columns of one struct.
 use Rattle.std.proofs.Common.{◌≡◌, ℕ, ◌/◌, List, [], ◌∷◌, length, slice_get, Some, None, Option, Ok, refl, subst}
-use Rattle.std.specs.Prelude.{Bool, true, false, if◌then◌else◌, ◌==◌}
-use Rattle.sqlite.specs.Order.{Row}
-use Rattle.sqlite.specs.Term.{Term}
-use Rattle.sqlite.specs.Table.{Table}
-use Rattle.sqlite.specs.Tree.{Trees}
-use Rattle.sqlite.specs.Source.TheVariants.{Values}
-use Rattle.sqlite.specs.Command.TheVariants.{Insert}
-use Rattle.sqlite.specs.Edit.{edit_of, Applies, with_rowid}
-use Rattle.sqlite.specs.Rowids.TheVariants.{Chosen}
-use Rattle.sqlite.specs.Cast.{cast_row}
-use Rattle.sqlite_schema.specs.declared.schema.Keys.TheVariants.{Enforced}
+use Rattle.store_sql.proofs.Words.{Applies, Chosen, Database, Does, Enforced, Insert, IsPermutation, IsPlain, Row}
+use Rattle.store_sql.proofs.Words.{Table, Tally, Term, Trees, Values, cast_row, command_of, edit_of, false, stamped}
+use Rattle.store_sql.proofs.Words.{statement_of, true, value_rows, with_rowid, works}
+use Rattle.std.specs.Prelude.{Bool, if◌then◌else◌, ◌==◌}
 use Rattle.sqlite_schema.specs.declared.schema.Action.TheVariants.{NoAction}
-use Rattle.sqlite_rules.specs.Action.{works, deed_of}
-use Rattle.sqlite.specs.Does.{Tally, Does}
-use Rattle.sqlite.specs.Rows.{stamped}
-use Rattle.sqlite.specs.Effect.{Database, value_rows}
+use Rattle.sqlite_rules.specs.Action.{deed_of}
 use Rattle.sqlite.specs.Listing.{understood}
-use Rattle.sqlite.proofs.Callers.{IsPlain, command_of, statement_of}
 use Rattle.store_sql.specs.Schema.{whole}
 use Rattle.store_sql.specs.Contents.{Contents, Holds, Means, Lists, at_places}
 use Rattle.store_sql.proofs.Statements.{mode, inserts, uncounted}
-use Rattle.std.specs.List.Sorted.{IsPermutation}
 use Rattle.store_sql.proofs.Rows.{inserted, lists_more}
 use Rattle.store_sql.proofs.Elsewhere.{Spares, spares}
 use Rattle.store_sql.proofs.FaultLemmas.{IsWhole}

@@ -1,27 +1,12 @@
 -- Why a request or a revoked key id is refused.
 use Rattle.std.proofs.Common.{◌≡◌, inl, inr, ℕ, pos, ◌^◌, ◌≤◌, List, [], ◌∷◌, length, true, false, Result, refl, sym, ap, subst, ◌∙◌, arith}
+use Rattle.store_sql.proofs.Words.{Binary, Chosen, ForeignKey, Insert, Int, Row, State, Text, Unique, Values, agree}
+use Rattle.store_sql.proofs.Words.{all_from, all_has, and_parts, bytes_eq-Decides, cast_row, column, equal, fits_i64}
+use Rattle.store_sql.proofs.Words.{guards, length-map, length_permutation, ltb-false, next_rowid, with_rowid}
 use Rattle.std.specs.Prelude.{◌&&◌}
-use Rattle.std.proofs.lemmas.Bool.{and_parts, ltb-false}
-use Rattle.std.proofs.lemmas.List.Sorted.{length_permutation}
-use Rattle.std.proofs.lemmas.List.{length-map}
-use Rattle.std.proofs.lemmas.Slice.Eq.{bytes_eq-Decides}
 use Rattle.sqlite_value.specs.Keys.{first_key, joined}
 use Rattle.sqlite_schema.specs.Names.{same_name}
-use Rattle.sqlite.specs.declared.types.Value.TheVariants.{Int, Text}
-use Rattle.sqlite.specs.Collation.TheVariants.{Binary}
-use Rattle.sqlite.specs.Order.{Row, column}
-use Rattle.sqlite.specs.Cast.{cast_row}
-use Rattle.sqlite.specs.Edit.{with_rowid}
-use Rattle.sqlite.specs.Rowids.TheVariants.{Chosen}
-use Rattle.sqlite.specs.State.{State}
-use Rattle.sqlite.specs.Source.TheVariants.{Values}
-use Rattle.sqlite.specs.Command.TheVariants.{Insert}
-use Rattle.sqlite_sql.specs.Ops.{fits_i64}
-use Rattle.sqlite_rules.specs.Edit.{next_rowid}
-use Rattle.sqlite_rules.proofs.ListLemmas.{all_from, all_has}
 use Rattle.sqlite_rules.proofs.PlaceLemmas.{next_is_free}
-use Rattle.sqlite_schema.specs.declared.schema.Constraint.TheVariants.{Unique, ForeignKey}
-use Rattle.sqlite_schema.specs.Rules.{agree, equal, guards}
 use Rattle.store_sql.specs.Schema.{whole, request_at, revoked_at}
 use Rattle.store_sql.specs.Cells.{request_cells, key_id_cells}
 use Rattle.store_sql.specs.Contents.{AreNumbered, Contents, Lists, Means, at_places, request_places, key_id_places}

@@ -1,10 +1,8 @@
 -- A call that comes after another.
 use Rattle.std.proofs.Common.{◌≡◌, inl, inr, Bool, true, false, IsTrue, subst, ◌∙◌, arith}
-use Rattle.std.specs.Prelude.{IsSome, Option, if◌then◌else◌}
+use Rattle.store_sql.proofs.Words.{IsSome, IsUnchanged, KeepsCommit, State, Survives, Trees, unchanged_then}
+use Rattle.std.specs.Prelude.{Option, if◌then◌else◌}
 use Rattle.std.proofs.lemmas.Bool.{both_ways}
-use Rattle.sqlite.specs.Tree.{Trees}
-use Rattle.sqlite.specs.State.{State, Survives, IsUnchanged, KeepsCommit}
-use Rattle.sqlite.proofs.Callers.{unchanged_then}
 use Rattle.store_sql.specs.Calls.{Fails}
 use Rattle.store_sql.specs.Faults.{HasCause, HasFailed}
 use Rattle.store_sql.specs.declared.table_fault.Fault.{Fault}

@@ -54,3 +54,4 @@ pub mod UpdateReasons
 pub mod Updates
 pub mod UpsertStops
 pub mod Upserts
+pub mod Words

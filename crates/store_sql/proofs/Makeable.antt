@@ -1,19 +1,15 @@
 -- Tables that no rule refuses beside those that are there already.
 use Rattle.std.proofs.Common.{◌≡◌, ℕ, ◌+◌, ◌^◌, List, length, true, false, not, refl}
-use Rattle.std.specs.Prelude.{◌*◌, codes, nat_lt}
-use Rattle.std.specs.List.{list_all}
+use Rattle.store_sql.proofs.Words.{Schema, Table, automatics, codes, index_reals, is_fit, is_formed, is_reserved}
+use Rattle.store_sql.proofs.Words.{is_used, list_all, nat_lt, next_tree, table_reals}
+use Rattle.std.specs.Prelude.{◌*◌}
 use Rattle.std.specs.Str.{is_utf8, chars}
 use Rattle.sqlite_schema.specs.Names.{same_name}
-use Rattle.sqlite_schema.specs.Rules.{table_reals, index_reals}
 use Rattle.sqlite_value.specs.declared.value.Value.TheVariants.{Text}
 use Rattle.sqlite_trees.specs.Sound.{begins, fits_kind, is_free_name, same_name as same_letters}
-use Rattle.sqlite_catalog.specs.Change.{automatics, is_reserved, is_used, next_tree}
-use Rattle.sqlite_catalog.specs.Listing.{is_fit, is_formed}
 use Rattle.sqlite_tied.specs.Compute.{everything}
 use Rattle.sqlite.specs.Listing.{understood}
 use Rattle.sqlite.specs.Order.{value_cmp}
-use Rattle.sqlite.specs.Schema.{Schema}
-use Rattle.sqlite.specs.Table.{Table}
 use Rattle.store_sql.specs.declared.creation.TableName.{TableName}
 use Rattle.store_sql.specs.declared.creation.TableName.TheVariants as name
 use Rattle.store_sql.specs.Making.{before, made, text_of}

@@ -1,18 +1,12 @@
 -- CREATE TABLE.
 use Rattle.std.proofs.Common.{◌≡◌, ℕ, List, [], None, Ok, Err, Result, refl, sym, ap, subst, ◌∙◌, false}
-use Rattle.sqlite.specs.Schema.{Schema}
-use Rattle.sqlite.specs.Table.{Table}
-use Rattle.sqlite.specs.Tree.{Trees}
-use Rattle.sqlite.specs.Command.TheVariants.{CreateTable}
-use Rattle.sqlite.specs.Compile.{table_defined_by}
-use Rattle.sqlite.specs.Change.{created, next_tree, KeepsRows}
-use Rattle.sqlite.specs.Does.{Tally, lacks_sequence}
-use Rattle.sqlite.specs.Effect.{Database}
+use Rattle.store_sql.proofs.Words.{CreateTable, Database, Error, Executes, IsPlain, KeepsRows, Schema, State, Table}
+use Rattle.store_sql.proofs.Words.{Tally, Trees, Writes, command_of, created, lacks_sequence, runs_as, statement_of}
+use Rattle.store_sql.proofs.Words.{table_defined_by}
+use Rattle.sqlite.specs.Change.{next_tree}
 use Rattle.sqlite_tied.specs.Compute.{everything}
 use Rattle.sqlite.specs.Listing.{understood}
-use Rattle.sqlite.specs.declared.error.Error.{Error}
-use Rattle.sqlite.specs.State.{State, Writes, Executes, CommitsBy}
-use Rattle.sqlite.proofs.Callers.{IsPlain, command_of, statement_of, runs_as}
+use Rattle.sqlite.specs.State.{CommitsBy}
 use Rattle.store_sql.specs.declared.creation.TableName.{TableName}
 use Rattle.store_sql.specs.declared.creation.TableName.TheVariants as name
 use Rattle.store_sql.specs.Making.{before, made, text_of}

@@ -1,36 +1,13 @@
 -- UPDATE of the struct of one number, whatever its table is: what it makes of the contents, and why it is refused.
 use Rattle.std.proofs.Common.{◌≡◌, inl, inr, ℕ, pos, ◌<◌, ◌^◌, List, [], ◌∷◌, length, map, cond, slice_get, Bool, true, false, Option, Some, None, Ok, Result, sym, ap, subst, ◌∙◌}
-use Rattle.std.specs.Prelude.{◌&&◌, ◌==◌, filter}
-use Rattle.std.specs.List.{AllByRecursion, list_all}
-use Rattle.std.specs.List.Sorted.{IsPermutation}
-use Rattle.std.proofs.Math.Bool.{and-true}
-use Rattle.std.proofs.lemmas.Bool.{eqb-true}
-use Rattle.sqlite.specs.declared.types.Value.TheVariants.{Null, Int}
-use Rattle.sqlite.specs.Order.{Row, column}
-use Rattle.sqlite.specs.Term.{Term, eval_all, holds}
-use Rattle.sqlite.specs.Table.{Table}
-use Rattle.sqlite.specs.Tree.{Trees, rowid}
-use Rattle.sqlite.specs.Edit.{Applies, edit_of, id_in}
-use Rattle.sqlite.specs.Rowids.TheVariants.{Given}
-use Rattle.sqlite.specs.Cast.{cast_row}
-use Rattle.sqlite.specs.Ops.{binary, is_true}
-use Rattle.sqlite.specs.Collation.TheVariants.{Binary}
-use Rattle.sqlite.specs.Command.TheVariants.{Update}
-use Rattle.sqlite.specs.Does.{Tally, Does}
-use Rattle.sqlite.specs.Effect.{Database}
+use Rattle.store_sql.proofs.Words.{All, AllByRecursion, Applies, Binary, Compare, Database, Does, Enforced, Eq, Given}
+use Rattle.store_sql.proofs.Words.{Has, Int, IsPermutation, IsPlain, Null, Refers, Row, State, Table, Tally, Term}
+use Rattle.store_sql.proofs.Words.{Trees, Update, accepts_program, and-true, cast_row, column, command_of, edit_of}
+use Rattle.store_sql.proofs.Words.{eqb-true, eval_all, filter, fits_i64, guards, holds, id_in, ids_of, is_int}
+use Rattle.store_sql.proofs.Words.{is_true, list_all, rowid, statement_of}
+use Rattle.std.specs.Prelude.{◌&&◌, ◌==◌}
+use Rattle.sqlite.specs.Ops.{binary}
 use Rattle.sqlite.specs.Listing.{understood}
-use Rattle.sqlite.specs.State.{State}
-use Rattle.sqlite.proofs.Callers.{IsPlain, command_of, statement_of}
-use Rattle.sqlite_typing.specs.Types.{accepts_program}
-use Rattle.sqlite_rules.specs.Calls.{ids_of}
-use Rattle.sqlite_rules.specs.Lists.{Has}
-use Rattle.sqlite_schema.specs.Rules.{Refers, guards}
-use Rattle.sqlite_schema.specs.declared.schema.Among.TheVariants.{All}
-use Rattle.sqlite_schema.specs.declared.schema.Keys.TheVariants.{Enforced}
-use Rattle.sqlite_sql.specs.Ops.{fits_i64}
-use Rattle.sqlite_sql.specs.declared.ops.BinaryOp.TheVariants.{Compare}
-use Rattle.sqlite_sql.specs.declared.ops.CompareOp.TheVariants.{Eq}
-use Rattle.sqlite_trees.specs.View.{is_int}
 use Rattle.store_sql.specs.Schema.{whole}
 use Rattle.store_sql.specs.Contents.{Contents, Holds, Lists, Means, at_places}
 use Rattle.store_sql.specs.declared.table_fault.Fault.{Fault}

@@ -1,21 +1,9 @@
 -- Why the row of the office is refused.
 use Rattle.std.proofs.Common.{◌≡◌, inl, inr, ℕ, ℤ, pos, ◌<◌, ◌^◌, List, [], ◌∷◌, drop, true, false, Result, refl, sym, ap, ◌∙◌, arith}
-use Rattle.std.proofs.lemmas.Bool.{lt-ltb}
+use Rattle.store_sql.proofs.Words.{Chosen, Enforced, ForeignKey, Insert, Int, Row, State, Term, Unique, Values}
+use Rattle.store_sql.proofs.Words.{cast_row, column, is_referred, lt-ltb, references_fit, with_rowid}
 use Rattle.sqlite_value.specs.Keys.{joined}
 use Rattle.sqlite_schema.specs.Names.{same_name}
-use Rattle.sqlite.specs.declared.types.Value.TheVariants.{Int}
-use Rattle.sqlite.specs.Order.{Row, column}
-use Rattle.sqlite.specs.Term.{Term}
-use Rattle.sqlite.specs.Cast.{cast_row}
-use Rattle.sqlite.specs.Edit.{with_rowid}
-use Rattle.sqlite.specs.Rowids.TheVariants.{Chosen}
-use Rattle.sqlite.specs.State.{State}
-use Rattle.sqlite.specs.Source.TheVariants.{Values}
-use Rattle.sqlite.specs.Command.TheVariants.{Insert}
-use Rattle.sqlite_rules.specs.Edit.{is_referred}
-use Rattle.sqlite_schema.specs.Rules.{references_fit}
-use Rattle.sqlite_schema.specs.declared.schema.Keys.TheVariants.{Enforced}
-use Rattle.sqlite_schema.specs.declared.schema.Constraint.TheVariants.{Unique, ForeignKey}
 use Rattle.store_sql.specs.Schema.{whole, office_at}
 use Rattle.store_sql.specs.Cells.{counter_cells, office_cells}
 use Rattle.store_sql.specs.Contents.{Contents, Means, office_places}

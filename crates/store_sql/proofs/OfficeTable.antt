@@ -1,25 +1,11 @@
 -- The statements that write the row of the office, and that read it.
 use Rattle.std.proofs.Common.{◌≡◌, ℕ, pos, List, [], ◌∷◌, codes, drop, true, Ok, Err, Result, IfOk, IfErr, refl, ap}
-use Rattle.std.specs.Prelude.{Vec}
-use Rattle.std.specs.declared.alloc.Global.{Global}
-use Rattle.sqlite.specs.Order.{Row, column}
-use Rattle.sqlite.specs.declared.types.Value.TheVariants.{Null, Int, Text, Blob}
-use Rattle.sqlite_value.specs.Keys.{ascending}
-use Rattle.sqlite.specs.Term.{Term, lit, col}
-use Rattle.sqlite.specs.Collation.TheVariants.{Binary}
-use Rattle.sqlite.specs.Query.{IsAnswer}
-use Rattle.sqlite.specs.Program.{overlay}
-use Rattle.sqlite.specs.Source.TheVariants.{Values}
-use Rattle.sqlite.specs.Command.TheVariants.{Insert}
-use Rattle.sqlite.specs.Tree.{Trees}
-use Rattle.sqlite.specs.Effect.{Database}
-use Rattle.sqlite.specs.Schema.{Schema}
-use Rattle.sqlite.specs.Table.{Table}
-use Rattle.sqlite.specs.State.{State, FailsToQuery, Shown}
-use Rattle.sqlite.specs.declared.error.Error.{Error}
+use Rattle.store_sql.proofs.Words.{Binary, Blob, Database, Error, Global, Insert, Int, IsAnswer, IsPlain, Null, Row}
+use Rattle.store_sql.proofs.Words.{Schema, State, Table, Term, Text, Trees, Values, Vec, ascending, col, column}
+use Rattle.store_sql.proofs.Words.{command_of, lit, overlay}
+use Rattle.sqlite.specs.State.{FailsToQuery, Shown}
 use Rattle.sqlite_tied.specs.Compute.{everything}
 use Rattle.sqlite.specs.Listing.{understood}
-use Rattle.sqlite.proofs.Callers.{IsPlain, command_of}
 use Rattle.store_sql.proofs.Selects.{IsSelect, IsTreeOf, select}
 use Rattle.store_sql.specs.Schema.{whole, office_at}
 use Rattle.store_sql.specs.Cells.{office_cells}

@@ -1,16 +1,9 @@
 -- The statements that change the row of the office: its counters, and the number of its schema.
 use Rattle.std.proofs.Common.{◌≡◌, ℕ, pos, List, [], ◌∷◌, refl, ap}
-use Rattle.sqlite.specs.Order.{Row, column}
-use Rattle.sqlite.specs.declared.types.Value.TheVariants.{Null, Int, Text, Blob}
-use Rattle.sqlite.specs.Term.{Term, lit, col, op2}
-use Rattle.sqlite_sql.specs.declared.ops.BinaryOp.TheVariants.{Compare}
-use Rattle.sqlite_sql.specs.declared.ops.CompareOp.TheVariants.{Eq}
-use Rattle.sqlite.specs.Collation.TheVariants.{Binary}
-use Rattle.sqlite.specs.Command.TheVariants.{Update}
-use Rattle.sqlite.specs.Cast.{cast_row}
+use Rattle.store_sql.proofs.Words.{Binary, Blob, Compare, Eq, Int, IsPlain, Null, Row, Term, Text, Update, cast_row}
+use Rattle.store_sql.proofs.Words.{col, column, command_of, lit, op2}
 use Rattle.sqlite_tied.specs.Compute.{everything}
 use Rattle.sqlite.specs.Listing.{understood}
-use Rattle.sqlite.proofs.Callers.{IsPlain, command_of}
 use Rattle.store_sql.specs.Schema.{whole, office_at}
 use Rattle.store_sql.specs.Cells.{counter_cells, office_cells}
 use Rattle.store_sql.specs.Contents.{at_places, office_places}

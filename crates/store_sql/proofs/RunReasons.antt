@@ -1,30 +1,16 @@
 -- Why a run is refused, and that a deletion of runs is not.
 use Rattle.std.proofs.Common.{◌≡◌, inl, inr, ℕ, ℤ, pos, ◌<◌, ◌^◌, List, [], ◌∷◌, drop, Bool, true, false, not, Ok, Err, Result, refl, sym, ap, subst, ◌∙◌, arith}
-use Rattle.std.specs.Prelude.{◌&&◌, ◌==◌, length, nat_lt}
-use Rattle.std.specs.List.{AllByRecursion}
-use Rattle.std.proofs.lemmas.Bool.{cases_eq, lt-ltb}
+use Rattle.store_sql.proofs.Words.{AllByRecursion, BadReference, Check, Chosen, Datatype, Delete, ForeignKey, Has}
+use Rattle.store_sql.proofs.Words.{Index, Insert, Int, Keeps, Mismatch, NoRowid, NotNull, Null, PrimaryKey, Row}
+use Rattle.store_sql.proofs.Words.{State, TooDeep, Trees, Unique, Values, Violates, accepts_program, all_has}
+use Rattle.store_sql.proofs.Words.{cases_eq, cast_row, clashes, column, guards, ids_of, lt-ltb, nat_lt}
+use Rattle.store_sql.proofs.Words.{references_fit, statement_of, with_rowid, with_tree, without_all}
+use Rattle.std.specs.Prelude.{◌&&◌, ◌==◌, length}
 use Rattle.sqlite_value.specs.Keys.{joined}
 use Rattle.sqlite_schema.specs.Names.{same_name}
-use Rattle.sqlite.specs.declared.types.Value.TheVariants.{Null, Int}
-use Rattle.sqlite.specs.Order.{Row, column}
-use Rattle.sqlite.specs.Cast.{cast_row}
-use Rattle.sqlite.specs.Edit.{with_rowid, without_all}
-use Rattle.sqlite.specs.Rowids.TheVariants.{Chosen}
-use Rattle.sqlite.specs.State.{State}
-use Rattle.sqlite.specs.Source.TheVariants.{Values}
-use Rattle.sqlite.specs.Command.TheVariants.{Delete, Insert}
 use Rattle.sqlite.specs.Listing.{understood}
-use Rattle.sqlite.specs.Tree.{Trees, with_tree}
-use Rattle.sqlite.proofs.Callers.{statement_of}
-use Rattle.sqlite_rules.specs.Calls.{ids_of}
-use Rattle.sqlite_rules.specs.Lists.{Has}
-use Rattle.sqlite_rules.specs.declared.error.Refusal.TheVariants.{Violates, Mismatch, NoRowid, BadReference, TooDeep}
-use Rattle.sqlite_rules.proofs.ListLemmas.{all_has, test_from}
+use Rattle.sqlite_rules.proofs.ListLemmas.{test_from}
 use Rattle.sqlite_rules.proofs.RuleLemmas.{keeps_at, keeps_from}
-use Rattle.sqlite_schema.specs.Rules.{Keeps, clashes, guards, references_fit}
-use Rattle.sqlite_schema.specs.declared.schema.Index.{Index}
-use Rattle.sqlite_typing.specs.Types.{accepts_program}
-use Rattle.sqlite_schema.specs.declared.schema.Constraint.TheVariants.{Datatype, NotNull, Check, PrimaryKey, Unique, ForeignKey}
 use Rattle.store_sql.specs.Schema.{whole, run_at}
 use Rattle.store_sql.specs.Cells.{run_cells}
 use Rattle.store_sql.specs.Contents.{Contents, Means, run_places}

@@ -1,19 +1,9 @@
 -- SELECT of the rows of one table that pass a test.
 use Rattle.std.proofs.Common.{◌≡◌, inl, inr, ℕ, List, [], ◌∷◌, length, map, Bool, true, false, subst}
-use Rattle.std.specs.Prelude.{filter}
-use Rattle.std.specs.List.{list_all}
-use Rattle.std.specs.List.Sorted.{IsPermutation}
-use Rattle.sqlite.specs.Order.{Row}
-use Rattle.sqlite.specs.Term.{Term, eval_all, holds}
-use Rattle.sqlite_value.specs.declared.keys.Key.{Key}
-use Rattle.sqlite.specs.Schema.{Schema}
-use Rattle.sqlite.specs.Tree.{Trees}
-use Rattle.sqlite.specs.Query.{Query}
-use Rattle.sqlite.specs.Program.{overlay}
-use Rattle.sqlite.specs.Command.TheVariants.{Select}
-use Rattle.sqlite.specs.Listing.{reads_listing, understood}
-use Rattle.sqlite.proofs.Callers.{IsPlain, command_of}
-use Rattle.sqlite_typing.specs.Types.{accepts_program}
+use Rattle.store_sql.proofs.Words.{IsPermutation, IsPlain, Key, Query, Row, Schema, Select, Term, Trees}
+use Rattle.store_sql.proofs.Words.{accepts_program, command_of, eval_all, filter, holds, list_all, overlay}
+use Rattle.store_sql.proofs.Words.{reads_listing}
+use Rattle.sqlite.specs.Listing.{understood}
 use Rattle.store_sql.specs.Contents.{Lists, at_places}
 use Rattle.store_sql.proofs.CallLemmas.{FindIn}
 use Rattle.store_sql.proofs.FaultLemmas.{IsWhole, none_overflows}
