@@ -1,10 +1,9 @@
 -- Why a certificate is refused.
 use Rattle.std.proofs.Common.{◌≡◌, inl, inr, ℕ, ℤ, pos, ◌<◌, ◌^◌, List, [], ◌∷◌, drop, true, false, not, None, Some, Result, refl, sym, ap, subst, ◌∙◌, arith}
-use Rattle.store_sql.proofs.Words.{All, AllByRecursion, Applies, Binary, Blob, Chosen, Enforced, ForeignKey, Has}
-use Rattle.store_sql.proofs.Words.{Insert, Null, Refers, Row, State, Text, Trees, Unique, Values, accepts_terms}
-use Rattle.store_sql.proofs.Words.{agree, all_has, and-true, are_typed, cast_row, column, equal, has_null, has_rowid}
-use Rattle.store_sql.proofs.Words.{is_referred, list_any, lt-ltb, or_null, or_right, plain, references_fit, some_from}
-use Rattle.store_sql.proofs.Words.{stamped, with_rowid, without_rowid}
+use Rattle.store_sql.proofs.Words.{All, AllByRecursion, Applies, Binary, Blob, Enforced, ForeignKey, Has, Null, Refers}
+use Rattle.store_sql.proofs.Words.{Row, State, Text, Trees, Unique, agree, all_has, and-true, are_typed, column, equal}
+use Rattle.store_sql.proofs.Words.{has_null, has_rowid, is_referred, list_any, lt-ltb, or_null, or_right, plain}
+use Rattle.store_sql.proofs.Words.{references_fit, some_from, without_rowid}
 use Rattle.std.specs.Prelude.{◌||◌, ◌&&◌}
 use Rattle.sqlite_trees.proofs.ListLemmas.{all-filter}
 use Rattle.sqlite_value.specs.Keys.{first_key, joined}
@@ -15,25 +14,16 @@ use Rattle.store_sql.specs.Contents.{Contents, Means, at_places, cert_places, Li
 use Rattle.store_sql.specs.Changes.{signed}
 use Rattle.store_sql.specs.Refusals.{HasOne, RefusedFor, RefusesCert, RefusesSignature}
 use Rattle.store_sql.specs.declared.certs.CertRow.{CertRow}
-use Rattle.store_sql.proofs.CertTable.{cert_row, insert_is, insert_sql, sign_params, signs, source, terms}
+use Rattle.store_sql.proofs.CertTable.{cert_row, puts, sign_params, signs}
 use Rattle.store_sql.proofs.NumberUpdates.{update_fails}
-use Rattle.store_sql.specs.declared.sql.TheConstants.{SIGN_CERT}
+use Rattle.store_sql.specs.declared.sql.TheConstants.{INSERT_CERT, SIGN_CERT}
 use Rattle.sqlite_trees.proofs.TreeLemmas.{all-put_row}
 use Rattle.store_sql.proofs.RowTests.{own_text}
-use Rattle.store_sql.proofs.InsertReasons.{all_refer, each_refers, has_department, insert_halted, row_of, taken_number}
-use Rattle.store_sql.proofs.Reasons.{IsPut, halted, is_exact, one, storable, unclashed}
+use Rattle.store_sql.proofs.InsertReasons.{all_refer, each_refers, has_department, insert_fails, row_of, taken_number}
+use Rattle.store_sql.proofs.Reasons.{IsPut, is_exact, one, storable, unclashed}
 use Rattle.store_sql.specs.declared.table_fault.Fault.{Fault}
 use Rattle.store_sql.specs.Calls.{FailsBy}
 use Rattle.store_sql.proofs.FaultLemmas.{HasWriteCause}
-use Rattle.store_sql.proofs.Refused.{Stops, refused_for}
-use Rattle.store_sql.proofs.Rows.{cast_int, cast_null}
-
-made : (x : CertRow) (rows : List Row) → with_rowid Chosen rows (cast_row cert_at (source x)) ≡ cert_row x
-made x rows = simp (cast_int, cast_null)
-
-accepts : (x : CertRow) → accepts_terms terms (stamped cert_at (cert_cells x)) ≡ true
-accepts x = elim x.signature as (λ o. accepts_terms terms (stamped cert_at (cert_cells (record x { signature = o }))) ≡ true)
-    [ None ↦ refl | Some b ↦ refl ]
 
 fits_alone : references_fit whole cert_at true false ≡ true
 unfolding same_name joined
@@ -110,19 +100,6 @@ module _ (x : CertRow) where
       (sym departments) (subst (AllByRecursion (λ r. has_department db r ≡ true)) (sym did.rows)
       (all-put_row (λ r. has_department db r ≡ true) row (db 3) (has_own db c means.kept.holds.departments named) was)))
 
-  pub refuses_cert : x.serial < 2 ^ 63 → (s : State) (c : Contents) → Means s.now c
-      → Stops insert_sql (cert_cells x) (Insert 2 (Values terms 6)) s → RefusesCert x c
-  refuses_cert below s c means stops =
-      let db = s.now.trees in
-      let halts = insert_halted insert_sql cert_cells 2 cert_at terms 6 source (λ y rows. cert_row y) refl (λ y. refl)
-      accepts made x s c means stops in
-      halted db cert_at [] row (is_put s c [] fits_alone means)
-      (λ out. absurd (let wrong : true ≡ false = sym (lt-ltb x.serial (2 ^ 63) below) ∙ out in cc))
-      (λ taken. inl (taken_number cert_cells cert_places (λ y. y.serial) (db 3) c.certs x.serial (drop 1 row)
-      (λ y r is. ap (λ v. column v 0) is) means.kept.holds.certs taken))
-      (λ clash. absurd (unclashed db cert_at [] row ((λ e. cc), ((λ e. cc), ((λ e. cc), ((λ e. cc), tt)))) clash)) (λ long. inr (inr (omega (arith, long))))
-      (λ next did broken. inr (inl (λ named. broken (referred s c next means named did)))) halts
-
 -- ---- UPDATE of the signature
 
 module _ (serial : ℕ) (signature : List ℕ) where
@@ -149,9 +126,15 @@ module _ (serial : ℕ) (signature : List ℕ) where
 -- ---- the calls
 
 pub cert_fails : {X : Type 0} (x : CertRow) → x.serial < 2 ^ 63 → (old new : State) (r : Result X Fault)
-    → FailsBy (HasWriteCause insert_sql (cert_cells x)) old new r → RefusedFor (RefusesCert x) old new r
-cert_fails x below old new r =
-    refused_for insert_sql (cert_cells x) (Insert 2 (Values terms 6)) insert_is.0 insert_is.2 (RefusesCert x) (refuses_cert x below) old new r
+    → FailsBy (HasWriteCause INSERT_CERT.now (cert_cells x)) old new r → RefusedFor (RefusesCert x) old new r
+cert_fails x below =
+    insert_fails puts x (RefusesCert x) (λ s c means. is_put x s c [] fits_alone means)
+    (λ s c means out. absurd (let wrong : true ≡ false = sym (lt-ltb x.serial (2 ^ 63) below) ∙ out in cc))
+    (λ s c means taken. inl (taken_number cert_cells cert_places (λ y. y.serial) (s.now.trees 3) c.certs x.serial (drop 1 (cert_row x))
+    (λ y r is. ap (λ v. column v 0) is) means.kept.holds.certs taken))
+    (λ s c means clash. absurd (unclashed s.now.trees cert_at [] (cert_row x) ((λ e. cc), ((λ e. cc), ((λ e. cc), ((λ e. cc), tt)))) clash))
+    (λ s c long. inr (inr (omega (arith, long))))
+    (λ s c next means did broken. inr (inl (λ named. broken (referred x s c next means named did))))
 
 pub signature_fails : {X : Type 0} (serial : ℕ) (signature : List ℕ) → serial < 2 ^ 63 → (old new : State) (r : Result X Fault)
     → FailsBy (HasWriteCause SIGN_CERT.now (sign_params serial signature)) old new r

@@ -1,13 +1,15 @@
 -- The statements on the table of certificates.
-use Rattle.std.proofs.Common.{◌≡◌, ℕ, pos, List, [], ◌∷◌, codes, true, refl, ap, ap₂, ◌∙◌, Bool}
-use Rattle.store_sql.proofs.Words.{Binary, Blob, Compare, Eq, Ge, Insert, Int, IsAnswer, IsPlain, Le, Null, Row, Term}
+use Rattle.std.proofs.Common.{◌≡◌, ℕ, pos, List, [], ◌∷◌, codes, true, refl, ap, ap₂, ◌∙◌, Bool, None, Some}
+use Rattle.store_sql.proofs.Words.{Binary, Blob, Compare, Eq, Ge, Insert, Int, IsAnswer, Le, Null, Row, Term}
 use Rattle.store_sql.proofs.Words.{Text, Trees, Update, Values, and-true, ascending, cast_row, col, column}
-use Rattle.store_sql.proofs.Words.{command_of, is_true, lit, op2, or_null, overlay}
+use Rattle.store_sql.proofs.Words.{is_true, lit, op2, or_null, overlay, stamped}
 use Rattle.std.specs.Prelude.{◌&&◌}
 use Rattle.sqlite.specs.Ops.{binary}
 use Rattle.sqlite_tied.specs.Compute.{everything}
 use Rattle.sqlite.specs.Listing.{understood}
 use Rattle.store_sql.proofs.Selects.{IsSelect, IsTreeOf, select}
+use Rattle.sqlite_typing.specs.Types.{accepts_terms}
+use Rattle.store_sql.proofs.FaultLemmas.{IsStatement}
 use Rattle.store_sql.specs.Schema.{whole, cert_at}
 use Rattle.store_sql.specs.Cells.{cert_cells}
 use Rattle.store_sql.specs.Contents.{Holds, at_places, cert_places}
@@ -17,35 +19,44 @@ use Rattle.store_sql.specs.declared.certs.CertRow.{CertRow}
 use Rattle.store_sql.proofs.Apart.{cert_apart}
 use Rattle.store_sql.proofs.CallLemmas.{Write, Find}
 use Rattle.store_sql.proofs.Elsewhere.{in_cert}
-use Rattle.store_sql.proofs.FaultLemmas.{IsWhole}
-use Rattle.store_sql.proofs.Inserts.{no_works}
-use Rattle.store_sql.proofs.Inserts as insert
+use Rattle.store_sql.proofs.Inserts.{IsInsert, insert}
 use Rattle.store_sql.proofs.Queries.{on_table, in_order, int_test, int_le_test, int_ge_test}
 use Rattle.store_sql.proofs.Rows.{cast_int, cast_null}
 use Rattle.store_sql.proofs.Rising.{AscendBy}
 use Rattle.store_sql.proofs.Numbers.{same_number, le_number, ge_number}
 use Rattle.store_sql.proofs.NumberUpdates.{IsUpdate, update}
 
+pub tree : IsTreeOf Holds cert_cells cert_places 3 (λ c. c.certs)
+tree = record { stored = λ trees. refl; held = λ trees c h. h.certs; apart = cert_apart }
+
 -- ---- INSERT
 
-abbrev pub insert_sql : List ℕ
-insert_sql = INSERT_CERT.now
-
-abbrev pub terms : List Term
+abbrev terms : List Term
 terms = col 0 0 ∷ lit Null ∷ col 0 1 ∷ col 0 2 ∷ col 0 3 ∷ col 0 4 ∷ []
 
-pub insert_is : (command_of (understood whole insert_sql) ≡ Insert 2 (Values terms 6))
-    × IsPlain (understood whole insert_sql) × IsWhole insert_sql 5 (understood whole insert_sql)
+abbrev pub cert_row : CertRow → Row
+cert_row x = Int (pos x.serial) ∷ Null ∷ Text x.department ∷ Text x.key_id ∷ Blob x.body ∷ or_null Blob x.signature ∷ []
+
+insert_is : IsStatement INSERT_CERT.now (Insert 2 (Values terms 6)) 5
 unfolding understood everything
 insert_is = (refl, (refl, refl), (refl, refl))
 
-abbrev pub source : CertRow → Row
-source c = Int (pos c.serial) ∷ Null ∷ Text c.department ∷ Text c.key_id ∷ Blob c.body ∷ or_null Blob c.signature ∷ []
+pub puts : IsInsert INSERT_CERT.now cert_cells cert_places 2 cert_at terms 6 with_cert (λ c. c.certs) (λ x rows. cert_row x)
+puts = record {
+  tree = tree;
+  found = refl;
+  is = λ x. insert_is;
+  source = cert_row;
+  sourced = λ x. refl;
+  typed = λ x. elim x.signature as (λ o. accepts_terms terms (stamped cert_at (cert_cells (record x { signature = o }))) ≡ true)
+      [ None ↦ refl | Some b ↦ refl ];
+  made = λ x rows. simp (cast_int, cast_null);
+  row_is = λ x rows. refl;
+  held = λ x db after c h o put. in_cert db after c h (x ∷ c.certs) o;
+}
 
-pub put : (c : CertRow) → Write insert_sql (cert_cells c) (with_cert c)
-put = insert.put insert_sql cert_cells cert_places 2 cert_at terms 6 source with_cert (λ c. c.certs)
-    refl insert_is.0 insert_is.1 (λ x. insert_is.2) (λ x. refl) (λ x rows. simp cast_int) (λ db c h. h.certs)
-    (λ x db after c h o put now. in_cert db after c h (x ∷ c.certs) o now)
+pub put : (x : CertRow) → Write INSERT_CERT.now (cert_cells x) (with_cert x)
+put = insert puts
 
 -- ---- SELECT of one
 
@@ -57,9 +68,6 @@ shown v = column v 0 ∷ column v 1 ∷ column v 2 ∷ column v 3 ∷ column v 4
 
 abbrev names : List (List ℕ)
 names = codes "serial" ∷ codes "department" ∷ codes "keyid" ∷ codes "body" ∷ codes "signature" ∷ []
-
-pub tree : IsTreeOf Holds cert_cells cert_places 3 (λ c. c.certs)
-tree = record { stored = λ trees. refl; held = λ trees c h. h.certs; apart = cert_apart }
 
 find_is : IsSelect whole FIND_CERT.now (on_table 3 (op2 (Compare Eq Binary) (col 1 0) (col 0 0) ∷ []) columns []) names 1
 unfolding understood everything
@@ -110,12 +118,7 @@ sign_test = op2 (Compare Eq Binary) (col 1 0) (col 0 0) ∷ []
 abbrev pub sign_project : List Term
 sign_project = col 1 0 ∷ col 1 0 ∷ lit Null ∷ col 1 2 ∷ col 1 3 ∷ col 1 4 ∷ col 0 1 ∷ []
 
-abbrev pub cert_row : CertRow → Row
-cert_row x = Int (pos x.serial) ∷ Null ∷ Text x.department ∷ Text x.key_id ∷ Blob x.body ∷ or_null Blob x.signature ∷ []
-
-pub sign_is : (command_of (understood whole SIGN_CERT.now)
-    ≡ Update 2 (record { lets = []; body = on_table 3 sign_test sign_project [] }))
-    × IsPlain (understood whole SIGN_CERT.now) × IsWhole SIGN_CERT.now 2 (understood whole SIGN_CERT.now)
+sign_is : IsStatement SIGN_CERT.now (Update 2 (record { lets = []; body = on_table 3 sign_test sign_project [] })) 2
 unfolding understood everything
 sign_is = (refl, (refl, refl), (refl, refl))
 
@@ -140,9 +143,7 @@ module _ (serial : ℕ) (signature : List ℕ) where
   signs = record {
     tree = tree;
     found = refl;
-    is = sign_is.0;
-    plain = sign_is.1;
-    one = sign_is.2;
+    is = sign_is;
     typed = refl;
     next_row = sign_row;
     change = λ v. column v 0 ∷ column v 1 ∷ column v 2 ∷ column v 3 ∷ Blob signature ∷ [];

@@ -35,8 +35,9 @@ module _ {text : List ℕ} {before : Schema} {table : Table} (m : IsMakeable tex
   no_reason : (reason : alter.Refusal) → RefusesTable before text reason → ⊥
   no_reason (Invalid e) h = let wrong : Ok table ≡ Err e = sym m.create.defined ∙ h in cc
   no_reason NameTaken (other, is, inl used) =
-      let same = is_table other is in
-      let wrong : true ≡ false = sym used ∙ (ap (λ (t : Table). is_used before t.name) (sym same) ∙ m.free) in cc
+      let mine = subst (λ (t : Table). is_used before t.name ≡ true) (sym (is_table other is)) used in
+      let free = m.free in
+      let wrong = rw mine at free in cc
   no_reason NameTaken (other, is, inr (index, has, used)) =
       let none = test_has (λ i. not (is_used before i.name)) (automatics table 0 0 table.uniques) index m.index_free
       (subst (λ (t : Table). Has (automatics t 0 0 t.uniques) index) (sym (is_table other is)) has) in
@@ -44,8 +45,9 @@ module _ {text : List ℕ} {before : Schema} {table : Table} (m : IsMakeable tex
   no_reason BadName (other, is, inl bad) =
       bad (subst (λ (t : Table). IsUtf8 t.name) (is_table other is) (IsUtf8-from_is_utf8 table.name m.is_name))
   no_reason BadName (other, is, inr bad) =
-      let wrong : true ≡ false = sym bad.0
-      ∙ (ap (λ (t : Table). is_reserved t.name) (sym (is_table other is)) ∙ m.unreserved) in cc
+      let mine = subst (λ (t : Table). is_reserved t.name ≡ true) (sym (is_table other is)) bad.0 in
+      let free = m.unreserved in
+      let wrong = rw mine at free in cc
   no_reason TooBig (other, is, inl many) =
       let few = ltb-true (next_tree before + length table.uniques) 65536 m.few_trees in
       let all = subst (λ (t : Table). 65536 ≤ next_tree before + length t.uniques) (sym (is_table other is)) many in

@@ -32,6 +32,11 @@ abbrev pub IsWhole : List ℕ → ℕ → Result Compiled CompileError → Type 
 IsWhole sql count (Ok c) = (nat_le (length sql) c.tail ≡ true) × (length c.names ≡ count)
 IsWhole sql count (Err e) = ⊥
 
+-- the text is one statement with so many parameters, and means this
+abbrev pub IsStatement : List ℕ → Command → ℕ → Type 0
+IsStatement sql command count =
+    (command_of (understood whole sql) ≡ command) × IsPlain (understood whole sql) × IsWhole sql count (understood whole sql)
+
 -- the cause of a failure of the database
 failing : (old new : State) (too_big : Type 0) (e : Error) → Fails old new too_big e → too_big
     ⊎ HasCause old new (fault_of e)

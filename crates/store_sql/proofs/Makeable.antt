@@ -1,7 +1,7 @@
 -- Tables that no rule refuses beside those that are there already.
-use Rattle.std.proofs.Common.{◌≡◌, ℕ, ◌+◌, ◌^◌, List, length, true, false, not, refl}
+use Rattle.std.proofs.Common.{◌≡◌, ℕ, ◌+◌, ◌^◌, List, length, true, not, Bool, [], ◌∷◌, refl}
 use Rattle.store_sql.proofs.Words.{Schema, Table, automatics, codes, index_reals, is_fit, is_formed, is_reserved}
-use Rattle.store_sql.proofs.Words.{is_used, list_all, nat_lt, next_tree, table_reals}
+use Rattle.store_sql.proofs.Words.{is_used, list_all, nat_lt, next_tree, table_reals, AllByRecursion}
 use Rattle.std.specs.Prelude.{◌*◌}
 use Rattle.std.specs.Str.{is_utf8, chars}
 use Rattle.sqlite_schema.specs.Names.{same_name}
@@ -17,11 +17,26 @@ use Rattle.store_sql.proofs.FaultLemmas.{IsWhole}
 use Rattle.store_sql.proofs.Makes.{Create, makes}
 
 -- names that are free, numbers within their bounds, and a text that is whole
+abbrev tests : List ℕ → Schema → Table → List Bool
+tests text before table =
+    not (is_used before table.name)
+    ∷ not (is_reserved table.name)
+    ∷ list_all (λ i. not (is_used before i.name)) (automatics table 0 0 table.uniques)
+    ∷ is_formed table
+    ∷ is_fit (Text (codes "table")) (Text table.name) (Text table.name) (Text text)
+    ∷ nat_lt (next_tree before + length table.uniques) 65536
+    ∷ nat_lt (table_reals table) (2 ^ 64)
+    ∷ list_all (λ key. nat_lt (index_reals (table_reals table) key) (2 ^ 64)) table.uniques
+    ∷ nat_lt (2 * length table.name + length text + 200) (10 ^ 9)
+    ∷ is_utf8 text
+    ∷ is_utf8 table.name
+    ∷ []
+
 pub record IsMakeable (text : List ℕ) (before : Schema) (table : Table) : Type 0 where
   pub create : Create text before table
   pub one : IsWhole text 0 (understood before text)
-  pub free : is_used before table.name ≡ false
-  pub unreserved : is_reserved table.name ≡ false
+  pub free : not (is_used before table.name) ≡ true
+  pub unreserved : not (is_reserved table.name) ≡ true
   pub index_free : list_all (λ i. not (is_used before i.name)) (automatics table 0 0 table.uniques) ≡ true
   pub formed : is_formed table ≡ true
   pub fit : is_fit (Text (codes "table")) (Text table.name) (Text table.name) (Text text) ≡ true
@@ -32,111 +47,39 @@ pub record IsMakeable (text : List ℕ) (before : Schema) (table : Table) : Type
   pub is_text : is_utf8 text ≡ true
   pub is_name : is_utf8 table.name ≡ true
 
+passed : (text : List ℕ) (before : Schema) (table : Table) → Create text before table
+    → IsWhole text 0 (understood before text) → AllByRecursion (λ b. b ≡ true) (tests text before table)
+    → IsMakeable text before table
+passed text before table create one all = record {
+  create = create;
+  one = one;
+  free = all.0;
+  unreserved = all.1.0;
+  index_free = all.1.1.0;
+  formed = all.1.1.1.0;
+  fit = all.1.1.1.1.0;
+  few_trees = all.1.1.1.1.1.0;
+  few_reals = all.1.1.1.1.1.1.0;
+  small_keys = all.1.1.1.1.1.1.1.0;
+  short = all.1.1.1.1.1.1.1.1.0;
+  is_text = all.1.1.1.1.1.1.1.1.1.0;
+  is_name = all.1.1.1.1.1.1.1.1.1.1.0;
+}
+
 -- so is each of the office's tables
 pub makeable : (n : TableName) → IsMakeable (text_of n) (before n) (made n)
 unfolding understood everything same_name same_letters fits_kind is_free_name value_cmp begins lib.Ieee.is_nan lib.Ieee.lt is_utf8 chars lib.Utf8.encode
-makeable name.Office = record {
-  create = makes name.Office;
-  one = (refl, refl);
-  free = refl;
-  unreserved = refl;
-  index_free = refl;
-  formed = refl;
-  fit = refl;
-  few_trees = refl;
-  few_reals = refl;
-  small_keys = refl;
-  short = refl;
-  is_text = refl;
-  is_name = refl;
-}
-makeable name.Department = record {
-  create = makes name.Department;
-  one = (refl, refl);
-  free = refl;
-  unreserved = refl;
-  index_free = refl;
-  formed = refl;
-  fit = refl;
-  few_trees = refl;
-  few_reals = refl;
-  small_keys = refl;
-  short = refl;
-  is_text = refl;
-  is_name = refl;
-}
-makeable name.Cert = record {
-  create = makes name.Cert;
-  one = (refl, refl);
-  free = refl;
-  unreserved = refl;
-  index_free = refl;
-  formed = refl;
-  fit = refl;
-  few_trees = refl;
-  few_reals = refl;
-  small_keys = refl;
-  short = refl;
-  is_text = refl;
-  is_name = refl;
-}
-makeable name.Request = record {
-  create = makes name.Request;
-  one = (refl, refl);
-  free = refl;
-  unreserved = refl;
-  index_free = refl;
-  formed = refl;
-  fit = refl;
-  few_trees = refl;
-  few_reals = refl;
-  small_keys = refl;
-  short = refl;
-  is_text = refl;
-  is_name = refl;
-}
-makeable name.Run = record {
-  create = makes name.Run;
-  one = (refl, refl);
-  free = refl;
-  unreserved = refl;
-  index_free = refl;
-  formed = refl;
-  fit = refl;
-  few_trees = refl;
-  few_reals = refl;
-  small_keys = refl;
-  short = refl;
-  is_text = refl;
-  is_name = refl;
-}
-makeable name.RevokedKeyId = record {
-  create = makes name.RevokedKeyId;
-  one = (refl, refl);
-  free = refl;
-  unreserved = refl;
-  index_free = refl;
-  formed = refl;
-  fit = refl;
-  few_trees = refl;
-  few_reals = refl;
-  small_keys = refl;
-  short = refl;
-  is_text = refl;
-  is_name = refl;
-}
-makeable name.Ca = record {
-  create = makes name.Ca;
-  one = (refl, refl);
-  free = refl;
-  unreserved = refl;
-  index_free = refl;
-  formed = refl;
-  fit = refl;
-  few_trees = refl;
-  few_reals = refl;
-  small_keys = refl;
-  short = refl;
-  is_text = refl;
-  is_name = refl;
-}
+makeable name.Office = passed _ _ _ (makes name.Office) (refl, refl)
+    (refl, (refl, (refl, (refl, (refl, (refl, (refl, (refl, (refl, (refl, (refl, tt)))))))))))
+makeable name.Department = passed _ _ _ (makes name.Department) (refl, refl)
+    (refl, (refl, (refl, (refl, (refl, (refl, (refl, (refl, (refl, (refl, (refl, tt)))))))))))
+makeable name.Cert = passed _ _ _ (makes name.Cert) (refl, refl)
+    (refl, (refl, (refl, (refl, (refl, (refl, (refl, (refl, (refl, (refl, (refl, tt)))))))))))
+makeable name.Request = passed _ _ _ (makes name.Request) (refl, refl)
+    (refl, (refl, (refl, (refl, (refl, (refl, (refl, (refl, (refl, (refl, (refl, tt)))))))))))
+makeable name.Run = passed _ _ _ (makes name.Run) (refl, refl)
+    (refl, (refl, (refl, (refl, (refl, (refl, (refl, (refl, (refl, (refl, (refl, tt)))))))))))
+makeable name.RevokedKeyId = passed _ _ _ (makes name.RevokedKeyId) (refl, refl)
+    (refl, (refl, (refl, (refl, (refl, (refl, (refl, (refl, (refl, (refl, (refl, tt)))))))))))
+makeable name.Ca = passed _ _ _ (makes name.Ca) (refl, refl)
+    (refl, (refl, (refl, (refl, (refl, (refl, (refl, (refl, (refl, (refl, (refl, tt)))))))))))

@@ -1,8 +1,8 @@
 -- UPDATE of the struct of one number, whatever its table is: what it makes of the contents, and why it is refused.
 use Rattle.std.proofs.Common.{◌≡◌, inl, inr, ℕ, pos, ◌<◌, ◌^◌, List, [], ◌∷◌, length, map, cond, slice_get, Bool, true, false, Option, Some, None, Ok, Result, sym, ap, subst, ◌∙◌}
 use Rattle.store_sql.proofs.Words.{All, AllByRecursion, Applies, Binary, Compare, Database, Does, Enforced, Eq, Given}
-use Rattle.store_sql.proofs.Words.{Has, Int, IsPermutation, IsPlain, Null, Refers, Row, State, Table, Tally, Term}
-use Rattle.store_sql.proofs.Words.{Trees, Update, accepts_program, and-true, cast_row, column, command_of, edit_of}
+use Rattle.store_sql.proofs.Words.{Has, Int, IsPermutation, Null, Refers, Row, State, Table, Tally, Term}
+use Rattle.store_sql.proofs.Words.{Trees, Update, accepts_program, and-true, cast_row, column, edit_of}
 use Rattle.store_sql.proofs.Words.{eqb-true, eval_all, filter, fits_i64, guards, holds, id_in, ids_of, is_int}
 use Rattle.store_sql.proofs.Words.{is_true, list_all, rowid, statement_of}
 use Rattle.std.specs.Prelude.{◌&&◌, ◌==◌}
@@ -15,7 +15,7 @@ use Rattle.store_sql.specs.Calls.{FailsBy}
 use Rattle.store_sql.specs.Refusals.{HasOne, IsTooLong, RefusedFor}
 use Rattle.store_sql.proofs.CallLemmas.{Write}
 use Rattle.store_sql.proofs.Elsewhere.{Spares, spares}
-use Rattle.store_sql.proofs.FaultLemmas.{HasWriteCause, IsWhole, none_overflows}
+use Rattle.store_sql.proofs.FaultLemmas.{HasWriteCause, IsStatement, none_overflows}
 use Rattle.store_sql.proofs.Inserts.{no_works}
 use Rattle.store_sql.proofs.Numbers.{same_number}
 use Rattle.store_sql.proofs.Queries.{int_test, on_table, selected}
@@ -33,9 +33,7 @@ pub record IsUpdate {X : Type 0} (sql : List ℕ) (params : Row) (cells : X → 
     (u : X → X) (row : X → Row) : Type 0 where
   pub tree : IsTreeOf Holds cells places table.tree of
   pub found : slice_get whole.tables at ≡ Some (uncounted table)
-  pub is : command_of (understood whole sql) ≡ Update at (record { lets = []; body = on_table table.tree tests project [] })
-  pub plain : IsPlain (understood whole sql)
-  pub one : IsWhole sql (length params) (understood whole sql)
+  pub is : IsStatement sql (Update at (record { lets = []; body = on_table table.tree tests project [] })) (length params)
   pub typed : accepts_program whole [] (on_table table.tree tests project []) params ≡ true
   -- the new row of a row, and the new columns of its columns
   pub next_row : Row → Row
@@ -95,9 +93,9 @@ module _ {X : Type 0} {sql : List ℕ} {params : Row} {cells : X → Row} {place
   pub update : Write sql params after
   update = record {
     command = Update at (record { lets = []; body = on_table table.tree tests project [] });
-    is = it.is;
-    plain = it.plain;
-    one = it.one;
+    is = it.is.0;
+    plain = it.is.1;
+    one = it.is.2;
     on_rows = tt;
     does = does;
   }
@@ -156,5 +154,5 @@ module _ {X : Type 0} {sql : List ℕ} {params : Row} {cells : X → Row} {place
       pub update_fails : {Y : Type 0} (old new : State) (r : Result Y Fault) → FailsBy (HasWriteCause sql params) old new r
           → RefusedFor (λ c. HasOne (λ x. (number x ≡ n) × IsTooLong (cells (u x))) (of c)) old new r
       update_fails =
-          refused_for sql params (Update at (record { lets = []; body = on_table table.tree tests project [] })) it.is it.one
+          refused_for sql params (Update at (record { lets = []; body = on_table table.tree tests project [] })) it.is.0 it.is.2
           (λ c. HasOne (λ x. (number x ≡ n) × IsTooLong (cells (u x))) (of c)) refuses

@@ -1,7 +1,7 @@
 -- Why the row of the office is refused.
 use Rattle.std.proofs.Common.{◌≡◌, inl, inr, ℕ, ℤ, pos, ◌<◌, ◌^◌, List, [], ◌∷◌, drop, true, false, Result, refl, sym, ap, ◌∙◌, arith}
-use Rattle.store_sql.proofs.Words.{Chosen, Enforced, ForeignKey, Insert, Int, Row, State, Term, Unique, Values}
-use Rattle.store_sql.proofs.Words.{cast_row, column, is_referred, lt-ltb, references_fit, with_rowid}
+use Rattle.store_sql.proofs.Words.{Enforced, ForeignKey, Int, Row, State, Term, Unique}
+use Rattle.store_sql.proofs.Words.{column, is_referred, lt-ltb, references_fit}
 use Rattle.sqlite_value.specs.Keys.{joined}
 use Rattle.sqlite_schema.specs.Names.{same_name}
 use Rattle.store_sql.specs.Schema.{whole, office_at}
@@ -10,22 +10,17 @@ use Rattle.store_sql.specs.Contents.{Contents, Means, office_places}
 use Rattle.store_sql.specs.Refusals.{HasOne, IsTooLong, RefusedFor, RefusesCounters, RefusesNumber, RefusesOffice}
 use Rattle.store_sql.specs.declared.offices.Counters.{Counters}
 use Rattle.store_sql.specs.declared.offices.OfficeRow.{OfficeRow}
-use Rattle.store_sql.proofs.OfficeTable as office
+use Rattle.store_sql.proofs.OfficeTable.{office_row, puts}
 use Rattle.store_sql.specs.declared.table_fault.Fault.{Fault}
 use Rattle.store_sql.specs.Calls.{FailsBy}
 use Rattle.store_sql.proofs.FaultLemmas.{HasWriteCause}
-use Rattle.store_sql.proofs.InsertReasons.{insert_halted, refers_still, taken_number}
-use Rattle.store_sql.proofs.Reasons.{IsPut, halted, one, storable, unclashed}
-use Rattle.store_sql.proofs.Refused.{Stops, refused_for}
-use Rattle.store_sql.proofs.Rows.{cast_int, cast_null}
-use Rattle.store_sql.proofs.OfficeUpdates.{counts, first_test, numbers, office_row}
+use Rattle.store_sql.proofs.InsertReasons.{insert_fails, refers_still, taken_number}
+use Rattle.store_sql.proofs.Reasons.{IsPut, one, storable, unclashed}
+use Rattle.store_sql.proofs.OfficeUpdates.{counts, first_test, numbers}
 use Rattle.store_sql.proofs.NumberUpdates.{IsUpdate, update_fails}
-use Rattle.store_sql.specs.declared.sql.TheConstants.{COUNT_OFFICE, NUMBER_OFFICE}
+use Rattle.store_sql.specs.declared.sql.TheConstants.{COUNT_OFFICE, INSERT_OFFICE, NUMBER_OFFICE}
 
 -- ---- its INSERT
-
-office_made : (o : OfficeRow) (rows : List Row) → with_rowid Chosen rows (cast_row office_at (office.source o)) ≡ office_row o
-office_made o rows = simp (cast_int, cast_null)
 
 office_alone : references_fit whole office_at true false ≡ true
 unfolding same_name joined
@@ -55,21 +50,17 @@ office_put o s c gone referred means = record {
   entries = λ fits. ((λ e. cc), ((λ e. cc), ((λ e. cc), ((λ e. cc), tt))));
 }
 
-pub refuses_office : (o : OfficeRow) → o.id < 2 ^ 63 → (s : State) (c : Contents) → Means s.now c
-    → Stops office.insert_sql (office_cells o) (Insert 0 (Values office.terms 11)) s → RefusesOffice o c
-refuses_office o below s c means stops =
-    let db = s.now.trees in
-    let row = office_row o in
-    halted db office_at [] row (office_put o s c [] office_alone means)
-    (λ out. absurd (let wrong : true ≡ false = sym (lt-ltb o.id (2 ^ 63) below) ∙ out in cc))
-    (λ taken. inl (taken_number office_cells office_places (λ y. y.id) (db 0) c.offices o.id (drop 1 row)
+pub office_fails : {X : Type 0} (x : OfficeRow) → x.id < 2 ^ 63 → (old new : State) (r : Result X Fault)
+    → FailsBy (HasWriteCause INSERT_OFFICE.now (office_cells x)) old new r → RefusedFor (RefusesOffice x) old new r
+office_fails x below =
+    insert_fails puts x (RefusesOffice x) (λ s c means. office_put x s c [] office_alone means)
+    (λ s c means out. absurd (let wrong : true ≡ false = sym (lt-ltb x.id (2 ^ 63) below) ∙ out in cc))
+    (λ s c means taken. inl (taken_number office_cells office_places (λ y. y.id) (s.now.trees 0) c.offices x.id (drop 1 (office_row x))
     (λ y r is. ap (λ v. column v 0) is) means.kept.holds.offices taken))
-    (λ clash. absurd (unclashed db office_at [] row ((λ e. cc), ((λ e. cc), ((λ e. cc), ((λ e. cc), tt)))) clash))
-    (λ long. inr (omega (arith, long)))
-    (λ next did broken. absurd (broken (refers_still db next (one db office_at [] row) (means.kept.sound.obeys.rules ForeignKey) did
-    (λ e. cc) (λ e. cc))))
-    (insert_halted office.insert_sql office_cells 0 office_at office.terms 11 office.source (λ y rows. office_row y) refl (λ y. refl)
-    (λ y. refl) office_made o s c means stops)
+    (λ s c means clash. absurd (unclashed s.now.trees office_at [] (office_row x) ((λ e. cc), ((λ e. cc), ((λ e. cc), ((λ e. cc), tt)))) clash))
+    (λ s c long. inr (omega (arith, long)))
+    (λ s c next means did broken. absurd (broken (refers_still s.now.trees next (one s.now.trees office_at [] (office_row x))
+    (means.kept.sound.obeys.rules ForeignKey) did (λ e. cc) (λ e. cc))))
 
 -- ---- its counters, and the number of its schema
 
@@ -87,12 +78,6 @@ module _ {sql : List ℕ} {params : Row} {project : List Term} {after : Contents
       (means.kept.sound.obeys.rules ForeignKey) did (λ e. cc) (λ e. cc))
 
 -- ---- the calls
-
-pub office_fails : {X : Type 0} (o : OfficeRow) → o.id < 2 ^ 63 → (old new : State) (r : Result X Fault)
-    → FailsBy (HasWriteCause office.insert_sql (office_cells o)) old new r → RefusedFor (RefusesOffice o) old new r
-office_fails o below old new r =
-    refused_for office.insert_sql (office_cells o) (Insert 0 (Values office.terms 11)) office.insert_is.0 office.insert_is.2
-    (RefusesOffice o) (refuses_office o below) old new r
 
 pub counters_fail : {X : Type 0} (k : Counters) (old new : State) (r : Result X Fault)
     → FailsBy (HasWriteCause COUNT_OFFICE.now (counter_cells k)) old new r → RefusedFor (RefusesCounters k) old new r

@@ -1,12 +1,13 @@
 -- The statements that write the row of the office, and that read it.
 use Rattle.std.proofs.Common.{◌≡◌, ℕ, pos, List, [], ◌∷◌, codes, drop, true, Ok, Err, Result, IfOk, IfErr, refl, ap}
-use Rattle.store_sql.proofs.Words.{Binary, Blob, Database, Error, Global, Insert, Int, IsAnswer, IsPlain, Null, Row}
-use Rattle.store_sql.proofs.Words.{Schema, State, Table, Term, Text, Trees, Values, Vec, ascending, col, column}
-use Rattle.store_sql.proofs.Words.{command_of, lit, overlay}
+use Rattle.store_sql.proofs.Words.{Binary, Blob, Database, Error, Global, Insert, Int, IsAnswer, Null, Row, Schema}
+use Rattle.store_sql.proofs.Words.{State, Table, Term, Text, Trees, Values, Vec, ascending, col, column, lit, overlay}
 use Rattle.sqlite.specs.State.{FailsToQuery, Shown}
 use Rattle.sqlite_tied.specs.Compute.{everything}
 use Rattle.sqlite.specs.Listing.{understood}
 use Rattle.store_sql.proofs.Selects.{IsSelect, IsTreeOf, select}
+use Rattle.store_sql.proofs.FaultLemmas.{IsStatement}
+use Rattle.store_sql.proofs.Rows.{cast_null, cast_int}
 use Rattle.store_sql.specs.Schema.{whole, office_at}
 use Rattle.store_sql.specs.Cells.{office_cells}
 use Rattle.store_sql.specs.Contents.{HasOffices, Holds, Lists, office_places}
@@ -21,35 +22,43 @@ use Rattle.store_sql.proofs.Apart.{office_apart}
 use Rattle.store_sql.proofs.CallLemmas.{Find, FindIn, Write, found_all, found_fails}
 use Rattle.store_sql.proofs.Edits.{keep_all}
 use Rattle.store_sql.proofs.Elsewhere.{in_office}
-use Rattle.store_sql.proofs.FaultLemmas.{IsWhole}
 use Rattle.store_sql.proofs.FirstTable.{first_is}
-use Rattle.store_sql.proofs.Inserts as insert
+use Rattle.store_sql.proofs.Inserts.{IsInsert, insert}
 use Rattle.store_sql.proofs.Queries.{on_table, in_order}
-use Rattle.store_sql.proofs.Rows.{cast_int}
 use Rattle.store_sql.proofs.Rising.{AscendBy}
+
+pub tree : IsTreeOf Holds office_cells office_places 0 (λ c. c.offices)
+tree = record { stored = λ trees. refl; held = λ trees c h. h.offices; apart = office_apart }
 
 -- ---- INSERT
 
-abbrev pub insert_sql : List ℕ
-insert_sql = INSERT_OFFICE.now
-
-abbrev pub terms : List Term
+abbrev terms : List Term
 terms = col 0 0 ∷ lit Null ∷ col 0 1 ∷ col 0 2 ∷ col 0 3 ∷ col 0 4 ∷ col 0 5 ∷ col 0 6 ∷ col 0 7 ∷ col 0 8 ∷ col 0 9
     ∷ []
 
-pub insert_is : (command_of (understood whole insert_sql) ≡ Insert 0 (Values terms 11))
-    × IsPlain (understood whole insert_sql) × IsWhole insert_sql 10 (understood whole insert_sql)
+abbrev pub office_row : OfficeRow → Row
+office_row x = Int (pos x.id) ∷ Null ∷ Int (pos x.schema) ∷ Blob x.ca ∷ Text x.root ∷ Text x.station ∷ Int (pos x.first)
+    ∷ Int (pos x.last) ∷ Int (pos x.next) ∷ Int (pos x.version) ∷ Int (pos x.date) ∷ []
+
+insert_is : IsStatement INSERT_OFFICE.now (Insert 0 (Values terms 11)) 10
 unfolding understood everything
 insert_is = (refl, (refl, refl), (refl, refl))
 
-abbrev pub source : OfficeRow → Row
-source o = Int (pos o.id) ∷ Null ∷ Int (pos o.schema) ∷ Blob o.ca ∷ Text o.root ∷ Text o.station ∷ Int (pos o.first)
-    ∷ Int (pos o.last) ∷ Int (pos o.next) ∷ Int (pos o.version) ∷ Int (pos o.date) ∷ []
+pub puts : IsInsert INSERT_OFFICE.now office_cells office_places 0 office_at terms 11 with_office (λ c. c.offices) (λ x rows. office_row x)
+puts = record {
+  tree = tree;
+  found = refl;
+  is = λ x. insert_is;
+  source = office_row;
+  sourced = λ x. refl;
+  typed = λ x. refl;
+  made = λ x rows. simp (cast_int, cast_null);
+  row_is = λ x rows. refl;
+  held = λ x db after c h o put. in_office db after c h (x ∷ c.offices) o;
+}
 
-pub put : (o : OfficeRow) → Write insert_sql (office_cells o) (with_office o)
-put = insert.put insert_sql office_cells office_places 0 office_at terms 11 source with_office (λ c. c.offices)
-    refl insert_is.0 insert_is.1 (λ x. insert_is.2) (λ x. refl) (λ x rows. simp cast_int) (λ db c h. h.offices)
-    (λ x db after c h o put now. in_office db after c h (x ∷ c.offices) o now)
+pub put : (x : OfficeRow) → Write INSERT_OFFICE.now (office_cells x) (with_office x)
+put = insert puts
 
 -- ---- SELECT of all
 
@@ -87,9 +96,6 @@ every_beside s others =
 
 abbrev the_others : List Table
 the_others = drop 1 whole.tables
-
-pub tree : IsTreeOf Holds office_cells office_places 0 (λ c. c.offices)
-tree = record { stored = λ trees. refl; held = λ trees c h. h.offices; apart = office_apart }
 
 pub every : Find every_sql ([]) office_cells (λ c. c.offices)
 every = select tree (every_is whole the_others) (λ x. true) (λ v. true) shown (λ x. refl) (λ x. refl) (λ r. refl)

@@ -1,10 +1,10 @@
 -- The statements that change the row of the office: its counters, and the number of its schema.
 use Rattle.std.proofs.Common.{◌≡◌, ℕ, pos, List, [], ◌∷◌, refl, ap}
-use Rattle.store_sql.proofs.Words.{Binary, Blob, Compare, Eq, Int, IsPlain, Null, Row, Term, Text, Update, cast_row}
-use Rattle.store_sql.proofs.Words.{col, column, command_of, lit, op2}
+use Rattle.store_sql.proofs.Words.{Binary, Blob, Compare, Eq, Int, Null, Row, Term, Text, Update, cast_row}
+use Rattle.store_sql.proofs.Words.{col, column, lit, op2}
 use Rattle.sqlite_tied.specs.Compute.{everything}
 use Rattle.sqlite.specs.Listing.{understood}
-use Rattle.store_sql.specs.Schema.{whole, office_at}
+use Rattle.store_sql.specs.Schema.{office_at}
 use Rattle.store_sql.specs.Cells.{counter_cells, office_cells}
 use Rattle.store_sql.specs.Contents.{at_places, office_places}
 use Rattle.store_sql.specs.Changes.{counted, renumbered, with_counters, with_schema}
@@ -13,17 +13,11 @@ use Rattle.store_sql.specs.declared.offices.OfficeRow.{OfficeRow}
 use Rattle.store_sql.specs.declared.offices.Counters.{Counters}
 use Rattle.store_sql.proofs.CallLemmas.{Write}
 use Rattle.store_sql.proofs.Elsewhere.{in_office}
-use Rattle.store_sql.proofs.FaultLemmas.{IsWhole}
+use Rattle.store_sql.proofs.FaultLemmas.{IsStatement}
 use Rattle.store_sql.proofs.Queries.{on_table}
 use Rattle.store_sql.proofs.Rows.{cast_int, cast_null}
 use Rattle.store_sql.proofs.NumberUpdates.{IsUpdate, update}
-use Rattle.store_sql.proofs.OfficeTable.{tree}
-
--- ---- the row, and how it is read
-
-abbrev pub office_row : OfficeRow → Row
-office_row o = Int (pos o.id) ∷ Null ∷ Int (pos o.schema) ∷ Blob o.ca ∷ Text o.root ∷ Text o.station ∷ Int (pos o.first)
-    ∷ Int (pos o.last) ∷ Int (pos o.next) ∷ Int (pos o.version) ∷ Int (pos o.date) ∷ []
+use Rattle.store_sql.proofs.OfficeTable.{office_row, tree}
 
 abbrev pub first_test : List Term
 first_test = op2 (Compare Eq Binary) (col 1 0) (lit (Int (pos 1))) ∷ []
@@ -34,9 +28,7 @@ abbrev pub count_project : List Term
 count_project = col 1 0 ∷ col 1 0 ∷ lit Null ∷ col 1 2 ∷ col 1 3 ∷ col 1 4 ∷ col 1 5 ∷ col 1 6 ∷ col 1 7 ∷ col 0 0 ∷ col 0 1
     ∷ col 0 2 ∷ []
 
-pub count_is : (command_of (understood whole COUNT_OFFICE.now)
-    ≡ Update 0 (record { lets = []; body = on_table 0 first_test count_project [] }))
-    × IsPlain (understood whole COUNT_OFFICE.now) × IsWhole COUNT_OFFICE.now 3 (understood whole COUNT_OFFICE.now)
+count_is : IsStatement COUNT_OFFICE.now (Update 0 (record { lets = []; body = on_table 0 first_test count_project [] })) 3
 unfolding understood everything
 count_is = (refl, (refl, refl), (refl, refl))
 
@@ -62,9 +54,7 @@ module _ (k : Counters) where
   counts = record {
     tree = tree;
     found = refl;
-    is = count_is.0;
-    plain = count_is.1;
-    one = count_is.2;
+    is = count_is;
     typed = refl;
     next_row = count_row;
     change = λ v. column v 0 ∷ column v 1 ∷ column v 2 ∷ column v 3 ∷ column v 4 ∷ column v 5 ∷ column v 6 ∷ counter_cells k;
@@ -87,9 +77,7 @@ abbrev pub number_project : List Term
 number_project = col 1 0 ∷ col 1 0 ∷ lit Null ∷ col 0 0 ∷ col 1 3 ∷ col 1 4 ∷ col 1 5 ∷ col 1 6 ∷ col 1 7 ∷ col 1 8 ∷ col 1 9
     ∷ col 1 10 ∷ []
 
-pub number_is : (command_of (understood whole NUMBER_OFFICE.now)
-    ≡ Update 0 (record { lets = []; body = on_table 0 first_test number_project [] }))
-    × IsPlain (understood whole NUMBER_OFFICE.now) × IsWhole NUMBER_OFFICE.now 1 (understood whole NUMBER_OFFICE.now)
+number_is : IsStatement NUMBER_OFFICE.now (Update 0 (record { lets = []; body = on_table 0 first_test number_project [] })) 1
 unfolding understood everything
 number_is = (refl, (refl, refl), (refl, refl))
 
@@ -117,9 +105,7 @@ module _ (n : ℕ) where
   numbers = record {
     tree = tree;
     found = refl;
-    is = number_is.0;
-    plain = number_is.1;
-    one = number_is.2;
+    is = number_is;
     typed = refl;
     next_row = number_row;
     change = λ v. column v 0 ∷ Int (pos n) ∷ column v 2 ∷ column v 3 ∷ column v 4 ∷ column v 5 ∷ column v 6 ∷ column v 7

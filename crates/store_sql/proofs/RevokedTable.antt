@@ -1,12 +1,13 @@
 -- The statements on the table of revoked key ids.
-use Rattle.std.proofs.Common.{◌≡◌, ℕ, List, [], ◌∷◌, codes, true, refl, ◌∙◌}
-use Rattle.store_sql.proofs.Words.{Binary, Compare, Eq, Insert, IsAnswer, IsPlain, Null, Row, Term, Text, Trees}
-use Rattle.store_sql.proofs.Words.{Values, and-true, ascending, col, column, command_of, is_true, lit, op2, overlay}
+use Rattle.std.proofs.Common.{ℕ, List, [], ◌∷◌, codes, true, refl, ◌∙◌}
+use Rattle.store_sql.proofs.Words.{Binary, Compare, Eq, Insert, IsAnswer, Null, Row, Term, Text, Trees, Values}
+use Rattle.store_sql.proofs.Words.{and-true, ascending, col, column, is_true, lit, op2, overlay, Int, next_rowid}
 use Rattle.std.specs.Prelude.{◌&&◌}
 use Rattle.sqlite.specs.Ops.{binary}
 use Rattle.sqlite_tied.specs.Compute.{everything}
 use Rattle.sqlite.specs.Listing.{understood}
 use Rattle.store_sql.proofs.Selects.{IsSelect, IsTreeOf, select}
+use Rattle.store_sql.proofs.FaultLemmas.{IsStatement}
 use Rattle.store_sql.specs.Schema.{whole, revoked_at}
 use Rattle.store_sql.specs.Cells.{key_id_cells}
 use Rattle.store_sql.specs.Contents.{Holds, key_id_places}
@@ -16,35 +17,43 @@ use Rattle.store_sql.proofs.Apart.{key_id_apart}
 use Rattle.store_sql.proofs.CallLemmas.{Write, Find}
 use Rattle.store_sql.proofs.Edits.{keep_all}
 use Rattle.store_sql.proofs.Elsewhere.{in_revoked}
-use Rattle.store_sql.proofs.FaultLemmas.{IsWhole}
-use Rattle.store_sql.proofs.Inserts.{no_works}
-use Rattle.store_sql.proofs.Inserts as insert
+use Rattle.store_sql.proofs.Inserts.{IsInsert, insert}
 use Rattle.store_sql.proofs.Queries.{on_table, in_order, text_test}
 use Rattle.store_sql.proofs.Numbering.{more_numbered, next_number}
 use Rattle.store_sql.proofs.Rows.{cast_null}
 use Rattle.store_sql.proofs.Rising.{AscendBy}
 
+pub tree : IsTreeOf Holds key_id_cells key_id_places 7 (λ c. c.revoked)
+tree = record { stored = λ trees. refl; held = λ trees c h. h.revoked; apart = key_id_apart }
+
 -- ---- INSERT
 
-abbrev pub insert_sql : List ℕ
-insert_sql = INSERT_REVOKED.now
-
-abbrev pub terms : List Term
+abbrev terms : List Term
 terms = lit Null ∷ col 0 0 ∷ []
 
-pub insert_is : (command_of (understood whole insert_sql) ≡ Insert 5 (Values terms 2))
-    × IsPlain (understood whole insert_sql) × IsWhole insert_sql 1 (understood whole insert_sql)
+abbrev pub revoked_row : (List ℕ) → List Row → Row
+revoked_row x rows = Int (next_rowid rows) ∷ key_id_cells x
+
+insert_is : IsStatement INSERT_REVOKED.now (Insert 5 (Values terms 2)) 1
 unfolding understood everything
 insert_is = (refl, (refl, refl), (refl, refl))
 
-abbrev pub source : (List ℕ) → Row
-source k = Null ∷ key_id_cells k
+pub puts : IsInsert INSERT_REVOKED.now key_id_cells key_id_places 5 revoked_at terms 2 with_revoked (λ c. c.revoked) revoked_row
+puts = record {
+  tree = tree;
+  found = refl;
+  is = λ x. insert_is;
+  source = λ x. Null ∷ key_id_cells x;
+  sourced = λ x. refl;
+  typed = λ x. refl;
+  made = λ x rows. rw cast_null refl;
+  row_is = λ x rows. refl;
+  held = λ x db after c h o put now. in_revoked db after c h (x ∷ c.revoked) o now
+      (more_numbered (db 7) (after 7) _ put (next_number (db 7) h.revoked_numbered) h.revoked_numbered);
+}
 
-pub put : (k : (List ℕ)) → Write insert_sql (key_id_cells k) (with_revoked k)
-put = insert.put insert_sql key_id_cells key_id_places 5 revoked_at terms 2 source with_revoked (λ c. c.revoked)
-    refl insert_is.0 insert_is.1 (λ x. insert_is.2) (λ x. refl) (λ x rows. rw cast_null refl) (λ db c h. h.revoked)
-    (λ x db after c h o put now. in_revoked db after c h (x ∷ c.revoked) o now
-    (more_numbered (db 7) (after 7) _ put (rw cast_null (next_number (db 7) h.revoked_numbered)) h.revoked_numbered))
+pub put : (x : (List ℕ)) → Write INSERT_REVOKED.now (key_id_cells x) (with_revoked x)
+put = insert puts
 
 -- ---- SELECT of one
 
@@ -52,9 +61,6 @@ find_is : IsSelect whole FIND_REVOKED.now (on_table 7 (op2 (Compare Eq Binary) (
     (codes "keyid" ∷ []) 1
 unfolding understood everything
 find_is = (refl, refl, (refl, refl), (refl, refl))
-
-pub tree : IsTreeOf Holds key_id_cells key_id_places 7 (λ c. c.revoked)
-tree = record { stored = λ trees. refl; held = λ trees c h. h.revoked; apart = key_id_apart }
 
 pub find : (key_id : List ℕ) → Find FIND_REVOKED.now (Text key_id ∷ []) key_id_cells (revoked_as key_id)
 find key_id =

@@ -12,6 +12,8 @@ use Rattle.sqlite.specs.Ops.{binary}
 use Rattle.sqlite_tied.specs.Compute.{everything}
 use Rattle.sqlite.specs.Listing.{understood}
 use Rattle.store_sql.proofs.Selects.{IsSelect, IsTreeOf, select}
+use Rattle.store_sql.proofs.FaultLemmas.{IsStatement, IsWhole, none_overflows}
+use Rattle.store_sql.proofs.Rows.{cast_null, cast_int}
 use Rattle.store_sql.specs.Schema.{whole, run_at}
 use Rattle.store_sql.specs.Cells.{run_cells}
 use Rattle.store_sql.specs.Contents.{Contents, Holds, Means, Lists, at_places, run_places}
@@ -23,37 +25,44 @@ use Rattle.store_sql.proofs.Apart.{run_apart}
 use Rattle.store_sql.proofs.CallLemmas.{Write, Find}
 use Rattle.store_sql.proofs.Edits.{keep_all, of_record, of_row, left_is, filter_table}
 use Rattle.store_sql.proofs.Elsewhere.{spares, in_run}
-use Rattle.store_sql.proofs.FaultLemmas.{IsWhole, none_overflows}
-use Rattle.store_sql.proofs.Inserts.{no_works}
-use Rattle.store_sql.proofs.Inserts as insert
+use Rattle.store_sql.proofs.Inserts.{no_works, IsInsert, insert}
 use Rattle.store_sql.proofs.Queries.{on_table, in_order, in_order, selected, chosen, lists_left, int_le_test, int_ge_test}
-use Rattle.store_sql.proofs.Rows.{cast_int}
 use Rattle.store_sql.proofs.Statements.{mode, deletes}
 use Rattle.store_sql.proofs.Rising.{AscendBy, DescendBy, falling}
 use Rattle.store_sql.proofs.LastRun.{falls, first_is_last, listed}
 use Rattle.store_sql.proofs.Unmapped.{unmapped}
 use Rattle.store_sql.proofs.Numbers.{le_number, ge_number}
 
+pub tree : IsTreeOf Holds run_cells run_places 6 (λ c. c.runs)
+tree = record { stored = λ trees. refl; held = λ trees c h. h.runs; apart = run_apart }
+
 -- ---- INSERT
 
-abbrev pub insert_sql : List ℕ
-insert_sql = INSERT_RUN.now
-
-abbrev pub terms : List Term
+abbrev terms : List Term
 terms = col 0 0 ∷ lit Null ∷ col 0 1 ∷ []
 
-pub insert_is : (command_of (understood whole insert_sql) ≡ Insert 4 (Values terms 3))
-    × IsPlain (understood whole insert_sql) × IsWhole insert_sql 2 (understood whole insert_sql)
+abbrev pub run_row : RunRow → Row
+run_row x = Int (pos x.lo) ∷ Null ∷ Int (pos x.hi) ∷ []
+
+insert_is : IsStatement INSERT_RUN.now (Insert 4 (Values terms 3)) 2
 unfolding understood everything
 insert_is = (refl, (refl, refl), (refl, refl))
 
-abbrev pub source : RunRow → Row
-source r = Int (pos r.lo) ∷ Null ∷ Int (pos r.hi) ∷ []
+pub puts : IsInsert INSERT_RUN.now run_cells run_places 4 run_at terms 3 with_run (λ c. c.runs) (λ x rows. run_row x)
+puts = record {
+  tree = tree;
+  found = refl;
+  is = λ x. insert_is;
+  source = run_row;
+  sourced = λ x. refl;
+  typed = λ x. refl;
+  made = λ x rows. simp (cast_int, cast_null);
+  row_is = λ x rows. refl;
+  held = λ x db after c h o put. in_run db after c h (x ∷ c.runs) o;
+}
 
-pub put : (r : RunRow) → Write insert_sql (run_cells r) (with_run r)
-put = insert.put insert_sql run_cells run_places 4 run_at terms 3 source with_run (λ c. c.runs)
-    refl insert_is.0 insert_is.1 (λ x. insert_is.2) (λ x. refl) (λ x rows. simp cast_int) (λ db c h. h.runs)
-    (λ x db after c h o put now. in_run db after c h (x ∷ c.runs) o now)
+pub put : (x : RunRow) → Write INSERT_RUN.now (run_cells x) (with_run x)
+put = insert puts
 
 -- ---- SELECT of all
 
@@ -63,9 +72,6 @@ columns = col 1 0 ∷ col 1 2 ∷ []
 every_is : IsSelect whole EVERY_RUN.now (on_table 6 [] columns ((col 1 0, ascending Binary) ∷ [])) (codes "lo" ∷ codes "hi" ∷ []) 0
 unfolding understood everything
 every_is = (refl, refl, (refl, refl), (refl, refl))
-
-pub tree : IsTreeOf Holds run_cells run_places 6 (λ c. c.runs)
-tree = record { stored = λ trees. refl; held = λ trees c h. h.runs; apart = run_apart }
 
 pub every : Find EVERY_RUN.now ([]) run_cells (λ c. c.runs)
 every = select tree every_is (λ x. true) (λ v. true) (λ v. column v 0 ∷ column v 1 ∷ []) (λ x. refl) (λ x. refl)

@@ -1,6 +1,7 @@
 //! The tables themselves.
 
-ghost use Rattle.std.specs.Prelude.{◌≡◌, IfErr};
+ghost use Rattle.std.specs.Prelude.{◌≡◌, IfErr, Ok};
+ghost use Rattle.sqlite.specs.Compile.{table_defined_by};
 ghost use Rattle.store_sql.specs.Schema.{no_schema, without_ca, ca};
 ghost use Rattle.store_sql.specs.Making.{before, made, text_of};
 ghost use Rattle.store_sql.specs.Faults.{IsOfStatement};
@@ -15,7 +16,7 @@ use crate::table_fault::{Fault, done};
 use sqlite::{Alter, Connection};
 
 /// A table of the office, by its name.
-#[derive(Clone, Copy, Debug, PartialEq, Eq)]
+#[derive(Clone, Copy)]
 enum TableName {
     Office,
     Department,
@@ -29,7 +30,8 @@ enum TableName {
 impl TableName {
     /// The statement that makes the table.
     fn create(self) -> &'static str
-        ensures { result.now ≡ text_of self }
+        ensures text { result.now ≡ text_of self }
+        ensures defines { table_defined_by result.now ≡ Ok (made self) }
     {
         match self {
             TableName::Office => CREATE_OFFICE,

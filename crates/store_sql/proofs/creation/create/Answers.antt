@@ -15,7 +15,7 @@ returns g c =
     let name = c.args.name in
     let old = state g.S.Store c.args.conn.now in
     let new = state g.S.Store c.execute.new.self in
-    let ran = subst (λ sql. Executes sql [] old new c.execute.result) c.create.ensures in
+    let ran = subst (λ sql. Executes sql [] old new c.execute.result) c.create.ensures.text in
     record {
       creates = λ clean. creates_done old new (before name) (made name) c.execute.result c.done.result c.done.ensures.is
           (creates (makes name) old new c.execute.result (ran (c.execute.ensures.runs clean)));
@@ -24,5 +24,5 @@ returns g c =
       undamaged = c.done.ensures.undamaged;
       stays = λ clean. create_stays (makes name) old new c.execute.result c.done.result c.done.ensures.is
           (ran (c.execute.ensures.runs clean));
-      survives = survives_as old new _ _ (creates_left (makes name) old) (rw c.create.ensures at c.execute.ensures.survives);
+      survives = survives_as old new _ _ (creates_left (makes name) old) (rw c.create.ensures.text at c.execute.ensures.survives);
     }
