@@ -1,8 +1,6 @@
 -- Structs with the same columns are the same.
 use Rattle.std.proofs.Common.{◌≡◌, List, ℕ, Option, None, Some, refl, sym, ap, ◌∙◌}
-use Rattle.sqlite.specs.Order.{Row, column}
-use Rattle.sqlite.specs.Values.{or_null}
-use Rattle.sqlite.specs.declared.types.Value.TheVariants.{Blob}
+use Rattle.store_sql.proofs.Words.{Blob, Row, column, or_null}
 use Rattle.store_sql.specs.declared.offices.OfficeRow.{OfficeRow}
 use Rattle.store_sql.specs.declared.departments.DepartmentRow.{DepartmentRow}
 use Rattle.store_sql.specs.declared.certs.CertRow.{CertRow}

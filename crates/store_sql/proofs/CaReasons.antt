@@ -1,46 +1,27 @@
 -- Why a CA is refused.
 use Rattle.std.proofs.Common.{◌≡◌, ◌⊎◌, inl, inr, ℕ, pos, ◌<◌, ◌^◌, List, [], ◌∷◌, drop, true, false, Result, refl, sym, ap, subst, ◌∙◌, arith}
+use Rattle.store_sql.proofs.Words.{Binary, Blob, ForeignKey, Int, State, Unique, agree, all_has, and_parts}
+use Rattle.store_sql.proofs.Words.{bytes_eq-Decides, column, equal, guards, lt-ltb}
 use Rattle.std.specs.Prelude.{◌&&◌}
-use Rattle.std.proofs.lemmas.Bool.{and_parts, lt-ltb}
-use Rattle.std.proofs.lemmas.Slice.Eq.{bytes_eq-Decides}
 use Rattle.sqlite_value.specs.Keys.{first_key, joined}
 use Rattle.sqlite_schema.specs.Names.{same_name}
-use Rattle.sqlite.specs.declared.types.Value.TheVariants.{Null, Int, Blob}
-use Rattle.sqlite.specs.Collation.TheVariants.{Binary}
-use Rattle.sqlite.specs.Order.{Row, column}
-use Rattle.sqlite.specs.Cast.{cast_row}
-use Rattle.sqlite.specs.Edit.{with_rowid}
-use Rattle.sqlite.specs.Rowids.TheVariants.{Chosen}
-use Rattle.sqlite.specs.State.{State}
-use Rattle.sqlite.specs.Source.TheVariants.{Values}
-use Rattle.sqlite.specs.Command.TheVariants.{Insert}
-use Rattle.sqlite_rules.proofs.ListLemmas.{all_has}
-use Rattle.sqlite_schema.specs.declared.schema.Constraint.TheVariants.{Unique, ForeignKey}
-use Rattle.sqlite_schema.specs.Rules.{agree, equal, guards}
 use Rattle.store_sql.specs.Schema.{whole, ca_at}
 use Rattle.store_sql.specs.Cells.{ca_cells}
 use Rattle.store_sql.specs.Contents.{Contents, Means, ca_places}
 use Rattle.store_sql.specs.Refusals.{HasOne, RefusedFor, RefusesCa}
 use Rattle.store_sql.specs.declared.cas.CaRow.{CaRow}
-use Rattle.store_sql.proofs.CaTable as ca
+use Rattle.store_sql.proofs.CaTable.{ca_row, puts}
+use Rattle.store_sql.specs.declared.sql.TheConstants.{INSERT_CA}
 use Rattle.store_sql.proofs.Edits.{of_record}
-use Rattle.store_sql.proofs.InsertReasons.{insert_halted, none_orphaned, taken_number}
+use Rattle.store_sql.proofs.InsertReasons.{insert_fails, refers_still, taken_number}
 use Rattle.store_sql.proofs.Queries.{blob_test}
-use Rattle.store_sql.proofs.Reasons.{HasClash, IsPut, halted, one, storable}
+use Rattle.store_sql.proofs.Reasons.{HasClash, IsPut, one, storable}
 use Rattle.store_sql.specs.declared.table_fault.Fault.{Fault}
 use Rattle.store_sql.specs.Calls.{FailsBy}
 use Rattle.store_sql.proofs.FaultLemmas.{HasWriteCause}
-use Rattle.store_sql.proofs.Refused.{Stops, refused_for}
-use Rattle.store_sql.proofs.Rows.{cast_int, cast_null}
 
 same_blob : (a b : List ℕ) → equal Binary (Blob a) (Blob b) ≡ true → a ≡ b
 same_blob a b h = (bytes_eq-Decides a b).0 (sym (blob_test a b) ∙ h)
-
-abbrev ca_row : CaRow → Row
-ca_row a = Int (pos a.number) ∷ Null ∷ Blob a.ca ∷ Int (pos a.since) ∷ []
-
-ca_made : (a : CaRow) (rows : List Row) → with_rowid Chosen rows (cast_row ca_at (ca.source a)) ≡ ca_row a
-ca_made a rows = simp (cast_int, cast_null)
 
 ca_put : (a : CaRow) (s : State) (c : Contents) → Means s.now c → IsPut s.now.trees ca_at [] (ca_row a)
 unfolding same_name joined
@@ -83,24 +64,14 @@ ca_clash a s c means (i, here, on, other, there, same) =
     let first = and_parts (equal Binary (column other 2) (Blob a.ca)) true both in
     (it.0, it.1, inr (same_blob it.0.ca a.ca (subst (λ v. equal Binary v (Blob a.ca) ≡ true) blob first.0)))
 
-pub refuses_ca : (x : CaRow) → x.number < 2 ^ 63 → (s : State) (c : Contents) → Means s.now c
-    → Stops ca.insert_sql (ca_cells x) (Insert 6 (Values ca.terms 4)) s → RefusesCa x c
-refuses_ca x below s c means stops =
-    let db = s.now.trees in
-    let row = ca_row x in
-    halted db ca_at [] row (ca_put x s c means)
-    (λ out. absurd (let wrong : true ≡ false = sym (lt-ltb x.number (2 ^ 63) below) ∙ out in cc))
-    (λ taken. let it = taken_number ca_cells ca_places (λ y. y.number) (db 9) c.cas x.number (drop 1 row)
-    (λ y r is. ap (λ v. column v 0) is) means.kept.holds.cas taken in inl (it.0, it.1, inl it.2))
-    (λ clash. inl (ca_clash x s c means clash))
-    (λ long. inr (omega (arith, long)))
-    (λ next did broken. absurd (none_orphaned db next (one db ca_at [] row) (means.kept.sound.obeys.rules ForeignKey) did
-    (λ e. cc) (λ e. cc) broken))
-    (insert_halted ca.insert_sql ca_cells 6 ca_at ca.terms 4 ca.source (λ y rows. ca_row y) refl (λ y. refl) (λ y. refl)
-    ca_made x s c means stops)
-
 pub ca_fails : {X : Type 0} (x : CaRow) → x.number < 2 ^ 63 → (old new : State) (r : Result X Fault)
-    → FailsBy (HasWriteCause ca.insert_sql (ca_cells x)) old new r → RefusedFor (RefusesCa x) old new r
-ca_fails x below old new r =
-    refused_for ca.insert_sql (ca_cells x) (Insert 6 (Values ca.terms 4)) ca.insert_is.0 ca.insert_is.2 (RefusesCa x)
-    (refuses_ca x below) old new r
+    → FailsBy (HasWriteCause INSERT_CA.now (ca_cells x)) old new r → RefusedFor (RefusesCa x) old new r
+ca_fails x below =
+    insert_fails puts x (RefusesCa x) (λ s c means. ca_put x s c means)
+    (λ s c means out. absurd (let wrong : true ≡ false = sym (lt-ltb x.number (2 ^ 63) below) ∙ out in cc))
+    (λ s c means taken. let it = taken_number ca_cells ca_places (λ y. y.number) (s.now.trees 9) c.cas x.number (drop 1 (ca_row x))
+    (λ y r is. ap (λ v. column v 0) is) means.kept.holds.cas taken in inl (it.0, it.1, inl it.2))
+    (λ s c means clash. inl (ca_clash x s c means clash))
+    (λ s c long. inr (omega (arith, long)))
+    (λ s c next means did broken. absurd (broken (refers_still s.now.trees next (one s.now.trees ca_at [] (ca_row x))
+    (means.kept.sound.obeys.rules ForeignKey) did (λ e. cc) (λ e. cc))))

@@ -1,22 +1,15 @@
 -- The statements on the table of CAs.
-use Rattle.std.proofs.Common.{◌≡◌, ℕ, pos, List, [], ◌∷◌, codes, map, true, false, refl, subst, inl, inr}
-use Rattle.std.specs.List.Sorted.{IsPermutation}
-use Rattle.sqlite.specs.Order.{Row, column}
-use Rattle.sqlite.specs.declared.types.Value.TheVariants.{Null, Int, Blob}
-use Rattle.sqlite_value.specs.Keys.{ascending}
-use Rattle.sqlite.specs.Term.{Term, lit, col}
-use Rattle.sqlite.specs.Collation.TheVariants.{Binary}
-use Rattle.sqlite.specs.Query.{Query, IsAnswer}
-use Rattle.sqlite.specs.Program.{overlay}
-use Rattle.sqlite.specs.Source.TheVariants.{Values}
-use Rattle.sqlite.specs.Command.TheVariants.{Insert, Select}
-use Rattle.sqlite.specs.Tree.{Trees}
+use Rattle.std.proofs.Common.{pos, List, [], ◌∷◌, codes, true, refl}
+use Rattle.store_sql.proofs.Words.{Binary, Blob, Insert, Int, IsAnswer, Null, Row, Term, Trees, Values}
+use Rattle.store_sql.proofs.Words.{ascending, col, column, lit, overlay}
 use Rattle.sqlite_tied.specs.Compute.{everything}
-use Rattle.sqlite.specs.Listing.{understood, reads_listing}
-use Rattle.sqlite.proofs.Callers.{IsPlain, command_of}
+use Rattle.sqlite.specs.Listing.{understood}
+use Rattle.store_sql.proofs.Selects.{IsSelect, IsTreeOf, select}
+use Rattle.store_sql.proofs.FaultLemmas.{IsStatement}
+use Rattle.store_sql.proofs.Rows.{cast_null, cast_int}
 use Rattle.store_sql.specs.Schema.{whole, ca_at}
 use Rattle.store_sql.specs.Cells.{ca_cells}
-use Rattle.store_sql.specs.Contents.{Contents, Holds, ca_places}
+use Rattle.store_sql.specs.Contents.{Holds, ca_places}
 use Rattle.store_sql.specs.Changes.{with_ca}
 use Rattle.store_sql.specs.declared.sql.TheConstants.{INSERT_CA, EVERY_CA}
 use Rattle.store_sql.specs.declared.cas.CaRow.{CaRow}
@@ -24,71 +17,57 @@ use Rattle.store_sql.proofs.Apart.{ca_apart}
 use Rattle.store_sql.proofs.CallLemmas.{Write, Find}
 use Rattle.store_sql.proofs.Edits.{keep_all}
 use Rattle.store_sql.proofs.Elsewhere.{in_ca}
-use Rattle.store_sql.proofs.FaultLemmas.{IsWhole, none_overflows}
-use Rattle.store_sql.proofs.Inserts.{no_works}
-use Rattle.store_sql.proofs.Inserts as insert
-use Rattle.store_sql.proofs.Queries.{on_table, in_order, selected, chosen}
-use Rattle.store_sql.proofs.Rows.{cast_int}
+use Rattle.store_sql.proofs.Inserts.{IsInsert, insert}
+use Rattle.store_sql.proofs.Queries.{on_table, in_order}
 use Rattle.store_sql.proofs.Rising.{AscendBy}
+
+pub tree : IsTreeOf Holds ca_cells ca_places 9 (λ c. c.cas)
+tree = record { stored = λ trees. refl; held = λ trees c h. h.cas; apart = ca_apart }
 
 -- ---- INSERT
 
-abbrev pub insert_sql : List ℕ
-insert_sql = INSERT_CA.now
-
-abbrev pub terms : List Term
+abbrev terms : List Term
 terms = col 0 0 ∷ lit Null ∷ col 0 1 ∷ col 0 2 ∷ []
 
-pub insert_is : (command_of (understood whole insert_sql) ≡ Insert 6 (Values terms 4))
-    × IsPlain (understood whole insert_sql) × IsWhole insert_sql 3 (understood whole insert_sql)
+abbrev pub ca_row : CaRow → Row
+ca_row x = Int (pos x.number) ∷ Null ∷ Blob x.ca ∷ Int (pos x.since) ∷ []
+
+insert_is : IsStatement INSERT_CA.now (Insert 6 (Values terms 4)) 3
 unfolding understood everything
 insert_is = (refl, (refl, refl), (refl, refl))
 
-abbrev pub source : CaRow → Row
-source a = Int (pos a.number) ∷ Null ∷ Blob a.ca ∷ Int (pos a.since) ∷ []
+pub puts : IsInsert INSERT_CA.now ca_cells ca_places 6 ca_at terms 4 with_ca (λ c. c.cas) (λ x rows. ca_row x)
+puts = record {
+  tree = tree;
+  found = refl;
+  is = λ x. insert_is;
+  source = ca_row;
+  sourced = λ x. refl;
+  typed = λ x. refl;
+  made = λ x rows. simp (cast_int, cast_null);
+  row_is = λ x rows. refl;
+  held = λ x db after c h o put. in_ca db after c h (x ∷ c.cas) o;
+}
 
-pub put : (a : CaRow) → Write insert_sql (ca_cells a) (with_ca a)
-put = insert.put insert_sql ca_cells ca_places 6 ca_at terms 4 source with_ca (λ c. c.cas)
-    refl insert_is.0 insert_is.1 (λ x. insert_is.2) (λ x. refl) (λ x rows. simp cast_int) (λ db c h. h.cas)
-    (λ x db after c h o put now. in_ca db after c h (x ∷ c.cas) o now)
+pub put : (x : CaRow) → Write INSERT_CA.now (ca_cells x) (with_ca x)
+put = insert puts
 
 -- ---- SELECT of all
 
-abbrev every_sql : List ℕ
-every_sql = EVERY_CA.now
+abbrev columns : List Term
+columns = col 1 0 ∷ col 1 2 ∷ col 1 3 ∷ []
 
-abbrev every_query : Query
-every_query = on_table 9 [] (col 1 0 ∷ col 1 2 ∷ col 1 3 ∷ []) ((col 1 0, ascending Binary) ∷ [])
-
-every_is : (command_of (understood whole every_sql) ≡ Select (record { lets = []; body = every_query }) (codes "number" ∷ codes "ca" ∷ codes "since" ∷ [])) × (reads_listing whole every_sql ≡ false)
-    × IsPlain (understood whole every_sql) × IsWhole every_sql 0 (understood whole every_sql)
+every_is : IsSelect whole EVERY_CA.now (on_table 9 [] columns ((col 1 0, ascending Binary) ∷ []))
+    (codes "number" ∷ codes "ca" ∷ codes "since" ∷ []) 0
 unfolding understood everything
 every_is = (refl, refl, (refl, refl), (refl, refl))
 
-every_answers : (trees : Trees) (rows : List Row) (c : Contents) → Holds trees c
-    → IsAnswer every_query (overlay trees []) ([]) rows → IsPermutation (map ca_cells c.cas) rows
-every_answers trees rows c h answer =
-    subst (λ xs. IsPermutation (map ca_cells xs) rows) (keep_all c.cas)
-    (chosen ca_cells ca_cells (λ x. true) ca_places (λ v. true) (λ v. column v 0 ∷ column v 1 ∷ column v 2 ∷ [])
-    (λ x. refl) (λ x. refl) (trees 9) rows c.cas h.cas (selected 9 _ _ _ trees [] rows refl answer))
-
-pub every : Find every_sql ([]) ca_cells (λ c. c.cas)
-every = record {
-  query = every_query;
-  names = codes "number" ∷ codes "ca" ∷ codes "since" ∷ [];
-  is = every_is.0;
-  unlisted = every_is.1;
-  plain = every_is.2;
-  one = every_is.3;
-  typed = refl;
-  sure = λ trees h. elim h [ inl over ↦ over | inr fold ↦ none_overflows _ fold ];
-  apart = ca_apart;
-  answers = every_answers;
-}
+pub every : Find EVERY_CA.now ([]) ca_cells (λ c. c.cas)
+every = select tree every_is (λ x. true) (λ v. true) (λ v. column v 0 ∷ column v 1 ∷ column v 2 ∷ []) (λ x. refl)
+    (λ x. refl) (λ r. refl) (λ r. refl) refl (λ c. keep_all c.cas)
 
 pub every_rises : (trees : Trees) (rows : List Row) → IsAnswer every.query (overlay trees []) ([]) rows
     → AscendBy 0 rows
-unfolding every
+unfolding every select
 every_rises trees rows answer =
-    in_order 9 [] (col 1 0 ∷ col 1 2 ∷ col 1 3 ∷ []) ((col 1 0, ascending Binary) ∷ []) trees ([]) rows
-    (λ v. column v 0 ∷ []) (λ r. refl) refl answer
+    in_order 9 [] columns ((col 1 0, ascending Binary) ∷ []) trees ([]) rows (λ v. column v 0 ∷ []) (λ r. refl) refl answer

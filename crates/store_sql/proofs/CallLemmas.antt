@@ -1,26 +1,14 @@
 -- What the calls do, from what their texts mean.
 use Rattle.std.proofs.Common.{◌≡◌, ◌⊎◌, inl, inr, ℕ, List, [], length, true, false, None, Option, Ok, Result, refl, sym, ap, ◌∙◌, subst, IfOk, IfErr}
-use Rattle.std.specs.Prelude.{Vec, ◌||◌}
-use Rattle.std.specs.declared.alloc.Global.{Global}
-use Rattle.std.specs.List.Sorted.{IsPermutation}
+use Rattle.std.specs.Prelude.{◌||◌}
 use Rattle.std.proofs.Common.{map}
-use Rattle.sqlite.specs.Order.{Row}
-use Rattle.sqlite.specs.Tree.{Trees}
-use Rattle.sqlite.specs.Command.{Command}
-use Rattle.sqlite.specs.Command.TheVariants.{Select, Insert, InsertOr, Update, Delete, Begin, Commit, Rollback, Release, RollbackTo}
-use Rattle.sqlite.specs.Query.{Query, IsAnswer}
-use Rattle.sqlite.specs.Program.{overlay}
-use Rattle.sqlite_sql.specs.Program.{ProgramOverflows}
-use Rattle.sqlite_typing.specs.Types.{accepts_program}
-use Rattle.sqlite.specs.Does.{Tally, Does}
-use Rattle.sqlite.specs.Effect.{Database, is_query}
-use Rattle.sqlite.specs.Schema.{Schema}
-use Rattle.sqlite.specs.Calls.{IsWrite}
-use Rattle.sqlite.specs.Listing.{is_select, understood, reads_listing}
-use Rattle.sqlite_resolve.specs.declared.compiled.Compiled.{Compiled}
-use Rattle.sqlite.specs.declared.error.Error.{Error}
-use Rattle.sqlite.specs.State.{State, Survives, Writes, Runs, Executes, CommitsBy, Shown, FailsToQuery, CommitsShowing, is_pragma}
-use Rattle.sqlite.proofs.Callers.{IsPlain, command_of, statement_of}
+use Rattle.store_sql.proofs.Words.{Begin, Command, Commit, Compiled, Database, Delete, Does, Error, Executes, Global}
+use Rattle.store_sql.proofs.Words.{Insert, InsertOr, IsAnswer, IsPermutation, IsPlain, IsWrite, ProgramOverflows}
+use Rattle.store_sql.proofs.Words.{Query, Release, Rollback, RollbackTo, Row, Runs, Schema, Select, State, Survives}
+use Rattle.store_sql.proofs.Words.{Tally, Trees, Update, Vec, Writes, accepts_program, command_of, is_pragma}
+use Rattle.store_sql.proofs.Words.{is_query, is_select, overlay, reads_listing, statement_of}
+use Rattle.sqlite.specs.Listing.{understood}
+use Rattle.sqlite.specs.State.{CommitsBy, Shown, FailsToQuery, CommitsShowing}
 use Rattle.store_sql.specs.declared.table_fault.Fault.{Fault}
 use Rattle.store_sql.specs.Schema.{whole}
 use Rattle.store_sql.specs.Contents.{Contents, Holds, Means}

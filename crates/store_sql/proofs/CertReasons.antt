@@ -1,76 +1,29 @@
 -- Why a certificate is refused.
-use Rattle.std.proofs.Common.{◌≡◌, inl, inr, ℕ, ℤ, pos, ◌<◌, ◌^◌, List, [], ◌∷◌, drop, Bool, true, false, not, None, Some, Result, refl, sym, ap, subst, ◌∙◌, arith}
+use Rattle.std.proofs.Common.{◌≡◌, inl, inr, ℕ, ℤ, pos, ◌<◌, ◌^◌, List, [], ◌∷◌, drop, true, false, not, None, Some, Result, refl, sym, ap, subst, ◌∙◌, arith}
+use Rattle.store_sql.proofs.Words.{All, AllByRecursion, Applies, Binary, Blob, Enforced, ForeignKey, Has, Null, Refers}
+use Rattle.store_sql.proofs.Words.{Row, State, Text, Trees, Unique, agree, all_has, and-true, are_typed, column, equal}
+use Rattle.store_sql.proofs.Words.{has_null, has_rowid, is_referred, list_any, lt-ltb, or_null, or_right, plain}
+use Rattle.store_sql.proofs.Words.{references_fit, some_from, without_rowid}
 use Rattle.std.specs.Prelude.{◌||◌, ◌&&◌}
-use Rattle.std.specs.List.{AllByRecursion, list_any}
-use Rattle.std.proofs.Math.Bool.{and-true}
-use Rattle.std.proofs.lemmas.Bool.{eqb-true}
-use Rattle.sqlite.specs.declared.types.Value.TheVariants.{Null, Int, Text, Blob}
-use Rattle.sqlite.specs.Values.{or_null}
-use Rattle.sqlite.specs.Order.{Row, column}
-use Rattle.sqlite.specs.Tree.{Trees, has_rowid, rowid, without_rowid}
-use Rattle.sqlite.specs.Edit.{Applies, edit_of, id_in}
-use Rattle.sqlite.specs.State.{State}
-use Rattle.sqlite.specs.Source.TheVariants.{Values}
-use Rattle.sqlite.specs.Command.TheVariants.{Insert, Update}
-use Rattle.sqlite.specs.Listing.{understood}
-use Rattle.sqlite.specs.Ops.{binary, is_true}
-use Rattle.sqlite.proofs.Callers.{statement_of}
-use Rattle.sqlite_sql.specs.declared.ops.BinaryOp.TheVariants.{Compare}
-use Rattle.sqlite_sql.specs.declared.ops.CompareOp.TheVariants.{Eq}
-use Rattle.sqlite_rules.specs.Calls.{ids_of}
-use Rattle.sqlite_rules.specs.Edit.{is_referred}
 use Rattle.sqlite_trees.proofs.ListLemmas.{all-filter}
-use Rattle.sqlite_sql.specs.Ops.{fits_i64}
-use Rattle.sqlite_value.specs.Keys.{first_key, joined, plain}
+use Rattle.sqlite_value.specs.Keys.{first_key, joined}
 use Rattle.sqlite_schema.specs.Names.{same_name}
-use Rattle.sqlite_schema.specs.declared.schema.Among.TheVariants.{All}
-use Rattle.sqlite_schema.specs.declared.schema.Constraint.TheVariants.{Unique, ForeignKey}
-use Rattle.sqlite_schema.specs.declared.schema.Keys.TheVariants.{Enforced}
-use Rattle.sqlite_schema.specs.Rules.{Refers, references_fit}
-use Rattle.sqlite_rules.specs.Lists.{Has}
-use Rattle.sqlite_rules.proofs.ListLemmas.{all_has}
 use Rattle.store_sql.specs.Schema.{whole, cert_at}
-use Rattle.store_sql.specs.Cells.{cert_cells}
-use Rattle.store_sql.specs.Contents.{Contents, Means, at_places, cert_places}
+use Rattle.store_sql.specs.Cells.{cert_cells, department_cells}
+use Rattle.store_sql.specs.Contents.{Contents, Means, at_places, cert_places, Lists, department_places}
 use Rattle.store_sql.specs.Changes.{signed}
 use Rattle.store_sql.specs.Refusals.{HasOne, RefusedFor, RefusesCert, RefusesSignature}
 use Rattle.store_sql.specs.declared.certs.CertRow.{CertRow}
-use Rattle.store_sql.proofs.CertTable.{insert_is, insert_sql, sign_is, sign_params, sign_query, sign_row, sign_sql, source, terms}
-use Rattle.sqlite.specs.Collation.TheVariants.{Binary}
-use Rattle.sqlite.specs.Cast.{cast_row}
-use Rattle.sqlite.specs.Edit.{with_rowid}
-use Rattle.sqlite.specs.Rowids.TheVariants.{Chosen, Given}
-use Rattle.sqlite.specs.Rows.{stamped}
-use Rattle.sqlite_schema.specs.Rules.{agree, are_typed, equal, has_null}
-use Rattle.sqlite_typing.specs.Types.{accepts_program, accepts_terms}
-use Rattle.sqlite_rules.proofs.ListLemmas.{some_from}
+use Rattle.store_sql.proofs.CertTable.{cert_row, puts, sign_params, signs}
+use Rattle.store_sql.proofs.NumberUpdates.{update_fails}
+use Rattle.store_sql.specs.declared.sql.TheConstants.{INSERT_CERT, SIGN_CERT}
 use Rattle.sqlite_trees.proofs.TreeLemmas.{all-put_row}
-use Rattle.std.proofs.lemmas.Bool.{or_right, lt-ltb}
-use Rattle.store_sql.specs.Cells.{department_cells}
-use Rattle.store_sql.specs.Contents.{Lists, department_places}
 use Rattle.store_sql.proofs.RowTests.{own_text}
-use Rattle.store_sql.proofs.InsertReasons.{all_refer, each_refers, has_department, insert_halted, row_of, taken_number}
-use Rattle.store_sql.proofs.Reasons.{IsPut, halted, is_exact, one, storable, unclashed}
+use Rattle.store_sql.proofs.InsertReasons.{all_refer, each_refers, has_department, insert_fails, row_of, taken_number}
+use Rattle.store_sql.proofs.Reasons.{IsPut, is_exact, one, storable, unclashed}
 use Rattle.store_sql.specs.declared.table_fault.Fault.{Fault}
 use Rattle.store_sql.specs.Calls.{FailsBy}
-use Rattle.store_sql.proofs.FaultLemmas.{HasWriteCause, none_overflows}
-use Rattle.store_sql.proofs.Inserts.{no_works}
-use Rattle.store_sql.proofs.Numbers.{same_number}
-use Rattle.store_sql.proofs.Queries.{int_test, selected}
-use Rattle.store_sql.proofs.Refused.{Stops, refused_for}
-use Rattle.store_sql.proofs.Stops.{IsHalted, update_halts}
-use Rattle.store_sql.proofs.UpdateReasons.{IsSole, freed, nothing_halts, picked}
-use Rattle.store_sql.proofs.Rows.{cast_int, cast_null}
-
-abbrev row_with : CertRow → Row
-row_with x = Int (pos x.serial) ∷ Null ∷ Text x.department ∷ Text x.key_id ∷ Blob x.body ∷ or_null Blob x.signature ∷ []
-
-made : (x : CertRow) (rows : List Row) → with_rowid Chosen rows (cast_row cert_at (source x)) ≡ row_with x
-made x rows = simp (cast_int, cast_null)
-
-accepts : (x : CertRow) → accepts_terms terms (stamped cert_at (cert_cells x)) ≡ true
-accepts x = elim x.signature as (λ o. accepts_terms terms (stamped cert_at (cert_cells (record x { signature = o }))) ≡ true)
-    [ None ↦ refl | Some b ↦ refl ]
+use Rattle.store_sql.proofs.FaultLemmas.{HasWriteCause}
 
 fits_alone : references_fit whole cert_at true false ≡ true
 unfolding same_name joined
@@ -85,7 +38,7 @@ own_name t = and-true _ ∙ own_text t
 
 module _ (x : CertRow) where
   abbrev row : Row
-  row = row_with x
+  row = cert_row x
 
   is_put : (s : State) (c : Contents) (gone : List ℤ) → is_referred whole Enforced (one s.now.trees cert_at gone row) ≡ true → Means s.now c
       → IsPut s.now.trees cert_at gone row
@@ -147,55 +100,18 @@ module _ (x : CertRow) where
       (sym departments) (subst (AllByRecursion (λ r. has_department db r ≡ true)) (sym did.rows)
       (all-put_row (λ r. has_department db r ≡ true) row (db 3) (has_own db c means.kept.holds.departments named) was)))
 
-  pub refuses_cert : x.serial < 2 ^ 63 → (s : State) (c : Contents) → Means s.now c
-      → Stops insert_sql (cert_cells x) (Insert 2 (Values terms 6)) s → RefusesCert x c
-  refuses_cert below s c means stops =
-      let db = s.now.trees in
-      let halts = insert_halted insert_sql cert_cells 2 cert_at terms 6 source (λ y rows. row_with y) refl (λ y. refl)
-      accepts made x s c means stops in
-      halted db cert_at [] row (is_put s c [] fits_alone means)
-      (λ out. absurd (let wrong : true ≡ false = sym (lt-ltb x.serial (2 ^ 63) below) ∙ out in cc))
-      (λ taken. inl (taken_number cert_cells cert_places (λ y. y.serial) (db 3) c.certs x.serial (drop 1 row)
-      (λ y r is. ap (λ v. column v 0) is) means.kept.holds.certs taken))
-      (λ clash. absurd (unclashed db cert_at [] row ((λ e. cc), ((λ e. cc), ((λ e. cc), ((λ e. cc), tt)))) clash)) (λ long. inr (inr (omega (arith, long))))
-      (λ next did broken. inr (inl (λ named. broken (referred s c next means named did)))) halts
-
 -- ---- UPDATE of the signature
 
 module _ (serial : ℕ) (signature : List ℕ) where
-  typed : accepts_program whole [] sign_query (sign_params serial signature) ≡ true
-  typed = refl
-
-  abbrev hit : Row → Bool
-  hit r = is_true (binary (Compare Eq Binary) (column (at_places cert_places r) 0) (Int (pos serial))) && true
-
-  abbrev shows : Row → Row
-  shows r = rowid r ∷ sign_row serial signature r
-
-  passes : (x : CertRow) (r : Row) → at_places cert_places r ≡ cert_cells x → hit r ≡ true → x.serial ≡ serial
-  passes x r is h =
-      let test : (is_true (binary (Compare Eq Binary) (Int (pos x.serial)) (Int (pos serial))) && true) ≡ true =
-      subst (λ v. (is_true (binary (Compare Eq Binary) (column v 0) (Int (pos serial))) && true) ≡ true) is h in
-      eqb-true x.serial serial (sym (and-true _ ∙ int_test (pos x.serial) (pos serial) ∙ same_number x.serial serial) ∙ test)
-
-  signed_row : (x : CertRow) (r : Row) → at_places cert_places r ≡ cert_cells x
-      → cast_row cert_at (sign_row serial signature r) ≡ row_with (signed signature x)
-  signed_row x r is =
-      let c0 : column r 0 ≡ Int (pos x.serial) = ap (λ v. column v 0) is in
-      let c2 : column r 2 ≡ Text x.department = ap (λ v. column v 1) is in
-      let c3 : column r 3 ≡ Text x.key_id = ap (λ v. column v 2) is in
-      let c4 : column r 4 ≡ Blob x.body = ap (λ v. column v 3) is in
-      rw (c0, c2, c3, c4) (simp (cast_int, cast_null))
-
   -- the department of the row that was there
   own_department : (db : Trees) (x : CertRow) (r : Row) → at_places cert_places r ≡ cert_cells x → has_department db r ≡ true
-      → has_department db (row_with (signed signature x)) ≡ true
+      → has_department db (cert_row (signed signature x)) ≡ true
   own_department db x r is h =
       let c2 : column r 2 ≡ Text x.department = ap (λ v. column v 1) is in rw c2 at h
 
   still_refers : (s : State) (c : Contents) (x : CertRow) (r : Row) (next : Trees) → Means s.now c → Has (s.now.trees 3) r
       → at_places cert_places r ≡ cert_cells x
-      → Applies whole Enforced s.now.trees (one s.now.trees cert_at (pos serial ∷ []) (row_with (signed signature x))) next
+      → Applies whole Enforced s.now.trees (one s.now.trees cert_at (pos serial ∷ []) (cert_row (signed signature x))) next
       → Refers All whole next
   still_refers s c x r next means here is did =
       let db = s.now.trees in
@@ -204,52 +120,26 @@ module _ (serial : ℕ) (signature : List ℕ) where
       let own = own_department db x r is (all_has (λ r. has_department db r ≡ true) (db 3) r was here) in
       all_refer next (subst (λ ds. AllByRecursion (λ r. (has_null (2 ∷ []) r || list_any (λ d. agree plain (1 ∷ []) d (2 ∷ []) r) ds) ≡ true) (next 3))
       (sym departments) (subst (AllByRecursion (λ r. has_department db r ≡ true)) (sym did.rows)
-      (all-put_row (λ r. has_department db r ≡ true) (row_with (signed signature x)) (without_rowid (pos serial) (db 3)) own
+      (all-put_row (λ r. has_department db r ≡ true) (cert_row (signed signature x)) (without_rowid (pos serial) (db 3)) own
       (all-filter (λ r. has_department db r ≡ true) (λ r. not (has_rowid (pos serial) r)) (db 3) was))))
-
-  pub refuses_signature : serial < 2 ^ 63 → (s : State) (c : Contents) → Means s.now c
-      → Stops sign_sql (sign_params serial signature) (Update 2 (record { lets = []; body = sign_query })) s
-      → RefusesSignature serial signature c
-  refuses_signature below s c means stops =
-      let db = s.now.trees in
-      let kept = update_halts s.now whole means.schema 2 cert_at refl (sign_params serial signature)
-      (statement_of sign_sql (understood whole sign_sql)) (no_works 3) (record { lets = []; body = sign_query }) typed
-      (λ h. elim h [ inl over ↦ over | inr fold ↦ none_overflows _ fold ]) stops.0 stops.1 in
-      let all = selected 3 _ _ [] db (sign_params serial signature) kept.0 refl (kept.1.answer Null) in
-      go kept.0 kept.2 (picked cert_cells cert_places (λ x. x.serial) serial (db 3) c.certs hit shows means.kept.holds.certs
-      (λ y r is. ap (λ v. column v 0) is) passes kept.0 all)
-    where
-      go : (rows : List Row) → IsHalted whole s.now.trees (edit_of s.now.trees cert_at (ids_of rows) Given 1 rows)
-          → IsSole cert_cells cert_places (λ x. x.serial) serial (s.now.trees 3) c.certs hit shows means.kept.holds.certs
-          (λ y r is. ap (λ v. column v 0) is) passes rows
-          → RefusesSignature serial signature c
-      go rows halts (inl none) =
-          absurd (nothing_halts s.now.trees cert_at means.kept.sound.obeys (inr (inr (inl refl)))
-          (subst (λ rs. IsHalted whole s.now.trees (edit_of s.now.trees cert_at (ids_of rs) Given 1 rs)) none halts))
-      go rows halts (inr (x, has, same, r, here, is, alone)) =
-          let db = s.now.trees in
-          let id : rowid r ≡ Int (pos serial) = ap (λ v. column v 0) is ∙ ap (λ n. Int (pos n)) same in
-          let step = subst (λ rs. IsHalted whole db (edit_of db cert_at (ids_of rs) Given 1 rs)) alone halts in
-          let at_id = subst (λ v. IsHalted whole db (one db cert_at (id_in v ∷ []) (cast_row cert_at (sign_row serial signature r)))) id step in
-          let new = row_with (signed signature x) in
-          let stopped = subst (λ row. IsHalted whole db (one db cert_at (pos serial ∷ []) row)) (signed_row x r is) at_id in
-          halted db cert_at (pos serial ∷ []) new (is_put (signed signature x) s c (pos serial ∷ []) fits_again means)
-          (λ out. absurd (let wrong : true ≡ false = sym (lt-ltb serial (2 ^ 63) below) ∙ ap (λ n. fits_i64 (pos n)) (sym same) ∙ out in cc))
-          (λ taken. absurd (freed (db 3) (pos serial) new (ap (λ n. Int (pos n)) same) taken))
-          (λ clash. absurd (unclashed db cert_at (pos serial ∷ []) new ((λ e. cc), ((λ e. cc), ((λ e. cc), ((λ e. cc), tt)))) clash))
-          (λ long. (x, has, (same, omega (arith, long))))
-          (λ next did broken. absurd (broken (still_refers s c x r next means here is did))) stopped
 
 -- ---- the calls
 
 pub cert_fails : {X : Type 0} (x : CertRow) → x.serial < 2 ^ 63 → (old new : State) (r : Result X Fault)
-    → FailsBy (HasWriteCause insert_sql (cert_cells x)) old new r → RefusedFor (RefusesCert x) old new r
-cert_fails x below old new r =
-    refused_for insert_sql (cert_cells x) (Insert 2 (Values terms 6)) insert_is.0 insert_is.2 (RefusesCert x) (refuses_cert x below) old new r
+    → FailsBy (HasWriteCause INSERT_CERT.now (cert_cells x)) old new r → RefusedFor (RefusesCert x) old new r
+cert_fails x below =
+    insert_fails puts x (RefusesCert x) (λ s c means. is_put x s c [] fits_alone means)
+    (λ s c means out. absurd (let wrong : true ≡ false = sym (lt-ltb x.serial (2 ^ 63) below) ∙ out in cc))
+    (λ s c means taken. inl (taken_number cert_cells cert_places (λ y. y.serial) (s.now.trees 3) c.certs x.serial (drop 1 (cert_row x))
+    (λ y r is. ap (λ v. column v 0) is) means.kept.holds.certs taken))
+    (λ s c means clash. absurd (unclashed s.now.trees cert_at [] (cert_row x) ((λ e. cc), ((λ e. cc), ((λ e. cc), ((λ e. cc), tt)))) clash))
+    (λ s c long. inr (inr (omega (arith, long))))
+    (λ s c next means did broken. inr (inl (λ named. broken (referred x s c next means named did))))
 
 pub signature_fails : {X : Type 0} (serial : ℕ) (signature : List ℕ) → serial < 2 ^ 63 → (old new : State) (r : Result X Fault)
-    → FailsBy (HasWriteCause sign_sql (sign_params serial signature)) old new r
+    → FailsBy (HasWriteCause SIGN_CERT.now (sign_params serial signature)) old new r
     → RefusedFor (RefusesSignature serial signature) old new r
-signature_fails serial signature below old new r =
-    refused_for sign_sql (sign_params serial signature) (Update 2 (record { lets = []; body = sign_query })) sign_is.0 sign_is.2
-    (RefusesSignature serial signature) (refuses_signature serial signature below) old new r
+signature_fails serial signature below =
+    update_fails (signs serial signature) (inr (inr (inl refl))) (lt-ltb serial (2 ^ 63) below) (λ x. refl) (λ x. refl)
+    (λ x h. omega (arith, h)) ((λ e. cc), ((λ e. cc), ((λ e. cc), ((λ e. cc), tt))))
+    (λ x s c means. is_put x s c (pos serial ∷ []) fits_again means) (still_refers serial signature)

@@ -1,124 +1,90 @@
 -- The statements on the table of certificates.
-use Rattle.std.proofs.Common.{◌≡◌, ℕ, pos, List, [], ◌∷◌, codes, map, true, false, Option, None, Ok, refl, ap, ap₂, ◌∙◌, inl, inr, Bool}
+use Rattle.std.proofs.Common.{◌≡◌, ℕ, pos, List, [], ◌∷◌, codes, true, refl, ap, ap₂, ◌∙◌, Bool, None, Some}
+use Rattle.store_sql.proofs.Words.{Binary, Blob, Compare, Eq, Ge, Insert, Int, IsAnswer, Le, Null, Row, Term}
+use Rattle.store_sql.proofs.Words.{Text, Trees, Update, Values, and-true, ascending, cast_row, col, column}
+use Rattle.store_sql.proofs.Words.{is_true, lit, op2, or_null, overlay, stamped}
 use Rattle.std.specs.Prelude.{◌&&◌}
-use Rattle.std.specs.List.Sorted.{IsPermutation}
-use Rattle.std.proofs.Math.Bool.{and-true}
-use Rattle.sqlite.specs.Order.{Row, column}
-use Rattle.sqlite.specs.Values.{or_null}
-use Rattle.sqlite.specs.declared.types.Value.TheVariants.{Null, Int, Text, Blob}
-use Rattle.sqlite_value.specs.Keys.{ascending}
-use Rattle.sqlite.specs.Term.{Term, lit, col, op2}
-use Rattle.sqlite.specs.Ops.{binary, is_true}
-use Rattle.sqlite_sql.specs.declared.ops.BinaryOp.TheVariants.{Compare}
-use Rattle.sqlite_sql.specs.declared.ops.CompareOp.TheVariants.{Eq, Ge, Le}
-use Rattle.sqlite.specs.Collation.TheVariants.{Binary}
-use Rattle.sqlite.specs.Query.{Query, IsAnswer}
-use Rattle.sqlite.specs.Program.{overlay}
-use Rattle.sqlite.specs.Source.TheVariants.{Values}
-use Rattle.sqlite.specs.Command.TheVariants.{Insert, Select, Update}
-use Rattle.sqlite.specs.Tree.{Trees}
-use Rattle.sqlite_trees.specs.View.{is_int}
-use Rattle.sqlite.specs.Edit.{edit_of}
-use Rattle.sqlite.specs.Rowids.TheVariants.{Given}
-use Rattle.sqlite.specs.Cast.{cast_row}
-use Rattle.sqlite_rules.specs.Calls.{ids_of}
-use Rattle.sqlite.specs.Does.{Tally, Does}
-use Rattle.sqlite.specs.Effect.{Database}
+use Rattle.sqlite.specs.Ops.{binary}
 use Rattle.sqlite_tied.specs.Compute.{everything}
-use Rattle.sqlite.specs.Listing.{understood, reads_listing}
-use Rattle.sqlite.proofs.Callers.{IsPlain, command_of, statement_of}
+use Rattle.sqlite.specs.Listing.{understood}
+use Rattle.store_sql.proofs.Selects.{IsSelect, IsTreeOf, select}
+use Rattle.sqlite_typing.specs.Types.{accepts_terms}
+use Rattle.store_sql.proofs.FaultLemmas.{IsStatement}
 use Rattle.store_sql.specs.Schema.{whole, cert_at}
 use Rattle.store_sql.specs.Cells.{cert_cells}
-use Rattle.store_sql.specs.Contents.{Contents, Holds, Means, at_places, cert_places}
+use Rattle.store_sql.specs.Contents.{Holds, at_places, cert_places}
 use Rattle.store_sql.specs.Changes.{has_serial, certs_numbered, certs_within, is_within, signed, with_cert, with_signature}
 use Rattle.store_sql.specs.declared.sql.TheConstants.{INSERT_CERT, FIND_CERT, CERTS_WITHIN, SIGN_CERT}
 use Rattle.store_sql.specs.declared.certs.CertRow.{CertRow}
 use Rattle.store_sql.proofs.Apart.{cert_apart}
 use Rattle.store_sql.proofs.CallLemmas.{Write, Find}
-use Rattle.store_sql.proofs.Elsewhere.{spares, in_cert}
-use Rattle.store_sql.proofs.FaultLemmas.{IsWhole, none_overflows}
-use Rattle.store_sql.proofs.Inserts.{no_works}
-use Rattle.store_sql.proofs.Inserts as insert
-use Rattle.store_sql.proofs.Queries.{on_table, in_order, selected, chosen, int_test, int_le_test, int_ge_test}
-use Rattle.store_sql.proofs.Rows.{cast_int}
-use Rattle.store_sql.proofs.Statements.{mode, updates}
+use Rattle.store_sql.proofs.Elsewhere.{in_cert}
+use Rattle.store_sql.proofs.Inserts.{IsInsert, insert}
+use Rattle.store_sql.proofs.Queries.{on_table, in_order, int_test, int_le_test, int_ge_test}
+use Rattle.store_sql.proofs.Rows.{cast_int, cast_null}
 use Rattle.store_sql.proofs.Rising.{AscendBy}
 use Rattle.store_sql.proofs.Numbers.{same_number, le_number, ge_number}
-use Rattle.store_sql.proofs.Updates.{lists_changed}
+use Rattle.store_sql.proofs.NumberUpdates.{IsUpdate, update}
+
+pub tree : IsTreeOf Holds cert_cells cert_places 3 (λ c. c.certs)
+tree = record { stored = λ trees. refl; held = λ trees c h. h.certs; apart = cert_apart }
 
 -- ---- INSERT
 
-abbrev pub insert_sql : List ℕ
-insert_sql = INSERT_CERT.now
-
-abbrev pub terms : List Term
+abbrev terms : List Term
 terms = col 0 0 ∷ lit Null ∷ col 0 1 ∷ col 0 2 ∷ col 0 3 ∷ col 0 4 ∷ []
 
-pub insert_is : (command_of (understood whole insert_sql) ≡ Insert 2 (Values terms 6))
-    × IsPlain (understood whole insert_sql) × IsWhole insert_sql 5 (understood whole insert_sql)
+abbrev pub cert_row : CertRow → Row
+cert_row x = Int (pos x.serial) ∷ Null ∷ Text x.department ∷ Text x.key_id ∷ Blob x.body ∷ or_null Blob x.signature ∷ []
+
+insert_is : IsStatement INSERT_CERT.now (Insert 2 (Values terms 6)) 5
 unfolding understood everything
 insert_is = (refl, (refl, refl), (refl, refl))
 
-abbrev pub source : CertRow → Row
-source c = Int (pos c.serial) ∷ Null ∷ Text c.department ∷ Text c.key_id ∷ Blob c.body ∷ or_null Blob c.signature ∷ []
+pub puts : IsInsert INSERT_CERT.now cert_cells cert_places 2 cert_at terms 6 with_cert (λ c. c.certs) (λ x rows. cert_row x)
+puts = record {
+  tree = tree;
+  found = refl;
+  is = λ x. insert_is;
+  source = cert_row;
+  sourced = λ x. refl;
+  typed = λ x. elim x.signature as (λ o. accepts_terms terms (stamped cert_at (cert_cells (record x { signature = o }))) ≡ true)
+      [ None ↦ refl | Some b ↦ refl ];
+  made = λ x rows. simp (cast_int, cast_null);
+  row_is = λ x rows. refl;
+  held = λ x db after c h o put. in_cert db after c h (x ∷ c.certs) o;
+}
 
-pub put : (c : CertRow) → Write insert_sql (cert_cells c) (with_cert c)
-put = insert.put insert_sql cert_cells cert_places 2 cert_at terms 6 source with_cert (λ c. c.certs)
-    refl insert_is.0 insert_is.1 (λ x. insert_is.2) (λ x. refl) (λ x rows. simp cast_int) (λ db c h. h.certs)
-    (λ x db after c h o put now. in_cert db after c h (x ∷ c.certs) o now)
+pub put : (x : CertRow) → Write INSERT_CERT.now (cert_cells x) (with_cert x)
+put = insert puts
 
 -- ---- SELECT of one
 
-abbrev find_sql : List ℕ
-find_sql = FIND_CERT.now
+abbrev columns : List Term
+columns = col 1 0 ∷ col 1 2 ∷ col 1 3 ∷ col 1 4 ∷ col 1 5 ∷ []
 
-abbrev find_query : Query
-find_query = on_table 3 (op2 (Compare Eq Binary) (col 1 0) (col 0 0) ∷ [])
-    (col 1 0 ∷ col 1 2 ∷ col 1 3 ∷ col 1 4 ∷ col 1 5 ∷ []) []
+abbrev shown : Row → Row
+shown v = column v 0 ∷ column v 1 ∷ column v 2 ∷ column v 3 ∷ column v 4 ∷ []
 
-find_is : (command_of (understood whole find_sql) ≡ Select (record { lets = []; body = find_query }) (codes "serial" ∷ codes "department" ∷ codes "keyid" ∷ codes "body" ∷ codes "signature" ∷ [])) × (reads_listing whole find_sql ≡ false)
-    × IsPlain (understood whole find_sql) × IsWhole find_sql 1 (understood whole find_sql)
+abbrev names : List (List ℕ)
+names = codes "serial" ∷ codes "department" ∷ codes "keyid" ∷ codes "body" ∷ codes "signature" ∷ []
+
+find_is : IsSelect whole FIND_CERT.now (on_table 3 (op2 (Compare Eq Binary) (col 1 0) (col 0 0) ∷ []) columns []) names 1
 unfolding understood everything
 find_is = (refl, refl, (refl, refl), (refl, refl))
 
-find_answers : (serial : ℕ) → (trees : Trees) (rows : List Row) (c : Contents) → Holds trees c
-    → IsAnswer find_query (overlay trees []) (Int (pos serial) ∷ []) rows
-    → IsPermutation (map cert_cells (certs_numbered serial c)) rows
-find_answers serial trees rows c h answer =
-    chosen cert_cells cert_cells (has_serial serial) cert_places
-    (λ v. is_true (binary (Compare Eq Binary) (column v 0) (Int (pos serial))) && true)
-    (λ v. column v 0 ∷ column v 1 ∷ column v 2 ∷ column v 3 ∷ column v 4 ∷ [])
-    (λ x. and-true _ ∙ int_test (pos x.serial) (pos serial) ∙ same_number x.serial serial) (λ x. refl) (trees 3) rows
-    c.certs h.certs (selected 3 _ _ _ trees (Int (pos serial) ∷ []) rows refl answer)
-
-pub find : (serial : ℕ) → Find find_sql (Int (pos serial) ∷ []) cert_cells (certs_numbered serial)
-find serial = record {
-  query = find_query;
-  names = codes "serial" ∷ codes "department" ∷ codes "keyid" ∷ codes "body" ∷ codes "signature" ∷ [];
-  is = find_is.0;
-  unlisted = find_is.1;
-  plain = find_is.2;
-  one = find_is.3;
-  typed = refl;
-  sure = λ trees h. elim h [ inl over ↦ over | inr fold ↦ none_overflows _ fold ];
-  apart = cert_apart;
-  answers = find_answers serial;
-}
+pub find : (serial : ℕ) → Find FIND_CERT.now (Int (pos serial) ∷ []) cert_cells (certs_numbered serial)
+find serial =
+    select tree find_is (has_serial serial) (λ v. is_true (binary (Compare Eq Binary) (column v 0) (Int (pos serial))) && true)
+    shown (λ x. and-true _ ∙ int_test (pos x.serial) (pos serial) ∙ same_number x.serial serial) (λ x. refl) (λ r. refl)
+    (λ r. refl) refl (λ c. refl)
 
 -- ---- SELECT of those between two serials
-
-abbrev within_sql : List ℕ
-within_sql = CERTS_WITHIN.now
 
 abbrev within_tests : List Term
 within_tests = op2 (Compare Ge Binary) (col 1 0) (col 0 0) ∷ op2 (Compare Le Binary) (col 1 0) (col 0 1) ∷ []
 
-abbrev within_query : Query
-within_query = on_table 3 within_tests (col 1 0 ∷ col 1 2 ∷ col 1 3 ∷ col 1 4 ∷ col 1 5 ∷ [])
-    ((col 1 0, ascending Binary) ∷ [])
-
-within_is : (command_of (understood whole within_sql) ≡ Select (record { lets = []; body = within_query }) (codes "serial" ∷ codes "department" ∷ codes "keyid" ∷ codes "body" ∷ codes "signature" ∷ [])) × (reads_listing whole within_sql ≡ false)
-    × IsPlain (understood whole within_sql) × IsWhole within_sql 2 (understood whole within_sql)
+within_is : IsSelect whole CERTS_WITHIN.now (on_table 3 within_tests columns ((col 1 0, ascending Binary) ∷ [])) names 2
 unfolding understood everything
 within_is = (refl, refl, (refl, refl), (refl, refl))
 
@@ -134,45 +100,25 @@ module _ (lo hi : ℕ) where
   passes_is x = ap₂ ◌&&◌ (int_ge_test (pos x.serial) (pos lo) ∙ ge_number x.serial lo)
       (and-true _ ∙ int_le_test (pos x.serial) (pos hi) ∙ le_number x.serial hi)
 
-  within_answers : (trees : Trees) (rows : List Row) (c : Contents) → Holds trees c
-      → IsAnswer within_query (overlay trees []) ends rows → IsPermutation (map cert_cells (certs_within lo hi c)) rows
-  within_answers trees rows c h answer =
-      chosen cert_cells cert_cells (is_within lo hi) cert_places passes
-      (λ v. column v 0 ∷ column v 1 ∷ column v 2 ∷ column v 3 ∷ column v 4 ∷ []) passes_is (λ x. refl) (trees 3)
-      rows c.certs h.certs (selected 3 _ _ _ trees ends rows refl answer)
-
-  pub within : Find within_sql ends cert_cells (certs_within lo hi)
-  within = record {
-    query = within_query;
-    names = codes "serial" ∷ codes "department" ∷ codes "keyid" ∷ codes "body" ∷ codes "signature" ∷ [];
-    is = within_is.0;
-    unlisted = within_is.1;
-    plain = within_is.2;
-    one = within_is.3;
-    typed = refl;
-    sure = λ trees h. elim h [ inl over ↦ over | inr fold ↦ none_overflows _ fold ];
-    apart = cert_apart;
-    answers = within_answers;
-  }
+  pub within : Find CERTS_WITHIN.now ends cert_cells (certs_within lo hi)
+  within = select tree within_is (is_within lo hi) passes shown passes_is (λ x. refl) (λ r. refl) (λ r. refl) refl (λ c. refl)
 
   pub within_rises : (trees : Trees) (rows : List Row) → IsAnswer within.query (overlay trees []) ends rows
       → AscendBy 0 rows
-  unfolding within
+  unfolding within select
   within_rises trees rows answer =
-      in_order 3 within_tests (col 1 0 ∷ col 1 2 ∷ col 1 3 ∷ col 1 4 ∷ col 1 5 ∷ []) ((col 1 0, ascending Binary) ∷ [])
-      trees ends rows (λ v. column v 0 ∷ []) (λ r. refl) refl answer
+      in_order 3 within_tests columns ((col 1 0, ascending Binary) ∷ []) trees ends rows (λ v. column v 0 ∷ []) (λ r. refl)
+      refl answer
 
 -- ---- UPDATE of the signature
 
-abbrev pub sign_sql : List ℕ
-sign_sql = SIGN_CERT.now
+abbrev pub sign_test : List Term
+sign_test = op2 (Compare Eq Binary) (col 1 0) (col 0 0) ∷ []
 
-abbrev pub sign_query : Query
-sign_query = on_table 3 (op2 (Compare Eq Binary) (col 1 0) (col 0 0) ∷ [])
-    (col 1 0 ∷ col 1 0 ∷ lit Null ∷ col 1 2 ∷ col 1 3 ∷ col 1 4 ∷ col 0 1 ∷ []) []
+abbrev pub sign_project : List Term
+sign_project = col 1 0 ∷ col 1 0 ∷ lit Null ∷ col 1 2 ∷ col 1 3 ∷ col 1 4 ∷ col 0 1 ∷ []
 
-pub sign_is : (command_of (understood whole sign_sql) ≡ Update 2 (record { lets = []; body = sign_query }))
-    × IsPlain (understood whole sign_sql) × IsWhole sign_sql 2 (understood whole sign_sql)
+sign_is : IsStatement SIGN_CERT.now (Update 2 (record { lets = []; body = on_table 3 sign_test sign_project [] })) 2
 unfolding understood everything
 sign_is = (refl, (refl, refl), (refl, refl))
 
@@ -180,48 +126,36 @@ module _ (serial : ℕ) (signature : List ℕ) where
   abbrev pub sign_params : Row
   sign_params = Int (pos serial) ∷ Blob signature ∷ []
 
-  abbrev pub sign_row : Row → Row
+  abbrev sign_row : Row → Row
   sign_row r = column r 0 ∷ Null ∷ column r 2 ∷ column r 3 ∷ column r 4 ∷ Blob signature ∷ []
 
-  abbrev sign_change : Row → Row
-  sign_change v = column v 0 ∷ column v 1 ∷ column v 2 ∷ column v 3 ∷ Blob signature ∷ []
-
-  sign_back : (x : CertRow) (r : Row) → at_places cert_places r ≡ cert_cells x
-      → at_places cert_places (cast_row cert_at (sign_row r)) ≡ sign_change (at_places cert_places r)
-  sign_back x r is =
+  signed_row : (x : CertRow) (r : Row) → at_places cert_places r ≡ cert_cells x
+      → cast_row cert_at (sign_row r) ≡ cert_row (signed signature x)
+  signed_row x r is =
       let c0 : column r 0 ≡ Int (pos x.serial) = ap (λ v. column v 0) is in
       let c2 : column r 2 ≡ Text x.department = ap (λ v. column v 1) is in
       let c3 : column r 3 ≡ Text x.key_id = ap (λ v. column v 2) is in
       let c4 : column r 4 ≡ Blob x.body = ap (λ v. column v 3) is in
-      rw (c0, c2, c3, c4) (simp cast_int)
+      rw (c0, c2, c3, c4) (simp (cast_int, cast_null))
 
-  sign_does : (limit : Option ℕ) (db next : Database) (tally : Tally) (c : Contents) → Means db c
-      → Does limit mode sign_params db (statement_of sign_sql (understood whole sign_sql)) None
-      (Update 2 (record { lets = []; body = sign_query })) (Ok (tally, next))
-      → (next.schema ≡ whole) × Holds next.trees (with_signature serial signature c)
-  sign_does limit db next tally c means h =
-      let did = updates limit db next tally whole means.schema 2 cert_at refl sign_params
-      (statement_of sign_sql (understood whole sign_sql)) (record { lets = []; body = sign_query }) h (no_works 3)
-      in
-      let all = selected 3 _ _ [] db.trees sign_params did.0 refl (did.1.answer Null) in
-      let now = lists_changed cert_cells cert_places cert_at db.trees next.trees did.0 c.certs (has_serial serial)
-      (signed signature) (λ v. is_true (binary (Compare Eq Binary) (column v 0) (Int (pos serial))) && true)
-      sign_change sign_row
-      (λ x. and-true _ ∙ int_test (pos x.serial) (pos serial) ∙ same_number x.serial serial) (λ x. refl)
-      (λ x r is. let id : column r 0 ≡ Int (pos x.serial) = ap (λ v. column v 0) is in ap is_int id) sign_back
-      means.kept.holds.certs all did.2 in (
-        did.3,
-        in_cert db.trees next.trees c means.kept.holds _
-            (spares (edit_of db.trees cert_at (ids_of did.0) Given 1 did.0) db.trees next.trees did.2) now,
-      )
-
-  pub sign : Write sign_sql sign_params (with_signature serial signature)
-  sign = record {
-    command = Update 2 (record { lets = []; body = sign_query });
-    is = sign_is.0;
-    plain = sign_is.1;
-    one
-        = sign_is.2;
-    on_rows = tt;
-    does = sign_does;
+  pub signs : IsUpdate SIGN_CERT.now sign_params cert_cells cert_places 2 cert_at sign_test sign_project (λ c. c.certs)
+      (with_signature serial signature) (λ x. x.serial) serial (signed signature) cert_row
+  signs = record {
+    tree = tree;
+    found = refl;
+    is = sign_is;
+    typed = refl;
+    next_row = sign_row;
+    change = λ v. column v 0 ∷ column v 1 ∷ column v 2 ∷ column v 3 ∷ Blob signature ∷ [];
+    leads = λ r. refl;
+    first = λ x. refl;
+    passing = λ r. refl;
+    showing = λ r. refl;
+    changed = λ x. refl;
+    made = signed_row;
+    row_is = λ x. refl;
+    held = λ db next c h o. in_cert db next c h _ o;
   }
+
+  pub sign : Write SIGN_CERT.now sign_params (with_signature serial signature)
+  sign = update signs

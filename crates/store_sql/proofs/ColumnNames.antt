@@ -1,7 +1,8 @@
 -- Names of columns, borrowed and as they are.
 use Rattle.std.proofs.Common.{◌≡◌, ℕ, Bor, List, [], ◌∷◌, map, refl, ap}
-use Rattle.std.specs.Prelude.{◌&&◌, bytes_eq}
-use Rattle.std.specs.List.{list_all, zip}
+use Rattle.store_sql.proofs.Words.{bytes_eq, list_all}
+use Rattle.std.specs.Prelude.{◌&&◌}
+use Rattle.std.specs.List.{zip}
 use Rattle.sqlite_schema.specs.declared.schema.Column.{Column}
 
 pub same_names : (columns : List Column) (names : List (Bor (List ℕ)))

@@ -1,6 +1,7 @@
 -- What a command is, whatever the tables are: whether it is a query, and whether it may end a transaction.
 use Rattle.std.proofs.Common.{◌≡◌, ℕ, Bool, true, false, List, [], length, Option, Some, None, Ok, Err, refl}
-use Rattle.std.specs.Prelude.{if◌then◌else◌, is_some, not, ◌&&◌, ◌==◌}
+use Rattle.store_sql.proofs.Words.{Checked, CompileError, Name, NoSuchTable, and_then, is_select, is_some, not}
+use Rattle.std.specs.Prelude.{if◌then◌else◌, ◌&&◌, ◌==◌}
 use Rattle.sqlite_ast.specs.declared.Expr.{Expr}
 use Rattle.sqlite_ast.specs.declared.Rows.{Rows as Given}
 use Rattle.sqlite_ast.specs.declared.Upsert.{Upsert}
@@ -12,10 +13,7 @@ use Rattle.sqlite_schema.specs.declared.schema.Table.{Table}
 use Rattle.sqlite_schema.specs.declared.command.Command.{Command}
 use Rattle.sqlite_schema.specs.declared.command.Command.TheVariants.{Commit, Rollback, Release, Nothing, DropTable, DropView, DropIndex}
 use Rattle.sqlite_schema.specs.declared.command.Conflict.{Conflict}
-use Rattle.sqlite_resolve.specs.declared.error.CompileError.{CompileError}
-use Rattle.sqlite_resolve.specs.declared.error.CompileError.TheVariants.{NoSuchTable, NoSuchIndex, Unsupported}
-use Rattle.sqlite_resolve.specs.Lowering.{Checked, and_then}
-use Rattle.sqlite_resolve.specs.Scope.{Name}
+use Rattle.sqlite_resolve.specs.declared.error.CompileError.TheVariants.{NoSuchIndex, Unsupported}
 use Rattle.sqlite_resolve.specs.Compile.{command, create_index, create_table, create_view, creates, delete, drop_index, drop_table, drop_view, dropped, insert, insert_or, insert_or_abort, is_attached, is_reserved, new_rows, on_table, read, target, update}
 use Rattle.sqlite_resolve.specs.declared.pragma.Known.{Known}
 use Rattle.sqlite_resolve.specs.declared.pragma.Known.TheVariants.{ForeignKeys, JournalMode, BusyTimeout, Synchronous, Optimize, Hint, Unknown}
@@ -28,7 +26,6 @@ use Rattle.sqlite_resolve.specs.Write.{updated, deleted}
 use Rattle.sqlite_resolve.specs.Given.{upserts}
 use Rattle.sqlite_resolve.specs.Define as define
 use Rattle.sqlite_resolve.specs.Pragma.{foreign_keys, is_on, known, pragma, pragma_by}
-use Rattle.sqlite.specs.Listing.{is_select}
 
 -- ---- steps
 

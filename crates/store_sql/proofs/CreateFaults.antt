@@ -1,26 +1,20 @@
 -- Why a table can't be made beside the others: memory is refused, or the database fails.
-use Rattle.std.proofs.Common.{◌≡◌, inl, inr, ℕ, ◌≤◌, ◌+◌, ◌^◌, List, [], length, true, false, Option, None, Some, Ok, Err, Result, refl, sym, ap, subst, subst₂, ◌∙◌, append-nil, IfErr}
-use Rattle.std.specs.Prelude.{IsUtf8, ◌||◌, ◌*◌, codes}
+use Rattle.std.proofs.Common.{◌≡◌, inl, inr, ℕ, ◌≤◌, ◌+◌, ◌^◌, List, [], length, true, false, Option, None, Some, Ok, Err, Result, refl, sym, ap, subst, subst₂, ◌∙◌, append-nil, not, arith, IfErr}
+use Rattle.store_sql.proofs.Words.{CreateTable, Database, Does, Error, Executes, Has, IsMisplaced, IsPlain, Mode}
+use Rattle.store_sql.proofs.Words.{Schema, State, Table, automatics, codes, command_of, index_reals, is_fit}
+use Rattle.store_sql.proofs.Words.{is_formed, is_pragma, is_query, is_reserved, is_used, lacks_sequence, mode_of}
+use Rattle.store_sql.proofs.Words.{nat_lt, next_tree, statement_of, table_defined_by, table_reals, test_has, text_of}
+use Rattle.std.specs.Prelude.{IsUtf8, ◌||◌, ◌*◌}
+use Rattle.std.proofs.lemmas.Bool.{ltb-true}
 use Rattle.std.proofs.lemmas.Str.{IsUtf8-from_is_utf8}
-use Rattle.sqlite_schema.specs.Rules.{table_reals, index_reals}
 use Rattle.sqlite_value.specs.declared.value.Value.TheVariants.{Text}
-use Rattle.sqlite_rules.specs.Lists.{Has}
-use Rattle.sqlite.specs.Compile.{table_defined_by}
-use Rattle.sqlite_catalog.specs.Change.{automatics, created, is_reserved, is_used, next_tree}
-use Rattle.sqlite_catalog.specs.Listing.{is_fit, is_formed}
+use Rattle.sqlite_catalog.specs.Change.{created}
 use Rattle.sqlite_catalog.specs.Calls.{RefusesTable, IsLongTable}
 use Rattle.sqlite_catalog.specs.declared.error.Refusal as alter
 use Rattle.sqlite_catalog.specs.declared.error.Refusal.TheVariants.{Invalid, NameTaken, BadName, TooBig, BadKey, BadText, Violates}
-use Rattle.sqlite.specs.Schema.{Schema}
-use Rattle.sqlite.specs.Table.{Table}
-use Rattle.sqlite.specs.Command.TheVariants.{CreateTable}
-use Rattle.sqlite.specs.declared.error.Error.{Error}
-use Rattle.sqlite.specs.declared.run.Mode.{Mode}
-use Rattle.sqlite.specs.Effect.{Database, is_query}
-use Rattle.sqlite.specs.Does.{Does, MakesTable, lacks_sequence}
+use Rattle.sqlite.specs.Does.{MakesTable}
 use Rattle.sqlite.specs.Listing.{understood}
-use Rattle.sqlite.specs.State.{State, Executes, ExecutesIn, IsMisplaced, is_pragma, mode_of, text_of}
-use Rattle.sqlite.proofs.Callers.{IsPlain, command_of, statement_of}
+use Rattle.sqlite.specs.State.{ExecutesIn}
 use Rattle.store_sql.specs.Faults.{fault_of, HasCause}
 use Rattle.store_sql.proofs.Makeable.{IsMakeable}
 use Rattle.store_sql.proofs.FaultLemmas.{IsWhole, failed, not_run}
@@ -41,25 +35,32 @@ module _ {text : List ℕ} {before : Schema} {table : Table} (m : IsMakeable tex
   no_reason : (reason : alter.Refusal) → RefusesTable before text reason → ⊥
   no_reason (Invalid e) h = let wrong : Ok table ≡ Err e = sym m.create.defined ∙ h in cc
   no_reason NameTaken (other, is, inl used) =
-      let same = is_table other is in
-      let wrong : true ≡ false = sym used ∙ (ap (λ (t : Table). is_used before t.name) (sym same) ∙ m.free) in cc
+      let mine = subst (λ (t : Table). is_used before t.name ≡ true) (sym (is_table other is)) used in
+      let free = m.free in
+      let wrong = rw mine at free in cc
   no_reason NameTaken (other, is, inr (index, has, used)) =
-      let same = is_table other is in
-      let wrong : true ≡ false = sym used
-      ∙ m.index_free index (subst (λ (t : Table). Has (automatics t 0 0 t.uniques) index) (sym same) has) in cc
+      let none = test_has (λ i. not (is_used before i.name)) (automatics table 0 0 table.uniques) index m.index_free
+      (subst (λ (t : Table). Has (automatics t 0 0 t.uniques) index) (sym (is_table other is)) has) in
+      let wrong = rw used at none in cc
   no_reason BadName (other, is, inl bad) =
       bad (subst (λ (t : Table). IsUtf8 t.name) (is_table other is) (IsUtf8-from_is_utf8 table.name m.is_name))
   no_reason BadName (other, is, inr bad) =
-      let wrong : true ≡ false = sym bad.0
-      ∙ (ap (λ (t : Table). is_reserved t.name) (sym (is_table other is)) ∙ m.unreserved) in cc
+      let mine = subst (λ (t : Table). is_reserved t.name ≡ true) (sym (is_table other is)) bad.0 in
+      let free = m.unreserved in
+      let wrong = rw mine at free in cc
   no_reason TooBig (other, is, inl many) =
-      m.few_trees (subst (λ (t : Table). 65536 ≤ next_tree before + length t.uniques) (sym (is_table other is)) many)
+      let few = ltb-true (next_tree before + length table.uniques) 65536 m.few_trees in
+      let all = subst (λ (t : Table). 65536 ≤ next_tree before + length t.uniques) (sym (is_table other is)) many in
+      omega (arith, few, all)
   no_reason TooBig (other, is, inr (inl many)) =
-      m.few_reals (subst (λ (t : Table). 2 ^ 64 ≤ table_reals t) (sym (is_table other is)) many)
+      let few = ltb-true (table_reals table) (2 ^ 64) m.few_reals in
+      let all = subst (λ (t : Table). 2 ^ 64 ≤ table_reals t) (sym (is_table other is)) many in omega (arith, few, all)
   no_reason TooBig (other, is, inr (inr (key, has, many))) =
       let same = sym (is_table other is) in
-      m.small_keys key (subst (λ (t : Table). Has t.uniques key) same has)
-      (subst (λ (t : Table). 2 ^ 64 ≤ index_reals (table_reals t) key) same many)
+      let few = ltb-true (index_reals (table_reals table) key) (2 ^ 64)
+      (test_has (λ k. nat_lt (index_reals (table_reals table) k) (2 ^ 64)) table.uniques key m.small_keys
+      (subst (λ (t : Table). Has t.uniques key) same has)) in
+      let all = subst (λ (t : Table). 2 ^ 64 ≤ index_reals (table_reals t) key) same many in omega (arith, few, all)
   no_reason BadKey (other, is, bad) =
       let wrong : true ≡ false = sym m.formed ∙ (ap is_formed (is_table other is) ∙ bad) in cc
   no_reason BadText (other, is, bad) =
@@ -69,7 +70,9 @@ module _ {text : List ℕ} {before : Schema} {table : Table} (m : IsMakeable tex
 
   not_long : IsLongTable text → ⊥
   not_long (other, is, many) =
-      m.short (subst (λ (t : Table). 10 ^ 9 ≤ 2 * length t.name + length text + 200) (sym (is_table other is)) many)
+      let few = ltb-true (2 * length table.name + length text + 200) (10 ^ 9) m.short in
+      let all = subst (λ (t : Table). 10 ^ 9 ≤ 2 * length t.name + length text + 200) (sym (is_table other is)) many in
+      omega (arith, few, all)
 
   -- ---- so it is made, or memory is refused, or the database fails
 

@@ -1,39 +1,20 @@
 -- Why a department is refused.
 use Rattle.std.proofs.Common.{◌≡◌, inl, inr, ℕ, ℤ, pos, ◌^◌, ◌++◌, List, [], ◌∷◌, length, map, Bool, true, false, not, Some, Result, refl, sym, ap, subst, ◌∙◌, is_eq, arith}
-use Rattle.std.specs.Prelude.{◌&&◌, filter}
-use Rattle.std.specs.List.{AllByRecursion, list_any}
-use Rattle.std.specs.List.Sorted.{IsPermutation}
-use Rattle.std.proofs.lemmas.Bool.{cases_Bool, ltb-false, or_cases, or_left, or_right}
-use Rattle.sqlite_value.specs.Keys.{first_key, joined, plain}
+use Rattle.store_sql.proofs.Words.{Abort, All, AllByRecursion, Applies, AreConflicts, BadReference, Binary, Check}
+use Rattle.store_sql.proofs.Words.{Datatype, Enforced, ForeignKey, Given, Has, InsertOr, Int, IsJudged, IsPermutation}
+use Rattle.store_sql.proofs.Words.{Mismatch, NoRowid, NotNull, Null, PrimaryKey, Refers, Refusal, Row, State, Text}
+use Rattle.store_sql.proofs.Words.{TooDeep, Trees, Unique, Values, Violates, accepts_program, agree, all_from}
+use Rattle.store_sql.proofs.Words.{all_has, cases_Bool, cast_row, column, edit_of, equal, filter, guards}
+use Rattle.store_sql.proofs.Words.{has_filtered, has_kept, has_rowid, id_in, ids_of, is_referred, left_by, list_any}
+use Rattle.store_sql.proofs.Words.{ltb-false, next_rowid, or_right, plain, references_fit, rowid, shown, some_from}
+use Rattle.store_sql.proofs.Words.{some_has, statement_of, without_rowid}
+use Rattle.std.specs.Prelude.{◌&&◌}
+use Rattle.std.proofs.lemmas.Bool.{or_cases, or_left}
+use Rattle.sqlite_value.specs.Keys.{first_key, joined}
 use Rattle.sqlite_schema.specs.Names.{same_name}
-use Rattle.sqlite.specs.declared.types.Value.TheVariants.{Null, Int, Text}
-use Rattle.sqlite.specs.Collation.TheVariants.{Binary}
-use Rattle.sqlite.specs.Order.{Row, column, value_cmp}
-use Rattle.sqlite.specs.Tree.{Trees, has_rowid, rowid, without_rowid}
-use Rattle.sqlite.specs.Cast.{cast_row}
-use Rattle.sqlite.specs.Edit.{Applies, edit_of, id_in, left_by}
-use Rattle.sqlite.specs.Rowids.TheVariants.{Given}
-use Rattle.sqlite.specs.Rows.{shown}
-use Rattle.sqlite.specs.State.{State}
-use Rattle.sqlite.specs.Source.TheVariants.{Values}
-use Rattle.sqlite.specs.Command.TheVariants.{InsertOr}
+use Rattle.sqlite.specs.Order.{value_cmp}
 use Rattle.sqlite.specs.Listing.{understood}
-use Rattle.sqlite.proofs.Callers.{statement_of}
-use Rattle.sqlite_rules.specs.Calls.{ids_of}
-use Rattle.sqlite_rules.specs.Edit.{is_referred, next_rowid}
-use Rattle.sqlite_rules.specs.Keys.{AreConflicts}
-use Rattle.sqlite_rules.specs.Lists.{Has}
-use Rattle.sqlite_rules.specs.Steps.{IsJudged}
-use Rattle.sqlite_rules.specs.declared.error.Refusal.{Refusal}
-use Rattle.sqlite_rules.specs.declared.error.Refusal.TheVariants.{Violates, Mismatch, NoRowid, BadReference, TooDeep}
-use Rattle.sqlite_rules.proofs.ListLemmas.{all_from, all_has, has_filtered, has_kept, some_from, some_has}
 use Rattle.sqlite_rules.proofs.TableLemmas.{put_all_adds, put_all_keeps}
-use Rattle.sqlite_schema.specs.declared.command.Conflict.TheVariants.{Abort}
-use Rattle.sqlite_schema.specs.declared.schema.Among.TheVariants.{All}
-use Rattle.sqlite_schema.specs.declared.schema.Constraint.TheVariants.{Datatype, NotNull, Check, PrimaryKey, Unique, ForeignKey}
-use Rattle.sqlite_schema.specs.declared.schema.Keys.TheVariants.{Enforced}
-use Rattle.sqlite_schema.specs.Rules.{Refers, agree, equal, guards, references_fit}
-use Rattle.sqlite_typing.specs.Types.{accepts_program}
 use Rattle.store_sql.specs.Schema.{whole, department_at}
 use Rattle.store_sql.specs.Cells.{department_cells}
 use Rattle.store_sql.specs.Contents.{Contents, IsNumber, Means, department_places}

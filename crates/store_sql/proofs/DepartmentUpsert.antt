@@ -1,51 +1,25 @@
 -- The statement that puts a department into its table, or in the place of the one that has its name.
 use Rattle.std.proofs.Common.{◌≡◌, ℕ, pos, length, List, [], ◌∷◌, ◌++◌, map, Bool, true, false, not, Option, None, Some, Ok, refl, sym, ap, subst, subst₂, ◌∙◌, inl, inr, is_eq, arith}
-use Rattle.std.specs.Prelude.{◌&&◌, filter}
-use Rattle.std.specs.List.Sorted.{IsPermutation}
-use Rattle.std.proofs.Math.Bool.{and-true, or-false}
-use Rattle.std.proofs.lemmas.List.Sorted.{IsPermutation-map, IsPermutation-trans, IsPermutation-cons}
-use Rattle.sqlite.specs.Order.{Row, column, value_cmp}
-use Rattle.sqlite.specs.declared.types.Value.TheVariants.{Null, Text}
+use Rattle.store_sql.proofs.Words.{Abort, Applies, AreConflicts, Binary, Chosen, Compare, Database, Does, Enforced}
+use Rattle.store_sql.proofs.Words.{Eq, Given, Has, InsertOr, IsPermutation, IsPermutation-cons, IsPermutation-map}
+use Rattle.store_sql.proofs.Words.{IsPermutation-trans, IsPlain, IsTable, IsTable-put_row, Ne, Null, Query, Row}
+use Rattle.store_sql.proofs.Words.{Tally, Term, Text, Trees, Unique, Values, all-permutation, all_from, all_has}
+use Rattle.store_sql.proofs.Words.{and-true, and_parts, bytes_eq-Decides, cases_Bool, cast_row, col, column}
+use Rattle.store_sql.proofs.Words.{command_of, edit_of, filter, has_filtered, ids_of, is_int, is_true}
+use Rattle.store_sql.proofs.Words.{length_permutation, list_any, lit, next_rowid, op2, rowid, shown, statement_of}
+use Rattle.store_sql.proofs.Words.{tied_itself, tied_same, value_cmp_total, with_rowid}
+use Rattle.std.specs.Prelude.{◌&&◌}
+use Rattle.std.proofs.Math.Bool.{or-false}
+use Rattle.sqlite.specs.Order.{value_cmp}
 use Rattle.sqlite_value.specs.Keys.{first_key}
-use Rattle.sqlite_value.proofs.OrderLemmas.{value_cmp_total}
-use Rattle.std.proofs.lemmas.Cmp.{tied_itself}
-use Rattle.std.proofs.lemmas.Bool.{and_parts, cases_Bool, not-true}
-use Rattle.std.specs.List.{list_any}
-use Rattle.sqlite_trees.proofs.TreeLemmas.{IsTable-put_row}
-use Rattle.sqlite_trees.proofs.ListLemmas.{all-permutation}
-use Rattle.sqlite_rules.proofs.ListLemmas.{all_has, all_from, has_filtered}
-use Rattle.sqlite_rules.proofs.PlaceLemmas.{tied_same}
-use Rattle.sqlite_schema.specs.declared.schema.Constraint.TheVariants.{Unique}
-use Rattle.sqlite.specs.Rows.{shown}
-use Rattle.std.proofs.lemmas.Slice.Eq.{bytes_eq-Decides}
+use Rattle.std.proofs.lemmas.Bool.{not-true}
 use Rattle.store_sql.proofs.Upserts.{Upserted, upserts}
-use Rattle.sqlite.specs.Term.{Term, lit, col, op2}
-use Rattle.sqlite.specs.Ops.{binary, is_true}
-use Rattle.sqlite_sql.specs.declared.ops.BinaryOp.TheVariants.{Compare}
-use Rattle.sqlite_sql.specs.declared.ops.CompareOp.TheVariants.{Eq, Ne}
-use Rattle.sqlite.specs.Collation.TheVariants.{Binary}
-use Rattle.sqlite.specs.Query.{Query}
-use Rattle.sqlite.specs.Source.TheVariants.{Values}
-use Rattle.sqlite.specs.Command.TheVariants.{InsertOr}
-use Rattle.sqlite.specs.Tree.{Trees, rowid, IsTable}
-use Rattle.sqlite_trees.specs.View.{is_int}
-use Rattle.sqlite.specs.Edit.{edit_of, Applies, with_rowid}
-use Rattle.sqlite_rules.specs.Edit.{next_rowid}
+use Rattle.sqlite.specs.Ops.{binary}
 use Rattle.std.proofs.lemmas.List.Filters.{length-filter_both}
-use Rattle.std.proofs.lemmas.List.Sorted.{length_permutation}
 use Rattle.store_sql.proofs.Numbering.{ints_of, more_numbered, next_number, still_numbered}
-use Rattle.sqlite.specs.Rowids.TheVariants.{Chosen, Given}
-use Rattle.sqlite.specs.Cast.{cast_row}
-use Rattle.sqlite_schema.specs.declared.schema.Keys.TheVariants.{Enforced}
-use Rattle.sqlite_rules.specs.Calls.{ids_of}
-use Rattle.sqlite_rules.specs.Lists.{Has}
-use Rattle.sqlite_rules.specs.Keys.{AreConflicts, conflicts}
-use Rattle.sqlite_schema.specs.declared.command.Conflict.TheVariants.{Abort}
-use Rattle.sqlite.specs.Does.{Tally, Does}
-use Rattle.sqlite.specs.Effect.{Database}
+use Rattle.sqlite_rules.specs.Keys.{conflicts}
 use Rattle.sqlite_tied.specs.Compute.{everything}
 use Rattle.sqlite.specs.Listing.{understood}
-use Rattle.sqlite.proofs.Callers.{IsPlain, command_of, statement_of}
 use Rattle.store_sql.specs.Schema.{whole, department_at}
 use Rattle.store_sql.specs.Cells.{department_cells}
 use Rattle.store_sql.specs.Contents.{Contents, Holds, IsNumber, Kept, Means, at_places, department_places}

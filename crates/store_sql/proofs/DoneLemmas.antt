@@ -1,14 +1,11 @@
 -- From what a statement does to what a call does.
 use Rattle.std.proofs.Common.{ℕ, Ok, Err, Result, sym, subst, IfErr}
-use Rattle.sqlite.specs.declared.error.Error.{Error}
-use Rattle.sqlite.specs.State.{State}
+use Rattle.store_sql.proofs.Words.{Error, Schema, State, Table}
 use Rattle.store_sql.specs.declared.table_fault.Fault.{Fault}
 use Rattle.store_sql.specs.Faults.{fault_of}
 use Rattle.store_sql.specs.Done.{IsDone}
 use Rattle.store_sql.specs.Contents.{Contents}
 use Rattle.store_sql.specs.Calls.{Begins, Commits, Changes, Creates}
-use Rattle.sqlite.specs.Schema.{Schema}
-use Rattle.sqlite.specs.Table.{Table}
 
 -- a fault has what its error has
 pub fault_done : {X : Type 0} (P : Fault → Type 0) (answer : Result ℕ Error) (r : Result X Fault) → IsDone answer r

@@ -1,36 +1,20 @@
 -- What DELETE and UPDATE leave of the rows.
 use Rattle.std.proofs.Common.{◌≡◌, inl, inr, ℕ, ℤ, List, [], ◌∷◌, ◌++◌, map, Bool, true, false, not, cond, refl, sym, ap, ap₂, subst, ◌∙◌, is_eq, Ordering, Less, Equal, Greater}
-use Rattle.std.specs.Prelude.{filter, ◌||◌, ◌&&◌}
-use Rattle.std.specs.List.{list_any}
-use Rattle.std.specs.List.Sorted.{IsPermutation}
-use Rattle.std.proofs.lemmas.Bool.{cases_Bool}
-use Rattle.std.proofs.lemmas.List.Sorted.{IsPermutation-refl, IsPermutation-sym, IsPermutation-trans, IsPermutation-cons, IsPermutation-middle, IsPermutation-map, IsPermutation-append, IsPermutation-append_left, IsPermutation-append_right, list_any-IsPermutation}
-use Rattle.std.proofs.lemmas.Cmp.{tied_itself}
-use Rattle.sqlite_value.proofs.OrderLemmas.{value_cmp_total}
-use Rattle.sqlite.specs.declared.types.Value.TheVariants.{Int}
-use Rattle.sqlite.specs.Order.{Row, value_cmp}
-use Rattle.sqlite.specs.Tree.{rowid, IsTable, has_rowid, without_rowid}
-use Rattle.sqlite_trees.specs.View.{is_int}
-use Rattle.sqlite.specs.Edit.{id_in, without_all, put_all, numbered, are_fresh, is_taken, left_by, edit_of, Applies}
-use Rattle.sqlite.specs.Rowids.TheVariants.{Given}
-use Rattle.sqlite_rules.specs.Calls.{ids_of}
-use Rattle.sqlite_schema.specs.declared.schema.Keys.TheVariants.{Enforced}
-use Rattle.sqlite.specs.Schema.{Schema}
-use Rattle.sqlite.specs.Table.{Table}
-use Rattle.sqlite.specs.Tree.{Trees, put_row}
-use Rattle.sqlite.specs.Cast.{cast_row}
+use Rattle.std.specs.Prelude.{◌||◌, ◌&&◌}
+use Rattle.std.proofs.lemmas.List.Sorted.{IsPermutation-append, IsPermutation-append_left, IsPermutation-append_right, list_any-IsPermutation}
+use Rattle.sqlite.specs.Order.{value_cmp}
+use Rattle.sqlite.specs.Edit.{put_all, numbered, are_fresh}
 use Rattle.std.proofs.Common.{drop}
+use Rattle.store_sql.proofs.Words.{Applies, Enforced, Given, Has, Int, IsPermutation, IsPermutation-cons}
+use Rattle.store_sql.proofs.Words.{IsPermutation-filter, IsPermutation-map, IsPermutation-middle, IsPermutation-refl}
+use Rattle.store_sql.proofs.Words.{IsPermutation-sym, IsPermutation-trans, IsTable, IsTable-put_row, Row, Schema, Table}
+use Rattle.store_sql.proofs.Words.{Trees, all-permutation, all_from, all_has, cases_Bool, cast_row, edit_of, filter}
+use Rattle.store_sql.proofs.Words.{filter-map, has_filtered, has_kept, has_rowid, id_in, ids_of, int_is, is_int}
+use Rattle.store_sql.proofs.Words.{is_taken, left_by, list_any, map-map, mapped_has, put_row, rowid, some_from}
+use Rattle.store_sql.proofs.Words.{some_has, tied_itself, tied_same, value_cmp_total, without_all, without_rowid}
 use Rattle.std.proofs.lemmas.List.{map-append}
-use Rattle.std.proofs.lemmas.Simd.{map-map}
-use Rattle.sqlite_trees.proofs.TreeLemmas.{IsTable-put_row}
 use Rattle.store_sql.proofs.Rows.{put_adds}
-use Rattle.sqlite_rules.specs.Lists.{Has}
-use Rattle.sqlite_rules.proofs.ListLemmas.{some_has, some_from, has_filtered, has_kept, all_has, all_from}
 use Rattle.store_sql.specs.Contents.{Lists, at_places}
-use Rattle.sqlite_trees.proofs.ListLemmas.{all-permutation, IsPermutation-filter, filter-map}
-use Rattle.sqlite_rules.proofs.ProbeLemmas.{mapped_has}
-use Rattle.sqlite_rules.proofs.TableLemmas.{int_is}
-use Rattle.sqlite_rules.proofs.PlaceLemmas.{tied_same}
 
 pub keep_all : {X : Type 0} (xs : List X) → filter (λ x. true) xs ≡ xs
 keep_all [] = refl

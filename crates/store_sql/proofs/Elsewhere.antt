@@ -1,9 +1,9 @@
 -- A statement on one table leaves what the others hold.
-use Rattle.std.proofs.Common.{◌≡◌, ◌≢◌, ℕ, List, subst, sym, arith}
-use Rattle.sqlite_schema.specs.declared.schema.Keys.TheVariants.{Enforced}
-use Rattle.sqlite.specs.Order.{Row}
-use Rattle.sqlite.specs.Tree.{Trees}
-use Rattle.sqlite.specs.Edit.{Edit, Applies}
+use Rattle.std.proofs.Common.{◌≡◌, ◌≢◌, inl, inr, ℕ, List, sym, ap, ◌∙◌}
+use Rattle.std.proofs.lemmas.Bool.{cases_eq}
+use Rattle.sqlite.specs.Tree.{with_tree}
+use Rattle.store_sql.proofs.Reasons.{this_tree, other_tree}
+use Rattle.store_sql.proofs.Words.{Applies, Edit, Enforced, Trees}
 use Rattle.store_sql.specs.declared.offices.OfficeRow.{OfficeRow}
 use Rattle.store_sql.specs.declared.departments.DepartmentRow.{DepartmentRow}
 use Rattle.store_sql.specs.declared.certs.CertRow.{CertRow}
@@ -35,127 +35,90 @@ spares edit db after did = record {
   ca = did.tables.1.1.1.1.1.1.0;
 }
 
--- what a table holds stays where its tree does
-stays : {X : Type 0} (cells : X → Row) (places : List ℕ) (db after : Trees) (tree : ℕ) (xs : List X)
-    → after tree ≡ db tree → Lists cells places (db tree) xs → Lists cells places (after tree) xs
-stays cells places db after tree xs is = subst (λ rows. Lists cells places rows xs) (sym is)
+-- so they are those that were, with the rows of this one
+left_or_new : (tree : ℕ) (db after : Trees) (t : ℕ) → (t ≢ tree → after t ≡ db t) → with_tree db tree (after tree) t ≡ after t
+left_or_new tree db after t same = elim (cases_eq t tree) [
+  | inl is ↦ ap (with_tree db tree (after tree)) is ∙ this_tree db tree (after tree) ∙ ap after (sym is)
+  | inr other ↦ other_tree db tree (after tree) t other ∙ sym (same other)
+]
+
+-- what each table holds, one beside the other
+abbrev Parts : Trees → Contents → Type 0
+Parts trees c =
+    Lists office_cells office_places (trees 0) c.offices
+    × (Lists department_cells department_places (trees 1) c.departments × AreNumbered (trees 1))
+    × Lists cert_cells cert_places (trees 3) c.certs
+    × (Lists request_cells request_places (trees 4) c.requests × AreNumbered (trees 4))
+    × Lists run_cells run_places (trees 6) c.runs
+    × (Lists key_id_cells key_id_places (trees 7) c.revoked × AreNumbered (trees 7))
+    × Lists ca_cells ca_places (trees 9) c.cas
+
+apart : (trees : Trees) (c : Contents) → Holds trees c → Parts trees c
+apart trees c h = (
+  h.offices,
+  (h.departments, h.departments_numbered),
+  h.certs,
+  (h.requests, h.requests_numbered),
+  h.runs,
+  (h.revoked, h.revoked_numbered),
+  h.cas,
+)
+
+-- of the trees that were, with the rows of one table, and so of the trees that are
+together : (tree : ℕ) (db after : Trees) (c : Contents) → Spares tree db after → Parts (with_tree db tree (after tree)) c
+    → Holds after c
+together tree db after c o p = record {
+  offices = rw (left_or_new tree db after 0 o.office) at p.0;
+  departments = rw (left_or_new tree db after 1 o.department) at p.1.0;
+  departments_numbered = rw (left_or_new tree db after 1 o.department) at p.1.1;
+  certs = rw (left_or_new tree db after 3 o.cert) at p.2;
+  requests = rw (left_or_new tree db after 4 o.request) at p.3.0;
+  requests_numbered = rw (left_or_new tree db after 4 o.request) at p.3.1;
+  runs = rw (left_or_new tree db after 6 o.run) at p.4;
+  revoked = rw (left_or_new tree db after 7 o.revoked) at p.5.0;
+  revoked_numbered = rw (left_or_new tree db after 7 o.revoked) at p.5.1;
+  cas = rw (left_or_new tree db after 9 o.ca) at p.6;
+}
 
 -- what the tables hold where one has changed
 module _ (db after : Trees) (c : Contents) (h : Holds db c) where
+  abbrev was : Parts db c
+  was = apart db c h
+
   pub in_office : (xs : List OfficeRow) → Spares 0 db after → Lists office_cells office_places (after 0) xs
       → Holds after (record c { offices = xs })
-  in_office xs o now = record {
-    offices = now;
-    departments = stays department_cells department_places db after 1 c.departments
-        (o.department (λ e. absurd (omega arith))) h.departments;
-    departments_numbered = subst AreNumbered (sym (o.department (λ e. absurd (omega arith)))) h.departments_numbered;
-    certs = stays cert_cells cert_places db after 3 c.certs (o.cert (λ e. absurd (omega arith))) h.certs;
-    requests = stays request_cells request_places db after 4 c.requests (o.request (λ e. absurd (omega arith)))
-        h.requests;
-    requests_numbered = subst AreNumbered (sym (o.request (λ e. absurd (omega arith)))) h.requests_numbered;
-    runs = stays run_cells run_places db after 6 c.runs (o.run (λ e. absurd (omega arith))) h.runs;
-    revoked = stays key_id_cells key_id_places db after 7 c.revoked (o.revoked (λ e. absurd (omega arith))) h.revoked;
-    revoked_numbered = subst AreNumbered (sym (o.revoked (λ e. absurd (omega arith)))) h.revoked_numbered;
-    cas = stays ca_cells ca_places db after 9 c.cas (o.ca (λ e. absurd (omega arith))) h.cas;
-  }
+  in_office xs o now = together 0 db after (record c { offices = xs }) o
+      (now, was.1, was.2, was.3, was.4, was.5, was.6)
 
-  pub in_department : (xs : List DepartmentRow) → Spares 1 db after
-      → Lists department_cells department_places (after 1) xs → AreNumbered (after 1)
+  pub in_department : (xs : List DepartmentRow) → Spares 1 db after → Lists department_cells department_places (after 1) xs
+      → AreNumbered (after 1)
       → Holds after (record c { departments = xs })
-  in_department xs o now ids = record {
-    offices = stays office_cells office_places db after 0 c.offices (o.office (λ e. absurd (omega arith))) h.offices;
-    departments = now;
-    departments_numbered = ids;
-    certs = stays cert_cells cert_places db after 3 c.certs (o.cert (λ e. absurd (omega arith))) h.certs;
-    requests = stays request_cells request_places db after 4 c.requests (o.request (λ e. absurd (omega arith)))
-        h.requests;
-    requests_numbered = subst AreNumbered (sym (o.request (λ e. absurd (omega arith)))) h.requests_numbered;
-    runs = stays run_cells run_places db after 6 c.runs (o.run (λ e. absurd (omega arith))) h.runs;
-    revoked = stays key_id_cells key_id_places db after 7 c.revoked (o.revoked (λ e. absurd (omega arith))) h.revoked;
-    revoked_numbered = subst AreNumbered (sym (o.revoked (λ e. absurd (omega arith)))) h.revoked_numbered;
-    cas = stays ca_cells ca_places db after 9 c.cas (o.ca (λ e. absurd (omega arith))) h.cas;
-  }
+  in_department xs o now ids = together 1 db after (record c { departments = xs }) o
+      (was.0, (now, ids), was.2, was.3, was.4, was.5, was.6)
 
   pub in_cert : (xs : List CertRow) → Spares 3 db after → Lists cert_cells cert_places (after 3) xs
       → Holds after (record c { certs = xs })
-  in_cert xs o now = record {
-    offices = stays office_cells office_places db after 0 c.offices (o.office (λ e. absurd (omega arith))) h.offices;
-    departments = stays department_cells department_places db after 1 c.departments
-        (o.department (λ e. absurd (omega arith))) h.departments;
-    departments_numbered = subst AreNumbered (sym (o.department (λ e. absurd (omega arith)))) h.departments_numbered;
-    certs = now;
-    requests = stays request_cells request_places db after 4 c.requests (o.request (λ e. absurd (omega arith)))
-        h.requests;
-    requests_numbered = subst AreNumbered (sym (o.request (λ e. absurd (omega arith)))) h.requests_numbered;
-    runs = stays run_cells run_places db after 6 c.runs (o.run (λ e. absurd (omega arith))) h.runs;
-    revoked = stays key_id_cells key_id_places db after 7 c.revoked (o.revoked (λ e. absurd (omega arith))) h.revoked;
-    revoked_numbered = subst AreNumbered (sym (o.revoked (λ e. absurd (omega arith)))) h.revoked_numbered;
-    cas = stays ca_cells ca_places db after 9 c.cas (o.ca (λ e. absurd (omega arith))) h.cas;
-  }
+  in_cert xs o now = together 3 db after (record c { certs = xs }) o
+      (was.0, was.1, now, was.3, was.4, was.5, was.6)
 
   pub in_request : (xs : List RequestRow) → Spares 4 db after → Lists request_cells request_places (after 4) xs
-      → AreNumbered (after 4) → Holds after (record c { requests = xs })
-  in_request xs o now ids = record {
-    offices = stays office_cells office_places db after 0 c.offices (o.office (λ e. absurd (omega arith))) h.offices;
-    departments = stays department_cells department_places db after 1 c.departments
-        (o.department (λ e. absurd (omega arith))) h.departments;
-    departments_numbered = subst AreNumbered (sym (o.department (λ e. absurd (omega arith)))) h.departments_numbered;
-    certs = stays cert_cells cert_places db after 3 c.certs (o.cert (λ e. absurd (omega arith))) h.certs;
-    requests = now;
-    requests_numbered = ids;
-    runs = stays run_cells run_places db after 6 c.runs (o.run (λ e. absurd (omega arith))) h.runs;
-    revoked = stays key_id_cells key_id_places db after 7 c.revoked (o.revoked (λ e. absurd (omega arith))) h.revoked;
-    revoked_numbered = subst AreNumbered (sym (o.revoked (λ e. absurd (omega arith)))) h.revoked_numbered;
-    cas = stays ca_cells ca_places db after 9 c.cas (o.ca (λ e. absurd (omega arith))) h.cas;
-  }
+      → AreNumbered (after 4)
+      → Holds after (record c { requests = xs })
+  in_request xs o now ids = together 4 db after (record c { requests = xs }) o
+      (was.0, was.1, was.2, (now, ids), was.4, was.5, was.6)
 
   pub in_run : (xs : List RunRow) → Spares 6 db after → Lists run_cells run_places (after 6) xs
       → Holds after (record c { runs = xs })
-  in_run xs o now = record {
-    offices = stays office_cells office_places db after 0 c.offices (o.office (λ e. absurd (omega arith))) h.offices;
-    departments = stays department_cells department_places db after 1 c.departments
-        (o.department (λ e. absurd (omega arith))) h.departments;
-    departments_numbered = subst AreNumbered (sym (o.department (λ e. absurd (omega arith)))) h.departments_numbered;
-    certs = stays cert_cells cert_places db after 3 c.certs (o.cert (λ e. absurd (omega arith))) h.certs;
-    requests = stays request_cells request_places db after 4 c.requests (o.request (λ e. absurd (omega arith)))
-        h.requests;
-    requests_numbered = subst AreNumbered (sym (o.request (λ e. absurd (omega arith)))) h.requests_numbered;
-    runs = now;
-    revoked = stays key_id_cells key_id_places db after 7 c.revoked (o.revoked (λ e. absurd (omega arith))) h.revoked;
-    revoked_numbered = subst AreNumbered (sym (o.revoked (λ e. absurd (omega arith)))) h.revoked_numbered;
-    cas = stays ca_cells ca_places db after 9 c.cas (o.ca (λ e. absurd (omega arith))) h.cas;
-  }
+  in_run xs o now = together 6 db after (record c { runs = xs }) o
+      (was.0, was.1, was.2, was.3, now, was.5, was.6)
 
   pub in_revoked : (xs : List (List ℕ)) → Spares 7 db after → Lists key_id_cells key_id_places (after 7) xs
-      → AreNumbered (after 7) → Holds after (record c { revoked = xs })
-  in_revoked xs o now ids = record {
-    offices = stays office_cells office_places db after 0 c.offices (o.office (λ e. absurd (omega arith))) h.offices;
-    departments = stays department_cells department_places db after 1 c.departments
-        (o.department (λ e. absurd (omega arith))) h.departments;
-    departments_numbered = subst AreNumbered (sym (o.department (λ e. absurd (omega arith)))) h.departments_numbered;
-    certs = stays cert_cells cert_places db after 3 c.certs (o.cert (λ e. absurd (omega arith))) h.certs;
-    requests = stays request_cells request_places db after 4 c.requests (o.request (λ e. absurd (omega arith)))
-        h.requests;
-    requests_numbered = subst AreNumbered (sym (o.request (λ e. absurd (omega arith)))) h.requests_numbered;
-    runs = stays run_cells run_places db after 6 c.runs (o.run (λ e. absurd (omega arith))) h.runs;
-    revoked = now;
-    revoked_numbered = ids;
-    cas = stays ca_cells ca_places db after 9 c.cas (o.ca (λ e. absurd (omega arith))) h.cas;
-  }
+      → AreNumbered (after 7)
+      → Holds after (record c { revoked = xs })
+  in_revoked xs o now ids = together 7 db after (record c { revoked = xs }) o
+      (was.0, was.1, was.2, was.3, was.4, (now, ids), was.6)
 
   pub in_ca : (xs : List CaRow) → Spares 9 db after → Lists ca_cells ca_places (after 9) xs
       → Holds after (record c { cas = xs })
-  in_ca xs o now = record {
-    offices = stays office_cells office_places db after 0 c.offices (o.office (λ e. absurd (omega arith))) h.offices;
-    departments = stays department_cells department_places db after 1 c.departments
-        (o.department (λ e. absurd (omega arith))) h.departments;
-    departments_numbered = subst AreNumbered (sym (o.department (λ e. absurd (omega arith)))) h.departments_numbered;
-    certs = stays cert_cells cert_places db after 3 c.certs (o.cert (λ e. absurd (omega arith))) h.certs;
-    requests = stays request_cells request_places db after 4 c.requests (o.request (λ e. absurd (omega arith)))
-        h.requests;
-    requests_numbered = subst AreNumbered (sym (o.request (λ e. absurd (omega arith)))) h.requests_numbered;
-    runs = stays run_cells run_places db after 6 c.runs (o.run (λ e. absurd (omega arith))) h.runs;
-    revoked = stays key_id_cells key_id_places db after 7 c.revoked (o.revoked (λ e. absurd (omega arith))) h.revoked;
-    revoked_numbered = subst AreNumbered (sym (o.revoked (λ e. absurd (omega arith)))) h.revoked_numbered;
-    cas = now;
-  }
+  in_ca xs o now = together 9 db after (record c { cas = xs }) o
+      (was.0, was.1, was.2, was.3, was.4, was.5, now)

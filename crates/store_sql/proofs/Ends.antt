@@ -1,23 +1,14 @@
 -- BEGIN, COMMIT and ROLLBACK.
 use Rattle.std.proofs.Common.{IfErr, ◌≡◌, ◌⊎◌, inl, inr, ℕ, List, [], codes, Option, Some, None, Ok, Err, Result, refl, sym, ap, subst, subst₂, ◌∙◌, true, false, IsTrue, append-nil}
-use Rattle.sqlite.specs.Order.{Row}
-use Rattle.sqlite.specs.Schema.{Schema}
-use Rattle.sqlite.specs.Command.{Command}
-use Rattle.sqlite.specs.Command.TheVariants.{Begin, Commit, Rollback}
+use Rattle.store_sql.proofs.Words.{Begin, Command, Commit, Does, Error, Executes, Fails, IsMisplaced, IsPlain}
+use Rattle.store_sql.proofs.Words.{IsRolledBack, IsSome, IsUnchanged, IsWrite, MayCommit, Returning, Rollback, Row}
+use Rattle.store_sql.proofs.Words.{Schema, State, Trees, command_of, is_pragma, is_query, is_some, leb-true, mode_of}
+use Rattle.store_sql.proofs.Words.{not, runs_as, statement_of, text_of, timed}
 use Rattle.sqlite_tied.specs.Compute.{everything}
 use Rattle.sqlite.specs.Listing.{understood}
-use Rattle.sqlite.specs.Tree.{Trees}
-use Rattle.sqlite.specs.declared.error.Error.{Error}
-use Rattle.sqlite.specs.State.{State, Executes, ExecutesIn, CommitsBy, MayCommit, IsUnchanged, IsRolledBack, IsNotRun, IsMisplaced, Fails, mode_of, text_of, is_pragma}
-use Rattle.std.specs.Prelude.{MatchBool, ◌||◌, ◌&&◌, not, is_some, IsSome}
-use Rattle.std.proofs.lemmas.Bool.{leb-true}
+use Rattle.sqlite.specs.State.{ExecutesIn, CommitsBy, IsNotRun}
+use Rattle.std.specs.Prelude.{MatchBool, ◌||◌, ◌&&◌}
 use Rattle.sqlite.specs.declared.error.Error.TheVariants.{ExecuteReturnedResults}
-use Rattle.sqlite_schema.specs.declared.command.Returning.{Returning}
-use Rattle.sqlite.specs.Effect.{is_query}
-use Rattle.sqlite.specs.Does.{Does}
-use Rattle.sqlite.specs.Calls.{IsWrite}
-use Rattle.sqlite.specs.Clock.{timed}
-use Rattle.sqlite.proofs.Callers.{IsPlain, command_of, statement_of, runs_as}
 use Rattle.store_sql.specs.Calls.{Begins, Commits}
 use Rattle.store_sql.proofs.Statements.{stopped}
 use Rattle.store_sql.proofs.FaultLemmas.{IsWhole, failed, not_run}

@@ -1,29 +1,18 @@
 -- Why a query or a write fails.
 use Rattle.std.proofs.Common.{◌≡◌, ◌⊎◌, inl, inr, ℕ, List, [], length, Option, Some, None, Ok, Err, Result, sym, ap, subst, subst₂, ◌∙◌, true, false, append-nil, Any, IfErr}
-use Rattle.std.specs.Prelude.{nat_le, Vec, ◌||◌, IfOk, if◌then◌else◌}
-use Rattle.std.specs.declared.alloc.Global.{Global}
-use Rattle.std.proofs.lemmas.Bool.{leb-true}
-use Rattle.sqlite.specs.Order.{Row}
-use Rattle.sqlite.specs.Tree.{Trees}
+use Rattle.store_sql.proofs.Words.{Begin, Command, Commit, CompileError, Compiled, Database, Does, Error, Executes}
+use Rattle.store_sql.proofs.Words.{Fails, Global, IfOk, IsMisplaced, IsPlain, ProgramOverflows, Query, Release}
+use Rattle.store_sql.proofs.Words.{Rollback, RollbackTo, Row, Schema, Select, State, Trees, Vec, accepts_program}
+use Rattle.store_sql.proofs.Words.{command_of, is_pragma, is_query, leb-true, mode_of, nat_le, reads_listing, text_of}
+use Rattle.std.specs.Prelude.{◌||◌, if◌then◌else◌}
 use Rattle.sqlite_trees.specs.declared.error.StoreError.TheVariants.{OutOfMemory, Io, Corrupt, Full, Broken, Unstorable}
-use Rattle.sqlite.specs.Command.TheVariants.{Select, Begin, Commit, Rollback, Release, RollbackTo}
-use Rattle.sqlite.specs.Query.{Query}
-use Rattle.sqlite_sql.specs.Program.{ProgramOverflows}
-use Rattle.sqlite_typing.specs.Types.{accepts_program}
-use Rattle.sqlite_resolve.specs.declared.compiled.Compiled.{Compiled}
-use Rattle.sqlite_resolve.specs.declared.error.CompileError.{CompileError}
-use Rattle.sqlite.specs.Listing.{understood, reads_listing, IsSourceOf}
-use Rattle.sqlite.specs.declared.error.Error.{Error}
-use Rattle.sqlite.specs.Effect.{Database, RefusesToRead, is_query}
-use Rattle.sqlite.specs.Schema.{Schema}
-use Rattle.sqlite.specs.State.{State, FailsToQuery, IsNotRun, Fails, Executes, ExecutesIn, IsMisplaced, mode_of, text_of, is_pragma}
-use Rattle.sqlite.proofs.Callers.{IsPlain, command_of}
+use Rattle.sqlite.specs.Listing.{understood, IsSourceOf}
+use Rattle.sqlite.specs.Effect.{RefusesToRead}
+use Rattle.sqlite.specs.State.{FailsToQuery, IsNotRun, ExecutesIn}
 use Rattle.store_sql.specs.Schema.{whole}
 use Rattle.store_sql.specs.Contents.{Contents, Means}
 use Rattle.store_sql.specs.Faults.{is_out_of_memory, fault_of, HasCause, HasFailed}
 use Rattle.store_sql.specs.declared.table_fault.Fault.TheVariants.{Device, Damaged, NoMemory}
-use Rattle.sqlite.specs.Command.{Command}
-use Rattle.sqlite.specs.Does.{Does}
 use Rattle.store_sql.specs.declared.table_fault.Fault.{Fault}
 
 -- the rules of the tables refuse the statement, as for a key that is taken, or a row of it is too big
@@ -42,6 +31,11 @@ HasWriteCause sql params old new Damaged = ⊥
 abbrev pub IsWhole : List ℕ → ℕ → Result Compiled CompileError → Type 0
 IsWhole sql count (Ok c) = (nat_le (length sql) c.tail ≡ true) × (length c.names ≡ count)
 IsWhole sql count (Err e) = ⊥
+
+-- the text is one statement with so many parameters, and means this
+abbrev pub IsStatement : List ℕ → Command → ℕ → Type 0
+IsStatement sql command count =
+    (command_of (understood whole sql) ≡ command) × IsPlain (understood whole sql) × IsWhole sql count (understood whole sql)
 
 -- the cause of a failure of the database
 failing : (old new : State) (too_big : Type 0) (e : Error) → Fails old new too_big e → too_big

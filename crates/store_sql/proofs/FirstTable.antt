@@ -1,9 +1,6 @@
 -- The table of the office is the first of the office's tables.
 use Rattle.std.proofs.Common.{◌≡◌, List, [], ◌∷◌, slice_get, true, Some, ap, sym, subst}
-use Rattle.std.specs.List.{list_any}
-use Rattle.sqlite.specs.Effect.{Database}
-use Rattle.sqlite.specs.Schema.{Schema}
-use Rattle.sqlite.specs.Table.{Table}
+use Rattle.store_sql.proofs.Words.{Database, Schema, Table, list_any}
 use Rattle.store_sql.specs.Schema.{office_at}
 use Rattle.store_sql.specs.Contents.{Contents, HasOffices, Means, MeansWithoutCa}
 use Rattle.store_sql.specs.Look.{first_is_office, is_office_table}

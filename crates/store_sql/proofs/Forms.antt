@@ -1,6 +1,8 @@
 -- What a text is, whatever the tables are: a query under one schema is a query under each, and a text that ends no
 -- transaction under one ends none under each.
 use Rattle.std.proofs.Common.{◌≡◌, ◌⊎◌, inl, inr, ℕ, Bool, true, false, List, length, ◌+◌, Option, None, Ok, Err, Result, refl, sym, subst, ◌∙◌}
+use Rattle.store_sql.proofs.Words.{Checked, CompileError, Compiled, IsPlain, Name, NoSuchTable, Returning, and_then}
+use Rattle.store_sql.proofs.Words.{is_select, reads_listing}
 use Rattle.std.specs.Prelude.{if◌then◌else◌, ◌==◌}
 use Rattle.sqlite_ast.specs.declared.Statement.{Statement}
 use Rattle.sqlite_ast.specs.declared.Statement.TheVariants as written
@@ -8,16 +10,9 @@ use Rattle.sqlite_ast.specs.declared.Conflict.TheVariants as conflict
 use Rattle.sqlite_syntax.specs.declared.statement.Parsed.{Parsed}
 use Rattle.sqlite_schema.specs.declared.schema.Schema.{Schema}
 use Rattle.sqlite_schema.specs.declared.command.Command.{Command}
-use Rattle.sqlite_schema.specs.declared.command.Returning.{Returning}
-use Rattle.sqlite_resolve.specs.declared.compiled.Compiled.{Compiled}
-use Rattle.sqlite_resolve.specs.declared.error.CompileError.{CompileError}
-use Rattle.sqlite_resolve.specs.declared.error.CompileError.TheVariants.{NoSuchTable}
-use Rattle.sqlite_resolve.specs.Lowering.{Checked, and_then}
-use Rattle.sqlite_resolve.specs.Scope.{Name}
 use Rattle.sqlite_resolve.specs.Compile.{command, command_by, compiled, first, meaning, planned, returning, returning_by, small, timed, with_command}
 use Rattle.sqlite_schema.specs.declared.command.Conflict.TheVariants as how
-use Rattle.sqlite.proofs.Callers.{IsPlain}
-use Rattle.sqlite.specs.Listing.{if_select, is_select, listing_schema, reads_listing, understood}
+use Rattle.sqlite.specs.Listing.{if_select, listing_schema, understood}
 use Rattle.store_sql.proofs.Commands.{Is, closes, same_ok, gone, either, read_is, insert_or_is, insert_or_abort_is, create_table_is, create_index_is, create_view_is, update_is, delete_is, drop_table_is, drop_view_is, drop_index_is, pragma_is}
 
 -- ---- what the written statement says of it

@@ -1,13 +1,8 @@
 -- From what a query shows to what a call finds.
 use Rattle.std.proofs.Common.{◌≡◌, ◌≢◌, inl, arith, List, [], ◌∷◌, map, Option, None, Some, Ok, Err, Result, refl, sym, ap, subst, ◌∙◌, IfErr}
-use Rattle.std.specs.Prelude.{true, false, if◌then◌else◌, Vec, OnOk}
-use Rattle.std.specs.declared.alloc.Global.{Global}
-use Rattle.std.specs.List.Sorted.{IsPermutation}
-use Rattle.std.proofs.lemmas.List.Sorted.{length_permutation}
-use Rattle.sqlite.specs.Order.{Row}
-use Rattle.sqlite.specs.declared.error.Error.{Error}
-use Rattle.sqlite.specs.Effect.{Database}
-use Rattle.sqlite.specs.State.{State, IsUnchanged}
+use Rattle.store_sql.proofs.Words.{Database, Error, Global, IsPermutation, IsUnchanged, OnOk, Row, State, Vec, false}
+use Rattle.store_sql.proofs.Words.{length_permutation, true}
+use Rattle.std.specs.Prelude.{if◌then◌else◌}
 use Rattle.store_sql.specs.declared.table_fault.Fault.{Fault}
 use Rattle.store_sql.specs.declared.table_fault.Fault.TheVariants.{Device, Damaged, NoMemory}
 use Rattle.store_sql.specs.Faults.{fault_of, is_out_of_memory, HasCause, Misread}

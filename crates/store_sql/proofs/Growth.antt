@@ -1,104 +1,162 @@
 -- One table after the other.
-use Rattle.std.proofs.Common.{◌≡◌, ℕ, Bool, true, false, IsTrue, List, [], ◌∷◌, ◌++◌, Ok, Err, Result, sym, subst, ◌∙◌, arith}
-use Rattle.std.specs.Prelude.{if◌then◌else◌, IfErr}
-use Rattle.std.specs.List.{AllByRecursion}
-use Rattle.std.proofs.lemmas.List.Sorted.{IsPermutation-refl}
-use Rattle.sqlite.specs.Schema.{Schema}
-use Rattle.sqlite.specs.Table.{Table}
-use Rattle.sqlite.specs.Order.{Row}
-use Rattle.sqlite.specs.Tree.{Trees}
-use Rattle.sqlite_catalog.specs.Listing.{IsSound}
-use Rattle.sqlite.specs.Change.{created, next_tree, KeepsRows}
-use Rattle.sqlite.specs.State.{State, HasCleanDisk, Survives, KeepsCommit}
-use Rattle.sqlite.proofs.StateLemmas.{survives_then}
+use Rattle.std.proofs.Common.{◌≡◌, inl, ℕ, ◌+◌, ◌<◌, drop, get_or, Bool, true, false, IsTrue, List, [], ◌∷◌, ◌++◌, length, Ok, Err, refl, sym, ap, Result, subst, ◌∙◌, arith}
+use Rattle.store_sql.proofs.Words.{AllByRecursion, IsDatabase, IsPermutation-refl, IsSound, KeepsRows, Row, Schema}
+use Rattle.store_sql.proofs.Words.{State, Survives, Table, Trees, created, survives_then}
+use Rattle.std.specs.Prelude.{if◌then◌else◌}
+use Rattle.std.proofs.lemmas.List.{drop_more}
+use Rattle.sqlite.specs.Change.{next_tree}
+use Rattle.sqlite.specs.State.{HasCleanDisk}
+use Rattle.store_sql.specs.declared.creation.TableName.{TableName}
 use Rattle.store_sql.specs.declared.table_fault.Fault.{Fault}
-use Rattle.store_sql.specs.Schema.{without_ca, ca}
+use Rattle.store_sql.specs.Schema.{no_schema, whole, without_ca, ca}
+use Rattle.store_sql.specs.Making.{before, made}
 use Rattle.store_sql.specs.Cells.{office_cells, department_cells, cert_cells, request_cells, run_cells, key_id_cells, ca_cells}
 use Rattle.store_sql.specs.Contents.{Lists, no_contents, office_places, department_places, cert_places, request_places, run_places, key_id_places, ca_places}
 use Rattle.store_sql.specs.Faults.{HasCause}
-use Rattle.store_sql.proofs.Later.{cause_then, inside_is, stops}
-use Rattle.store_sql.specs.Calls.{Grown, Creates, IsBare, Completes, AddsCa, Steps, Waits}
+use Rattle.store_sql.proofs.Later.{cause_since}
+use Rattle.store_sql.proofs.Staying.{stays_then}
+use Rattle.store_sql.specs.Calls.{Grown, Creates, IsBare, AddsCa, Stays, Steps, Waits}
 
 -- a table with no row
 lists_none : {X : Type 0} (cells : X → Row) (places : List ℕ) (rows : List Row) → rows ≡ [] → Lists cells places rows []
 lists_none cells places rows is = subst (λ rs. Lists cells places rs []) (sym is)
     (record { same = IsPermutation-refl []; apart = tt })
 
-settled : (b : Bool) {X : Type 0} (was now last shown : X) → shown ≡ (if b then (if b then was else now) else last)
-    → shown ≡ (if b then was else last)
-settled true was now last shown e = e
-settled false was now last shown e = e
-
-grown_steps : (before : Schema) (table : Table) (a b c : State) → Grown a b before table → Steps b c no_contents
-    → Steps a c no_contents
-grown_steps before table a b c p q = record {
-  was_open = p.was_open;
-  is_open = q.is_open;
-  means = q.means;
-  committed = settled a.in_transaction a.committed b.now c.now c.committed (rw (p.mode, p.committed) at q.committed);
-  mode = q.mode ∙ p.mode;
-  marks = q.marks ∙ p.marks;
-}
-
-later : (before : Schema) (table : Table) (a b c : State) → Grown a b before table → IsTrue a.in_transaction
-    → KeepsCommit b c → KeepsCommit a c
-later before table a b c p inside k =
-    record {
-      was_open = λ _. p.was_open;
-      committed = λ still. k.committed still
-          ∙ inside_is a.in_transaction a.committed b.now b.committed inside p.committed;
-    }
-
 bare_more : (db next : Trees) (tables : List Table) (new : Table) → KeepsRows tables db next → next new.tree ≡ []
     → AllByRecursion (λ t. db t.tree ≡ []) tables → AllByRecursion (λ t. next t.tree ≡ []) (tables ++ new ∷ [])
 bare_more db next [] new keeps empty all = (empty, tt)
 bare_more db next (t ∷ tables) new keeps empty all = (keeps.0 ∙ all.0, bare_more db next tables new keeps.1 empty all.1)
 
-bare_then : (before : Schema) (table : Table) (a b : State) → Grown a b before table → IsBare before a.now
-    → IsBare (created before table) b.now
-bare_then before table a b p bare = (
+bare_then : (s : Schema) (table : Table) (a b : State) → Grown a b s table → IsBare s a.now → IsBare (created s table) b.now
+bare_then s table a b p bare = (
   p.schema,
-  bare_more a.now.trees b.now.trees before.tables (record table { tree = next_tree before }) p.others
-      p.empty bare.1,
+  bare_more a.now.trees b.now.trees s.tables (record table { tree = next_tree s }) p.others p.empty bare.1,
 )
 
--- one table, and then those that are missing
-pub completes_then : {X : Type 0} (before : Schema) (table : Table) (a b c : State) (r : Result X Fault)
-    → (IsBare before a.now → Grown a b before table) → Completes (created before table) b c r → Completes before a c r
-completes_then before table a b c (Ok x) one rest = λ bare. let p = one bare in grown_steps before table a b c p
-    (rest (bare_then before table a b p bare))
-completes_then before table a b c (Err e) one rest = λ bare inside.
-    let p = one bare in later before table a b c p inside
-    (rest (bare_then before table a b p bare) (subst IsTrue (sym p.mode) inside))
+-- ---- the tables of an office
 
-pub completes_waits : (before : Schema) (table : Table) (a b c : State)
-    → (HasCleanDisk b → a.now.schema ≡ before → Grown a b before table) → Survives a b (Waits before a)
-    → Survives b c (Waits (created before table) b) → Survives a c (Waits before a)
-completes_waits before table a b c step one two =
-    survives_then a b c (Waits before a) (Waits (created before table) b) (Waits before a) (λ clean db h. h)
-    (λ clean db h has. let p = step (omega (arith, two.clean)) has in sym p.mode ∙ h p.schema) one two
+-- each of these tables is made beside those before it, and then all are there
+abbrev pub Completing : Schema → List TableName → Type 0
+Completing s [] = s ≡ whole
+Completing s (t ∷ ts) = (before t ≡ s) × Completing (created s (made t)) ts
 
--- why the first is not made, or those that are missing then
-pub completes_fails : {X : Type 0} (before : Schema) (table : Table) (P : Trees → Type 0) (a b c : State) (r : Result X Fault)
-    → Survives a b P → (IsBare before a.now → Grown a b before table)
-    → (IsBare (created before table) b.now → IfErr r (HasCause b c)) → IsBare before a.now → IfErr r (HasCause a c)
-completes_fails before table P a b c (Ok x) one grown rest bare = tt
-completes_fails before table P a b c (Err f) one grown rest bare =
-    let p = grown bare in cause_then a b c f P one p.is_open (rest (bare_then before table a b p bare))
+-- the database has just these tables, with no row, and nothing else has changed
+pub record HasMade (s : Schema) (a b : State) : Type 0 where
+  pub is_open : b.is_open ≡ a.is_open
+  pub bare : IsBare s b.now
+  pub mode : b.in_transaction ≡ a.in_transaction
+  pub marks : b.marks ≡ a.marks
+  pub last : s ≡ whole → IsTrue b.is_open × IsDatabase b.now × (a.in_transaction ≡ false → b.committed ≡ b.now)
 
--- the last table
-pub ca_completes : {X : Type 0} (a b : State) (r : Result X Fault) → Creates without_ca ca a b r
-    → Completes without_ca a b r
-ca_completes a b (Ok x) one = λ bare.
-    let p = one bare.0 in
-    let all = (bare_then without_ca ca a b p bare).1 in
+-- where a database is bare, these tables are those that are missing
+pub record IsAt (rest : List TableName) (a b : State) : Type 0 where
+  pub lives : Survives a b (Waits no_schema a)
+  pub stays : HasCleanDisk b → Stays {X = Unit {0}} a b (Ok tt)
+  pub reaches : HasCleanDisk b → IsBare no_schema a.now → (s : Schema) × Completing s rest × HasMade s a b
+
+-- ---- before the first
+
+pub none_made : (rest : List TableName) (a : State) → Completing no_schema rest → IsAt rest a a
+none_made rest a all = record {
+  lives = record {
+    clean = omega arith;
+    shield = λ h. h;
+    counts = omega arith;
+    limit = refl;
+    closes = λ clean h. inl h;
+    crash = λ clean db left. inl left;
+  };
+  stays = λ clean inside. (record { was_open = λ h. h; committed = λ h. refl }, refl);
+  reaches = λ clean bare. (
+    no_schema,
+    all,
     record {
-      was_open = p.was_open;
-      is_open = p.is_open;
+      is_open = refl;
+      bare = bare;
+      mode = refl;
+      marks = refl;
+      last = λ e. absurd (let wrong : 0 ≡ 7 = ap (λ (t : Schema). length t.tables) e in cc);
+    },
+  );
+}
+
+-- ---- one more
+
+more_made : (s : Schema) (table : Table) (a b c : State) → HasMade s a b → Grown b c s table → HasMade (created s table) a c
+more_made s table a b c h p = record {
+  is_open = p.is_open ∙ sym p.was_open ∙ h.is_open;
+  bare = bare_then s table b c p h.bare;
+  mode = p.mode ∙ h.mode;
+  marks = p.marks ∙ h.marks;
+  last = λ all. (
+    p.is_open,
+    p.sound,
+    λ outside. subst (λ t. c.committed ≡ (if t then b.committed else c.now)) (h.mode ∙ outside) p.committed,
+  );
+}
+
+module _ (names : List TableName) (i : ℕ) (first : TableName) (inside : i < length names) (a b c : State)
+    (at : IsAt (drop i names) a b) (lives : Survives b c (Waits (before (get_or names i first)) b)) where
+  abbrev name : TableName
+  name = get_or names i first
+
+  abbrev rest : List TableName
+  rest = drop (i + 1) names
+
+  -- the tables before this one are there, where all began bare
+  at_before : HasCleanDisk c → IsBare no_schema a.now → HasMade (before name) a b
+      × Completing (created (before name) (made name)) rest
+  at_before clean bare =
+      let r = at.reaches (omega (arith, lives.clean)) bare in
+      let next = subst (Completing r.0) (drop_more names i first inside) r.1 in
+      let same = sym next.0 in (subst (λ s. HasMade s a b) same r.2, subst (λ s. Completing (created s (made name)) rest) same next.1)
+
+  pub still_lives : Survives a c (Waits no_schema a)
+  still_lives =
+      survives_then a b c (Waits no_schema a) (Waits (before name) b) (Waits no_schema a) (λ clean db h. h)
+      (λ clean db h has. let it = (at_before clean (has, tt)).0 in sym it.mode ∙ h it.bare.0) at.lives lives
+
+  -- the table is made
+  pub one_more : (HasCleanDisk c → b.now.schema ≡ before name → Grown b c (before name) (made name))
+      → (HasCleanDisk c → Stays {X = Unit {0}} b c (Ok (tt {0}))) → IsAt rest a c
+  one_more grows stays = record {
+    lives = still_lives;
+    stays = λ clean. stays_then {X = Unit {0}} a b c tt (Ok (tt {0})) (at.stays (omega (arith, lives.clean))) (stays clean);
+    reaches = λ clean bare.
+        let r = at_before clean bare in (
+          created (before name) (made name),
+          r.1,
+          more_made (before name) (made name) a b c r.0 (grows clean r.0.bare.0),
+        );
+  }
+
+  -- why it isn't made
+  pub none_more : (f : Fault) → (HasCleanDisk c → b.now.schema ≡ before name → HasCause b c f)
+      → HasCleanDisk c → IsBare no_schema a.now → HasCause a c f
+  none_more f cause clean bare =
+      let it = (at_before clean bare).0 in
+      cause_since a b c f (Waits no_schema a) at.lives (λ shut. sym it.is_open ∙ shut) (cause clean it.bare.0)
+
+-- ---- after the last
+
+settled : (b : Bool) {X : Type 0} (was now shown : X) → (IsTrue b → shown ≡ was) → (b ≡ false → shown ≡ now)
+    → shown ≡ (if b then was else now)
+settled true was now shown inside outside = inside refl
+settled false was now shown inside outside = outside refl
+
+pub completed : (a b : State) → IsAt [] a b → HasCleanDisk b → IsBare no_schema a.now → Steps a b no_contents
+completed a b at clean bare =
+    let r = at.reaches clean bare in
+    let h = subst (λ s. HasMade s a b) r.1 r.2 in
+    let end = h.last refl in
+    let all = h.bare.1 in
+    record {
+      was_open = sym h.is_open ∙ end.0;
+      is_open = end.0;
       means = record {
-        schema = p.schema;
+        schema = h.bare.0;
         kept = record {
-          sound = subst (λ s. IsSound s b.now.trees) p.schema p.sound;
+          sound = subst (λ s. IsSound s b.now.trees) h.bare.0 end.1;
           holds = record {
             offices = lists_none office_cells office_places (b.now.trees 0) all.0;
             departments = lists_none department_cells department_places (b.now.trees 1) all.1.0;
@@ -113,11 +171,10 @@ ca_completes a b (Ok x) one = λ bare.
           };
         };
       };
-      committed = p.committed;
-      mode = p.mode;
-      marks = p.marks;
+      committed = settled a.in_transaction a.committed b.now b.committed (λ inside. (at.stays clean inside).0.committed end.0) end.2;
+      mode = h.mode;
+      marks = h.marks;
     }
-ca_completes a b (Err e) one = λ bare inside. stops a b one
 
 -- the table of CAs beside the others
 pub adds_ca : {X : Type 0} (a b : State) (r : Result X Fault) → Creates without_ca ca a b r → AddsCa a b r

@@ -1,46 +1,30 @@
 -- Why INSERT of one struct is refused.
-use Rattle.std.proofs.Common.{◌≡◌, ◌≢◌, inl, inr, ℕ, pos, ◌/◌, List, [], ◌∷◌, length, map, slice_get, Bool, true, Some, refl, sym, ap, subst, ◌∙◌, is_eq}
+use Rattle.std.proofs.Common.{◌≡◌, ◌≢◌, inl, inr, ℕ, pos, List, [], ◌∷◌, map, Bool, true}
+use Rattle.std.proofs.Common.{refl, sym, ap, subst, ◌∙◌, is_eq, Result, ◌<◌, ◌^◌}
+use Rattle.store_sql.proofs.Words.{All, AllByRecursion, Applies, Chosen, Edit, Enforced, ForeignKey, Has, Insert, Int}
+use Rattle.store_sql.proofs.Words.{IsPermutation-sym, Keeps, Refers, Row, State, Table, Term, Trees, Values, agree}
+use Rattle.store_sql.proofs.Words.{all-permutation, all_from, all_has, edit_of, eqb-true, has_null, is_taken, list_any}
+use Rattle.store_sql.proofs.Words.{mapped_has, plain, rowid, some_has, statement_of, test_has, value_cmp-Int, fits_i64}
+use Rattle.store_sql.proofs.Words.{id_in, false}
 use Rattle.std.specs.Prelude.{◌||◌, ◌==◌}
-use Rattle.std.specs.List.{AllByRecursion, list_any}
-use Rattle.std.specs.Ordering.{int_cmp}
-use Rattle.std.proofs.lemmas.List.Sorted.{IsPermutation-sym}
-use Rattle.std.proofs.lemmas.Bool.{eqb-true}
-use Rattle.sqlite_value.proofs.OrderLemmas.{value_cmp-Int}
-use Rattle.sqlite.specs.declared.types.Value.TheVariants.{Int}
-use Rattle.sqlite.specs.Order.{Row, value_cmp}
-use Rattle.sqlite.specs.Term.{Term}
-use Rattle.sqlite.specs.Table.{Table}
-use Rattle.sqlite.specs.Tree.{Trees, rowid}
-use Rattle.sqlite.specs.Source.TheVariants.{Values}
-use Rattle.sqlite.specs.Command.TheVariants.{Insert}
-use Rattle.sqlite.specs.Edit.{Applies, Edit, edit_of, is_taken, with_rowid}
-use Rattle.sqlite.specs.Rowids.TheVariants.{Chosen}
-use Rattle.sqlite.specs.Cast.{cast_row}
-use Rattle.sqlite.specs.State.{State}
-use Rattle.sqlite.specs.Rows.{stamped}
-use Rattle.sqlite.specs.Effect.{value_rows}
+use Rattle.sqlite.specs.Order.{value_cmp}
 use Rattle.sqlite.specs.Listing.{understood}
-use Rattle.sqlite.proofs.Callers.{statement_of}
-use Rattle.sqlite_schema.specs.declared.schema.Among.TheVariants.{All}
-use Rattle.sqlite_schema.specs.declared.schema.Constraint.TheVariants.{ForeignKey}
-use Rattle.sqlite_schema.specs.declared.schema.Keys.TheVariants.{Enforced}
 use Rattle.sqlite_schema.specs.declared.schema.Reference.{Reference}
 use Rattle.sqlite_schema.specs.Names.{same_name}
-use Rattle.sqlite_schema.specs.Rules.{Keeps, Refers, agree, has_null, has_parent}
-use Rattle.sqlite_value.specs.Keys.{joined, plain}
-use Rattle.sqlite_typing.specs.Types.{accepts_terms}
-use Rattle.sqlite_rules.specs.Lists.{Has}
-use Rattle.sqlite_rules.proofs.ListLemmas.{all_from, all_has, some_has, test_has}
-use Rattle.sqlite_rules.proofs.ProbeLemmas.{mapped_has}
+use Rattle.sqlite_schema.specs.Rules.{has_parent}
+use Rattle.sqlite_value.specs.Keys.{joined}
 use Rattle.sqlite_rules.proofs.RuleLemmas.{refers_from}
-use Rattle.sqlite_trees.proofs.ListLemmas.{all-permutation}
+use Rattle.store_sql.proofs.Inserts.{IsInsert, no_works}
+use Rattle.store_sql.proofs.Reasons.{HasClash, IsPut, halted, size, one}
+use Rattle.store_sql.specs.declared.table_fault.Fault.{Fault}
+use Rattle.store_sql.specs.Calls.{FailsBy}
+use Rattle.store_sql.specs.Refusals.{RefusedFor}
+use Rattle.store_sql.proofs.FaultLemmas.{HasWriteCause}
+use Rattle.store_sql.proofs.Refused.{refused_for, Stops}
 use Rattle.store_sql.specs.Schema.{whole, cert_at, to_department}
 use Rattle.store_sql.specs.Contents.{Contents, Lists, Means, at_places}
 use Rattle.store_sql.proofs.Edits.{mapped_from, of_record}
-use Rattle.store_sql.proofs.Inserts.{no_works}
 use Rattle.store_sql.proofs.Numbers.{same_number}
-use Rattle.store_sql.proofs.Reasons.{one}
-use Rattle.store_sql.proofs.Refused.{Stops}
 use Rattle.store_sql.proofs.Statements.{uncounted}
 use Rattle.store_sql.proofs.Stops.{IsHalted, insert_halts}
 
@@ -116,27 +100,48 @@ each_refers trees keeps = all_from (λ r. has_department trees r ≡ true) (tree
     keeps.1.1.0 there) (inl refl))
 
 -- an edit of another table breaks none
-pub none_orphaned : (db next : Trees) (edit : Edit) → Keeps ForeignKey whole db → Applies whole Enforced db edit next
-    → 1 ≢ edit.table.tree → 3 ≢ edit.table.tree → (Refers All whole next → ⊥) → ⊥
-none_orphaned db next edit keeps did one three broken =
+pub refers_still : (db next : Trees) (edit : Edit) → Keeps ForeignKey whole db → Applies whole Enforced db edit next
+    → 1 ≢ edit.table.tree → 3 ≢ edit.table.tree → Refers All whole next
+refers_still db next edit keeps did one three =
     let departments : next 1 ≡ db 1 = did.tables.1.0 one in
     let certs : next 3 ≡ db 3 = did.tables.1.1.0 three in
-    broken (all_refer next (rw certs (subst
+    all_refer next (rw certs (subst
     (λ ds. AllByRecursion (λ r. (has_null (2 ∷ []) r || list_any (λ d. agree plain (1 ∷ []) d (2 ∷ []) r) ds) ≡ true) (db 3))
-    (sym departments) (each_refers db keeps))))
+    (sym departments) (each_refers db keeps)))
 
 -- ---- INSERT
 
-module _ {X : Type 0} (sql : List ℕ) (cells : X → Row) (at : ℕ) (table : Table) (terms : List Term) (width : ℕ)
-    (source : X → Row) (row : X → List Row → Row) (found : slice_get whole.tables at ≡ Some (uncounted table))
-    (sourced : (x : X) → value_rows (stamped (uncounted table) (cells x)) width (length terms / width) terms ≡ source x ∷ [])
-    (typed : (x : X) → accepts_terms terms (stamped (uncounted table) (cells x)) ≡ true)
-    (made : (x : X) (rows : List Row) → with_rowid Chosen rows (cast_row (uncounted table) (source x)) ≡ row x rows) where
-  pub insert_halted : (x : X) (s : State) (c : Contents) → Means s.now c → Stops sql (cells x) (Insert at (Values terms width)) s
+module _ {X : Type 0} {sql : List ℕ} {cells : X → Row} {places : List ℕ} {at : ℕ} {table : Table} {terms : List Term}
+    {width : ℕ} {with_x : X → Contents → Contents} {of : Contents → List X} {row : X → List Row → Row}
+    (it : IsInsert sql cells places at table terms width with_x of row) (x : X) where
+  halts : (s : State) (c : Contents) → Means s.now c → Stops sql (cells x) (Insert at (Values terms width)) s
       → IsHalted whole s.now.trees (one s.now.trees (uncounted table) [] (row x (s.now.trees table.tree)))
-  insert_halted x s c means stops =
+  halts s c means stops =
       let trees = s.now.trees in
-      let halts = insert_halts s.now whole means.schema at table found (cells x) (statement_of sql (understood whole sql))
-      (no_works table.tree) terms width (typed x) stops.0 stops.1 in
-      let given = subst (λ rs. IsHalted whole trees (edit_of trees (uncounted table) [] Chosen 0 rs)) (sourced x) halts in
-      subst (λ r. IsHalted whole trees (one trees (uncounted table) [] r)) (made x (trees table.tree)) given
+      let halts = insert_halts s.now whole means.schema at table it.found (cells x) (statement_of sql (understood whole sql))
+      (no_works table.tree) terms width (it.typed x) stops.0 stops.1 in
+      let given = subst (λ rs. IsHalted whole trees (edit_of trees (uncounted table) [] Chosen 0 rs)) (it.sourced x) halts in
+      subst (λ r. IsHalted whole trees (one trees (uncounted table) [] r)) (it.made x (trees table.tree)) given
+
+  -- the edit of the row, and the row
+  abbrev pub adds : State → Edit
+  adds s = one s.now.trees (uncounted table) [] (row x (s.now.trees table.tree))
+
+  abbrev pub new_row : State → Row
+  new_row s = row x (s.now.trees table.tree)
+
+  -- Why the call fails: the number is out of range or taken, or the key is, or the row is too long, or wants its parent.
+  pub insert_fails : (Refuses : Contents → Type 0)
+      → ((s : State) (c : Contents) → Means s.now c → IsPut s.now.trees (uncounted table) [] (new_row s))
+      → ((s : State) (c : Contents) → Means s.now c → fits_i64 (id_in (rowid (new_row s))) ≡ false → Refuses c)
+      → ((s : State) (c : Contents) → Means s.now c → is_taken (s.now.trees table.tree) (new_row s) ≡ true → Refuses c)
+      → ((s : State) (c : Contents) → Means s.now c → HasClash s.now.trees (uncounted table) [] (new_row s) → Refuses c)
+      → ((s : State) (c : Contents) → 10 ^ 9 < size (new_row s) → Refuses c)
+      → ((s : State) (c : Contents) (next : Trees) → Means s.now c → Applies whole Enforced s.now.trees (adds s) next
+      → (Refers All whole next → ⊥) → Refuses c)
+      → {Y : Type 0} (old new : State) (r : Result Y Fault) → FailsBy (HasWriteCause sql (cells x)) old new r
+      → RefusedFor Refuses old new r
+  insert_fails Refuses put range taken clash long orphan =
+      refused_for sql (cells x) (Insert at (Values terms width)) (it.is x).0 (it.is x).2 Refuses (λ s c means stops.
+      halted s.now.trees (uncounted table) [] (new_row s) (put s c means) (range s c means) (taken s c means) (clash s c means)
+      (long s c) (λ next did broken. orphan s c next means did broken) (halts s c means stops))

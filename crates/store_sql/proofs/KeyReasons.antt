@@ -1,44 +1,30 @@
 -- Why a request or a revoked key id is refused.
 use Rattle.std.proofs.Common.{◌≡◌, inl, inr, ℕ, pos, ◌^◌, ◌≤◌, List, [], ◌∷◌, length, true, false, Result, refl, sym, ap, subst, ◌∙◌, arith}
+use Rattle.store_sql.proofs.Words.{Binary, Chosen, ForeignKey, Int, Row, State, Text, Unique, agree}
+use Rattle.store_sql.proofs.Words.{all_from, all_has, and_parts, bytes_eq-Decides, column, equal, fits_i64}
+use Rattle.store_sql.proofs.Words.{guards, length-map, length_permutation, ltb-false, next_rowid}
 use Rattle.std.specs.Prelude.{◌&&◌}
-use Rattle.std.proofs.lemmas.Bool.{and_parts, ltb-false}
-use Rattle.std.proofs.lemmas.List.Sorted.{length_permutation}
-use Rattle.std.proofs.lemmas.List.{length-map}
-use Rattle.std.proofs.lemmas.Slice.Eq.{bytes_eq-Decides}
 use Rattle.sqlite_value.specs.Keys.{first_key, joined}
 use Rattle.sqlite_schema.specs.Names.{same_name}
-use Rattle.sqlite.specs.declared.types.Value.TheVariants.{Int, Text}
-use Rattle.sqlite.specs.Collation.TheVariants.{Binary}
-use Rattle.sqlite.specs.Order.{Row, column}
-use Rattle.sqlite.specs.Cast.{cast_row}
-use Rattle.sqlite.specs.Edit.{with_rowid}
-use Rattle.sqlite.specs.Rowids.TheVariants.{Chosen}
-use Rattle.sqlite.specs.State.{State}
-use Rattle.sqlite.specs.Source.TheVariants.{Values}
-use Rattle.sqlite.specs.Command.TheVariants.{Insert}
-use Rattle.sqlite_sql.specs.Ops.{fits_i64}
-use Rattle.sqlite_rules.specs.Edit.{next_rowid}
-use Rattle.sqlite_rules.proofs.ListLemmas.{all_from, all_has}
 use Rattle.sqlite_rules.proofs.PlaceLemmas.{next_is_free}
-use Rattle.sqlite_schema.specs.declared.schema.Constraint.TheVariants.{Unique, ForeignKey}
-use Rattle.sqlite_schema.specs.Rules.{agree, equal, guards}
 use Rattle.store_sql.specs.Schema.{whole, request_at, revoked_at}
 use Rattle.store_sql.specs.Cells.{request_cells, key_id_cells}
 use Rattle.store_sql.specs.Contents.{AreNumbered, Contents, Lists, Means, at_places, request_places, key_id_places}
 use Rattle.store_sql.specs.Refusals.{HasOne, IsFull, RefusedFor, RefusesKeyId, RefusesRequest}
 use Rattle.store_sql.specs.declared.requests.RequestRow.{RequestRow}
 use Rattle.store_sql.proofs.RequestTable as request
+use Rattle.store_sql.proofs.RequestTable.{request_row}
 use Rattle.store_sql.proofs.RevokedTable as revoked
+use Rattle.store_sql.proofs.RevokedTable.{revoked_row}
+use Rattle.store_sql.specs.declared.sql.TheConstants.{INSERT_REQUEST, INSERT_REVOKED}
 use Rattle.store_sql.proofs.Edits.{of_record}
-use Rattle.store_sql.proofs.InsertReasons.{insert_halted, none_orphaned}
+use Rattle.store_sql.proofs.InsertReasons.{insert_fails, refers_still}
 use Rattle.store_sql.proofs.Numbering.{ints_of, next_number}
 use Rattle.store_sql.proofs.Queries.{text_test}
-use Rattle.store_sql.proofs.Reasons.{HasClash, IsPut, halted, one, storable}
+use Rattle.store_sql.proofs.Reasons.{HasClash, IsPut, one, storable}
 use Rattle.store_sql.specs.declared.table_fault.Fault.{Fault}
 use Rattle.store_sql.specs.Calls.{FailsBy}
 use Rattle.store_sql.proofs.FaultLemmas.{HasWriteCause}
-use Rattle.store_sql.proofs.Refused.{Stops, refused_for}
-use Rattle.store_sql.proofs.Rows.{cast_null}
 
 -- ---- what every such table has in common
 
@@ -73,13 +59,6 @@ pub same_text : (a b : List ℕ) → equal Binary (Text a) (Text b) ≡ true →
 same_text a b h = (bytes_eq-Decides a b).0 (sym (text_test a b) ∙ h)
 
 -- ---- a request
-
-abbrev request_row : RequestRow → List Row → Row
-request_row r rows = Int (next_rowid rows) ∷ request_cells r
-
-request_made : (r : RequestRow) (rows : List Row)
-    → with_rowid Chosen rows (cast_row request_at (request.source r)) ≡ request_row r rows
-request_made r rows = rw cast_null refl
 
 request_put : (r : RequestRow) (s : State) (c : Contents) → Means s.now c
     → IsPut s.now.trees request_at [] (request_row r (s.now.trees 4))
@@ -129,30 +108,19 @@ request_clash r s c means (i, here, on, other, there, same) =
       ),
     )
 
-pub refuses_request : (x : RequestRow) (s : State) (c : Contents) → Means s.now c
-    → Stops request.insert_sql (request_cells x) (Insert 3 (Values request.terms 5)) s → RefusesRequest x c
-refuses_request x s c means stops =
-    let db = s.now.trees in
-    let h = means.kept.holds in
-    let row = request_row x (db 4) in
-    halted db request_at [] row (request_put x s c means)
-    (λ out. inr (inr (full request_cells request_places (db 4) c.requests h.requests h.requests_numbered out)))
-    (λ taken. free (db 4) (request_cells x) h.requests_numbered h.requests.apart taken)
-    (λ clash. inl (request_clash x s c means clash))
-    (λ long. inr (inl (omega (arith, long))))
-    (λ next did broken. absurd (none_orphaned db next (one db request_at [] row) (means.kept.sound.obeys.rules ForeignKey) did
-    (λ e. cc) (λ e. cc) broken))
-    (insert_halted request.insert_sql request_cells 3 request_at request.terms 5 request.source request_row refl (λ y. refl)
-    (λ y. refl) request_made x s c means stops)
+pub request_fails : {X : Type 0} (x : RequestRow) (old new : State) (r : Result X Fault)
+    → FailsBy (HasWriteCause INSERT_REQUEST.now (request_cells x)) old new r → RefusedFor (RefusesRequest x) old new r
+request_fails x =
+    insert_fails request.puts x (RefusesRequest x) (λ s c means. request_put x s c means)
+    (λ s c means out. inr (inr (full request_cells request_places (s.now.trees 4) c.requests means.kept.holds.requests
+    means.kept.holds.requests_numbered out)))
+    (λ s c means taken. free (s.now.trees 4) (request_cells x) means.kept.holds.requests_numbered means.kept.holds.requests.apart taken)
+    (λ s c means clash. inl (request_clash x s c means clash))
+    (λ s c long. inr (inl (omega (arith, long))))
+    (λ s c next means did broken. absurd (broken (refers_still s.now.trees next (one s.now.trees request_at [] (request_row x (s.now.trees 4)))
+    (means.kept.sound.obeys.rules ForeignKey) did (λ e. cc) (λ e. cc))))
 
 -- ---- a revoked key id
-
-abbrev revoked_row : List ℕ → List Row → Row
-revoked_row k rows = Int (next_rowid rows) ∷ key_id_cells k
-
-revoked_made : (k : List ℕ) (rows : List Row)
-    → with_rowid Chosen rows (cast_row revoked_at (revoked.source k)) ≡ revoked_row k rows
-revoked_made k rows = rw cast_null refl
 
 revoked_put : (k : List ℕ) (s : State) (c : Contents) → Means s.now c
     → IsPut s.now.trees revoked_at [] (revoked_row k (s.now.trees 7))
@@ -193,32 +161,14 @@ revoked_clash k s c means (i, here, on, other, there, same) =
     let first = and_parts (equal Binary (column other 1) (Text k)) true both in
     (it.0, it.1, same_text it.0 k (subst (λ v. equal Binary v (Text k) ≡ true) text first.0))
 
-pub refuses_key_id : (x : List ℕ) (s : State) (c : Contents) → Means s.now c
-    → Stops revoked.insert_sql (key_id_cells x) (Insert 5 (Values revoked.terms 2)) s → RefusesKeyId x c
-refuses_key_id x s c means stops =
-    let db = s.now.trees in
-    let h = means.kept.holds in
-    let row = revoked_row x (db 7) in
-    halted db revoked_at [] row (revoked_put x s c means)
-    (λ out. inr (inr (full key_id_cells key_id_places (db 7) c.revoked h.revoked h.revoked_numbered out)))
-    (λ taken. free (db 7) (key_id_cells x) h.revoked_numbered h.revoked.apart taken)
-    (λ clash. inl (revoked_clash x s c means clash))
-    (λ long. inr (inl (omega (arith, long))))
-    (λ next did broken. absurd (none_orphaned db next (one db revoked_at [] row) (means.kept.sound.obeys.rules ForeignKey) did
-    (λ e. cc) (λ e. cc) broken))
-    (insert_halted revoked.insert_sql key_id_cells 5 revoked_at revoked.terms 2 revoked.source revoked_row refl (λ y. refl)
-    (λ y. refl) revoked_made x s c means stops)
-
--- ---- the calls
-
-pub request_fails : {X : Type 0} (x : RequestRow) (old new : State) (r : Result X Fault)
-    → FailsBy (HasWriteCause request.insert_sql (request_cells x)) old new r → RefusedFor (RefusesRequest x) old new r
-request_fails x old new r =
-    refused_for request.insert_sql (request_cells x) (Insert 3 (Values request.terms 5)) request.insert_is.0 request.insert_is.2
-    (RefusesRequest x) (refuses_request x) old new r
-
-pub key_id_fails : {X : Type 0} (x : List ℕ) (old new : State) (r : Result X Fault)
-    → FailsBy (HasWriteCause revoked.insert_sql (key_id_cells x)) old new r → RefusedFor (RefusesKeyId x) old new r
-key_id_fails x old new r =
-    refused_for revoked.insert_sql (key_id_cells x) (Insert 5 (Values revoked.terms 2)) revoked.insert_is.0 revoked.insert_is.2
-    (RefusesKeyId x) (refuses_key_id x) old new r
+pub key_id_fails : {X : Type 0} (x : (List ℕ)) (old new : State) (r : Result X Fault)
+    → FailsBy (HasWriteCause INSERT_REVOKED.now (key_id_cells x)) old new r → RefusedFor (RefusesKeyId x) old new r
+key_id_fails x =
+    insert_fails revoked.puts x (RefusesKeyId x) (λ s c means. revoked_put x s c means)
+    (λ s c means out. inr (inr (full key_id_cells key_id_places (s.now.trees 7) c.revoked means.kept.holds.revoked
+    means.kept.holds.revoked_numbered out)))
+    (λ s c means taken. free (s.now.trees 7) (key_id_cells x) means.kept.holds.revoked_numbered means.kept.holds.revoked.apart taken)
+    (λ s c means clash. inl (revoked_clash x s c means clash))
+    (λ s c long. inr (inl (omega (arith, long))))
+    (λ s c next means did broken. absurd (broken (refers_still s.now.trees next (one s.now.trees revoked_at [] (revoked_row x (s.now.trees 7)))
+    (means.kept.sound.obeys.rules ForeignKey) did (λ e. cc) (λ e. cc))))

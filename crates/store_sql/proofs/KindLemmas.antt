@@ -1,13 +1,10 @@
 -- A row that has just these kinds of columns is made of what is read from them.
 use Rattle.std.proofs.Common.{◌≡◌, ℕ, pos, negsuc, ◌+◌, List, [], ◌∷◌, map, Bool, true, false, length, refl, sym, ap₂, ◌∙◌, arith}
+use Rattle.store_sql.proofs.Words.{Row, Value, column, list_all, nat_tests, or_null}
 use Rattle.std.specs.Prelude.{◌&&◌, ◌==◌}
-use Rattle.std.specs.List.{list_all, enumerate_from, range_with_len}
-use Rattle.std.proofs.lemmas.Bool.Decides.{nat_tests}
+use Rattle.std.specs.List.{enumerate_from, range_with_len}
 use Rattle.std.proofs.lemmas.List.{ext_get_or}
 use Rattle.std.proofs.lemmas.List.FromFn.{length-map-range_with_len, get_or-map-range_with_len}
-use Rattle.sqlite.specs.Order.{Row, column}
-use Rattle.sqlite.specs.Values.{or_null}
-use Rattle.sqlite.specs.declared.types.Value.{Value}
 use Rattle.sqlite.specs.declared.types.Value.TheVariants as value
 use Rattle.store_sql.specs.declared.kind.Kind.{Kind}
 use Rattle.store_sql.specs.declared.kind.Kind.TheVariants.{Number, Text, Blob, OptionalBlob}

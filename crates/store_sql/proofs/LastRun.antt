@@ -1,16 +1,11 @@
 -- The last of the runs that begin with a serial or before it.
 use Rattle.std.proofs.Common.{◌≡◌, inl, inr, arith, ℕ, suc, ◌<◌, ◌≤◌, List, [], ◌∷◌, map, Bool, true, false, length, Option, None, Some, Ok, Err, Result, refl, sym, ap, subst, ◌∙◌, nat_cmp, is_lt, IsSorted, IsPermutation, take, pos}
-use Rattle.std.specs.Prelude.{filter, nat_le}
-use Rattle.std.specs.List.{AllByRecursion}
-use Rattle.std.proofs.lemmas.Bool.{cases_Bool}
-use Rattle.std.proofs.lemmas.Bool.Decides.{nat_tests}
-use Rattle.std.proofs.lemmas.List.Sorted.{IsPermutation-sym, length_permutation}
+use Rattle.store_sql.proofs.Words.{AllByRecursion, IsPermutation-sym, State, all-permutation, cases_Bool, filter}
+use Rattle.store_sql.proofs.Words.{length_permutation, nat_le, nat_tests}
 use Rattle.sqlite_trees.proofs.ListLemmas.{all_weaker}
 pub use Rattle.sqlite_rules.specs.Lists.{Has}
 pub use Rattle.sqlite_rules.proofs.ListLemmas.{has_filtered, has_kept, all_has, all_from, some_has, some_from}
 pub use Rattle.sqlite_rules.proofs.ProbeLemmas.{mapped_has}
-use Rattle.sqlite_trees.proofs.ListLemmas.{all-permutation}
-use Rattle.sqlite.specs.State.{State}
 use Rattle.store_sql.specs.declared.table_fault.Fault.{Fault}
 use Rattle.store_sql.specs.declared.runs.RunRow.{RunRow}
 use Rattle.store_sql.specs.Contents.{Contents}

@@ -1,10 +1,8 @@
 -- A call that comes after another.
 use Rattle.std.proofs.Common.{◌≡◌, inl, inr, Bool, true, false, IsTrue, subst, ◌∙◌, arith}
-use Rattle.std.specs.Prelude.{IsSome, Option, if◌then◌else◌}
+use Rattle.store_sql.proofs.Words.{IsSome, IsUnchanged, KeepsCommit, State, Survives, Trees, unchanged_then}
+use Rattle.std.specs.Prelude.{Option, if◌then◌else◌}
 use Rattle.std.proofs.lemmas.Bool.{both_ways}
-use Rattle.sqlite.specs.Tree.{Trees}
-use Rattle.sqlite.specs.State.{State, Survives, IsUnchanged, KeepsCommit}
-use Rattle.sqlite.proofs.Callers.{unchanged_then}
 use Rattle.store_sql.specs.Calls.{Fails}
 use Rattle.store_sql.specs.Faults.{HasCause, HasFailed}
 use Rattle.store_sql.specs.declared.table_fault.Fault.{Fault}
@@ -33,14 +31,25 @@ stops_then a b c p (inr back) = inr (record {
   };
 })
 
--- what failed after a call that left the connection open failed since before it
+-- What failed after a call failed since before it: a connection that is shut then was shut before.
+module _ (a b c : State) (P : Trees → Type 0) (one : Survives a b P) (was_shut : b.is_open ≡ false → a.is_open ≡ false) where
+  failed_since : HasFailed b c → HasFailed a c
+  failed_since (inl more) = inl (omega (arith, one.counts, more))
+  failed_since (inr (inl shut)) = inr (inl (was_shut shut))
+  failed_since (inr (inr limit)) = inr (inr (subst (λ (o : Option _). IsSome o) one.limit limit))
+
+  caused_since : (f : Fault) → HasCause b c f → HasCause a c f
+  caused_since NoMemory cause = tt
+  caused_since Damaged cause = cause
+  caused_since Device cause = failed_since cause
+
+pub cause_since : (a b c : State) (f : Fault) (P : Trees → Type 0) → Survives a b P → (b.is_open ≡ false → a.is_open ≡ false)
+    → HasCause b c f → HasCause a c f
+cause_since a b c f P one was_shut = caused_since a b c P one was_shut f
+
 pub failed_then : (a b c : State) (P : Trees → Type 0) → Survives a b P → IsTrue b.is_open → HasFailed b c → HasFailed a c
-failed_then a b c P one is_open (inl more) = inl (omega (arith, one.counts, more))
-failed_then a b c P one is_open (inr (inl shut)) = absurd (both_ways b.is_open shut is_open)
-failed_then a b c P one is_open (inr (inr limit)) = inr (inr (subst (λ (o : Option _). IsSome o) one.limit limit))
+failed_then a b c P one is_open = failed_since a b c P one (λ shut. absurd (both_ways b.is_open shut is_open))
 
 pub cause_then : (a b c : State) (f : Fault) (P : Trees → Type 0) → Survives a b P → IsTrue b.is_open → HasCause b c f
     → HasCause a c f
-cause_then a b c NoMemory P one is_open cause = tt
-cause_then a b c Damaged P one is_open cause = cause
-cause_then a b c Device P one is_open cause = failed_then a b c P one is_open cause
+cause_then a b c f P one is_open = cause_since a b c f P one (λ shut. absurd (both_ways b.is_open shut is_open))

@@ -28,6 +28,7 @@ pub mod Later
 pub mod Makeable
 pub mod Makes
 pub mod Numbering
+pub mod NumberUpdates
 pub mod Numbers
 pub mod OfficeReasons
 pub mod OfficeTable
@@ -43,6 +44,7 @@ pub mod Rows
 pub mod RowTests
 pub mod RunReasons
 pub mod RunTable
+pub mod Selects
 pub mod Statements
 pub mod Staying
 pub mod Stops
@@ -52,3 +54,4 @@ pub mod UpdateReasons
 pub mod Updates
 pub mod UpsertStops
 pub mod Upserts
+pub mod Words

@@ -1,20 +1,15 @@
 -- CREATE TABLE.
 use Rattle.std.proofs.Common.{◌≡◌, ℕ, List, [], None, Ok, Err, Result, refl, sym, ap, subst, ◌∙◌, false}
-use Rattle.sqlite.specs.Schema.{Schema}
-use Rattle.sqlite.specs.Table.{Table}
-use Rattle.sqlite.specs.Tree.{Trees}
-use Rattle.sqlite.specs.Command.TheVariants.{CreateTable}
-use Rattle.sqlite.specs.Compile.{table_defined_by}
-use Rattle.sqlite.specs.Change.{created, next_tree, KeepsRows}
-use Rattle.sqlite.specs.Does.{Tally, lacks_sequence}
-use Rattle.sqlite.specs.Effect.{Database}
+use Rattle.store_sql.proofs.Words.{CreateTable, Database, Error, Executes, IsPlain, KeepsRows, Schema, State, Table}
+use Rattle.store_sql.proofs.Words.{Tally, Trees, Writes, command_of, created, lacks_sequence, runs_as, statement_of}
+use Rattle.store_sql.proofs.Words.{table_defined_by}
+use Rattle.sqlite.specs.Change.{next_tree}
 use Rattle.sqlite_tied.specs.Compute.{everything}
 use Rattle.sqlite.specs.Listing.{understood}
-use Rattle.sqlite.specs.declared.error.Error.{Error}
-use Rattle.sqlite.specs.State.{State, Writes, Executes, CommitsBy}
-use Rattle.sqlite.proofs.Callers.{IsPlain, command_of, statement_of, runs_as}
-use Rattle.store_sql.specs.declared.sql.TheConstants.{CREATE_OFFICE, CREATE_DEPARTMENT, CREATE_CERT, CREATE_REQUEST, CREATE_RUN, CREATE_REVOKED, CREATE_CA}
-use Rattle.store_sql.specs.Schema.{no_schema, with_office, with_department, with_cert, with_request, with_run, without_ca, office, department, cert, request, run, revoked_keyid, ca}
+use Rattle.sqlite.specs.State.{CommitsBy}
+use Rattle.store_sql.specs.declared.creation.TableName.{TableName}
+use Rattle.store_sql.specs.declared.creation.TableName.TheVariants as name
+use Rattle.store_sql.specs.Making.{before, made, text_of}
 use Rattle.store_sql.specs.Calls.{Creates, Stays, Waits}
 use Rattle.store_sql.specs.Done.{IsDone}
 use Rattle.store_sql.specs.declared.table_fault.Fault.{Fault}
@@ -72,30 +67,13 @@ module _ {text : List ℕ} {before : Schema} {table : Table} (t : Create text be
   pub creates_left : (old : State) (trees : Trees) → CommitsBy text [] old trees → Waits before old trees
   creates_left old trees h has = (commits_as text [] old before has CreateTable t.is t.plain tt trees h).0
 
-pub office_text : Create CREATE_OFFICE.now no_schema office
+-- each of the office's tables
+pub makes : (n : TableName) → Create (text_of n) (before n) (made n)
 unfolding understood everything
-office_text = record { is = refl; all = refl; plain = (refl, refl); defined = refl; uncounted = refl }
-
-pub department_text : Create CREATE_DEPARTMENT.now with_office department
-unfolding understood everything
-department_text = record { is = refl; all = refl; plain = (refl, refl); defined = refl; uncounted = refl }
-
-pub cert_text : Create CREATE_CERT.now with_department cert
-unfolding understood everything
-cert_text = record { is = refl; all = refl; plain = (refl, refl); defined = refl; uncounted = refl }
-
-pub request_text : Create CREATE_REQUEST.now with_cert request
-unfolding understood everything
-request_text = record { is = refl; all = refl; plain = (refl, refl); defined = refl; uncounted = refl }
-
-pub run_text : Create CREATE_RUN.now with_request run
-unfolding understood everything
-run_text = record { is = refl; all = refl; plain = (refl, refl); defined = refl; uncounted = refl }
-
-pub revoked_text : Create CREATE_REVOKED.now with_run revoked_keyid
-unfolding understood everything
-revoked_text = record { is = refl; all = refl; plain = (refl, refl); defined = refl; uncounted = refl }
-
-pub ca_text : Create CREATE_CA.now without_ca ca
-unfolding understood everything
-ca_text = record { is = refl; all = refl; plain = (refl, refl); defined = refl; uncounted = refl }
+makes name.Office = record { is = refl; all = refl; plain = (refl, refl); defined = refl; uncounted = refl }
+makes name.Department = record { is = refl; all = refl; plain = (refl, refl); defined = refl; uncounted = refl }
+makes name.Cert = record { is = refl; all = refl; plain = (refl, refl); defined = refl; uncounted = refl }
+makes name.Request = record { is = refl; all = refl; plain = (refl, refl); defined = refl; uncounted = refl }
+makes name.Run = record { is = refl; all = refl; plain = (refl, refl); defined = refl; uncounted = refl }
+makes name.RevokedKeyId = record { is = refl; all = refl; plain = (refl, refl); defined = refl; uncounted = refl }
+makes name.Ca = record { is = refl; all = refl; plain = (refl, refl); defined = refl; uncounted = refl }

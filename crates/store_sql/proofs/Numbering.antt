@@ -1,18 +1,8 @@
 -- The numbers of rows whose rowid is no column.
 use Rattle.std.proofs.Common.{◌≡◌, ℕ, ℤ, pos, ◌+ℤ◌, ◌+◌, ◌≤◌, List, [], ◌∷◌, length, fold, true, refl, sym, ap, subst, arith}
+use Rattle.store_sql.proofs.Words.{AllByRecursion, Int, IsPermutation, Row, Value, all-permutation, all_from, all_has}
+use Rattle.store_sql.proofs.Words.{id_in, is_int, length_permutation, next_rowid, rowid}
 use Rattle.std.proofs.lemmas.Int.{ints}
-use Rattle.std.specs.List.{AllByRecursion}
-use Rattle.std.specs.List.Sorted.{IsPermutation}
-use Rattle.std.proofs.lemmas.List.Sorted.{length_permutation}
-use Rattle.sqlite.specs.declared.types.Value.{Value}
-use Rattle.sqlite.specs.declared.types.Value.TheVariants.{Int}
-use Rattle.sqlite.specs.Order.{Row}
-use Rattle.sqlite.specs.Tree.{rowid}
-use Rattle.sqlite.specs.Edit.{id_in}
-use Rattle.sqlite_trees.specs.View.{is_int}
-use Rattle.sqlite_rules.specs.Edit.{next_rowid}
-use Rattle.sqlite_rules.proofs.ListLemmas.{all_from, all_has}
-use Rattle.sqlite_trees.proofs.ListLemmas.{all-permutation}
 use Rattle.store_sql.specs.Contents.{AreNumbered, IsNumber}
 
 weaker : (a b : ℕ) (v : Value) → a ≤ b → IsNumber a v → IsNumber b v

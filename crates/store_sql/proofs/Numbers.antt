@@ -1,8 +1,7 @@
 -- Tests of numbers, in the database and in the definitions.
 use Rattle.std.proofs.Common.{◌≡◌, ℕ, pos, is_eq, int_cmp, arith}
-use Rattle.std.specs.Prelude.{◌==◌, nat_le}
-use Rattle.std.specs.Ordering.{is_le, is_ge}
-use Rattle.std.proofs.lemmas.Bool.Decides.{nat_tests}
+use Rattle.store_sql.proofs.Words.{is_ge, is_le, nat_le, nat_tests}
+use Rattle.std.specs.Prelude.{◌==◌}
 
 pub same_number : (a b : ℕ) → is_eq (int_cmp (pos a) (pos b)) ≡ (a == b)
 same_number a b = grind (arith, nat_tests)

@@ -1,29 +1,16 @@
 -- The statements that write the row of the office, and that read it.
-use Rattle.std.proofs.Common.{◌≡◌, ℕ, pos, List, [], ◌∷◌, codes, drop, map, true, false, Ok, Err, Result, IfOk, IfErr, refl, ap, subst, inl, inr}
-use Rattle.std.specs.Prelude.{Vec}
-use Rattle.std.specs.declared.alloc.Global.{Global}
-use Rattle.std.specs.List.Sorted.{IsPermutation}
-use Rattle.sqlite.specs.Order.{Row, column}
-use Rattle.sqlite.specs.declared.types.Value.TheVariants.{Null, Int, Text, Blob}
-use Rattle.sqlite_value.specs.Keys.{ascending}
-use Rattle.sqlite.specs.Term.{Term, lit, col}
-use Rattle.sqlite.specs.Collation.TheVariants.{Binary}
-use Rattle.sqlite.specs.Query.{Query, IsAnswer}
-use Rattle.sqlite.specs.Program.{overlay}
-use Rattle.sqlite.specs.Source.TheVariants.{Values}
-use Rattle.sqlite.specs.Command.TheVariants.{Insert, Select}
-use Rattle.sqlite.specs.Tree.{Trees}
-use Rattle.sqlite.specs.Effect.{Database}
-use Rattle.sqlite.specs.Schema.{Schema}
-use Rattle.sqlite.specs.Table.{Table}
-use Rattle.sqlite.specs.State.{State, FailsToQuery, Shown}
-use Rattle.sqlite.specs.declared.error.Error.{Error}
+use Rattle.std.proofs.Common.{◌≡◌, ℕ, pos, List, [], ◌∷◌, codes, drop, true, Ok, Err, Result, IfOk, IfErr, refl, ap}
+use Rattle.store_sql.proofs.Words.{Binary, Blob, Database, Error, Global, Insert, Int, IsAnswer, Null, Row, Schema}
+use Rattle.store_sql.proofs.Words.{State, Table, Term, Text, Trees, Values, Vec, ascending, col, column, lit, overlay}
+use Rattle.sqlite.specs.State.{FailsToQuery, Shown}
 use Rattle.sqlite_tied.specs.Compute.{everything}
-use Rattle.sqlite.specs.Listing.{understood, reads_listing}
-use Rattle.sqlite.proofs.Callers.{IsPlain, command_of}
+use Rattle.sqlite.specs.Listing.{understood}
+use Rattle.store_sql.proofs.Selects.{IsSelect, IsTreeOf, select}
+use Rattle.store_sql.proofs.FaultLemmas.{IsStatement}
+use Rattle.store_sql.proofs.Rows.{cast_null, cast_int}
 use Rattle.store_sql.specs.Schema.{whole, office_at}
 use Rattle.store_sql.specs.Cells.{office_cells}
-use Rattle.store_sql.specs.Contents.{HasOffices, Lists, office_places}
+use Rattle.store_sql.specs.Contents.{HasOffices, Holds, Lists, office_places}
 use Rattle.store_sql.specs.Calls.{FailsIn, FindsIn}
 use Rattle.store_sql.specs.Done.{IsRead}
 use Rattle.store_sql.specs.Faults.{HasCause}
@@ -35,103 +22,84 @@ use Rattle.store_sql.proofs.Apart.{office_apart}
 use Rattle.store_sql.proofs.CallLemmas.{Find, FindIn, Write, found_all, found_fails}
 use Rattle.store_sql.proofs.Edits.{keep_all}
 use Rattle.store_sql.proofs.Elsewhere.{in_office}
-use Rattle.store_sql.proofs.FaultLemmas.{IsWhole, none_overflows}
 use Rattle.store_sql.proofs.FirstTable.{first_is}
-use Rattle.store_sql.proofs.Inserts as insert
-use Rattle.store_sql.proofs.Queries.{on_table, in_order, selected, chosen}
-use Rattle.store_sql.proofs.Rows.{cast_int}
+use Rattle.store_sql.proofs.Inserts.{IsInsert, insert}
+use Rattle.store_sql.proofs.Queries.{on_table, in_order}
 use Rattle.store_sql.proofs.Rising.{AscendBy}
+
+pub tree : IsTreeOf Holds office_cells office_places 0 (λ c. c.offices)
+tree = record { stored = λ trees. refl; held = λ trees c h. h.offices; apart = office_apart }
 
 -- ---- INSERT
 
-abbrev pub insert_sql : List ℕ
-insert_sql = INSERT_OFFICE.now
-
-abbrev pub terms : List Term
+abbrev terms : List Term
 terms = col 0 0 ∷ lit Null ∷ col 0 1 ∷ col 0 2 ∷ col 0 3 ∷ col 0 4 ∷ col 0 5 ∷ col 0 6 ∷ col 0 7 ∷ col 0 8 ∷ col 0 9
     ∷ []
 
-pub insert_is : (command_of (understood whole insert_sql) ≡ Insert 0 (Values terms 11))
-    × IsPlain (understood whole insert_sql) × IsWhole insert_sql 10 (understood whole insert_sql)
+abbrev pub office_row : OfficeRow → Row
+office_row x = Int (pos x.id) ∷ Null ∷ Int (pos x.schema) ∷ Blob x.ca ∷ Text x.root ∷ Text x.station ∷ Int (pos x.first)
+    ∷ Int (pos x.last) ∷ Int (pos x.next) ∷ Int (pos x.version) ∷ Int (pos x.date) ∷ []
+
+insert_is : IsStatement INSERT_OFFICE.now (Insert 0 (Values terms 11)) 10
 unfolding understood everything
 insert_is = (refl, (refl, refl), (refl, refl))
 
-abbrev pub source : OfficeRow → Row
-source o = Int (pos o.id) ∷ Null ∷ Int (pos o.schema) ∷ Blob o.ca ∷ Text o.root ∷ Text o.station ∷ Int (pos o.first)
-    ∷ Int (pos o.last) ∷ Int (pos o.next) ∷ Int (pos o.version) ∷ Int (pos o.date) ∷ []
+pub puts : IsInsert INSERT_OFFICE.now office_cells office_places 0 office_at terms 11 with_office (λ c. c.offices) (λ x rows. office_row x)
+puts = record {
+  tree = tree;
+  found = refl;
+  is = λ x. insert_is;
+  source = office_row;
+  sourced = λ x. refl;
+  typed = λ x. refl;
+  made = λ x rows. simp (cast_int, cast_null);
+  row_is = λ x rows. refl;
+  held = λ x db after c h o put. in_office db after c h (x ∷ c.offices) o;
+}
 
-pub put : (o : OfficeRow) → Write insert_sql (office_cells o) (with_office o)
-put = insert.put insert_sql office_cells office_places 0 office_at terms 11 source with_office (λ c. c.offices)
-    refl insert_is.0 insert_is.1 (λ x. insert_is.2) (λ x. refl) (λ x rows. simp cast_int) (λ db c h. h.offices)
-    (λ x db after c h o put now. in_office db after c h (x ∷ c.offices) o now)
+pub put : (x : OfficeRow) → Write INSERT_OFFICE.now (office_cells x) (with_office x)
+put = insert puts
 
 -- ---- SELECT of all
 
+abbrev columns : List Term
+columns = col 1 0 ∷ col 1 2 ∷ col 1 3 ∷ col 1 4 ∷ col 1 5 ∷ col 1 6 ∷ col 1 7 ∷ col 1 8 ∷ col 1 9 ∷ col 1 10 ∷ []
+
+abbrev names : List (List ℕ)
+names = codes "id" ∷ codes "schema" ∷ codes "ca" ∷ codes "root" ∷ codes "station" ∷ codes "first" ∷ codes "last"
+    ∷ codes "next" ∷ codes "version" ∷ codes "date" ∷ []
+
+abbrev shown : Row → Row
+shown v = column v 0 ∷ column v 1 ∷ column v 2 ∷ column v 3 ∷ column v 4 ∷ column v 5 ∷ column v 6 ∷ column v 7
+    ∷ column v 8 ∷ column v 9 ∷ []
+
 abbrev every_sql : List ℕ
 every_sql = EVERY_OFFICE.now
-
-abbrev every_query : Query
-every_query = on_table 0 [] (col 1 0 ∷ col 1 2 ∷ col 1 3 ∷ col 1 4 ∷ col 1 5 ∷ col 1 6 ∷ col 1 7 ∷ col 1 8 ∷ col 1 9
-    ∷ col 1 10 ∷ []) ((col 1 0, ascending Binary) ∷ [])
-
-abbrev pub every_names : List (List ℕ)
-every_names = codes "id" ∷ codes "schema" ∷ codes "ca" ∷ codes "root" ∷ codes "station" ∷ codes "first" ∷ codes "last"
-    ∷ codes "next" ∷ codes "version" ∷ codes "date" ∷ []
 
 -- a schema with that table first, and these others
 abbrev beginning : Schema → List Table → Schema
 beginning s others = record s { tables = office_at ∷ others }
 
 every_is : (s : Schema) (others : List Table)
-    → (command_of (understood (beginning s others) every_sql) ≡ Select (record { lets = []; body = every_query }) every_names)
-    × (reads_listing (beginning s others) every_sql ≡ false) × IsPlain (understood (beginning s others) every_sql)
-    × IsWhole every_sql 0 (understood (beginning s others) every_sql)
+    → IsSelect (beginning s others) every_sql (on_table 0 [] columns ((col 1 0, ascending Binary) ∷ [])) names 0
 unfolding understood everything
 every_is s others = (refl, refl, (refl, refl), (refl, refl))
 
 abbrev HoldsOffices : Trees → List OfficeRow → Type 0
 HoldsOffices trees xs = Lists office_cells office_places (trees 0) xs
 
-every_answers : (trees : Trees) (rows : List Row) (xs : List OfficeRow) → HoldsOffices trees xs
-    → IsAnswer every_query (overlay trees []) ([]) rows → IsPermutation (map office_cells xs) rows
-every_answers trees rows xs h answer =
-    subst (λ xs. IsPermutation (map office_cells xs) rows) (keep_all xs)
-    (chosen office_cells office_cells (λ x. true) office_places (λ v. true)
-    (λ v. column v 0 ∷ column v 1 ∷ column v 2 ∷ column v 3 ∷ column v 4 ∷ column v 5 ∷ column v 6 ∷ column v 7
-    ∷ column v 8 ∷ column v 9 ∷ []) (λ x. refl) (λ x. refl) (trees 0) rows xs h
-    (selected 0 _ _ _ trees [] rows refl answer))
-
 every_beside : (s : Schema) (others : List Table)
     → FindIn (beginning s others) HoldsOffices every_sql ([]) office_cells (λ xs. xs)
-every_beside s others = record {
-  query = every_query;
-  names = every_names;
-  is = (every_is s others).0;
-  unlisted = (every_is s others).1;
-  plain = (every_is s others).2;
-  one = (every_is s others).3;
-  typed = refl;
-  sure = λ trees h. elim h [ inl over ↦ over | inr fold ↦ none_overflows _ fold ];
-  apart = office_apart;
-  answers = every_answers;
-}
+every_beside s others =
+    select {places = office_places} {of = λ xs. xs} (record { stored = λ trees. refl; held = λ trees xs h. h; apart = office_apart }) (every_is s others)
+    (λ x. true) (λ v. true) shown (λ x. refl) (λ x. refl) (λ r. refl) (λ r. refl) refl keep_all
 
 abbrev the_others : List Table
 the_others = drop 1 whole.tables
 
 pub every : Find every_sql ([]) office_cells (λ c. c.offices)
-every = record {
-  query = every_query;
-  names = every_names;
-  is = (every_is whole the_others).0;
-  unlisted = (every_is whole the_others).1;
-  plain = (every_is whole the_others).2;
-  one = (every_is whole the_others).3;
-  typed = refl;
-  sure = λ trees h. elim h [ inl over ↦ over | inr fold ↦ none_overflows _ fold ];
-  apart = office_apart;
-  answers = λ trees rows c h. every_answers trees rows c.offices h.offices;
-}
+every = select tree (every_is whole the_others) (λ x. true) (λ v. true) shown (λ x. refl) (λ x. refl) (λ r. refl)
+    (λ r. refl) refl (λ c. keep_all c.offices)
 
 -- the rows of that table, whatever the others are
 module _ (old new : State) (answer : Result (Vec Row Global) Error)
@@ -164,7 +132,6 @@ module _ (old new : State) (answer : Result (Vec Row Global) Error)
 
 pub every_rises : (trees : Trees) (rows : List Row) → IsAnswer every.query (overlay trees []) ([]) rows
     → AscendBy 0 rows
-unfolding every
+unfolding every select
 every_rises trees rows answer =
-    in_order 0 [] (col 1 0 ∷ col 1 2 ∷ col 1 3 ∷ col 1 4 ∷ col 1 5 ∷ col 1 6 ∷ col 1 7 ∷ col 1 8 ∷ col 1 9 ∷ col 1 10
-    ∷ []) ((col 1 0, ascending Binary) ∷ []) trees ([]) rows (λ v. column v 0 ∷ []) (λ r. refl) refl answer
+    in_order 0 [] columns ((col 1 0, ascending Binary) ∷ []) trees ([]) rows (λ v. column v 0 ∷ []) (λ r. refl) refl answer

@@ -1,41 +1,19 @@
 -- What a SELECT on one table shows.
 use Rattle.std.proofs.Common.{◌≡◌, ◌⊎◌, inl, inr, ℕ, ℤ, pos, negsuc, List, [], ◌∷◌, map, Bool, true, false, cond, Option, None, Some, Ok, Err, refl, sym, ap, subst, ◌∙◌, ◌++◌}
-use Rattle.std.proofs.lemmas.Simd.{map-map}
-use Rattle.std.specs.Prelude.{filter, flat_map}
-use Rattle.std.specs.List.{list_all, AllByRecursion}
+use Rattle.std.specs.Prelude.{flat_map}
 use Rattle.std.proofs.Common.{ap₂, Result, IfOk}
-use Rattle.std.specs.Prelude.{OnOk, Vec, is_some}
-use Rattle.std.specs.declared.alloc.Global.{Global}
-use Rattle.std.specs.Prelude.{IsSorted}
-use Rattle.sqlite.specs.Query.{key_cmp, output_cmp}
-use Rattle.sqlite_exec.proofs.PartitionLemmas.{IsSorted-from_map}
-use Rattle.sqlite_trees.proofs.ListLemmas.{all-permutation}
-use Rattle.std.specs.List.Sorted.{IsPermutation}
-use Rattle.std.proofs.lemmas.List.Sorted.{IsPermutation-refl, IsPermutation-trans, IsPermutation-map}
-use Rattle.sqlite_trees.proofs.ListLemmas.{IsPermutation-filter, filter-map}
-use Rattle.sqlite.specs.declared.types.Value.TheVariants.{Int, Blob}
-use Rattle.sqlite_value.specs.declared.keys.Key.{Key}
-use Rattle.sqlite.specs.Order.{Row}
-use Rattle.sqlite.specs.Term.{Term, lit, holds, eval_all}
-use Rattle.sqlite.specs.Query.{Query, inner, end, IsAnswer, Output, output}
-use Rattle.sqlite.specs.Program.{overlay}
-use Rattle.sqlite.specs.Tree.{Trees}
-use Rattle.sqlite.specs.declared.error.Error.{Error}
-use Rattle.sqlite.specs.State.{State, CommitsShowing, FailsToQuery, FailsToShow, IsNotRun, IsUnchanged, IsRolledBack, Shown, ShowsRows}
-use Rattle.sqlite_resolve.specs.declared.compiled.Compiled.{Compiled}
-use Rattle.sqlite_schema.specs.declared.command.Returning.{Returning}
-use Rattle.sqlite.specs.Clock.{timed}
+use Rattle.store_sql.proofs.Words.{AllByRecursion, Binary, Blob, Compare, Compiled, Eq, Error, Ge, Global, Int}
+use Rattle.store_sql.proofs.Words.{IsAnswer, IsPermutation, IsPermutation-filter, IsPermutation-map, IsPermutation-refl}
+use Rattle.store_sql.proofs.Words.{IsPermutation-trans, IsPlain, IsRolledBack, IsSorted, IsSorted-from_map, IsUnchanged}
+use Rattle.store_sql.proofs.Words.{Key, Le, Ne, OnOk, Output, Query, Returning, Row, State, Term, Text, Trees, Vec}
+use Rattle.store_sql.proofs.Words.{all-permutation, bytes_eq, eval_all, filter, filter-map, holds, int_cmp, is_eq}
+use Rattle.store_sql.proofs.Words.{is_eq-slice_cmp, is_ge, is_le, is_ne, is_some, is_true, key_cmp, list_all, lit}
+use Rattle.store_sql.proofs.Words.{map-map, overlay, timed, value_cmp-Int, value_cmp-Text}
+use Rattle.sqlite.specs.Query.{output_cmp, inner, end, output}
+use Rattle.sqlite.specs.State.{CommitsShowing, FailsToQuery, FailsToShow, IsNotRun, Shown, ShowsRows}
 use Rattle.sqlite.specs.Listing.{understood}
-use Rattle.sqlite.proofs.Callers.{IsPlain}
-use Rattle.sqlite.specs.declared.types.Value.TheVariants.{Text, Blob}
-use Rattle.sqlite.specs.Ops.{binary, is_true, from_truth}
-use Rattle.sqlite_sql.specs.declared.ops.BinaryOp.TheVariants.{Compare}
-use Rattle.sqlite_sql.specs.declared.ops.CompareOp.TheVariants.{Eq, Ne, Le, Ge}
-use Rattle.sqlite.specs.Collation.TheVariants.{Binary}
-use Rattle.std.specs.Ordering.{is_eq, is_ne, is_le, is_ge, int_cmp}
-use Rattle.std.specs.Prelude.{bytes_eq}
-use Rattle.std.proofs.lemmas.Map.Text.{is_eq-slice_cmp}
-use Rattle.sqlite_value.proofs.OrderLemmas.{value_cmp-Blob, value_cmp-Text, value_cmp-Int}
+use Rattle.sqlite.specs.Ops.{binary, from_truth}
+use Rattle.sqlite_value.proofs.OrderLemmas.{value_cmp-Blob}
 use Rattle.store_sql.specs.Contents.{Lists, at_places}
 use Rattle.store_sql.specs.Calls.{Never}
 

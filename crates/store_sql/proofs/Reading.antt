@@ -1,6 +1,6 @@
 -- Rows read as structs of their columns.
 use Rattle.std.proofs.Common.{◌≡◌, ◌≢◌, ℕ, zero, suc, List, [], ◌∷◌, map, ◌∙◌, get_or, length, ◌<◌, arith}
-use Rattle.sqlite.specs.Order.{Row}
+use Rattle.store_sql.proofs.Words.{Row}
 use Rattle.store_sql.specs.Faults.{Misread}
 use Rattle.store_sql.specs.declared.table_fault.Fault.{Fault}
 use Rattle.store_sql.specs.declared.table_fault.Fault.TheVariants.{Device, Damaged, NoMemory}

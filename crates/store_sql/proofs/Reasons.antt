@@ -1,38 +1,31 @@
 -- Why one row is not put into a table of the office.
 use Rattle.std.proofs.Common.{◌≡◌, ◌≢◌, ◌⊎◌, inl, inr, ℕ, ℤ, pos, negsuc, ◌≤◌, ◌<◌, ◌^◌, ◌+◌, List, [], ◌∷◌, drop, length, Bool, true, false, not, refl, sym, subst, ◌∙◌, arith}
-use Rattle.std.specs.Prelude.{◌&&◌, ◌==◌, sum_by, nat_le}
+use Rattle.store_sql.proofs.Words.{All, AllByRecursion, Applies, BadReference, Blob, Check, Datatype, Edit, Enforced}
+use Rattle.store_sql.proofs.Words.{ForeignKey, Has, Index, Int, IsOversized, IsTable, Keeps, Mismatch, NoRowid}
+use Rattle.store_sql.proofs.Words.{NotNull, Null, PrimaryKey, Refers, Row, Table, Text, TooDeep, Trees, Unique, Value}
+use Rattle.store_sql.proofs.Words.{Violates, agree, all_from, all_has, and_parts, are_typed, cases_Bool, clashes}
+use Rattle.store_sql.proofs.Words.{eqb-true, fits_i64, guards, id_in, index_reals, int_cmp, int_is, is_int, is_ne}
+use Rattle.store_sql.proofs.Words.{is_referred, is_taken, leb-true, left_by, list_any, nat_le, rowid}
+use Rattle.store_sql.proofs.Words.{some_has, table_reals, tied_itself, with_tree}
+use Rattle.std.specs.Prelude.{◌&&◌, ◌==◌, sum_by}
 use Rattle.std.specs.Float.{NotNan}
-use Rattle.std.specs.List.{AllByRecursion, list_any, list_all}
-use Rattle.std.specs.Ordering.{int_cmp, is_ne}
-use Rattle.std.proofs.lemmas.Bool.{cases_Bool, eqb-true, leb-true, leb-false, and_parts, not-false}
+use Rattle.std.proofs.lemmas.Bool.{leb-false, not-false}
 use Rattle.std.proofs.Math.Dec.{T, eqb_refl}
-use Rattle.std.proofs.lemmas.Cmp.{int_cmp_total, tied_itself}
+use Rattle.std.proofs.lemmas.Cmp.{int_cmp_total}
 use Rattle.std.proofs.lemmas.List.Elements.{All-from_recursion}
 use Rattle.std.proofs.lemmas.Nat.Bits.{bit_at-zero}
 use Rattle.sqlite_value.specs.Order.{bytes, exact, number}
-use Rattle.sqlite.specs.declared.types.Value.{Value}
-use Rattle.sqlite.specs.declared.types.Value.TheVariants.{Null, Int, Real, Text, Blob}
-use Rattle.sqlite.specs.Order.{Row}
-use Rattle.sqlite.specs.Table.{Table}
-use Rattle.sqlite.specs.Tree.{Trees, IsTable, rowid, with_tree}
-use Rattle.sqlite.specs.Edit.{Applies, Edit, id_in, is_taken, left_by}
+use Rattle.sqlite.specs.declared.types.Value.TheVariants.{Real}
 use Rattle.sqlite_trees.specs.Tree.{IsAscending}
-use Rattle.sqlite_trees.specs.View.{is_int, IsStorable, IsStorableRow}
+use Rattle.sqlite_trees.specs.View.{IsStorable, IsStorableRow}
 use Rattle.sqlite_sql.specs.Catalog.{entry_of}
-use Rattle.sqlite_sql.specs.Ops.{fits_i64}
-use Rattle.sqlite_schema.specs.declared.schema.Among.TheVariants.{All}
-use Rattle.sqlite_schema.specs.declared.schema.Constraint.TheVariants.{Datatype, NotNull, Check, PrimaryKey, Unique, ForeignKey}
-use Rattle.sqlite_schema.specs.declared.schema.Index.{Index}
-use Rattle.sqlite_schema.specs.declared.schema.Keys.TheVariants.{Enforced}
-use Rattle.sqlite_schema.specs.Rules.{Keeps, Refers, agree, are_present, are_typed, clashes, differ, guards, has_computed, index_reals, passes_checks, table_reals}
-use Rattle.sqlite_rules.specs.Edit.{edited, is_referred, IsOversized, taken_by}
+use Rattle.sqlite_schema.specs.Rules.{are_present, differ, has_computed, passes_checks}
+use Rattle.sqlite_rules.specs.Edit.{edited, taken_by}
 use Rattle.sqlite_rules.specs.Keys.{are_unique}
-use Rattle.sqlite_rules.specs.Lists.{Has}
-use Rattle.sqlite_rules.specs.declared.error.Refusal.TheVariants.{Violates, Mismatch, NoRowid, BadReference, TooDeep}
 use Rattle.sqlite_rules.proofs.EditLemmas.{turns}
-use Rattle.sqlite_rules.proofs.ListLemmas.{all_from, all_has, fails_has, some_has}
+use Rattle.sqlite_rules.proofs.ListLemmas.{fails_has}
 use Rattle.sqlite_rules.proofs.RuleLemmas.{unique_kept}
-use Rattle.sqlite_rules.proofs.TableLemmas.{int_is, put_has}
+use Rattle.sqlite_rules.proofs.TableLemmas.{put_has}
 use Rattle.store_sql.specs.Schema.{whole}
 use Rattle.store_sql.proofs.Queries.{int_ne_test}
 use Rattle.store_sql.proofs.Stops.{IsHalted}

@@ -1,15 +1,8 @@
 -- Why a row is not written.
 use Rattle.std.proofs.Common.{◌≡◌, inl, inr, ℕ, List, length, None, Some, Option, Ok, Err, Result, refl, sym, subst}
-use Rattle.sqlite.specs.Command.{Command}
-use Rattle.sqlite.specs.Does.{Does}
+use Rattle.store_sql.proofs.Words.{Command, CompileError, Compiled, Does, Error, IfOk, Row, State, command_of}
+use Rattle.store_sql.proofs.Words.{statement_of, text_of}
 use Rattle.sqlite.specs.Listing.{understood}
-use Rattle.sqlite.specs.Order.{Row}
-use Rattle.sqlite.specs.State.{State, text_of}
-use Rattle.sqlite_resolve.specs.declared.compiled.Compiled.{Compiled}
-use Rattle.sqlite_resolve.specs.declared.error.CompileError.{CompileError}
-use Rattle.sqlite.specs.declared.error.Error.{Error}
-use Rattle.sqlite.proofs.Callers.{command_of, statement_of}
-use Rattle.std.specs.Prelude.{IfOk}
 use Rattle.store_sql.specs.declared.table_fault.Fault.{Fault}
 use Rattle.store_sql.specs.declared.table_fault.Fault.TheVariants.{Device, Damaged, NoMemory}
 use Rattle.store_sql.specs.Schema.{whole}

@@ -1,21 +1,12 @@
 -- ORDER BY one column.
 use Rattle.std.proofs.Common.{◌≡◌, arith, true, ℕ, pos, List, [], ◌∷◌, map, Ok, Err, Result, refl, subst, ◌∙◌, IfOk, Ordering, Less, Equal, Greater, int_cmp, nat_cmp}
+use Rattle.store_sql.proofs.Words.{Binary, Error, Global, Int, IsAnswer, IsSorted, IsSorted-from_map, Null, Row}
+use Rattle.store_sql.proofs.Words.{State, Text, Trees, Vec, ascending, column, key_cmp, overlay, reads_as}
+use Rattle.store_sql.proofs.Words.{value_cmp-Int, value_cmp-Text}
 use Rattle.std.specs.Cmp.Lexicographic.{slice_cmp}
-use Rattle.std.specs.Prelude.{Vec, IsSorted}
-use Rattle.std.specs.declared.alloc.Global.{Global}
 use Rattle.std.proofs.lemmas.Grind.{common_steps}
-use Rattle.sqlite.specs.Order.{Row, column, value_cmp}
-use Rattle.sqlite.specs.declared.types.Value.TheVariants.{Null, Int, Text}
-use Rattle.sqlite_value.specs.Keys.{ascending}
-use Rattle.sqlite_value.proofs.OrderLemmas.{value_cmp-Int, value_cmp-Text}
-use Rattle.sqlite.specs.Collation.TheVariants.{Binary}
-use Rattle.sqlite.specs.Query.{key_cmp, IsAnswer}
-use Rattle.sqlite.specs.Program.{overlay}
-use Rattle.sqlite.specs.Tree.{Trees}
-use Rattle.sqlite_exec.proofs.PartitionLemmas.{IsSorted-from_map}
-use Rattle.sqlite.specs.declared.error.Error.{Error}
-use Rattle.sqlite.specs.State.{State, Shown}
-use Rattle.sqlite.proofs.Callers.{reads_as}
+use Rattle.sqlite.specs.Order.{value_cmp}
+use Rattle.sqlite.specs.State.{Shown}
 use Rattle.store_sql.specs.declared.table_fault.Fault.{Fault}
 use Rattle.store_sql.specs.declared.runs.RunRow.{RunRow}
 use Rattle.store_sql.specs.Cells.{run_cells}

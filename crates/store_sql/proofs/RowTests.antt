@@ -1,28 +1,11 @@
 -- Tests that a query makes of a row: of two integers, of two texts, and a test that one row passes.
 use Rattle.std.proofs.Common.{◌≡◌, ℕ, List, [], ◌∷◌, Bool, true, false, refl, sym, ap, ap₂, subst, ◌∙◌, inl, inr, is_eq}
-use Rattle.std.specs.Prelude.{filter}
-use Rattle.sqlite.specs.Order.{Row, value_cmp}
-use Rattle.sqlite.specs.declared.types.Value.TheVariants.{Text}
-use Rattle.sqlite_value.proofs.OrderLemmas.{value_cmp_total}
-use Rattle.std.proofs.lemmas.Cmp.{tied_itself}
-use Rattle.std.proofs.lemmas.Bool.{cases_Bool}
-use Rattle.std.specs.List.{list_any}
-use Rattle.std.specs.declared.cmp.Ordering.TheVariants.{Less, Equal, Greater}
-use Rattle.std.specs.declared.cmp.Ordering.{Ordering}
-use Rattle.sqlite_rules.proofs.ListLemmas.{all_has, some_from}
-use Rattle.sqlite_rules.proofs.TableLemmas.{int_is}
-use Rattle.sqlite_value.proofs.OrderLemmas.{value_cmp-Text, value_cmp-Int}
-use Rattle.sqlite.specs.declared.types.Value.{Value}
-use Rattle.std.proofs.lemmas.Map.Text.{is_eq-slice_cmp}
-use Rattle.std.specs.Ordering.{is_ne}
-use Rattle.sqlite.specs.Ops.{binary, is_true}
-use Rattle.sqlite_sql.specs.declared.ops.BinaryOp.TheVariants.{Compare}
-use Rattle.sqlite_sql.specs.declared.ops.CompareOp.TheVariants.{Eq, Ne}
-use Rattle.sqlite.specs.Collation.TheVariants.{Binary}
-use Rattle.sqlite.specs.Tree.{rowid, IsTable}
-use Rattle.sqlite_trees.specs.View.{is_int}
-use Rattle.sqlite.specs.Edit.{id_in}
-use Rattle.sqlite_rules.specs.Lists.{Has}
+use Rattle.store_sql.proofs.Words.{Binary, Compare, Eq, Equal, Greater, Has, IsTable, Less, Ne, Ordering, Row, Text}
+use Rattle.store_sql.proofs.Words.{Value, all_has, cases_Bool, filter, id_in, int_is, is_eq-slice_cmp, is_int, is_ne}
+use Rattle.store_sql.proofs.Words.{is_true, list_any, rowid, some_from, tied_itself, value_cmp-Int, value_cmp-Text}
+use Rattle.store_sql.proofs.Words.{value_cmp_total}
+use Rattle.sqlite.specs.Order.{value_cmp}
+use Rattle.sqlite.specs.Ops.{binary}
 use Rattle.store_sql.proofs.Queries.{text_test, int_test, int_ne_test}
 
 -- tests of two integers, as their order

@@ -1,24 +1,16 @@
 -- The rows of a table as records, under the edits.
 use Rattle.std.proofs.Common.{◌≡◌, ℕ, ℤ, List, [], ◌∷◌, map, Bool, true, false, not, cond, refl, sym, subst}
+use Rattle.store_sql.proofs.Words.{Applies, Chosen, Enforced, Equal, Greater, Int, IsPermutation, IsPermutation-cons}
+use Rattle.store_sql.proofs.Words.{IsPermutation-map, IsPermutation-middle, IsPermutation-refl, IsPermutation-trans}
+use Rattle.store_sql.proofs.Words.{IsTable, IsTable-put_row, Less, Null, Ordering, Row, Schema, Table, Trees}
+use Rattle.store_sql.proofs.Words.{cast_row, edit_of, is_eq, is_taken, put_row, rowid, with_rowid}
 use Rattle.std.specs.Prelude.{◌||◌, ◌&&◌}
-use Rattle.std.specs.List.Sorted.{IsPermutation}
-use Rattle.std.proofs.lemmas.List.Sorted.{IsPermutation-refl, IsPermutation-trans, IsPermutation-cons, IsPermutation-middle, IsPermutation-map}
-use Rattle.std.specs.declared.cmp.Ordering.{Ordering}
-use Rattle.std.specs.declared.cmp.Ordering.TheVariants.{Less, Equal, Greater}
-use Rattle.std.specs.Ordering.{is_eq, match_ordering}
-use Rattle.sqlite.specs.declared.types.Value.TheVariants.{Null, Int}
-use Rattle.sqlite.specs.Order.{Row, value_cmp}
+use Rattle.std.specs.Ordering.{match_ordering}
+use Rattle.sqlite.specs.Order.{value_cmp}
 use Rattle.sqlite.specs.Ops.{unary}
-use Rattle.sqlite.specs.Cast.{cast, cast_row}
+use Rattle.sqlite.specs.Cast.{cast}
 use Rattle.sqlite.specs.Kind.TheVariants.{Integer}
-use Rattle.sqlite_schema.specs.declared.schema.Keys.TheVariants.{Enforced}
-use Rattle.sqlite.specs.Table.{Table}
-use Rattle.sqlite.specs.Schema.{Schema}
-use Rattle.sqlite.specs.Tree.{Trees, rowid, put_row, IsTable}
-use Rattle.sqlite_trees.proofs.TreeLemmas.{IsTable-put_row}
 use Rattle.store_sql.specs.Schema.{whole}
-use Rattle.sqlite.specs.Edit.{edit_of, Applies, is_taken, with_rowid}
-use Rattle.sqlite.specs.Rowids.TheVariants.{Chosen}
 use Rattle.store_sql.specs.Contents.{Lists, at_places}
 
 either : {X : Type 0} (b : Bool) (x : X) → cond b x x ≡ x

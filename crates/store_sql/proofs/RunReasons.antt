@@ -1,55 +1,35 @@
 -- Why a run is refused, and that a deletion of runs is not.
-use Rattle.std.proofs.Common.{◌≡◌, inl, inr, ℕ, ℤ, pos, ◌<◌, ◌^◌, List, [], ◌∷◌, drop, Bool, true, false, not, Ok, Err, Result, refl, sym, ap, subst, ◌∙◌, arith}
-use Rattle.std.specs.Prelude.{◌&&◌, ◌==◌, length, nat_lt}
-use Rattle.std.specs.List.{AllByRecursion}
-use Rattle.std.proofs.lemmas.Bool.{cases_eq, lt-ltb}
+use Rattle.std.proofs.Common.{◌≡◌, inl, inr, ℕ, ℤ, ◌<◌, ◌^◌, List, [], drop, Bool, true, false, not, Ok, Err, Result, refl, sym, ap, subst, ◌∙◌, arith}
+use Rattle.store_sql.proofs.Words.{AllByRecursion, BadReference, Check, Datatype, Delete, ForeignKey, Has, Index, Keeps}
+use Rattle.store_sql.proofs.Words.{Mismatch, NoRowid, NotNull, PrimaryKey, Row, State, TooDeep, Trees, Unique, Violates}
+use Rattle.store_sql.proofs.Words.{accepts_program, all_has, cases_eq, clashes, column, guards, ids_of, lt-ltb, nat_lt}
+use Rattle.store_sql.proofs.Words.{references_fit, statement_of, with_tree, without_all}
+use Rattle.std.specs.Prelude.{◌&&◌, ◌==◌, length}
 use Rattle.sqlite_value.specs.Keys.{joined}
 use Rattle.sqlite_schema.specs.Names.{same_name}
-use Rattle.sqlite.specs.declared.types.Value.TheVariants.{Null, Int}
-use Rattle.sqlite.specs.Order.{Row, column}
-use Rattle.sqlite.specs.Cast.{cast_row}
-use Rattle.sqlite.specs.Edit.{with_rowid, without_all}
-use Rattle.sqlite.specs.Rowids.TheVariants.{Chosen}
-use Rattle.sqlite.specs.State.{State}
-use Rattle.sqlite.specs.Source.TheVariants.{Values}
-use Rattle.sqlite.specs.Command.TheVariants.{Delete, Insert}
 use Rattle.sqlite.specs.Listing.{understood}
-use Rattle.sqlite.specs.Tree.{Trees, with_tree}
-use Rattle.sqlite.proofs.Callers.{statement_of}
-use Rattle.sqlite_rules.specs.Calls.{ids_of}
-use Rattle.sqlite_rules.specs.Lists.{Has}
-use Rattle.sqlite_rules.specs.declared.error.Refusal.TheVariants.{Violates, Mismatch, NoRowid, BadReference, TooDeep}
-use Rattle.sqlite_rules.proofs.ListLemmas.{all_has, test_from}
+use Rattle.sqlite_rules.proofs.ListLemmas.{test_from}
 use Rattle.sqlite_rules.proofs.RuleLemmas.{keeps_at, keeps_from}
-use Rattle.sqlite_schema.specs.Rules.{Keeps, clashes, guards, references_fit}
-use Rattle.sqlite_schema.specs.declared.schema.Index.{Index}
-use Rattle.sqlite_typing.specs.Types.{accepts_program}
-use Rattle.sqlite_schema.specs.declared.schema.Constraint.TheVariants.{Datatype, NotNull, Check, PrimaryKey, Unique, ForeignKey}
 use Rattle.store_sql.specs.Schema.{whole, run_at}
 use Rattle.store_sql.specs.Cells.{run_cells}
 use Rattle.store_sql.specs.Contents.{Contents, Means, run_places}
 use Rattle.store_sql.specs.Refusals.{HasCauseOr, RefusedFor, RefusesRun}
 use Rattle.store_sql.specs.declared.runs.RunRow.{RunRow}
 use Rattle.store_sql.proofs.RunTable as run
+use Rattle.store_sql.proofs.RunTable.{puts, run_row}
+use Rattle.store_sql.specs.declared.sql.TheConstants.{INSERT_RUN}
 use Rattle.store_sql.specs.declared.table_fault.Fault.{Fault}
 use Rattle.store_sql.specs.Calls.{FailsBy}
 use Rattle.store_sql.proofs.FaultLemmas.{HasWriteCause, none_overflows}
 use Rattle.store_sql.specs.declared.table_fault.Fault.TheVariants.{Device, Damaged, NoMemory}
 use Rattle.store_sql.specs.Faults.{HasCause}
 use Rattle.store_sql.proofs.Inserts.{no_works}
-use Rattle.store_sql.proofs.InsertReasons.{insert_halted, none_orphaned, taken_number}
-use Rattle.store_sql.proofs.Reasons.{IsPut, halted, one, other_tree, storable, unclashed}
+use Rattle.store_sql.proofs.InsertReasons.{insert_fails, refers_still, taken_number}
+use Rattle.store_sql.proofs.Reasons.{IsPut, one, other_tree, storable, unclashed}
 use Rattle.store_sql.proofs.Refused.{Stops, refused_for}
-use Rattle.store_sql.proofs.Rows.{cast_int, cast_null}
 use Rattle.store_sql.proofs.Stops.{IsHalted, delete_halts}
 
 -- ---- INSERT
-
-abbrev run_row : RunRow → Row
-run_row r = Int (pos r.lo) ∷ Null ∷ Int (pos r.hi) ∷ []
-
-run_made : (r : RunRow) (rows : List Row) → with_rowid Chosen rows (cast_row run_at (run.source r)) ≡ run_row r
-run_made r rows = simp (cast_int, cast_null)
 
 run_put : (r : RunRow) (s : State) (c : Contents) → Means s.now c → IsPut s.now.trees run_at [] (run_row r)
 unfolding same_name joined
@@ -66,21 +46,17 @@ run_put r s c means = record {
   entries = λ fits. ((λ e. cc), ((λ e. cc), ((λ e. cc), ((λ e. cc), tt))));
 }
 
-pub refuses_run : (x : RunRow) → x.lo < 2 ^ 63 → (s : State) (c : Contents) → Means s.now c
-    → Stops run.insert_sql (run_cells x) (Insert 4 (Values run.terms 3)) s → RefusesRun x c
-refuses_run x below s c means stops =
-    let db = s.now.trees in
-    let row = run_row x in
-    halted db run_at [] row (run_put x s c means)
-    (λ out. absurd (let wrong : true ≡ false = sym (lt-ltb x.lo (2 ^ 63) below) ∙ out in cc))
-    (taken_number run_cells run_places (λ y. y.lo) (db 6) c.runs x.lo (drop 1 row)
-    (λ y r is. ap (λ v. column v 0) is) means.kept.holds.runs)
-    (λ clash. absurd (unclashed db run_at [] row ((λ e. cc), ((λ e. cc), ((λ e. cc), ((λ e. cc), tt)))) clash))
-    (λ long. absurd (omega (arith, long)))
-    (λ next did broken. absurd (none_orphaned db next (one db run_at [] row) (means.kept.sound.obeys.rules ForeignKey) did
-    (λ e. cc) (λ e. cc) broken))
-    (insert_halted run.insert_sql run_cells 4 run_at run.terms 3 run.source (λ y rows. run_row y) refl (λ y. refl) (λ y. refl)
-    run_made x s c means stops)
+pub run_fails : {X : Type 0} (x : RunRow) → x.lo < 2 ^ 63 → (old new : State) (r : Result X Fault)
+    → FailsBy (HasWriteCause INSERT_RUN.now (run_cells x)) old new r → RefusedFor (RefusesRun x) old new r
+run_fails x below =
+    insert_fails puts x (RefusesRun x) (λ s c means. run_put x s c means)
+    (λ s c means out. absurd (let wrong : true ≡ false = sym (lt-ltb x.lo (2 ^ 63) below) ∙ out in cc))
+    (λ s c means taken. taken_number run_cells run_places (λ y. y.lo) (s.now.trees 6) c.runs x.lo (drop 1 (run_row x))
+    (λ y r is. ap (λ v. column v 0) is) means.kept.holds.runs taken)
+    (λ s c means clash. absurd (unclashed s.now.trees run_at [] (run_row x) ((λ e. cc), ((λ e. cc), ((λ e. cc), ((λ e. cc), tt)))) clash))
+    (λ s c long. absurd (omega (arith, long)))
+    (λ s c next means did broken. absurd (broken (refers_still s.now.trees next (one s.now.trees run_at [] (run_row x))
+    (means.kept.sound.obeys.rules ForeignKey) did (λ e. cc) (λ e. cc))))
 
 -- ---- DELETE of runs
 
@@ -133,16 +109,10 @@ deletes_runs ends s c means stops =
     go ids (inl (TooDeep, h)) = h
     go ids (inr (inl (row, none, big))) = none
     go ids (inr (inr (next, did, broken))) =
-        none_orphaned s.now.trees next (record { table = run_at; gone = ids; news = [] }) (means.kept.sound.obeys.rules ForeignKey) did
-        (λ e. cc) (λ e. cc) broken
+        broken (refers_still s.now.trees next (record { table = run_at; gone = ids; news = [] })
+        (means.kept.sound.obeys.rules ForeignKey) did (λ e. cc) (λ e. cc))
 
 -- ---- the calls
-
-pub run_fails : {X : Type 0} (x : RunRow) → x.lo < 2 ^ 63 → (old new : State) (r : Result X Fault)
-    → FailsBy (HasWriteCause run.insert_sql (run_cells x)) old new r → RefusedFor (RefusesRun x) old new r
-run_fails x below old new r =
-    refused_for run.insert_sql (run_cells x) (Insert 4 (Values run.terms 3)) run.insert_is.0 run.insert_is.2 (RefusesRun x)
-    (refuses_run x below) old new r
 
 pub deletion_fails : {X : Type 0} (ends : RunRow) (old new : State) (r : Result X Fault)
     → FailsBy (HasWriteCause run.delete_sql (run_cells ends)) old new r → FailsBy HasCause old new r

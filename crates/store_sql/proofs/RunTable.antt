@@ -1,40 +1,19 @@
 -- The statements on the table of runs.
-use Rattle.std.proofs.Common.{◌≡◌, ℕ, pos, List, [], ◌∷◌, codes, map, Bool, true, false, not, Option, None, Ok, refl, sym, ap, ap₂, subst, ◌∙◌, inl, inr, take, IsSorted}
-use Rattle.std.specs.Prelude.{◌&&◌, filter, nat_le}
-use Rattle.std.specs.List.Sorted.{IsPermutation}
-use Rattle.std.proofs.Math.Bool.{and-true}
-use Rattle.std.proofs.lemmas.Simd.{map-map}
-use Rattle.std.proofs.lemmas.List.Sorted.{IsPermutation-map, IsPermutation-refl}
-use Rattle.sqlite.specs.Order.{Row, column}
-use Rattle.sqlite.specs.declared.types.Value.TheVariants.{Null, Int}
-use Rattle.std.proofs.lemmas.Cmp.{tied_itself}
+use Rattle.std.proofs.Common.{◌≡◌, ℕ, pos, List, [], ◌∷◌, codes, map, Bool, true, not, Option, None, Ok, refl, sym, ap, ap₂, subst, ◌∙◌, inl, inr, take, IsSorted}
+use Rattle.std.specs.Prelude.{◌&&◌}
 use Rattle.std.proofs.Common.{Equal}
-use Rattle.sqlite_value.proofs.OrderLemmas.{value_cmp_total}
+use Rattle.store_sql.proofs.Words.{Applies, Binary, Compare, Database, Delete, Does, Enforced, Ge, Given, Has, Insert}
+use Rattle.store_sql.proofs.Words.{Int, IsAnswer, IsPermutation, IsPermutation-map, IsPermutation-refl, IsPlain, Key}
+use Rattle.store_sql.proofs.Words.{Le, Null, Output, Query, Row, Tally, Term, Trees, Values, and-true, ascending, col}
+use Rattle.store_sql.proofs.Words.{column, command_of, edit_of, filter, id_in, ids_of, is_int, is_true, lit, map-map}
+use Rattle.store_sql.proofs.Words.{nat_le, op2, overlay, rowid, statement_of, tied_itself, tied_same, value_cmp_total}
 use Rattle.sqlite.specs.Order.{value_cmp}
-use Rattle.sqlite_rules.proofs.PlaceLemmas.{tied_same}
-use Rattle.sqlite_value.specs.Keys.{ascending}
-use Rattle.sqlite_value.specs.declared.keys.Key.{Key}
-use Rattle.sqlite.specs.Term.{Term, lit, col, op2}
-use Rattle.sqlite.specs.Ops.{binary, is_true}
-use Rattle.sqlite_sql.specs.declared.ops.BinaryOp.TheVariants.{Compare}
-use Rattle.sqlite_sql.specs.declared.ops.CompareOp.TheVariants.{Le, Ge}
-use Rattle.sqlite.specs.Collation.TheVariants.{Binary}
-use Rattle.sqlite.specs.Query.{Query, IsAnswer, Output}
-use Rattle.sqlite.specs.Program.{overlay}
-use Rattle.sqlite.specs.Source.TheVariants.{Values}
-use Rattle.sqlite.specs.Command.TheVariants.{Insert, Select, Delete}
-use Rattle.sqlite.specs.Tree.{Trees, rowid}
-use Rattle.sqlite_trees.specs.View.{is_int}
-use Rattle.sqlite.specs.Edit.{edit_of, Applies, id_in}
-use Rattle.sqlite.specs.Rowids.TheVariants.{Given}
-use Rattle.sqlite_schema.specs.declared.schema.Keys.TheVariants.{Enforced}
-use Rattle.sqlite_rules.specs.Calls.{ids_of}
-use Rattle.sqlite_rules.specs.Lists.{Has}
-use Rattle.sqlite.specs.Does.{Tally, Does}
-use Rattle.sqlite.specs.Effect.{Database}
+use Rattle.sqlite.specs.Ops.{binary}
 use Rattle.sqlite_tied.specs.Compute.{everything}
-use Rattle.sqlite.specs.Listing.{understood, reads_listing}
-use Rattle.sqlite.proofs.Callers.{IsPlain, command_of, statement_of}
+use Rattle.sqlite.specs.Listing.{understood}
+use Rattle.store_sql.proofs.Selects.{IsSelect, IsTreeOf, select}
+use Rattle.store_sql.proofs.FaultLemmas.{IsStatement, IsWhole, none_overflows}
+use Rattle.store_sql.proofs.Rows.{cast_null, cast_int}
 use Rattle.store_sql.specs.Schema.{whole, run_at}
 use Rattle.store_sql.specs.Cells.{run_cells}
 use Rattle.store_sql.specs.Contents.{Contents, Holds, Means, Lists, at_places, run_places}
@@ -46,71 +25,57 @@ use Rattle.store_sql.proofs.Apart.{run_apart}
 use Rattle.store_sql.proofs.CallLemmas.{Write, Find}
 use Rattle.store_sql.proofs.Edits.{keep_all, of_record, of_row, left_is, filter_table}
 use Rattle.store_sql.proofs.Elsewhere.{spares, in_run}
-use Rattle.store_sql.proofs.FaultLemmas.{IsWhole, none_overflows}
-use Rattle.store_sql.proofs.Inserts.{no_works}
-use Rattle.store_sql.proofs.Inserts as insert
+use Rattle.store_sql.proofs.Inserts.{no_works, IsInsert, insert}
 use Rattle.store_sql.proofs.Queries.{on_table, in_order, in_order, selected, chosen, lists_left, int_le_test, int_ge_test}
-use Rattle.store_sql.proofs.Rows.{cast_int}
 use Rattle.store_sql.proofs.Statements.{mode, deletes}
 use Rattle.store_sql.proofs.Rising.{AscendBy, DescendBy, falling}
 use Rattle.store_sql.proofs.LastRun.{falls, first_is_last, listed}
 use Rattle.store_sql.proofs.Unmapped.{unmapped}
 use Rattle.store_sql.proofs.Numbers.{le_number, ge_number}
 
+pub tree : IsTreeOf Holds run_cells run_places 6 (λ c. c.runs)
+tree = record { stored = λ trees. refl; held = λ trees c h. h.runs; apart = run_apart }
+
 -- ---- INSERT
 
-abbrev pub insert_sql : List ℕ
-insert_sql = INSERT_RUN.now
-
-abbrev pub terms : List Term
+abbrev terms : List Term
 terms = col 0 0 ∷ lit Null ∷ col 0 1 ∷ []
 
-pub insert_is : (command_of (understood whole insert_sql) ≡ Insert 4 (Values terms 3))
-    × IsPlain (understood whole insert_sql) × IsWhole insert_sql 2 (understood whole insert_sql)
+abbrev pub run_row : RunRow → Row
+run_row x = Int (pos x.lo) ∷ Null ∷ Int (pos x.hi) ∷ []
+
+insert_is : IsStatement INSERT_RUN.now (Insert 4 (Values terms 3)) 2
 unfolding understood everything
 insert_is = (refl, (refl, refl), (refl, refl))
 
-abbrev pub source : RunRow → Row
-source r = Int (pos r.lo) ∷ Null ∷ Int (pos r.hi) ∷ []
+pub puts : IsInsert INSERT_RUN.now run_cells run_places 4 run_at terms 3 with_run (λ c. c.runs) (λ x rows. run_row x)
+puts = record {
+  tree = tree;
+  found = refl;
+  is = λ x. insert_is;
+  source = run_row;
+  sourced = λ x. refl;
+  typed = λ x. refl;
+  made = λ x rows. simp (cast_int, cast_null);
+  row_is = λ x rows. refl;
+  held = λ x db after c h o put. in_run db after c h (x ∷ c.runs) o;
+}
 
-pub put : (r : RunRow) → Write insert_sql (run_cells r) (with_run r)
-put = insert.put insert_sql run_cells run_places 4 run_at terms 3 source with_run (λ c. c.runs)
-    refl insert_is.0 insert_is.1 (λ x. insert_is.2) (λ x. refl) (λ x rows. simp cast_int) (λ db c h. h.runs)
-    (λ x db after c h o put now. in_run db after c h (x ∷ c.runs) o now)
+pub put : (x : RunRow) → Write INSERT_RUN.now (run_cells x) (with_run x)
+put = insert puts
 
 -- ---- SELECT of all
 
-abbrev every_sql : List ℕ
-every_sql = EVERY_RUN.now
+abbrev columns : List Term
+columns = col 1 0 ∷ col 1 2 ∷ []
 
-abbrev every_query : Query
-every_query = on_table 6 [] (col 1 0 ∷ col 1 2 ∷ []) ((col 1 0, ascending Binary) ∷ [])
-
-every_is : (command_of (understood whole every_sql) ≡ Select (record { lets = []; body = every_query }) (codes "lo" ∷ codes "hi" ∷ [])) × (reads_listing whole every_sql ≡ false)
-    × IsPlain (understood whole every_sql) × IsWhole every_sql 0 (understood whole every_sql)
+every_is : IsSelect whole EVERY_RUN.now (on_table 6 [] columns ((col 1 0, ascending Binary) ∷ [])) (codes "lo" ∷ codes "hi" ∷ []) 0
 unfolding understood everything
 every_is = (refl, refl, (refl, refl), (refl, refl))
 
-every_answers : (trees : Trees) (rows : List Row) (c : Contents) → Holds trees c
-    → IsAnswer every_query (overlay trees []) ([]) rows → IsPermutation (map run_cells c.runs) rows
-every_answers trees rows c h answer =
-    subst (λ xs. IsPermutation (map run_cells xs) rows) (keep_all c.runs)
-    (chosen run_cells run_cells (λ x. true) run_places (λ v. true) (λ v. column v 0 ∷ column v 1 ∷ []) (λ x. refl)
-    (λ x. refl) (trees 6) rows c.runs h.runs (selected 6 _ _ _ trees [] rows refl answer))
-
-pub every : Find every_sql ([]) run_cells (λ c. c.runs)
-every = record {
-  query = every_query;
-  names = codes "lo" ∷ codes "hi" ∷ [];
-  is = every_is.0;
-  unlisted = every_is.1;
-  plain = every_is.2;
-  one = every_is.3;
-  typed = refl;
-  sure = λ trees h. elim h [ inl over ↦ over | inr fold ↦ none_overflows _ fold ];
-  apart = run_apart;
-  answers = every_answers;
-}
+pub every : Find EVERY_RUN.now ([]) run_cells (λ c. c.runs)
+every = select tree every_is (λ x. true) (λ v. true) (λ v. column v 0 ∷ column v 1 ∷ []) (λ x. refl) (λ x. refl)
+    (λ r. refl) (λ r. refl) refl (λ c. keep_all c.runs)
 
 -- no two begin with the same serial
 begin_apart : (trees : Trees) (c : Contents) → Holds trees c → (x y : RunRow) → Has c.runs x → Has c.runs y
@@ -137,15 +102,12 @@ abbrev downwards : List (Term × Key)
 downwards = (col 1 0, record { collation = Binary; descending = true }) ∷ []
 
 abbrev low_query : Query
-low_query = on_table 6 low_test (col 1 0 ∷ col 1 2 ∷ []) downwards
+low_query = on_table 6 low_test columns downwards
 
 abbrev last_query : Query
 last_query = record low_query { limit = lit (Int (pos 1)) }
 
-last_is : (command_of (understood whole last_sql)
-    ≡ Select (record { lets = []; body = last_query }) (codes "lo" ∷ codes "hi" ∷ []))
-    × (reads_listing whole last_sql ≡ false)
-    × IsPlain (understood whole last_sql) × IsWhole last_sql 1 (understood whole last_sql)
+last_is : IsSelect whole last_sql last_query (codes "lo" ∷ codes "hi" ∷ []) 1
 unfolding understood everything
 last_is = (refl, refl, (refl, refl), (refl, refl))
 
@@ -173,12 +135,12 @@ module _ (n : ℕ) (trees : Trees) (rows : List Row) (c : Contents) (h : Holds t
       chosen run_cells run_cells (λ r. nat_le r.lo n) run_places
       (λ v. is_true (binary (Compare Le Binary) (column v 0) (Int (pos n))) && true) (λ v. column v 0 ∷ column v 1 ∷ [])
       (λ x. low_passes n x) (λ x. refl) (trees 6) (map (λ (o : Output). o.1) answer.ordered) c.runs h.runs
-      (selected 6 low_test (col 1 0 ∷ col 1 2 ∷ []) downwards trees (Int (pos n) ∷ [])
+      (selected 6 low_test columns downwards trees (Int (pos n) ∷ [])
       (map (λ (o : Output). o.1) answer.ordered) refl low_answer)
 
   low_fall : DescendBy 0 (map (λ (o : Output). o.1) answer.ordered)
   low_fall =
-      in_order 6 low_test (col 1 0 ∷ col 1 2 ∷ []) downwards trees (Int (pos n) ∷ [])
+      in_order 6 low_test columns downwards trees (Int (pos n) ∷ [])
       (map (λ (o : Output). o.1) answer.ordered) (λ v. column v 0 ∷ []) (λ r. refl) refl low_answer
 
   last_answers : IsPermutation (map run_cells (listed (last_run n c))) rows
@@ -283,7 +245,6 @@ delete ends = record {
 
 pub every_rises : (trees : Trees) (rows : List Row) → IsAnswer every.query (overlay trees []) ([]) rows
     → AscendBy 0 rows
-unfolding every
+unfolding every select
 every_rises trees rows answer =
-    in_order 6 [] (col 1 0 ∷ col 1 2 ∷ []) ((col 1 0, ascending Binary) ∷ []) trees ([]) rows (λ v. column v 0 ∷ [])
-    (λ r. refl) refl answer
+    in_order 6 [] columns ((col 1 0, ascending Binary) ∷ []) trees ([]) rows (λ v. column v 0 ∷ []) (λ r. refl) refl answer

@@ -1,29 +1,13 @@
 -- What the statements on one table do, whatever the table is.
 use Rattle.std.proofs.Common.{◌≡◌, ◌⊎◌, inl, inr, ℕ, ◌/◌, List, [], length, slice_get, false, Some, None, Option, Ok, Err, Result, sym, ap, subst, subst₂, append-nil, IsTrue, ◌∙◌}
-use Rattle.std.proofs.lemmas.Bool.{cases_Bool}
-use Rattle.sqlite.specs.Order.{Row}
-use Rattle.sqlite.specs.Term.{Term}
-use Rattle.sqlite.specs.Table.{Table}
-use Rattle.sqlite.specs.Schema.{Schema}
-use Rattle.sqlite_schema.specs.declared.schema.Keys.TheVariants.{Enforced}
-use Rattle.sqlite.specs.Source.TheVariants.{Values}
-use Rattle.sqlite.specs.Command.{Command}
-use Rattle.sqlite.specs.Command.TheVariants.{Insert, Update, Delete, Commit, Release}
-use Rattle.sqlite.specs.declared.run.Mode.{Mode}
-use Rattle.sqlite.specs.Calls.{IsWrite}
+use Rattle.store_sql.proofs.Words.{Answers, Applies, AtPlace, Chosen, Command, Commit, Database, Delete, Does, Edited}
+use Rattle.store_sql.proofs.Words.{Enforced, Error, Executes, Given, Insert, IsDatabase, IsPlain, IsRolledBack}
+use Rattle.store_sql.proofs.Words.{IsUnchanged, IsWrite, MayCommit, Mode, OnRows, Program, Release, Row, Schema}
+use Rattle.store_sql.proofs.Words.{State, Survives, Table, Tally, Term, Trees, Update, Values, Written, cases_Bool}
+use Rattle.store_sql.proofs.Words.{command_of, edit_of, ids_of, one_step, shows_rows, stamped, statement_of, taken_by}
+use Rattle.store_sql.proofs.Words.{value_rows, works}
 use Rattle.sqlite.specs.Listing.{understood}
-use Rattle.sqlite.specs.Edit.{edit_of, taken_by, Applies}
-use Rattle.sqlite.specs.Rowids.TheVariants.{Chosen, Given}
-use Rattle.sqlite_rules.specs.Action.{works}
-use Rattle.sqlite_rules.specs.Calls.{ids_of}
-use Rattle.sqlite_schema.specs.declared.program.Program.{Program}
-use Rattle.sqlite.specs.Does.{Tally, Does, OnRows, AtPlace}
-use Rattle.sqlite.specs.Rows.{Written, Edited, stamped}
-use Rattle.sqlite.specs.Tree.{Trees}
-use Rattle.sqlite.specs.declared.error.Error.{Error}
-use Rattle.sqlite.specs.Effect.{Database, IsDatabase, value_rows, Answers}
-use Rattle.sqlite.specs.State.{State, Executes, ExecutesIn, IsNotRun, IsUnchanged, IsRolledBack, shows_rows, Survives, CommitsBy, MayCommit, IsNewestNamed, names_in, begins_at}
-use Rattle.sqlite.proofs.Callers.{one_step, command_of, statement_of, IsPlain}
+use Rattle.sqlite.specs.State.{ExecutesIn, IsNotRun, CommitsBy, IsNewestNamed, names_in, begins_at}
 
 -- a part that gave a value did not stop on the way
 pub went : {B E R : Type 0} {b : B} {Stops : E → Type 0} → ((stop : E) × Stops stop × (Ok b ≡ Err stop)) ⊎ R → R

@@ -1,16 +1,12 @@
 -- What a statement that ends no transaction leaves of one, whatever the tables are.
 use Rattle.std.proofs.Common.{◌≡◌, inl, inr, ℕ, List, true, false, Option, Ok, Err, Result, refl, sym, subst, IsTrue, ◌∙◌}
-use Rattle.std.proofs.lemmas.Bool.{cases_Bool}
-use Rattle.sqlite.specs.Order.{Row}
-use Rattle.sqlite.specs.Command.{Command}
-use Rattle.sqlite.specs.Command.TheVariants.{Select, Insert, InsertOr, Update, Delete, CreateTable, CreateIndex, CreateView, DropTable, DropIndex, DropView, Begin, Commit, Rollback, Savepoint, Release, RollbackTo, Rows, Nothing}
-use Rattle.sqlite_schema.specs.declared.command.Returning.{Returning}
-use Rattle.sqlite_resolve.specs.declared.compiled.Compiled.{Compiled}
+use Rattle.store_sql.proofs.Words.{Begin, Command, Commit, Compiled, CreateTable, Delete, Error, Executes, Insert}
+use Rattle.store_sql.proofs.Words.{InsertOr, IsUnchanged, KeepsCommit, Release, Returning, Rollback, RollbackTo, Row}
+use Rattle.store_sql.proofs.Words.{Runs, Select, State, Survives, Update, Writes, cases_Bool, shows_rows}
+use Rattle.store_sql.proofs.Words.{survives_then, unchanged_then}
+use Rattle.sqlite.specs.Command.TheVariants.{CreateIndex, CreateView, DropTable, DropIndex, DropView, Savepoint, Rows, Nothing}
 use Rattle.sqlite.specs.Listing.{understood}
-use Rattle.sqlite.specs.declared.error.Error.{Error}
-use Rattle.sqlite.specs.State.{State, Executes, ExecutesIn, IsUnchanged, KeepsCommit, Runs, Shows, Survives, Writes, shows_rows}
-use Rattle.sqlite.proofs.Callers.{unchanged_then}
-use Rattle.sqlite.proofs.StateLemmas.{survives_then}
+use Rattle.sqlite.specs.State.{ExecutesIn, Shows}
 use Rattle.store_sql.specs.declared.table_fault.Fault.{Fault}
 use Rattle.store_sql.specs.Done.{IsDone}
 use Rattle.store_sql.specs.Calls.{Never, OnlyReads, Stays}

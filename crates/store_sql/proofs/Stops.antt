@@ -1,31 +1,14 @@
 -- What stops a statement on one table: a rule, a row that is too long, or a foreign key.
 use Rattle.std.proofs.Common.{◌≡◌, ◌⊎◌, inl, inr, ℕ, zero, suc, ◌/◌, List, [], ◌∷◌, length, slice_get, true, false, None, Some, Option, Ok, Err, Result, sym, ap, subst, ◌∙◌, length-append, arith}
-use Rattle.sqlite.specs.Order.{Row}
-use Rattle.sqlite.specs.Term.{Term}
-use Rattle.sqlite.specs.Table.{Table}
-use Rattle.sqlite.specs.Schema.{Schema}
-use Rattle.sqlite.specs.Tree.{Trees}
-use Rattle.sqlite.specs.Source.TheVariants.{Values}
-use Rattle.sqlite.specs.Command.TheVariants.{Insert, Update, Delete}
-use Rattle.sqlite.specs.Edit.{Edit, edit_of, taken_by, Applies}
-use Rattle.sqlite.specs.Rowids.TheVariants.{Chosen, Given}
-use Rattle.sqlite_rules.specs.Action.{Leads, works}
-use Rattle.sqlite_rules.specs.Calls.{ids_of}
-use Rattle.sqlite_rules.specs.Edit.{IsRefused, IsOversized}
-use Rattle.sqlite_rules.specs.Lists.{Has}
-use Rattle.sqlite_rules.specs.declared.error.Refusal.{Refusal}
-use Rattle.sqlite_schema.specs.Program.{lets_of}
-use Rattle.sqlite_schema.specs.Rules.{Refers}
-use Rattle.sqlite_schema.specs.declared.program.Program.{Program}
-use Rattle.sqlite_schema.specs.declared.schema.Among.TheVariants.{All}
-use Rattle.sqlite_schema.specs.declared.schema.Keys.TheVariants.{Enforced}
-use Rattle.sqlite_sql.specs.Program.{ProgramOverflows}
-use Rattle.sqlite_typing.specs.Types.{accepts_program, accepts_terms}
-use Rattle.sqlite.specs.declared.error.Error.{Error}
-use Rattle.sqlite.specs.Does.{AtPlace, Concludes, Does, OnRows}
-use Rattle.sqlite.specs.Rows.{Deletes, Edited, Inserts, Queried, Sourced, Task, Updates, Written, stamped}
-use Rattle.sqlite.specs.Effect.{Answers, Database, value_rows}
-use Rattle.sqlite.proofs.Callers.{one_step}
+use Rattle.store_sql.proofs.Words.{All, Answers, Applies, AtPlace, Chosen, Database, Delete, Does, Edit, Edited}
+use Rattle.store_sql.proofs.Words.{Enforced, Error, Given, Has, Insert, IsOversized, OnRows, Program}
+use Rattle.store_sql.proofs.Words.{ProgramOverflows, Refers, Refusal, Row, Schema, Table, Task, Term, Trees, Update}
+use Rattle.store_sql.proofs.Words.{Updates, Values, Written, accepts_program, accepts_terms, edit_of, ids_of, lets_of}
+use Rattle.store_sql.proofs.Words.{one_step, stamped, taken_by, value_rows, works}
+use Rattle.sqlite_rules.specs.Action.{Leads}
+use Rattle.sqlite_rules.specs.Edit.{IsRefused}
+use Rattle.sqlite.specs.Does.{Concludes}
+use Rattle.sqlite.specs.Rows.{Deletes, Inserts, Queried, Sourced}
 use Rattle.store_sql.proofs.Statements.{mode, same_value, uncounted, went}
 
 -- a rule refuses the edit, or one of its rows is too long, or it leaves a row without its parent

@@ -1,27 +1,14 @@
 -- From the meaning of a text to what a call of it does.
 use Rattle.std.proofs.Common.{◌≡◌, ℕ, List, [], map, Option, None, Ok, Err, Result, sym, subst, false, IfOk, IfErr}
-use Rattle.std.specs.Prelude.{Vec}
-use Rattle.std.specs.declared.alloc.Global.{Global}
-use Rattle.std.specs.List.Sorted.{IsPermutation}
-use Rattle.sqlite.specs.Order.{Row}
-use Rattle.sqlite.specs.declared.types.Value.TheVariants.{Null}
-use Rattle.sqlite.specs.Tree.{Trees}
-use Rattle.sqlite.specs.Command.{Command}
-use Rattle.sqlite.specs.Command.TheVariants.{Select}
-use Rattle.sqlite.specs.Query.{Query, IsAnswer}
-use Rattle.sqlite.specs.Program.{overlay}
-use Rattle.sqlite.specs.Does.{Tally, Does}
-use Rattle.sqlite.specs.Effect.{Database}
-use Rattle.sqlite.specs.Calls.{IsWrite}
-use Rattle.sqlite.specs.Listing.{understood, reads_listing}
-use Rattle.sqlite.specs.declared.error.Error.{Error}
-use Rattle.sqlite.specs.Schema.{Schema}
-use Rattle.sqlite.specs.State.{State, IsUnchanged, Writes, Runs, Executes, CommitsBy, Shown, FailsToQuery}
-use Rattle.sqlite.proofs.Callers.{IsPlain, command_of, statement_of, runs_as, reads_as}
+use Rattle.store_sql.proofs.Words.{Command, Database, Does, Error, Executes, Global, IsAnswer, IsPermutation, IsPlain}
+use Rattle.store_sql.proofs.Words.{IsSound, IsUnchanged, IsWrite, Null, Query, Row, Runs, Schema, Select, State}
+use Rattle.store_sql.proofs.Words.{Tally, Trees, Vec, Writes, command_of, overlay, reads_as, reads_listing, runs_as}
+use Rattle.store_sql.proofs.Words.{statement_of}
+use Rattle.sqlite.specs.Listing.{understood}
+use Rattle.sqlite.specs.State.{CommitsBy, Shown, FailsToQuery}
 use Rattle.store_sql.specs.Schema.{whole}
 use Rattle.store_sql.specs.Contents.{Contents, Holds, Means, Kept}
 use Rattle.store_sql.specs.Calls.{Changes, Leaves, Fails}
-use Rattle.sqlite_catalog.specs.Listing.{IsSound}
 use Rattle.store_sql.proofs.Statements.{mode, stopped, commits_as}
 use Rattle.store_sql.proofs.Queries.{query_stopped, shown_unchanged}
 

@@ -1,8 +1,9 @@
 -- What is a permutation of images is the images of a permutation.
 use Rattle.std.proofs.Common.{◌≡◌, ℕ, zero, suc, List, [], ◌∷◌, map, refl, sym, ap, subst, ◌∙◌, get_or, set}
+use Rattle.store_sql.proofs.Words.{IsPermutation, length-map}
 use Rattle.std.specs.List.{swap}
-use Rattle.std.specs.List.Sorted.{IsPermutation, SwapsInRange, apply_swaps}
-use Rattle.std.proofs.lemmas.List.{length-map, map-set}
+use Rattle.std.specs.List.Sorted.{SwapsInRange, apply_swaps}
+use Rattle.std.proofs.lemmas.List.{map-set}
 
 module _ {X Y : Type 0} (f : X → Y) where
   get_or-map : (xs : List X) (j : ℕ) (d : X) → get_or (map f xs) j (f d) ≡ f (get_or xs j d)

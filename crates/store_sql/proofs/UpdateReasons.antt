@@ -1,25 +1,14 @@
 -- Why UPDATE of the row of a number is refused, and why DELETE never is.
 use Rattle.std.proofs.Common.{◌≡◌, ◌≢◌, ◌⊎◌, inl, inr, ℕ, ℤ, pos, List, [], ◌∷◌, map, Bool, true, false, not, refl, sym, ap, subst, ◌∙◌, is_eq, arith}
-use Rattle.std.specs.Prelude.{◌==◌, filter}
-use Rattle.std.specs.List.{list_any}
-use Rattle.std.specs.List.Sorted.{IsPermutation}
-use Rattle.std.proofs.lemmas.Bool.{cases_Bool, cases_eq, eqb-true}
-use Rattle.std.proofs.lemmas.Cmp.{tied_itself}
-use Rattle.std.proofs.lemmas.List.Sorted.{length_permutation}
-use Rattle.sqlite_value.proofs.OrderLemmas.{value_cmp_total}
-use Rattle.sqlite.specs.declared.types.Value.TheVariants.{Int}
-use Rattle.sqlite.specs.Order.{Row, value_cmp}
-use Rattle.sqlite.specs.Table.{Table}
-use Rattle.sqlite.specs.Tree.{Trees, has_rowid, rowid, with_tree, without_rowid}
-use Rattle.sqlite.specs.Edit.{is_taken}
-use Rattle.sqlite_rules.specs.Lists.{Has}
-use Rattle.sqlite_rules.proofs.ListLemmas.{all_has, has_filtered, some_has}
+use Rattle.store_sql.proofs.Words.{All, BadReference, Check, Datatype, ForeignKey, Has, Int, IsPermutation, Mismatch}
+use Rattle.store_sql.proofs.Words.{NoRowid, NotNull, PrimaryKey, Row, Table, TooDeep, Trees, Unique, Violates}
+use Rattle.store_sql.proofs.Words.{all_has, cases_Bool, cases_eq, eqb-true, filter, has_filtered, has_rowid, is_taken}
+use Rattle.store_sql.proofs.Words.{length_permutation, list_any, rowid, some_has, tied_itself, tied_same}
+use Rattle.store_sql.proofs.Words.{value_cmp_total, with_tree, without_rowid}
+use Rattle.std.specs.Prelude.{◌==◌}
+use Rattle.sqlite.specs.Order.{value_cmp}
 use Rattle.sqlite_rules.proofs.RuleLemmas.{keeps_same, refers_same}
-use Rattle.sqlite_rules.specs.declared.error.Refusal.TheVariants.{Violates, Mismatch, NoRowid, BadReference, TooDeep}
 use Rattle.sqlite_schema.specs.Rules.{Obeys}
-use Rattle.sqlite_schema.specs.declared.schema.Among.TheVariants.{All}
-use Rattle.sqlite_schema.specs.declared.schema.Constraint.TheVariants.{Datatype, NotNull, Check, PrimaryKey, Unique, ForeignKey}
-use Rattle.sqlite_rules.proofs.PlaceLemmas.{tied_same}
 use Rattle.store_sql.specs.Schema.{whole}
 use Rattle.store_sql.specs.Contents.{Lists, at_places}
 use Rattle.store_sql.proofs.RowTests.{none_passes, only_one}

@@ -1,17 +1,7 @@
 -- UPDATE of the rows that pass a test.
 use Rattle.std.proofs.Common.{◌≡◌, ℕ, List, ◌∷◌, map, Bool, true, cond}
-use Rattle.std.specs.Prelude.{filter}
-use Rattle.std.specs.List.Sorted.{IsPermutation}
-use Rattle.sqlite.specs.Order.{Row}
-use Rattle.sqlite.specs.Tree.{Trees, rowid}
-use Rattle.sqlite_trees.specs.View.{is_int}
-use Rattle.sqlite.specs.Table.{Table}
-use Rattle.sqlite.specs.Edit.{edit_of, Applies}
-use Rattle.sqlite.specs.Rowids.TheVariants.{Given}
-use Rattle.sqlite.specs.Cast.{cast_row}
-use Rattle.sqlite_schema.specs.declared.schema.Keys.TheVariants.{Enforced}
-use Rattle.sqlite_rules.specs.Calls.{ids_of}
-use Rattle.sqlite_rules.specs.Lists.{Has}
+use Rattle.store_sql.proofs.Words.{Applies, Enforced, Given, Has, IsPermutation, Row, Table, Trees, cast_row, edit_of}
+use Rattle.store_sql.proofs.Words.{filter, ids_of, is_int, rowid}
 use Rattle.store_sql.specs.Schema.{whole}
 use Rattle.store_sql.specs.Contents.{Lists, at_places}
 use Rattle.store_sql.proofs.Edits.{of_record, updated, updated_apart, lists_updated}

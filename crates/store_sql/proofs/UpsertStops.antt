@@ -1,32 +1,13 @@
 -- What stops INSERT of one row .. ON CONFLICT .. DO UPDATE.
 use Rattle.std.proofs.Common.{◌≡◌, ◌⊎◌, inl, inr, ℕ, ◌/◌, ◌++◌, List, [], ◌∷◌, length, slice_get, true, false, None, Some, Option, Ok, Err, sym, ap, subst, ◌∙◌}
-use Rattle.sqlite.specs.Order.{Row}
-use Rattle.sqlite.specs.Term.{Term}
-use Rattle.sqlite.specs.Table.{Table}
-use Rattle.sqlite.specs.Schema.{Schema}
-use Rattle.sqlite.specs.Tree.{Trees, rowid}
-use Rattle.sqlite.specs.Source.TheVariants.{Values}
-use Rattle.sqlite.specs.Command.TheVariants.{InsertOr}
-use Rattle.sqlite.specs.Edit.{Edit, edit_of, taken_by, with_rowid}
-use Rattle.sqlite.specs.Rowids.TheVariants.{Chosen, Given}
-use Rattle.sqlite.specs.Cast.{cast_row}
-use Rattle.sqlite_sql.specs.Ops.{fits_i64}
-use Rattle.sqlite_sql.specs.Program.{ProgramOverflows}
-use Rattle.sqlite_schema.specs.Program.{lets_of}
-use Rattle.sqlite_schema.specs.declared.command.Conflict.TheVariants.{Abort}
-use Rattle.sqlite_schema.specs.declared.command.Upsert.{Upsert}
-use Rattle.sqlite_schema.specs.declared.program.Program.{Program}
-use Rattle.sqlite_schema.specs.declared.schema.Keys.TheVariants.{Enforced}
-use Rattle.sqlite_rules.specs.Action.{works}
+use Rattle.store_sql.proofs.Words.{Abort, AreConflicts, AtPlace, Chosen, Clears, Database, Does, Edit, Enforced}
+use Rattle.store_sql.proofs.Words.{Error, Given, InsertOr, IsJudged, Judged, Meets, OnRows, Program, ProgramOverflows}
+use Rattle.store_sql.proofs.Words.{Puts, Refusal, Row, Schema, Table, Tally, Task, Term, Tries, TriesEach}
+use Rattle.store_sql.proofs.Words.{Upsert, Upserts, Values, Written, accepts_program, accepts_terms, cast_row}
+use Rattle.store_sql.proofs.Words.{count_of, edit_of, fits_i64, lets_of, nothing, rowid, shown, stamped, taken_by}
+use Rattle.store_sql.proofs.Words.{value_rows, with_rowid, works}
 use Rattle.sqlite_rules.specs.Edit.{id_in}
-use Rattle.sqlite_rules.specs.Keys.{AreConflicts}
-use Rattle.sqlite_rules.specs.Steps.{IsJudged}
-use Rattle.sqlite_rules.specs.declared.error.Refusal.{Refusal}
-use Rattle.sqlite_typing.specs.Types.{accepts_program, accepts_terms}
-use Rattle.sqlite.specs.declared.error.Error.{Error}
-use Rattle.sqlite.specs.Does.{AtPlace, Does, OnRows, Tally}
-use Rattle.sqlite.specs.Rows.{Clears, InsertsOr, Judged, Meets, Puts, Task, Tries, TriesEach, Upserts, Written, count_of, nothing, shown, stamped}
-use Rattle.sqlite.specs.Effect.{Database, value_rows}
+use Rattle.sqlite.specs.Rows.{InsertsOr}
 use Rattle.store_sql.proofs.Statements.{mode, same_value, uncounted, went}
 use Rattle.store_sql.proofs.Stops.{IsHalted, IsKept, change, concluded, edited_halts, halts, update_stopped}
 use Rattle.store_sql.proofs.Stops as stops

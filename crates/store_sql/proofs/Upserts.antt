@@ -1,27 +1,10 @@
 -- INSERT of one row .. ON CONFLICT .. DO UPDATE.
 use Rattle.std.proofs.Common.{◌≡◌, ◌⊎◌, inl, inr, ℕ, ◌/◌, ◌++◌, List, [], ◌∷◌, length, slice_get, None, Some, Option, Ok, sym, ap, subst, ◌∙◌}
-use Rattle.sqlite.specs.Order.{Row}
-use Rattle.sqlite.specs.Term.{Term}
-use Rattle.sqlite.specs.Table.{Table}
-use Rattle.sqlite.specs.Schema.{Schema}
-use Rattle.sqlite.specs.Tree.{Trees, rowid}
-use Rattle.sqlite.specs.Source.TheVariants.{Values}
-use Rattle.sqlite.specs.Command.TheVariants.{InsertOr}
-use Rattle.sqlite_schema.specs.declared.command.Conflict.TheVariants.{Abort}
-use Rattle.sqlite_schema.specs.declared.command.Upsert.{Upsert}
-use Rattle.sqlite_schema.specs.declared.program.Program.{Program}
-use Rattle.sqlite_schema.specs.declared.schema.Keys.TheVariants.{Enforced}
-use Rattle.sqlite.specs.Edit.{edit_of, taken_by, Applies, with_rowid}
-use Rattle.sqlite.specs.Rowids.TheVariants.{Chosen, Given}
-use Rattle.sqlite.specs.Cast.{cast_row}
-use Rattle.sqlite_rules.specs.declared.error.Refusal.{Refusal}
-use Rattle.sqlite_rules.specs.Keys.{AreConflicts}
-use Rattle.sqlite_rules.specs.Action.{works}
-use Rattle.sqlite_rules.specs.Calls.{ids_of}
-use Rattle.sqlite.specs.Does.{Tally, Does, OnRows, AtPlace}
-use Rattle.sqlite.specs.Rows.{Written, Task, Judged, Upserts, Clears, Meets, Tries, TriesEach, Puts, Updates, nothing, shown, stamped, count_of}
-use Rattle.sqlite.specs.Effect.{Database, Answers, value_rows}
-use Rattle.sqlite.proofs.Callers.{one_step}
+use Rattle.store_sql.proofs.Words.{Abort, Answers, Applies, AreConflicts, AtPlace, Chosen, Clears, Database, Does}
+use Rattle.store_sql.proofs.Words.{Enforced, Given, InsertOr, Judged, Meets, OnRows, Program, Puts, Refusal, Row}
+use Rattle.store_sql.proofs.Words.{Schema, Table, Tally, Task, Term, Trees, Tries, TriesEach, Updates, Upsert}
+use Rattle.store_sql.proofs.Words.{Upserts, Values, Written, cast_row, count_of, edit_of, ids_of, nothing, one_step}
+use Rattle.store_sql.proofs.Words.{rowid, shown, stamped, taken_by, value_rows, with_rowid, works}
 use Rattle.store_sql.proofs.Statements.{went, same_value, uncounted, mode}
 
 module _ (limit : Option ℕ) (db after : Database) (tally : Tally) (schema : Schema) (has : db.schema ≡ schema)

@@ -1,6 +1,7 @@
 pub mod Faults
 pub mod Kinds
 pub mod Schema
+pub mod Making
 pub mod Cells
 pub mod Contents
 pub mod Changes

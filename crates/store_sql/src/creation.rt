@@ -1,8 +1,9 @@
 //! The tables themselves.
 
-ghost use Rattle.std.specs.Prelude.{◌≡◌, IfErr};
-ghost use Rattle.store_sql.specs.Schema.{no_schema, with_office, with_department, with_cert, with_request, with_run};
-ghost use Rattle.store_sql.specs.Schema.{without_ca, office, department, cert, request, run, revoked_keyid, ca};
+ghost use Rattle.std.specs.Prelude.{◌≡◌, IfErr, Ok};
+ghost use Rattle.sqlite.specs.Compile.{table_defined_by};
+ghost use Rattle.store_sql.specs.Schema.{no_schema, without_ca, ca};
+ghost use Rattle.store_sql.specs.Making.{before, made, text_of};
 ghost use Rattle.store_sql.specs.Faults.{IsOfStatement};
 ghost use Rattle.store_sql.specs.Calls.{AddsCa, Completes, Creates, FailsWhere, IsBare, Stays, Waits};
 ghost use Rattle.store_sql.specs.Honest.{On, OutlivesBy};
@@ -14,64 +15,45 @@ use crate::sql::{
 use crate::table_fault::{Fault, done};
 use sqlite::{Alter, Connection};
 
-fn create_office<S: Alter>(conn: &mut Connection<S>) -> Result<(), Fault>
-    ensures creates { On S.Store (Creates no_schema office) conn.old conn.new result }
-    ensures fault { On S.Store (FailsWhere (λ s. s.now.schema ≡ no_schema)) conn.old conn.new result }
-    ensures undamaged { IfErr result IsOfStatement }
-    ensures stays { On S.Store Stays conn.old conn.new result }
-    ensures survives { OutlivesBy S.Store (Waits no_schema) conn.old conn.new }
-{
-    done(conn.execute(CREATE_OFFICE, &[]))
+/// A table of the office, by its name.
+#[derive(Clone, Copy)]
+enum TableName {
+    Office,
+    Department,
+    Cert,
+    Request,
+    Run,
+    RevokedKeyId,
+    Ca,
 }
 
-fn create_department<S: Alter>(conn: &mut Connection<S>) -> Result<(), Fault>
-    ensures creates { On S.Store (Creates with_office department) conn.old conn.new result }
-    ensures fault { On S.Store (FailsWhere (λ s. s.now.schema ≡ with_office)) conn.old conn.new result }
-    ensures undamaged { IfErr result IsOfStatement }
-    ensures stays { On S.Store Stays conn.old conn.new result }
-    ensures survives { OutlivesBy S.Store (Waits with_office) conn.old conn.new }
-{
-    done(conn.execute(CREATE_DEPARTMENT, &[]))
+impl TableName {
+    /// The statement that makes the table.
+    fn create(self) -> &'static str
+        ensures text { result.now ≡ text_of self }
+        ensures defines { table_defined_by result.now ≡ Ok (made self) }
+    {
+        match self {
+            TableName::Office => CREATE_OFFICE,
+            TableName::Department => CREATE_DEPARTMENT,
+            TableName::Cert => CREATE_CERT,
+            TableName::Request => CREATE_REQUEST,
+            TableName::Run => CREATE_RUN,
+            TableName::RevokedKeyId => CREATE_REVOKED,
+            TableName::Ca => CREATE_CA,
+        }
+    }
 }
 
-fn create_cert<S: Alter>(conn: &mut Connection<S>) -> Result<(), Fault>
-    ensures creates { On S.Store (Creates with_department cert) conn.old conn.new result }
-    ensures fault { On S.Store (FailsWhere (λ s. s.now.schema ≡ with_department)) conn.old conn.new result }
+/// Makes this table, where those that come before it are there.
+fn create<S: Alter>(conn: &mut Connection<S>, name: TableName) -> Result<(), Fault>
+    ensures creates { On S.Store (Creates (before name) (made name)) conn.old conn.new result }
+    ensures fault { On S.Store (FailsWhere (λ s. s.now.schema ≡ before name)) conn.old conn.new result }
     ensures undamaged { IfErr result IsOfStatement }
     ensures stays { On S.Store Stays conn.old conn.new result }
-    ensures survives { OutlivesBy S.Store (Waits with_department) conn.old conn.new }
+    ensures survives { OutlivesBy S.Store (Waits (before name)) conn.old conn.new }
 {
-    done(conn.execute(CREATE_CERT, &[]))
-}
-
-fn create_request<S: Alter>(conn: &mut Connection<S>) -> Result<(), Fault>
-    ensures creates { On S.Store (Creates with_cert request) conn.old conn.new result }
-    ensures fault { On S.Store (FailsWhere (λ s. s.now.schema ≡ with_cert)) conn.old conn.new result }
-    ensures undamaged { IfErr result IsOfStatement }
-    ensures stays { On S.Store Stays conn.old conn.new result }
-    ensures survives { OutlivesBy S.Store (Waits with_cert) conn.old conn.new }
-{
-    done(conn.execute(CREATE_REQUEST, &[]))
-}
-
-fn create_run<S: Alter>(conn: &mut Connection<S>) -> Result<(), Fault>
-    ensures creates { On S.Store (Creates with_request run) conn.old conn.new result }
-    ensures fault { On S.Store (FailsWhere (λ s. s.now.schema ≡ with_request)) conn.old conn.new result }
-    ensures undamaged { IfErr result IsOfStatement }
-    ensures stays { On S.Store Stays conn.old conn.new result }
-    ensures survives { OutlivesBy S.Store (Waits with_request) conn.old conn.new }
-{
-    done(conn.execute(CREATE_RUN, &[]))
-}
-
-fn create_revoked<S: Alter>(conn: &mut Connection<S>) -> Result<(), Fault>
-    ensures creates { On S.Store (Creates with_run revoked_keyid) conn.old conn.new result }
-    ensures fault { On S.Store (FailsWhere (λ s. s.now.schema ≡ with_run)) conn.old conn.new result }
-    ensures undamaged { IfErr result IsOfStatement }
-    ensures stays { On S.Store Stays conn.old conn.new result }
-    ensures survives { OutlivesBy S.Store (Waits with_run) conn.old conn.new }
-{
-    done(conn.execute(CREATE_REVOKED, &[]))
+    done(conn.execute(name.create(), &[]))
 }
 
 /// Makes the table of CAs beside the other tables, whose rows stay.
@@ -83,62 +65,7 @@ pub fn create_ca<S: Alter>(conn: &mut Connection<S>) -> Result<(), Fault>
     ensures stays { On S.Store Stays conn.old conn.new result }
     ensures survives { OutlivesBy S.Store (Waits without_ca) conn.old conn.new }
 {
-    done(conn.execute(CREATE_CA, &[]))
-}
-
-fn complete_revoked<S: Alter>(conn: &mut Connection<S>) -> Result<(), Fault>
-    ensures completes { On S.Store (Completes with_run) conn.old conn.new result }
-    ensures fault { On S.Store (FailsWhere (λ s. IsBare with_run s.now)) conn.old conn.new result }
-    ensures undamaged { IfErr result IsOfStatement }
-    ensures stays { On S.Store Stays conn.old conn.new result }
-    ensures survives { OutlivesBy S.Store (Waits with_run) conn.old conn.new }
-{
-    create_revoked(conn)?;
-    create_ca(conn)
-}
-
-fn complete_run<S: Alter>(conn: &mut Connection<S>) -> Result<(), Fault>
-    ensures completes { On S.Store (Completes with_request) conn.old conn.new result }
-    ensures fault { On S.Store (FailsWhere (λ s. IsBare with_request s.now)) conn.old conn.new result }
-    ensures undamaged { IfErr result IsOfStatement }
-    ensures stays { On S.Store Stays conn.old conn.new result }
-    ensures survives { OutlivesBy S.Store (Waits with_request) conn.old conn.new }
-{
-    create_run(conn)?;
-    complete_revoked(conn)
-}
-
-fn complete_request<S: Alter>(conn: &mut Connection<S>) -> Result<(), Fault>
-    ensures completes { On S.Store (Completes with_cert) conn.old conn.new result }
-    ensures fault { On S.Store (FailsWhere (λ s. IsBare with_cert s.now)) conn.old conn.new result }
-    ensures undamaged { IfErr result IsOfStatement }
-    ensures stays { On S.Store Stays conn.old conn.new result }
-    ensures survives { OutlivesBy S.Store (Waits with_cert) conn.old conn.new }
-{
-    create_request(conn)?;
-    complete_run(conn)
-}
-
-fn complete_cert<S: Alter>(conn: &mut Connection<S>) -> Result<(), Fault>
-    ensures completes { On S.Store (Completes with_department) conn.old conn.new result }
-    ensures fault { On S.Store (FailsWhere (λ s. IsBare with_department s.now)) conn.old conn.new result }
-    ensures undamaged { IfErr result IsOfStatement }
-    ensures stays { On S.Store Stays conn.old conn.new result }
-    ensures survives { OutlivesBy S.Store (Waits with_department) conn.old conn.new }
-{
-    create_cert(conn)?;
-    complete_request(conn)
-}
-
-fn complete_department<S: Alter>(conn: &mut Connection<S>) -> Result<(), Fault>
-    ensures completes { On S.Store (Completes with_office) conn.old conn.new result }
-    ensures fault { On S.Store (FailsWhere (λ s. IsBare with_office s.now)) conn.old conn.new result }
-    ensures undamaged { IfErr result IsOfStatement }
-    ensures stays { On S.Store Stays conn.old conn.new result }
-    ensures survives { OutlivesBy S.Store (Waits with_office) conn.old conn.new }
-{
-    create_department(conn)?;
-    complete_cert(conn)
+    create(conn, TableName::Ca)
 }
 
 /// Makes all tables of the office in a database that has none. Where that fails in a transaction, nothing of it is
@@ -150,6 +77,16 @@ pub fn create_tables<S: Alter>(conn: &mut Connection<S>) -> Result<(), Fault>
     ensures stays { On S.Store Stays conn.old conn.new result }
     ensures survives { OutlivesBy S.Store (Waits no_schema) conn.old conn.new }
 {
-    create_office(conn)?;
-    complete_department(conn)
+    for name in [
+        TableName::Office,
+        TableName::Department,
+        TableName::Cert,
+        TableName::Request,
+        TableName::Run,
+        TableName::RevokedKeyId,
+        TableName::Ca,
+    ] {
+        create(conn, name)?;
+    }
+    Ok(())
 }

@@ -1,27 +1,8 @@
 use Rattle.sqlite.specs.Held.{state}
-use Rattle.store_sql.specs.Schema.{without_ca, ca}
-use Rattle.store_sql.proofs.Statements.{survives_as}
-use Rattle.store_sql.specs.Faults.{HasCause}
-use Rattle.store_sql.proofs.CreateFaults.{create_faults}
-use Rattle.store_sql.proofs.Makeable.{ca_made}
-use Rattle.store_sql.proofs.DoneLemmas.{creates_done, fault_done}
-use Rattle.store_sql.proofs.Makes.{create_stays, creates, creates_left, ca_text}
 use Rattle.store_sql.proofs.Growth.{adds_ca}
 use Rattle.store_sql.proofs.creation.create_ca.Goals as goal
 
-pub returns : goal.returns
-returns g c =
-    let old = state g.S.Store c.args.conn.now in
-    let new = state g.S.Store c.execute.new.self in
-    record {
-      creates = λ clean. creates_done old new without_ca ca c.execute.result c.done.result c.done.ensures.is
-          (creates ca_text old new c.execute.result (c.execute.ensures.runs clean));
-      adds = λ clean. adds_ca old new c.done.result
-          (creates_done old new without_ca ca c.execute.result c.done.result c.done.ensures.is
-          (creates ca_text old new c.execute.result (c.execute.ensures.runs clean)));
-      fault = λ clean has. fault_done (HasCause old new) c.execute.result c.done.result c.done.ensures.is
-          (create_faults ca_made old new has c.execute.result (c.execute.ensures.runs clean));
-      undamaged = c.done.ensures.undamaged;
-      stays = λ clean. create_stays ca_text old new c.execute.result c.done.result c.done.ensures.is (c.execute.ensures.runs clean);
-      survives = survives_as old new _ _ (creates_left ca_text old) c.execute.ensures.survives;
-    }
+pub returns-clause-adds : goal.returns-clause-adds
+returns-clause-adds g c clean =
+    adds_ca (state g.S.Store c.args.conn.now) (state g.S.Store c.create.new.conn) c.create.result
+    (c.create.ensures.creates clean)

@@ -1,39 +1,36 @@
-use Rattle.std.proofs.Common.{arith}
+use Rattle.std.proofs.Common.{◌≡◌, ◌<◌, drop, refl, subst, arith}
+use Rattle.std.proofs.lemmas.Result.{err_from_is_err_and}
 use Rattle.sqlite.specs.Held.{state}
-use Rattle.sqlite.specs.State.{HasCleanDisk}
-use Rattle.store_sql.specs.Schema.{no_schema, office}
-use Rattle.store_sql.specs.Calls.{Waits}
-use Rattle.store_sql.proofs.Growth.{completes_fails, completes_then, completes_waits}
-use Rattle.store_sql.proofs.Staying.{stays_then}
+use Rattle.store_sql.specs.declared.creation.TableName.TheVariants.{Office}
+use Rattle.store_sql.specs.Making.{in_order}
+use Rattle.store_sql.proofs.Growth.{IsAt, completed, none_made, none_more, one_more, still_lives}
 use Rattle.store_sql.proofs.creation.create_tables.Goals as goal
 
+pub loop-name-init : goal.loop-name-init
+loop-name-init g c = none_made in_order _ (refl, (refl, (refl, (refl, (refl, (refl, (refl, refl)))))))
+
+pub loop-name-preserved : goal.loop-name-preserved
+loop-name-preserved g c =
+    let inside : c.loop-name.name-index < 7 = omega (arith, c.loop-name-test.true) in
+    one_more in_order c.loop-name.name-index Office inside _ _ _ c.loop-name.invariant c.create.ensures.survives
+    c.in_ok-create.ensures.creates c.in_ok-create.ensures.stays
+
+pub returns-in_err-create-clause-survives : goal.returns-in_err-create-clause-survives
+returns-in_err-create-clause-survives g c =
+    let inside : c.loop-name.name-index < 7 = omega (arith, c.loop-name-test.true) in
+    still_lives in_order c.loop-name.name-index Office inside _ _ _ c.loop-name.invariant c.create.ensures.survives
+
+pub returns-in_err-create-clause-fault : goal.returns-in_err-create-clause-fault
+returns-in_err-create-clause-fault g c clean bare =
+    let inside : c.loop-name.name-index < 7 = omega (arith, c.loop-name-test.true) in
+    let told = err_from_is_err_and c.from_residual.result c.from_residual.ensures.1 in
+    let cause = none_more in_order c.loop-name.name-index Office inside _ _ _ c.loop-name.invariant c.create.ensures.survives
+    c.in_err-create.field-0.0 c.in_err-create.ensures.fault clean bare in
+    rw (told.1, told.2) cause
+
 pub returns-clause-completes : goal.returns-clause-completes
-returns-clause-completes g c clean =
+returns-clause-completes g c =
     let old = state g.S.Store c.args.conn.now in
-    let mid = state g.S.Store c.create_office.new.conn in
-    let new = state g.S.Store c.complete_department.new.conn in
-    let still : HasCleanDisk mid = omega (arith, c.complete_department.ensures.survives.clean) in
-    completes_then no_schema office old mid new c.complete_department.result
-    (λ bare. c.in_ok-create_office.ensures.creates still bare.0) (c.complete_department.ensures.completes clean)
-
-pub returns-clause-fault : goal.returns-clause-fault
-returns-clause-fault g c clean =
-    let old = state g.S.Store c.args.conn.now in
-    let mid = state g.S.Store c.create_office.new.conn in
-    let new = state g.S.Store c.complete_department.new.conn in
-    let still : HasCleanDisk mid = omega (arith, c.complete_department.ensures.survives.clean) in
-    completes_fails no_schema office (Waits no_schema old) old mid new c.complete_department.result c.create_office.ensures.survives
-    (λ bare. c.in_ok-create_office.ensures.creates still bare.0) (c.complete_department.ensures.fault clean)
-
-pub returns-clause-stays : goal.returns-clause-stays
-returns-clause-stays g c clean =
-    let mid = state g.S.Store c.create_office.new.conn in
-    let still : HasCleanDisk mid = omega (arith, c.complete_department.ensures.survives.clean) in
-    stays_then {X = Unit {0}} (state g.S.Store c.args.conn.now) mid (state g.S.Store c.complete_department.new.conn) tt c.complete_department.result
-    (c.in_ok-create_office.ensures.stays still) (c.complete_department.ensures.stays clean)
-
-pub returns-clause-survives : goal.returns-clause-survives
-returns-clause-survives g c =
-    completes_waits no_schema office (state g.S.Store c.args.conn.now) (state g.S.Store c.create_office.new.conn)
-    (state g.S.Store c.complete_department.new.conn) c.in_ok-create_office.ensures.creates
-    c.create_office.ensures.survives c.complete_department.ensures.survives
+    let new = state g.S.Store c.loop-name.conn in
+    let end : c.loop-name.name-index ≡ 7 = omega (arith, c.loop-name-test.false, c.loop-name.auto.name-index-end) in
+    completed old new (subst (λ n. IsAt (drop n in_order) old new) end c.loop-name.invariant)

@@ -1,0 +1,8 @@
+use Rattle.std.specs.Prelude.{drop}
+use Rattle.sqlite.specs.Held.{state}
+use Rattle.store_sql.proofs.Growth.{IsAt}
+use Rattle.store_sql.proofs.creation.create_tables.Given as goal
+
+-- the tables up to this one are made
+abbrev pub invariant-loop-name : goal.invariant-loop-name
+invariant-loop-name g l = IsAt (drop l.name-index l.name-items) (state g.S.Store l.initial.conn) (state g.S.Store l.conn)
