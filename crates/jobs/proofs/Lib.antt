@@ -2,6 +2,7 @@ pub mod Applied
 pub mod Asking
 pub mod Bodies
 pub mod Carried
+pub mod Causes
 pub mod Made
 pub mod Meeting
 pub mod Printed

@@ -18,7 +18,7 @@ use Rattle.headline.specs.declared.publish_fault.PublishFault.{PublishFault}
 use Rattle.headline.specs.declared.publish_fault.PublishFault.TheVariants as publish
 use Rattle.jobs.specs.declared.job_fault.JobFault.{JobFault}
 use Rattle.jobs.specs.declared.job_fault.JobFault.TheVariants.{File, Write, Socket, Connection, Mismatch, NoMemory}
-use Rattle.jobs.specs.declared.job_fault.JobFault.TheVariants.{BadExchange, Line, Opening, Store, Fault}
+use Rattle.jobs.specs.declared.job_fault.JobFault.TheVariants.{BadExchange, Line, List, Opening, Store, Fault}
 
 -- of a file that can't be read as exchanges
 abbrev pub of_exchanges : ExchangesFault → JobFault
@@ -78,6 +78,31 @@ IsOfExchanges File = Unit {0}
 IsOfExchanges NoMemory = Unit {0}
 IsOfExchanges (BadExchange k) = Unit {0}
 IsOfExchanges other = ⊥
+
+-- What is met where a key is read.
+abbrev pub IsOfAKey : JobFault → Type 0
+IsOfAKey File = Unit {0}
+IsOfAKey NoMemory = Unit {0}
+IsOfAKey (Line fault) = Unit {0}
+IsOfAKey other = ⊥
+
+-- What is met where a list is asked about a certificate.
+abbrev pub IsOfChecking : JobFault → Type 0
+IsOfChecking File = Unit {0}
+IsOfChecking NoMemory = Unit {0}
+IsOfChecking Write = Unit {0}
+IsOfChecking (List fault) = Unit {0}
+IsOfChecking other = ⊥
+
+-- What is met where a file of exchanges is applied to the trial office.
+abbrev pub IsOfATrial : JobFault → Type 0
+IsOfATrial File = Unit {0}
+IsOfATrial NoMemory = Unit {0}
+IsOfATrial (BadExchange k) = Unit {0}
+IsOfATrial (Store fault) = Unit {0}
+IsOfATrial Write = Unit {0}
+IsOfATrial Fault = Unit {0}
+IsOfATrial other = ⊥
 
 -- What is met where an opening is made: want of memory, or the fault that is due.
 abbrev pub IsOfAnOpening : Result Begun OpeningFault → JobFault → Type 0

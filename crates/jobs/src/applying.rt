@@ -1,9 +1,9 @@
 //! Exchanges applied to an office.
 
-ghost use Rattle.std.specs.Prelude.{◌≡◌, ℕ, Err, IfSome, OnOk, false, true};
+ghost use Rattle.std.specs.Prelude.{◌≡◌, ◌≢◌, ℕ, Err, IfErr, IfSome, OnOk, false, true};
 ghost use Rattle.exchanges.specs.Exchanges.{IsBadRecord};
 ghost use Rattle.jobs.specs.Applying.{Applies};
-ghost use Rattle.jobs.specs.Faults.{run_result};
+ghost use Rattle.jobs.specs.Faults.{IsOfATrial, run_result};
 ghost use Rattle.jobs.specs.Trial.{AppliesToTrial};
 ghost use Rattle.store_sql.specs.Honest.{IsOutside, IsUnlimited, On};
 
@@ -51,7 +51,7 @@ pub fn apply_over<S: Alter, W: Write>(
 }
 
 /// Runs the exchanges that a file's reader gives over the trial office, and prints what each was given.
-#[tactic(auto, using(crate::proofs::Telling::not_run))]
+#[tactic(auto, using(crate::proofs::Telling::not_run, crate::proofs::Causes::trial_file, crate::proofs::Causes::trial_register, crate::proofs::Causes::run_silent))]
 pub fn apply_to_trial<R: Read + Drop, W: Write>(
     alloc: Global,
     file: R,
@@ -68,6 +68,10 @@ pub fn apply_to_trial<R: Read + Drop, W: Write>(
     // The file is none of exchanges.
     ensures bad { (k : ℕ) → result ≡ Err (JobFault.BadExchange k)
         → IfSome (R.remaining file) (λ text. IsBadRecord text k) }
+
+    // After any fault but these two, nothing is printed.
+    ensures only { IfErr result IsOfATrial }
+    ensures silent { IfErr result (λ e. e ≢ JobFault.Write → e ≢ JobFault.Fault → out.new ≡ out.old) }
 {
     let exchanges = read_exchanges_from(alloc, file)?;
     let mut office = trial_office(alloc)?;

@@ -1,10 +1,11 @@
 //! A list asked about a certificate.
 
-ghost use Rattle.std.specs.Prelude.{◌≡◌, ℕ, Err, IfErr, IfSome, OnOk};
+ghost use Rattle.std.specs.Prelude.{◌≡◌, ◌≢◌, ℕ, Err, IfErr, IfSome, OnOk};
 ghost use Rattle.std.specs.Io.KnownBytes.{Appends};
 ghost use Rattle.krl.specs.Faults.{FirstFault};
 ghost use Rattle.krl.specs.declared.krl_fault.KrlFault.{KrlFault};
 ghost use Rattle.jobs.specs.Checking.{Checks, verdict_text};
+ghost use Rattle.jobs.specs.Faults.{IsOfChecking};
 
 use crate::file_reader::read_list;
 use crate::job_fault::JobFault;
@@ -21,6 +22,7 @@ fn print_verdict<W: Write>(out: &mut W, revoked: bool) -> Result<(), JobFault>
 }
 
 /// Prints whether the list that a reader gives revokes the certificate of this serial and key id, under this CA.
+#[tactic(auto, using(crate::proofs::Causes::list_file, crate::proofs::Causes::verdict))]
 pub fn check_list<R: Read + Drop, W: Write>(
     alloc: Global,
     ca: &[u8; 32],
@@ -36,6 +38,10 @@ pub fn check_list<R: Read + Drop, W: Write>(
     // The bytes are no list, and this is their first fault from the left.
     ensures fault { (f : KrlFault) → result ≡ Err (JobFault.List f)
         → IfSome (R.remaining list) (λ bytes. FirstFault bytes f) }
+
+    // After any fault but that of the output, nothing is printed.
+    ensures only { IfErr result IsOfChecking }
+    ensures silent { IfErr result (λ e. e ≢ JobFault.Write → out.new ≡ out.old) }
 {
     let bytes = read_list(alloc, list)?;
     match krl::check(bytes.as_slice(), ca, serial, key_id) {

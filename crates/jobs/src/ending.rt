@@ -1,7 +1,7 @@
 //! How jobs end.
 
 ghost use Rattle.std.specs.Prelude.{◌≡◌, Err, IfErr, IsOk, Ok, OnOk};
-ghost use Rattle.std.specs.Io.KnownBytes.{Appends};
+ghost use Rattle.std.specs.Io.KnownBytes.{Appends, Keeps};
 ghost use Rattle.std.specs.Prelude.{codes};
 ghost use Rattle.jobs.specs.Ending.{closed, of_database, status};
 ghost use Rattle.jobs.specs.Faults.{IsOfADatabase, of_selftest};
@@ -93,6 +93,7 @@ pub fn test_ended<W: Write>(out: &mut W, tested: Result<(), SelftestFault>) -> R
     ensures fault { IfErr tested (λ e. result ≡ Err (of_selftest e)) }
     ensures silent { IfErr tested (λ _. out.new ≡ out.old) }
     ensures ok { OnOk result (Appends (W.contents out.old) (W.contents out.new) (codes "selftest ok\n")) }
+    ensures only { IsOk tested → IfErr result (λ e. e ≡ JobFault.Write) }
 {
     match tested {
         Ok(()) => write_out(out, b"selftest ok\n"),
@@ -100,10 +101,11 @@ pub fn test_ended<W: Write>(out: &mut W, tested: Result<(), SelftestFault>) -> R
     }
 }
 
-/// What was done, once all is written.
+/// What was done, once all is written. Nothing more is printed.
 pub fn flushed<W: Write>(out: &mut W, done: Result<(), JobFault>) -> Result<(), JobFault>
     ensures fault { IfErr done (λ e. result ≡ Err e) }
     ensures ok { IsOk done → IfErr result (λ e. e ≡ JobFault.Write) }
+    ensures kept { Keeps (W.contents out.old) (W.contents out.new) }
 {
     let flushed = out.flush().is_ok();
     match done {
@@ -112,9 +114,10 @@ pub fn flushed<W: Write>(out: &mut W, done: Result<(), JobFault>) -> Result<(), 
     }
 }
 
-/// The status of what was done. A fault is printed by its name.
+/// The status of what was done. A fault is printed by its name, and nothing where there was none.
 pub fn status_of<W: Write>(err: &mut W, done: Result<(), JobFault>) -> u8
-    ensures { result ≡ status done }
+    ensures status { result ≡ status done }
+    ensures silent { IsOk done → err.new ≡ err.old }
 {
     match done {
         Ok(()) => DONE,

@@ -2,7 +2,7 @@
 
 ghost use Rattle.std.specs.Prelude.{◌≡◌, ◌<◌, ◌≤◌, ℕ, Err, IfErr, IfOk, IfSome, take, vec_len};
 ghost use Rattle.exchanges.specs.Exchanges.{AreExchanges, IsBadRecord, TellsOf, exchanges_text};
-ghost use Rattle.jobs.specs.Faults.{IsOfAFile, IsOfExchanges};
+ghost use Rattle.jobs.specs.Faults.{IsOfAFile, IsOfAKey, IsOfExchanges};
 ghost use Rattle.jobs.specs.Reading.{IsKeyText};
 
 use crate::job_fault::JobFault;
@@ -92,8 +92,10 @@ pub fn read_exchanges_from<R: Read + Drop>(
 }
 
 // The key that a text holds: a key line, and then a line feed or nothing.
+#[tactic(auto, using(crate::proofs::Causes::key_line))]
 fn key_in(alloc: Global, text: &[u8]) -> Result<KeyLine, JobFault>
-    ensures { IfOk result (IsKeyText text.now) }
+    ensures key { IfOk result (IsKeyText text.now) }
+    ensures only { IfErr result IsOfAKey }
 {
     let line = text.strip_suffix(b"\n".as_slice()).unwrap_or(text);
     match read_key_line(alloc, line) {
@@ -103,8 +105,10 @@ fn key_in(alloc: Global, text: &[u8]) -> Result<KeyLine, JobFault>
 }
 
 /// The key of a file with a key line, whose last line feed may be left out.
+#[tactic(auto, using(crate::proofs::Causes::key_file))]
 pub fn read_key<R: Read + Drop>(alloc: Global, reader: R) -> Result<KeyLine, JobFault>
-    ensures { IfOk result (λ k. IfSome (R.remaining reader) (λ text. IsKeyText text k)) }
+    ensures key { IfOk result (λ k. IfSome (R.remaining reader) (λ text. IsKeyText text k)) }
+    ensures only { IfErr result IsOfAKey }
 {
     let bytes = read_whole(alloc, reader, MAX_KEY_FILE)?;
     key_in(alloc, bytes.as_slice())

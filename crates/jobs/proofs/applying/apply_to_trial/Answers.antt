@@ -1,7 +1,10 @@
-use Rattle.std.proofs.Common.{sym, ◌∙◌}
+use Rattle.std.proofs.Common.{subst, sym, ◌∙◌}
+use Rattle.std.specs.Prelude.{IfErr}
 use Rattle.std.proofs.lemmas.Result.{IfOk-weaker}
 use Rattle.sqlite.proofs.Callers.{memory_is_clean}
+use Rattle.jobs.specs.Faults.{IsOfATrial}
 use Rattle.jobs.proofs.Applied.{applies_of, not_bad, of_ok, was_fault}
+use Rattle.jobs.proofs.Causes.{trial_run}
 use Rattle.jobs.proofs.applying.apply_to_trial.Goals as goal
 
 pub returns-clause-ok : goal.returns-clause-ok
@@ -22,3 +25,7 @@ returns-clause-fault g c = λ failed.
 pub returns-clause-bad : goal.returns-clause-bad
 returns-clause-bad g c = λ k failed.
     absurd (not_bad c.apply_exchanges-done.result k (sym c.of_a_run.ensures ∙ failed))
+
+pub returns-clause-only : goal.returns-clause-only
+returns-clause-only g c =
+    subst (λ r. IfErr r IsOfATrial) (sym c.of_a_run.ensures) (trial_run c.apply_exchanges-done.result)

@@ -21,8 +21,8 @@ key_text text end k (Some x) whole line feed cut chosen same found =
       line = inr (cut ∙ (ap (λ t. t ++ end) front ∙ ap (λ e. key_line_text k ++ e) feed));
     }
 
-pub returns-in-Ok : goal.returns-in-Ok
-returns-in-Ok c =
+pub returns-in-Ok-clause-key : goal.returns-in-Ok-clause-key
+returns-in-Ok-clause-key c =
     key_text c.args.text.now c.as_slice.result.now c.in-Ok.key c.strip_suffix.result c.args.text c.unwrap_or-line.result
     c.as_slice.ensures
     (strip_suffix_is Decides-eqb c.args.text.now c.as_slice.result.now c.strip_suffix.result
