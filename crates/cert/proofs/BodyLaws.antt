@@ -10,7 +10,10 @@ use Rattle.lines.specs.Keys.{key_blob, key_of}
 use Rattle.cert.specs.Options.{options_text}
 use Rattle.lines.proofs.Blobs.{key_of_found}
 use Rattle.values.specs.declared.option_field.OptionField.TheVariants.{CriticalOptions, Extensions}
-use Rattle.cert.specs.Bodies.{IsCertFields, cert_type, front, body_text, is_validity, principals_text}
+use Rattle.std.specs.Str.{bytes_eq}
+use Rattle.values.specs.Names.{is_key_id}
+use Rattle.values.specs.Serials.{is_serial}
+use Rattle.cert.specs.Bodies.{IsCertFields, cert_type, kind_number, front, body_text, is_validity, principals_text}
 use Rattle.text.specs.Results.{◌>>=◌}
 use Rattle.cert.specs.Reading.{
   check,
@@ -18,16 +21,7 @@ use Rattle.cert.specs.Reading.{
   kind_of,
   principals_of,
   options_of,
-  type_at,
-  bytes_32_at,
-  serial_at,
-  kind_at,
-  key_id_at,
-  principals_at,
   validity_at,
-  options_at,
-  reserved_at,
-  ca_at,
   body_at,
 }
 use Rattle.cert.specs.Faults.{IsFault, ends_at, is_whole}
@@ -54,8 +48,7 @@ use Rattle.cert.proofs.NestedLaws.{IsBytes_left, IsBytes_string, empty, principa
 use Rattle.cert.proofs.OptionLaws.{options_of_found}
 use Rattle.cert.proofs.Tails
 use Rattle.cert.proofs.BodyParts.{bind_Err, no_value, option_cases, none_of, kind_found, sample}
-use Rattle.cert.proofs.BodySays.{Says}
-use Rattle.cert.proofs.BodyStart.{body_at-says}
+use Rattle.cert.proofs.BodySays.{Says, body_at-says}
 use Rattle.cert.proofs.BodyAgain.{
   upto_nonce,
   upto_key,
@@ -127,109 +120,96 @@ more c rest some = by (eqb (length rest) 0) refl
 
 cut : (n : ℕ) → n < 12 → (c : CertFields) (rest : List ℕ) → IsCertFields c → is_whole n rest ≡ false
     → body_at (front n c ++ rest) ≡ Err Truncated
-cut zero lt c rest l e = Tails.body_at-from_type sample rest ∙ bind_Err (type_at rest)
-    (Tails.then_type sample) Truncated (Tails.type_is_cut rest (none_of (string_at rest) e))
-cut (suc zero) lt c rest l e = reads_type c l rest ∙ bind_Err (bytes_32_at BadNonce rest)
-    (Tails.then_nonce sample) Truncated (Tails.bytes_32_is_cut BadNonce rest (none_of (string_at rest) e))
-cut (suc (suc zero)) lt c rest l e = reads_nonce c l rest ∙ bind_Err (bytes_32_at BadKey rest) (Tails.then_key
-    (upto_nonce c)) Truncated (Tails.bytes_32_is_cut BadKey rest (none_of (string_at rest) e))
+cut zero lt c rest l e = Tails.body_at-from_type sample rest
+    ∙ bind_Err _ (Tails.then_type sample) Truncated (Tails.tested_is_cut WrongType string_at rest
+    (λ s. bytes_eq s cert_type) (λ _. tt) (none_of (string_at rest) e))
+cut (suc zero) lt c rest l e = reads_type c l rest
+    ∙ bind_Err _ (Tails.then_nonce sample) Truncated (Tails.tested_is_cut BadNonce string_at rest
+    (λ s. eqb (length s) 32) (λ s. s) (none_of (string_at rest) e))
+cut (suc (suc zero)) lt c rest l e = reads_nonce c l rest
+    ∙ bind_Err _ (Tails.then_key (upto_nonce c)) Truncated (Tails.tested_is_cut BadKey string_at rest
+    (λ s. eqb (length s) 32) (λ s. s) (none_of (string_at rest) e))
 cut (suc (suc (suc zero))) lt c rest l e = reads_key c l rest
-    ∙ bind_Err (serial_at rest) (Tails.then_serial (upto_key c)) Truncated (Tails.serial_is_cut rest (none_of
-    (u64_at rest) e))
+    ∙ bind_Err _ (Tails.then_serial (upto_key c)) Truncated (Tails.tested_is_cut BadSerial u64_at rest is_serial
+    (λ n. n) (none_of (u64_at rest) e))
 cut (suc (suc (suc (suc zero)))) lt c rest l e = reads_serial c l rest
-    ∙ bind_Err (kind_at rest) (Tails.then_kind (upto_serial c)) Truncated (Tails.kind_is_cut rest (none_of
-    (u32_at rest) e))
+    ∙ bind_Err _ (Tails.then_kind (upto_serial c)) Truncated (Tails.made_is_cut BadKind u32_at rest kind_of
+    (none_of (u32_at rest) e))
 cut (suc (suc (suc (suc (suc zero))))) lt c rest l e = reads_kind c l rest
-    ∙ bind_Err (key_id_at rest) (Tails.then_key_id (upto_kind c)) Truncated (Tails.key_id_is_cut rest (none_of
-    (string_at rest) e))
+    ∙ bind_Err _ (Tails.then_key_id (upto_kind c)) Truncated (Tails.tested_is_cut BadKeyId string_at rest is_key_id
+    (λ s. s) (none_of (string_at rest) e))
 cut (suc (suc (suc (suc (suc (suc zero)))))) lt c rest l e = reads_key_id c l rest
-    ∙ bind_Err (principals_at rest) (Tails.then_principals (upto_key_id c)) Truncated
-    (Tails.principals_is_cut rest (none_of (string_at rest) e))
+    ∙ bind_Err _ (Tails.then_principals (upto_key_id c)) Truncated (Tails.made_is_cut BadPrincipals string_at rest
+    principals_of (none_of (string_at rest) e))
 cut (suc (suc (suc (suc (suc (suc (suc zero))))))) lt c rest l e = reads_principals c l rest
     ∙ bind_Err (validity_at rest) (Tails.then_validity (upto_principals c)) Truncated (ends_are_cut rest e)
 cut (suc (suc (suc (suc (suc (suc (suc (suc zero)))))))) lt c rest l e = reads_validity c l rest
-    ∙ bind_Err (options_at CriticalOptions c.kind rest) (Tails.then_options (upto_validity c)) Truncated
-    (Tails.options_is_cut CriticalOptions c.kind rest (none_of (string_at rest) e))
+    ∙ bind_Err _ (Tails.then_options (upto_validity c)) Truncated (Tails.made_is_cut BadOptions string_at rest
+    (options_of CriticalOptions c.kind) (none_of (string_at rest) e))
 cut (suc (suc (suc (suc (suc (suc (suc (suc (suc zero))))))))) lt c rest l e = reads_options c l rest
-    ∙ bind_Err (options_at Extensions c.kind rest) (Tails.then_extensions (upto_options c)) Truncated
-    (Tails.options_is_cut Extensions c.kind rest (none_of (string_at rest) e))
+    ∙ bind_Err _ (Tails.then_extensions (upto_options c)) Truncated (Tails.made_is_cut BadExtensions string_at rest
+    (options_of Extensions c.kind) (none_of (string_at rest) e))
 cut (suc (suc (suc (suc (suc (suc (suc (suc (suc (suc zero)))))))))) lt c rest l e = reads_extensions c l rest
-    ∙ bind_Err (reserved_at rest) (Tails.then_reserved (upto_extensions c)) Truncated (Tails.reserved_is_cut rest
-    (none_of (string_at rest) e))
+    ∙ bind_Err _ (Tails.then_reserved (upto_extensions c)) Truncated (Tails.tested_is_cut BadReserved string_at rest
+    (λ s. eqb (length s) 0) (λ _. tt) (none_of (string_at rest) e))
 cut (suc (suc (suc (suc (suc (suc (suc (suc (suc (suc (suc zero))))))))))) lt c rest l e = reads_reserved c l rest
-    ∙ bind_Err (ca_at rest) (Tails.then_ca (upto_extensions c)) Truncated (Tails.ca_is_cut rest (none_of
-    (string_at rest) e))
+    ∙ bind_Err _ (Tails.then_ca (upto_extensions c)) Truncated (Tails.made_is_cut BadCa string_at rest key_of
+    (none_of (string_at rest) e))
 cut (suc (suc (suc (suc (suc (suc (suc (suc (suc (suc (suc (suc n)))))))))))) lt c rest l e = absurd (omega arith)
 
 -- a fault that is there is found
 pub body_at-fault : (bytes : List ℕ) (e : CertFault) → IsBytes bytes → e ≢ NoMemory → IsFault bytes e
     → body_at bytes ≡ Err e
-body_at-fault bytes WrongType fits other f =
-    let c = f.0 in let rest = f.1 in let h = f.2 in let w = f.3 in
-    ap body_at h.text ∙ Tails.body_at-from_type sample rest ∙ bind_Err (type_at rest) (Tails.then_type sample) WrongType
-    (Tails.type_is_bad rest w.0 w.1 (false_from_ne_true _ (λ t. w.2 ((bytes_eq-Decides w.0.0 cert_type).0 t))))
-body_at-fault bytes BadNonce fits other f =
-    let c = f.0 in let rest = f.1 in let h = f.2 in let w = f.3 in
-    ap body_at h.text ∙ reads_type c h.lawful rest ∙ bind_Err (bytes_32_at BadNonce rest)
-    (Tails.then_nonce sample) BadNonce
-    (Tails.bytes_32_is_bad BadNonce rest w.0 w.1 (false_from_ne_true _ (λ t. w.2 (eqb-true _ _ t))))
-body_at-fault bytes BadKey fits other f =
-    let c = f.0 in let rest = f.1 in let h = f.2 in let w = f.3 in
-    ap body_at h.text ∙ reads_nonce c h.lawful rest ∙ bind_Err (bytes_32_at BadKey rest) (Tails.then_key
-    (upto_nonce c)) BadKey
-    (Tails.bytes_32_is_bad BadKey rest w.0 w.1 (false_from_ne_true _ (λ t. w.2 (eqb-true _ _ t))))
-body_at-fault bytes BadSerial fits other f =
-    let c = f.0 in let rest = f.1 in let h = f.2 in let w = f.3 in
-    ap body_at h.text ∙ reads_key c h.lawful rest ∙ bind_Err (serial_at rest) (Tails.then_serial (upto_key c)) BadSerial
-    (Tails.serial_is_bad rest w.0 w.1 (false_from_ne_true _ w.2))
-body_at-fault bytes BadKind fits other f =
-    let c = f.0 in let rest = f.1 in let h = f.2 in let w = f.3 in
-    ap body_at h.text ∙ reads_serial c h.lawful rest ∙ bind_Err (kind_at rest) (Tails.then_kind (upto_serial c)) BadKind
-    (Tails.kind_is_bad rest w.0 w.1 (option_cases (kind_of w.0.0) (kind_of w.0.0 ≡ None) (λ none. none)
-    (λ kind e. absurd (w.2 kind (kind_found w.0.0 kind e)))))
-body_at-fault bytes BadKeyId fits other f =
-    let c = f.0 in let rest = f.1 in let h = f.2 in let w = f.3 in
-    ap body_at h.text ∙ reads_kind c h.lawful rest ∙ bind_Err (key_id_at rest) (Tails.then_key_id
-    (upto_kind c)) BadKeyId
-    (Tails.key_id_is_bad rest w.0 w.1 (false_from_ne_true _ w.2))
-body_at-fault bytes BadPrincipals fits other f =
-    let c = f.0 in let rest = f.1 in let h = f.2 in let w = f.3 in
-    ap body_at h.text ∙ reads_key_id c h.lawful rest ∙ bind_Err (principals_at rest) (Tails.then_principals
-    (upto_key_id c)) BadPrincipals
-    (Tails.principals_is_bad rest w.0 w.1 (no_value principals_of principals_text _ w.0.0
+body_at-fault bytes WrongType fits other (c, rest, h, w) = ap body_at h.text ∙ Tails.body_at-from_type sample rest
+    ∙ bind_Err _ (Tails.then_type sample) WrongType (Tails.tested_is_bad WrongType string_at rest
+    (λ s. bytes_eq s cert_type) (λ _. tt) w.0 w.1 (false_from_ne_true _
+    (λ t. w.2 ((bytes_eq-Decides w.0.0 cert_type).0 t))))
+body_at-fault bytes BadNonce fits other (c, rest, h, w) = ap body_at h.text ∙ reads_type c h.lawful rest
+    ∙ bind_Err _ (Tails.then_nonce sample) BadNonce (Tails.tested_is_bad BadNonce string_at rest
+    (λ s. eqb (length s) 32) (λ s. s) w.0 w.1 (false_from_ne_true _ (λ t. w.2 (eqb-true _ _ t))))
+body_at-fault bytes BadKey fits other (c, rest, h, w) = ap body_at h.text ∙ reads_nonce c h.lawful rest
+    ∙ bind_Err _ (Tails.then_key (upto_nonce c)) BadKey (Tails.tested_is_bad BadKey string_at rest
+    (λ s. eqb (length s) 32) (λ s. s) w.0 w.1 (false_from_ne_true _ (λ t. w.2 (eqb-true _ _ t))))
+body_at-fault bytes BadSerial fits other (c, rest, h, w) = ap body_at h.text ∙ reads_key c h.lawful rest
+    ∙ bind_Err _ (Tails.then_serial (upto_key c)) BadSerial (Tails.tested_is_bad BadSerial u64_at rest is_serial
+    (λ n. n) w.0 w.1 (false_from_ne_true _ w.2))
+body_at-fault bytes BadKind fits other (c, rest, h, w) = ap body_at h.text ∙ reads_serial c h.lawful rest
+    ∙ bind_Err _ (Tails.then_kind (upto_serial c)) BadKind (Tails.made_is_bad BadKind u32_at rest kind_of w.0 w.1
+    (no_value kind_of kind_number (λ _. Unit {0}) w.0.0
+    (λ kind e. (kind_found w.0.0 kind e, tt)) (λ x. w.2 x.0 x.2)))
+body_at-fault bytes BadKeyId fits other (c, rest, h, w) = ap body_at h.text ∙ reads_kind c h.lawful rest
+    ∙ bind_Err _ (Tails.then_key_id (upto_kind c)) BadKeyId (Tails.tested_is_bad BadKeyId string_at rest is_key_id
+    (λ s. s) w.0 w.1 (false_from_ne_true _ w.2))
+body_at-fault bytes BadPrincipals fits other (c, rest, h, w) = ap body_at h.text ∙ reads_key_id c h.lawful rest
+    ∙ bind_Err _ (Tails.then_principals (upto_key_id c)) BadPrincipals
+    (Tails.made_is_bad BadPrincipals string_at rest principals_of w.0 w.1
+    (no_value principals_of principals_text _ w.0.0
     (λ x. principals_found w.0.0 x (inside bytes (front 6 c) rest w.0 h.text w.1 fits)) w.2))
-body_at-fault bytes BadValidity fits other f =
-    let c = f.0 in let rest = f.1 in let h = f.2 in let w = f.3 in
-    ap body_at h.text ∙ reads_principals c h.lawful rest ∙ bind_Err (validity_at rest) (Tails.then_validity
-    (upto_principals c)) BadValidity
+body_at-fault bytes BadValidity fits other (c, rest, h, w) = ap body_at h.text ∙ reads_principals c h.lawful rest
+    ∙ bind_Err (validity_at rest) (Tails.then_validity (upto_principals c)) BadValidity
     (ends_are_bad rest w.0 w.1 (false_from_ne_true _ w.2))
-body_at-fault bytes BadOptions fits other f =
-    let c = f.0 in let rest = f.1 in let h = f.2 in let w = f.3 in
-    ap body_at h.text ∙ reads_validity c h.lawful rest ∙ bind_Err (options_at CriticalOptions c.kind rest)
-    (Tails.then_options (upto_validity c)) BadOptions
-    (Tails.options_is_bad CriticalOptions c.kind rest w.0 w.1 (no_value (options_of CriticalOptions c.kind)
-    options_text _ w.0.0 (λ x. options_of_found CriticalOptions c.kind w.0.0 x (inside bytes
-    (front 8 c) rest w.0 h.text w.1 fits)) w.2))
-body_at-fault bytes BadExtensions fits other f =
-    let c = f.0 in let rest = f.1 in let h = f.2 in let w = f.3 in
-    ap body_at h.text ∙ reads_options c h.lawful rest ∙ bind_Err (options_at Extensions c.kind rest)
-    (Tails.then_extensions (upto_options c)) BadExtensions
-    (Tails.options_is_bad Extensions c.kind rest w.0 w.1 (no_value (options_of Extensions c.kind)
-    options_text _ w.0.0 (λ x. options_of_found Extensions c.kind w.0.0 x (inside bytes
-    (front 9 c) rest w.0 h.text w.1 fits)) w.2))
-body_at-fault bytes BadReserved fits other f =
-    let c = f.0 in let rest = f.1 in let h = f.2 in let w = f.3 in
-    ap body_at h.text ∙ reads_extensions c h.lawful rest ∙ bind_Err (reserved_at rest) (Tails.then_reserved
-    (upto_extensions c)) BadReserved
-    (Tails.reserved_is_bad rest w.0 w.1 (false_from_ne_true _ (λ t. w.2 (empty w.0.0 t))))
-body_at-fault bytes BadCa fits other f =
-    let c = f.0 in let rest = f.1 in let h = f.2 in let w = f.3 in
-    ap body_at h.text ∙ reads_reserved c h.lawful rest ∙ bind_Err (ca_at rest) (Tails.then_ca (upto_extensions c)) BadCa
-    (Tails.ca_is_bad rest w.0 w.1 (no_value key_of key_blob _ w.0.0 (key_of_found w.0.0) w.2))
-body_at-fault bytes TrailingBytes fits other f =
-    ap body_at f.2.text ∙ reads_ca f.0 f.2.lawful f.1 ∙ more f.0 f.1 f.3
-body_at-fault bytes Truncated fits other f =
-    ap body_at f.4.text ∙ cut f.0 f.1 f.2 f.3 f.4.lawful f.5
+body_at-fault bytes BadOptions fits other (c, rest, h, w) = ap body_at h.text ∙ reads_validity c h.lawful rest
+    ∙ bind_Err _ (Tails.then_options (upto_validity c)) BadOptions (Tails.made_is_bad BadOptions string_at rest
+    (options_of CriticalOptions c.kind) w.0 w.1 (no_value (options_of CriticalOptions c.kind)
+    options_text _ w.0.0 (λ x. options_of_found CriticalOptions c.kind w.0.0 x (inside bytes (front 8 c) rest w.0 h.text
+    w.1 fits)) w.2))
+body_at-fault bytes BadExtensions fits other (c, rest, h, w) = ap body_at h.text ∙ reads_options c h.lawful rest
+    ∙ bind_Err _ (Tails.then_extensions (upto_options c)) BadExtensions
+    (Tails.made_is_bad BadExtensions string_at rest (options_of Extensions c.kind) w.0 w.1
+    (no_value (options_of Extensions c.kind)
+    options_text _ w.0.0 (λ x. options_of_found Extensions c.kind w.0.0 x (inside bytes (front 9 c) rest w.0 h.text w.1
+    fits)) w.2))
+body_at-fault bytes BadReserved fits other (c, rest, h, w) = ap body_at h.text ∙ reads_extensions c h.lawful rest
+    ∙ bind_Err _ (Tails.then_reserved (upto_extensions c)) BadReserved
+    (Tails.tested_is_bad BadReserved string_at rest (λ s. eqb (length s) 0) (λ _. tt) w.0 w.1
+    (false_from_ne_true _ (λ t. w.2 (empty w.0.0 t))))
+body_at-fault bytes BadCa fits other (c, rest, h, w) = ap body_at h.text ∙ reads_reserved c h.lawful rest
+    ∙ bind_Err _ (Tails.then_ca (upto_extensions c)) BadCa (Tails.made_is_bad BadCa string_at rest key_of w.0 w.1
+    (no_value key_of key_blob _ w.0.0 (key_of_found w.0.0) w.2))
+body_at-fault bytes TrailingBytes fits other (c, rest, h, some) =
+    ap body_at h.text ∙ reads_ca c h.lawful rest ∙ more c rest some
+body_at-fault bytes Truncated fits other (n, lt, c, rest, h, part) =
+    ap body_at h.text ∙ cut n lt c rest h.lawful part
 body_at-fault bytes NoMemory fits other f = absurd (other refl)
 
 -- ---- from what reading gives to what was answered

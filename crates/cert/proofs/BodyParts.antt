@@ -8,6 +8,7 @@ use Rattle.text.specs.declared.pair.Pair.{Pair}
 use Rattle.values.specs.Names.{is_key_id}
 use Rattle.values.specs.declared.kind.Kind.{Kind}
 use Rattle.values.specs.declared.kind.Kind.TheVariants.{User, Host}
+use Rattle.values.specs.declared.option_field.OptionField.{OptionField}
 use Rattle.values.specs.declared.option_field.OptionField.TheVariants.{CriticalOptions, Extensions}
 use Rattle.cert.specs.Options.{is_options}
 use Rattle.values.specs.Serials.{is_serial}
@@ -29,7 +30,7 @@ option_cases None P none some = none refl
 option_cases (Some x) P none some = some x refl
 
 -- a text of no lawful value is read as none
-pub no_value : {X : Type 0} (of : List ℕ → Option X) (value_text : X → List ℕ) (IsLawful : X → Type 0) (s : List ℕ)
+pub no_value : {S X : Type 0} (of : S → Option X) (value_text : X → S) (IsLawful : X → Type 0) (s : S)
     → ((x : X) → of s ≡ Some x → (s ≡ value_text x) × IsLawful x)
     → ¬ ((x : X) × IsLawful x × (s ≡ value_text x)) → of s ≡ None
 no_value of value_text IsLawful s found none =
@@ -64,9 +65,6 @@ kind_again Host = refl
 pub kind_small : (kind : Kind) → kind_number kind < 2 ^ 32
 kind_small User = omega arith
 kind_small Host = omega arith
-
-pub no_kind : (n : ℕ) → kind_of n ≡ None → (kind : Kind) → n ≢ kind_number kind
-no_kind n none kind e = let there : None ≡ Some kind = sym none ∙ ap kind_of e ∙ kind_again kind in cc
 
 -- ---- lawful fields
 
@@ -109,168 +107,61 @@ pub sample_is_bare : IsBare sample
 unfolding sample
 sample_is_bare = (refl, refl)
 
--- lawful fields with another nonce
-pub with_nonce : (c : CertFields) → IsCertFields c → (x : List ℕ) → length x ≡ 32
-    → IsCertFields (record c { nonce = x })
-with_nonce c l x h = record {
-  nonce = h;
-  key = l.key;
-  serial = l.serial;
-  key_id = l.key_id;
-  principals =
-      l.principals;
-  validity = l.validity;
-  options = l.options;
-  extensions = l.extensions;
-  ca = l.ca;
+-- fields that are lawful one by one
+lawful : (c : CertFields) → length c.nonce ≡ 32 → length c.key ≡ 32 → is_serial c.serial ≡ true
+    → is_key_id c.key_id ≡ true → are_principals c.principals ≡ true → is_validity c.after c.before ≡ true
+    → is_options CriticalOptions c.kind c.options ≡ true → is_options Extensions c.kind c.extensions ≡ true
+    → length c.ca ≡ 32 → IsCertFields c
+lawful c nonce key serial key_id principals validity options extensions ca = record {
+  nonce = nonce;
+  key = key;
+  serial = serial;
+  key_id = key_id;
+  principals = principals;
+  validity = validity;
+  options = options;
+  extensions = extensions;
+  ca = ca;
 }
 
--- lawful fields with another key
-pub with_key : (c : CertFields) → IsCertFields c → (x : List ℕ) → length x ≡ 32 → IsCertFields (record c { key = x })
-with_key c l x h = record {
-  nonce = l.nonce;
-  key = h;
-  serial = l.serial;
-  key_id = l.key_id;
-  principals =
-      l.principals;
-  validity = l.validity;
-  options = l.options;
-  extensions = l.extensions;
-  ca = l.ca;
-}
+-- ---- lawful fields c, one of which is another
 
--- lawful fields with another serial
-pub with_serial : (c : CertFields) → IsCertFields c → (x : ℕ) → is_serial x ≡ true
-    → IsCertFields (record c { serial = x })
-with_serial c l x h = record {
-  nonce = l.nonce;
-  key = l.key;
-  serial = h;
-  key_id = l.key_id;
-  principals =
-      l.principals;
-  validity = l.validity;
-  options = l.options;
-  extensions = l.extensions;
-  ca = l.ca;
-}
+module _ (c : CertFields) (l : IsCertFields c) where
+  pub with_nonce : (x : List ℕ) → length x ≡ 32 → IsCertFields (record c { nonce = x })
+  with_nonce x h = lawful _ h l.key l.serial l.key_id l.principals l.validity l.options l.extensions l.ca
 
--- lawful fields with another key id
-pub with_key_id : (c : CertFields) → IsCertFields c → (x : List ℕ) → is_key_id x ≡ true
-    → IsCertFields (record c { key_id = x })
-with_key_id c l x h = record {
-  nonce = l.nonce;
-  key = l.key;
-  serial = l.serial;
-  key_id = h;
-  principals =
-      l.principals;
-  validity = l.validity;
-  options = l.options;
-  extensions = l.extensions;
-  ca = l.ca;
-}
+  pub with_key : (x : List ℕ) → length x ≡ 32 → IsCertFields (record c { key = x })
+  with_key x h = lawful _ l.nonce h l.serial l.key_id l.principals l.validity l.options l.extensions l.ca
 
--- lawful fields with another principals
-pub with_principals : (c : CertFields) → IsCertFields c → (x : List (List ℕ)) → are_principals x ≡ true
-    → IsCertFields (record c { principals = x })
-with_principals c l x h = record {
-  nonce = l.nonce;
-  key = l.key;
-  serial = l.serial;
-  key_id = l.key_id;
-  principals =
-      h;
-  validity = l.validity;
-  options = l.options;
-  extensions = l.extensions;
-  ca = l.ca;
-}
+  pub with_serial : (x : ℕ) → is_serial x ≡ true → IsCertFields (record c { serial = x })
+  with_serial x h = lawful _ l.nonce l.key h l.key_id l.principals l.validity l.options l.extensions l.ca
 
--- lawful fields with another options
-pub with_options : (c : CertFields) → IsCertFields c → (x : List Pair)
-    → is_options CriticalOptions c.kind x ≡ true → IsCertFields (record c { options = x })
-with_options c l x h = record {
-  nonce = l.nonce;
-  key = l.key;
-  serial = l.serial;
-  key_id = l.key_id;
-  principals =
-      l.principals;
-  validity = l.validity;
-  options = h;
-  extensions = l.extensions;
-  ca = l.ca;
-}
+  pub with_key_id : (x : List ℕ) → is_key_id x ≡ true → IsCertFields (record c { key_id = x })
+  with_key_id x h = lawful _ l.nonce l.key l.serial h l.principals l.validity l.options l.extensions l.ca
 
--- lawful fields with another extensions
-pub with_extensions : (c : CertFields) → IsCertFields c → (x : List Pair) → is_options Extensions c.kind x ≡ true
-    → IsCertFields (record c { extensions = x })
-with_extensions c l x h = record {
-  nonce = l.nonce;
-  key = l.key;
-  serial = l.serial;
-  key_id = l.key_id;
-  principals =
-      l.principals;
-  validity = l.validity;
-  options = l.options;
-  extensions = h;
-  ca = l.ca;
-}
+  pub with_principals : (x : List (List ℕ)) → are_principals x ≡ true → IsCertFields (record c { principals = x })
+  with_principals x h = lawful _ l.nonce l.key l.serial l.key_id h l.validity l.options l.extensions l.ca
 
--- lawful fields with another ca
-pub with_ca : (c : CertFields) → IsCertFields c → (x : List ℕ) → length x ≡ 32 → IsCertFields (record c { ca = x })
-with_ca c l x h = record {
-  nonce = l.nonce;
-  key = l.key;
-  serial = l.serial;
-  key_id = l.key_id;
-  principals =
-      l.principals;
-  validity = l.validity;
-  options = l.options;
-  extensions = l.extensions;
-  ca = h;
-}
+  pub with_ends : (a b : ℕ) → is_validity a b ≡ true → IsCertFields (record c { after = a; before = b })
+  with_ends a b h = lawful _ l.nonce l.key l.serial l.key_id l.principals h l.options l.extensions l.ca
 
--- lawful fields with other ends
-pub with_ends : (c : CertFields) → IsCertFields c → (a b : ℕ) → is_validity a b ≡ true
-    → IsCertFields (record c { after = a; before = b })
-with_ends c l a b h = record {
-  nonce = l.nonce;
-  key = l.key;
-  serial = l.serial;
-  key_id = l.key_id;
-  principals =
-      l.principals;
-  validity = h;
-  options = l.options;
-  extensions = l.extensions;
-  ca = l.ca;
-}
+  pub with_options : (x : List Pair) → is_options CriticalOptions c.kind x ≡ true
+      → IsCertFields (record c { options = x })
+  with_options x h = lawful _ l.nonce l.key l.serial l.key_id l.principals l.validity h l.extensions l.ca
 
-pub no_options : (kind : Kind) (ps : List Pair) → ps ≡ [] → is_options CriticalOptions kind ps ≡ true
-no_options User ps e = ap (is_options CriticalOptions User) e
-no_options Host ps e = ap (is_options CriticalOptions Host) e
+  pub with_extensions : (x : List Pair) → is_options Extensions c.kind x ≡ true
+      → IsCertFields (record c { extensions = x })
+  with_extensions x h = lawful _ l.nonce l.key l.serial l.key_id l.principals l.validity l.options h l.ca
 
-pub no_extensions : (kind : Kind) (ps : List Pair) → ps ≡ [] → is_options Extensions kind ps ≡ true
-no_extensions User ps e = ap (is_options Extensions User) e
-no_extensions Host ps e = ap (is_options Extensions Host) e
+  pub with_ca : (x : List ℕ) → length x ≡ 32 → IsCertFields (record c { ca = x })
+  with_ca x h = lawful _ l.nonce l.key l.serial l.key_id l.principals l.validity l.options l.extensions h
+
+no_options : (field : OptionField) (kind : Kind) (ps : List Pair) → ps ≡ [] → is_options field kind ps ≡ true
+no_options field User ps e = ap (is_options field User) e
+no_options field Host ps e = ap (is_options field Host) e
 
 -- lawful fields without options, with another kind
 pub with_kind : (c : CertFields) → IsCertFields c → IsBare c → (kind : Kind) → IsCertFields (record c { kind = kind })
-with_kind c l bare kind = record {
-  nonce = l.nonce;
-  key = l.key;
-  serial = l.serial;
-  key_id = l.key_id;
-  principals =
-      l.principals;
-  validity = l.validity;
-  options = no_options kind c.options bare.0;
-  extensions = no_extensions
-      kind c.extensions bare.1;
-  ca = l.ca;
-}
+with_kind c l bare kind =
+    lawful _ l.nonce l.key l.serial l.key_id l.principals l.validity (no_options CriticalOptions kind c.options bare.0)
+    (no_options Extensions kind c.extensions bare.1) l.ca

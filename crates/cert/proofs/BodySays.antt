@@ -2,7 +2,9 @@
 use Rattle.std.proofs.Common.{◌≡◌, ℕ, ◌^◌, ◌<◌, Bool, true, false, eqb, List, ◌++◌, length, Option, Some, None}
 use Rattle.std.proofs.Common.{is_some, Result, Ok, Err, refl, sym, ap, ◌∙◌, subst, append_assoc, arith, inl, inr}
 use Rattle.std.specs.Int.{w32, w64}
-use Rattle.std.proofs.lemmas.Bool.{cases_Bool, both_ways}
+use Rattle.std.specs.Str.{bytes_eq}
+use Rattle.std.proofs.lemmas.Bool.{cases_Bool, both_ways, eqb-true, eq-eqb}
+use Rattle.std.proofs.lemmas.Slice.Eq.{bytes_eq-Decides}
 use Rattle.std.proofs.lemmas.List.{append-nil}
 use Rattle.wire.specs.Texts.{u32_text, u64_text, string_text}
 use Rattle.wire.specs.Reading.{u32_at, u64_at, string_at}
@@ -10,26 +12,28 @@ use Rattle.wire.proofs.Laws.{IsBytes, wide32, wide64, number_takes, string_takes
 use Rattle.lines.specs.Keys.{key_blob, key_of}
 use Rattle.lines.proofs.Blobs.{key_of_found, key_of_again}
 use Rattle.values.specs.Names.{is_key_id}
+use Rattle.values.specs.Serials.{is_serial}
 use Rattle.values.specs.declared.option_field.OptionField.TheVariants.{CriticalOptions, Extensions}
 use Rattle.cert.specs.Options.{is_options, options_text}
-use Rattle.cert.specs.Bodies.{IsCertFields, are_principals, kind_number}
+use Rattle.cert.specs.Bodies.{IsCertFields, cert_type, are_principals, kind_number}
 use Rattle.cert.specs.Bodies.{principals_text, front, body_text, is_validity}
 use Rattle.text.specs.Results.{◌>>=◌}
 use Rattle.cert.specs.Reading.{check, kind_of, principals_of, options_of}
-use Rattle.cert.specs.Reading.{kind_at, key_id_at, principals_at, validity_at, options_at, reserved_at, ca_at}
+use Rattle.cert.specs.Reading.{validity_at, body_at}
 use Rattle.cert.specs.Faults.{IsFault, ends_at, is_whole}
 use Rattle.cert.specs.declared.fields.CertFields.{CertFields}
 use Rattle.cert.specs.declared.cert_fault.CertFault.{CertFault}
-use Rattle.cert.specs.declared.cert_fault.CertFault.TheVariants.{Truncated}
+use Rattle.cert.specs.declared.cert_fault.CertFault.TheVariants.{Truncated, WrongType, BadNonce, BadKey, BadSerial}
 use Rattle.cert.specs.declared.cert_fault.CertFault.TheVariants.{BadKind, BadKeyId, BadPrincipals}
 use Rattle.cert.specs.declared.cert_fault.CertFault.TheVariants.{BadValidity, BadOptions, BadExtensions}
 use Rattle.cert.specs.declared.cert_fault.CertFault.TheVariants.{BadReserved, BadCa, TrailingBytes}
 use Rattle.cert.proofs.NestedLaws.{empty, IsBytes_left, IsBytes_string, principals_found, principals_again}
 use Rattle.cert.proofs.OptionLaws.{options_of_found, options_of_again}
 use Rattle.cert.proofs.Tails
-use Rattle.cert.proofs.BodyParts.{bind_Ok, bind_Err, option_cases, not_empty, advance, kind_found, no_kind, IsBare}
+use Rattle.cert.proofs.BodyParts.{bind_Ok, bind_Err, option_cases, not_empty, advance, kind_found, kind_again, IsBare}
 use Rattle.cert.proofs.BodyParts.{with_key_id, with_principals, with_options, with_extensions, with_ca, with_ends}
-use Rattle.cert.proofs.BodyParts.{with_kind}
+use Rattle.cert.proofs.BodyParts.{with_kind, with_serial, with_key, with_nonce}
+use Rattle.cert.proofs.BodyParts.{sample, sample_is_lawful, sample_is_bare}
 
 -- fields that were read are lawful, and the bytes are their text; a fault that was found is there
 abbrev pub Says : List ℕ → Result CertFields CertFault → Type 0
@@ -47,110 +51,113 @@ says_end c l bytes rest text = by (eqb (length rest) 0) refl
     by true e = (l, text ∙ ap (λ r. front 12 c ++ r) (empty rest e) ∙ append-nil (front 12 c))
     by false e = (c, rest, record { lawful = l; text = text }, not_empty rest e)
 
--- ---- a field that is a string
+-- ---- how one field is read
 
 -- The bytes begin with the first n of these lawful fields, and the next one is read from the rest.
 module _ (n : ℕ) (small : n < 12) (c : CertFields) (l : IsCertFields c) (bytes rest : List ℕ) (fits : IsBytes rest)
-    (text : bytes ≡ front n c ++ rest) (whole : is_whole n rest ≡ is_some (string_at rest)) {A : Type 0}
-    (read : Result (A × List ℕ) CertFault) (next : A × List ℕ → Result CertFields CertFault)
-    (is_cut : string_at rest ≡ None → read ≡ Err Truncated) (bad : CertFault) where
-  -- the string is cut, or its bytes are judged
-  says_string : ((s : List ℕ × List ℕ) → string_at rest ≡ Some s → rest ≡ string_text s.0 ++ s.1
-      → Says bytes (read >>= next)) → Says bytes (read >>= next)
-  says_string judged =
-      option_cases (string_at rest) (Says bytes (read >>= next))
+    (text : bytes ≡ front n c ++ rest) {S A : Type 0} (at : List ℕ → Option (S × List ℕ)) (source : S → List ℕ)
+    (takes : (s : S) (left : List ℕ) → at rest ≡ Some (s, left) → rest ≡ source s ++ left)
+    (whole : is_whole n rest ≡ is_some (at rest)) (bad : CertFault)
+    (next : A × List ℕ → Result CertFields CertFault) where
+  -- the field is cut, or what it holds is judged
+  says_judged : (read : Result (A × List ℕ) CertFault) → (at rest ≡ None → read ≡ Err Truncated)
+      → ((s : S × List ℕ) → at rest ≡ Some s → rest ≡ source s.0 ++ s.1 → Says bytes (read >>= next))
+      → Says bytes (read >>= next)
+  says_judged read is_cut judged =
+      option_cases (at rest) (Says bytes (read >>= next))
       (λ none. becomes bytes _ (Err Truncated) (bind_Err read next Truncated (is_cut none))
       (n, small, c, rest, record { lawful = l; text = text }, whole ∙ ap is_some none))
-      (λ s is. judged s is (string_takes rest s.0 s.1 fits is))
+      (λ s is. judged s is (takes s.0 s.1 is))
 
-  -- the bytes of the string pass a test, or are bad
-  pub says_tested : (test : List ℕ → Bool) (value : List ℕ → A)
-      → ((s : List ℕ × List ℕ) → string_at rest ≡ Some s → test s.0 ≡ true → read ≡ Ok (value s.0, s.1))
-      → ((s : List ℕ × List ℕ) → string_at rest ≡ Some s → test s.0 ≡ false → read ≡ Err bad)
-      → ((s : List ℕ × List ℕ) → string_at rest ≡ Some s → test s.0 ≡ false → IsFault bytes bad)
-      → ((s left : List ℕ) → test s ≡ true → IsBytes left → bytes ≡ front n c ++ string_text s ++ left
+  -- it passes a test, or is bad
+  pub says_tested : (test : S → Bool) (value : S → A)
+      → ((s : S × List ℕ) → at rest ≡ Some s → test s.0 ≡ false → IsFault bytes bad)
+      → ((s : S) (left : List ℕ) → test s ≡ true → IsBytes left → bytes ≡ front n c ++ source s ++ left
       → Says bytes (next (value s, left)))
-      → Says bytes (read >>= next)
-  says_tested test value goes_on is_bad fault on = says_string (λ s is here. elim (cases_Bool (test s.0)) [
-    | inl passes ↦
-        becomes bytes _ (next (value s.0, s.1)) (bind_Ok read next (value s.0, s.1) (goes_on s is passes))
-        (on s.0 s.1 passes (IsBytes_left rest (string_text s.0) s.1 here fits)
-        (advance bytes (front n c) rest (string_text s.0) s.1 text here))
-    | inr fails ↦ becomes bytes _ (Err bad) (bind_Err read next bad (is_bad s is fails)) (fault s is fails)
-  ])
+      → Says bytes (Tails.tested bad at test value rest >>= next)
+  says_tested test value fault on =
+      let read = Tails.tested bad at test value rest in
+      says_judged read (Tails.tested_is_cut bad at rest test value) (λ s is here. elim (cases_Bool (test s.0)) [
+        | inl passes ↦
+            becomes bytes _ (next (value s.0, s.1)) (bind_Ok read next (value s.0, s.1)
+            (Tails.tested_goes_on bad at rest test value s is passes))
+            (on s.0 s.1 passes (IsBytes_left rest (source s.0) s.1 here fits)
+            (advance bytes (front n c) rest (source s.0) s.1 text here))
+        | inr fails ↦ becomes bytes _ (Err bad) (bind_Err read next bad (Tails.tested_is_bad bad at rest test value s
+            is fails)) (fault s is fails)
+      ])
 
-  -- the bytes of the string are the text of a value, or are bad
-  says_value : (of : List ℕ → Option A) (value_text : A → List ℕ) (IsLawful : A → Type 0)
-      → ((s : List ℕ) (x : A) → IsBytes s → of s ≡ Some x → (s ≡ value_text x) × IsLawful x)
-      → ((x : A) → IsLawful x → of (value_text x) ≡ Some x)
-      → ((s : List ℕ × List ℕ) (x : A) → string_at rest ≡ Some s → of s.0 ≡ Some x → read ≡ Ok (x, s.1))
-      → ((s : List ℕ × List ℕ) → string_at rest ≡ Some s → of s.0 ≡ None → read ≡ Err bad)
-      → ((s : List ℕ × List ℕ) → string_at rest ≡ Some s → ¬ ((x : A) × IsLawful x × (s.0 ≡ value_text x))
-      → IsFault bytes bad)
-      → ((x : A) (left : List ℕ) → IsLawful x → IsBytes left
-      → bytes ≡ front n c ++ string_text (value_text x) ++ left → Says bytes (next (x, left)))
-      → Says bytes (read >>= next)
-  says_value of value_text IsLawful found again goes_on is_bad fault on = says_string (λ s is here.
+  -- it is the text of a value, or is bad
+  pub says_made : (of : S → Option A) (written : A → S) (IsLawful : A → Type 0)
+      → ((s : S) (x : A) (left : List ℕ) → rest ≡ source s ++ left → of s ≡ Some x → (s ≡ written x) × IsLawful x)
+      → ((x : A) → IsLawful x → of (written x) ≡ Some x)
+      → ((s : S × List ℕ) → at rest ≡ Some s → ¬ ((x : A) × IsLawful x × (s.0 ≡ written x)) → IsFault bytes bad)
+      → ((x : A) (left : List ℕ) → IsLawful x → IsBytes left → bytes ≡ front n c ++ source (written x) ++ left
+      → Says bytes (next (x, left)))
+      → Says bytes (Tails.made bad at of rest >>= next)
+  says_made of written IsLawful found again fault on =
+      let read = Tails.made bad at of rest in
+      says_judged read (Tails.made_is_cut bad at rest of) (λ s is here.
       option_cases (of s.0) (Says bytes (read >>= next))
-      (λ none. becomes bytes _ (Err bad) (bind_Err read next bad (is_bad s is none)) (fault s is
-      (λ w. let there : None ≡ Some w.0 = sym none ∙ ap of w.2 ∙ again w.0 w.1 in cc)))
+      (λ none. becomes bytes _ (Err bad) (bind_Err read next bad (Tails.made_is_bad bad at rest of s is none))
+      (fault s is (λ w. let there : None ≡ Some w.0 = sym none ∙ ap of w.2 ∙ again w.0 w.1 in cc)))
       (λ x of_x.
-      let lawful = found s.0 x (IsBytes_string rest s.0 s.1 here fits) of_x in
-      let same : rest ≡ string_text (value_text x) ++ s.1 = here ∙ ap (λ t. string_text t ++ s.1) lawful.0 in
-      becomes bytes _ (next (x, s.1)) (bind_Ok read next (x, s.1) (goes_on s x is of_x))
-      (on x s.1 lawful.1 (IsBytes_left rest (string_text (value_text x)) s.1 same fits)
-      (advance bytes (front n c) rest (string_text (value_text x)) s.1 text same))))
+      let lawful = found s.0 x s.1 here of_x in
+      let same : rest ≡ source (written x) ++ s.1 = here ∙ ap (λ t. source t ++ s.1) lawful.0 in
+      becomes bytes _ (next (x, s.1)) (bind_Ok read next (x, s.1) (Tails.made_goes_on bad at rest of s x is of_x))
+      (on x s.1 lawful.1 (IsBytes_left rest (source (written x)) s.1 same fits)
+      (advance bytes (front n c) rest (source (written x)) s.1 text same))))
 
--- ---- field before field
+-- ---- field before field: the bytes begin with lawful fields, and are read from the next one on
 
--- from the ca on
+-- the string in front of the rest
+string_here : (rest : List ℕ) → IsBytes rest → (s left : List ℕ) → string_at rest ≡ Some (s, left)
+    → rest ≡ string_text s ++ left
+string_here rest fits s left is = string_takes rest s left fits is
+
 pub says_ca : (c : CertFields) → IsCertFields c → (bytes rest : List ℕ) → IsBytes rest
     → bytes ≡ front 11 c ++ rest → Says bytes (Tails.from_ca c rest)
 says_ca c l bytes rest fits text =
-    says_value 11 (omega arith) c l bytes rest fits text refl (ca_at rest) (Tails.then_ca c) (Tails.ca_is_cut rest)
-    BadCa key_of key_blob (λ x. length x ≡ 32) (λ s x _ e. key_of_found s x e) key_of_again
-    (Tails.ca_goes_on rest) (Tails.ca_is_bad rest)
+    says_made 11 (omega arith) c l bytes rest fits text string_at string_text (string_here rest fits) refl BadCa
+    (Tails.then_ca c) key_of key_blob (λ x. length x ≡ 32) (λ s x left here e. key_of_found s x e) key_of_again
     (λ s is none. (c, rest, record { lawful = l; text = text }, (s, is, none)))
     (λ x left lawful fits text. says_end (record c { ca = x }) (with_ca c l x lawful) bytes left text)
 
--- from the reserved on
 pub says_reserved : (c : CertFields) → IsCertFields c → (bytes rest : List ℕ) → IsBytes rest
     → bytes ≡ front 10 c ++ rest → Says bytes (Tails.from_reserved c rest)
 says_reserved c l bytes rest fits text =
-    says_tested 10 (omega arith) c l bytes rest fits text refl (reserved_at rest) (Tails.then_reserved c)
-    (Tails.reserved_is_cut rest) BadReserved (λ s. eqb (length s) 0) (λ _. tt)
-    (Tails.reserved_goes_on rest) (Tails.reserved_is_bad rest)
+    says_tested 10 (omega arith) c l bytes rest fits text string_at string_text (string_here rest fits) refl BadReserved
+    (Tails.then_reserved c) (λ s. eqb (length s) 0) (λ _. tt)
     (λ s is fails. (c, rest, record { lawful = l; text = text }, (s, is, not_empty s.0 fails)))
     (λ s left passes fits text. says_ca c l bytes left fits
     (text ∙ ap (λ t. front 10 c ++ string_text t ++ left) (empty s passes)))
 
--- from the extensions on
 pub says_extensions : (c : CertFields) → IsCertFields c → (bytes rest : List ℕ) → IsBytes rest
     → bytes ≡ front 9 c ++ rest → Says bytes (Tails.from_extensions c rest)
 says_extensions c l bytes rest fits text =
-    says_value 9 (omega arith) c l bytes rest fits text refl (options_at Extensions c.kind rest)
-    (Tails.then_extensions c) (Tails.options_is_cut Extensions c.kind rest) BadExtensions
-    (options_of Extensions c.kind) options_text (λ x. is_options Extensions c.kind x ≡ true)
-    (options_of_found Extensions c.kind) (options_of_again Extensions c.kind)
-    (Tails.options_goes_on Extensions c.kind rest) (Tails.options_is_bad Extensions c.kind rest)
-    (λ s is none. (c, rest, record { lawful = l; text = text }, (s, is, none)))
+    says_made 9 (omega arith) c l bytes rest fits text string_at string_text (string_here rest fits) refl BadExtensions
+    (Tails.then_extensions c) (options_of Extensions c.kind) options_text (λ x. is_options Extensions c.kind x ≡ true)
+    (λ s x left here. options_of_found Extensions c.kind s x (IsBytes_string rest s left here fits))
+    (options_of_again Extensions c.kind) (λ s is none. (c, rest, record { lawful = l; text = text }, (s, is, none)))
     (λ x left lawful fits text. says_reserved (record c { extensions = x }) (with_extensions c l x lawful) bytes left
     fits text)
 
--- from the options on
 pub says_options : (c : CertFields) → IsCertFields c → (bytes rest : List ℕ) → IsBytes rest
     → bytes ≡ front 8 c ++ rest → Says bytes (Tails.from_options c rest)
 says_options c l bytes rest fits text =
-    says_value 8 (omega arith) c l bytes rest fits text refl (options_at CriticalOptions c.kind rest)
-    (Tails.then_options c) (Tails.options_is_cut CriticalOptions c.kind rest) BadOptions
-    (options_of CriticalOptions c.kind) options_text (λ x. is_options CriticalOptions c.kind x ≡ true)
-    (options_of_found CriticalOptions c.kind) (options_of_again CriticalOptions c.kind)
-    (Tails.options_goes_on CriticalOptions c.kind rest) (Tails.options_is_bad CriticalOptions c.kind rest)
-    (λ s is none. (c, rest, record { lawful = l; text = text }, (s, is, none)))
-    (λ x left lawful fits text. says_extensions (record c { options = x }) (with_options c l x lawful) bytes left
-    fits text)
+    says_made 8 (omega arith) c l bytes rest fits text string_at string_text (string_here rest fits) refl BadOptions
+    (Tails.then_options c) (options_of CriticalOptions c.kind) options_text
+    (λ x. is_options CriticalOptions c.kind x ≡ true)
+    (λ s x left here. options_of_found CriticalOptions c.kind s x (IsBytes_string rest s left here fits))
+    (options_of_again CriticalOptions c.kind) (λ s is none. (
+      c,
+      rest,
+      record { lawful = l; text = text },
+      (s, is, none),
+    ))
+    (λ x left lawful fits text. says_extensions (record c { options = x }) (with_options c l x lawful) bytes left fits
+    text)
 
--- from the validity on
 pub says_validity : (c : CertFields) → IsCertFields c → (bytes rest : List ℕ) → IsBytes rest
     → bytes ≡ front 7 c ++ rest → Says bytes (Tails.from_validity c rest)
 says_validity c l bytes rest fits text =
@@ -185,46 +192,92 @@ says_validity c l bytes rest fits text =
       f,
     )
 
--- from the principals on
 pub says_principals : (c : CertFields) → IsCertFields c → (bytes rest : List ℕ) → IsBytes rest
     → bytes ≡ front 6 c ++ rest → Says bytes (Tails.from_principals c rest)
 says_principals c l bytes rest fits text =
-    says_value 6 (omega arith) c l bytes rest fits text refl (principals_at rest) (Tails.then_principals c)
-    (Tails.principals_is_cut rest) BadPrincipals principals_of principals_text (λ x. are_principals x ≡ true)
-    principals_found principals_again (Tails.principals_goes_on rest) (Tails.principals_is_bad rest)
+    says_made 6 (omega arith) c l bytes rest fits text string_at string_text (string_here rest fits) refl BadPrincipals
+    (Tails.then_principals c) principals_of principals_text (λ x. are_principals x ≡ true)
+    (λ s x left here. principals_found s x (IsBytes_string rest s left here fits)) principals_again
     (λ s is none. (c, rest, record { lawful = l; text = text }, (s, is, none)))
     (λ x left lawful fits text. says_validity (record c { principals = x }) (with_principals c l x lawful) bytes left
     fits text)
 
--- from the key id on
 pub says_key_id : (c : CertFields) → IsCertFields c → (bytes rest : List ℕ) → IsBytes rest
     → bytes ≡ front 5 c ++ rest → Says bytes (Tails.from_key_id c rest)
 says_key_id c l bytes rest fits text =
-    says_tested 5 (omega arith) c l bytes rest fits text refl (key_id_at rest) (Tails.then_key_id c)
-    (Tails.key_id_is_cut rest) BadKeyId is_key_id (λ s. s) (Tails.key_id_goes_on rest) (Tails.key_id_is_bad rest)
-    (λ s is fails. (c, rest, record { lawful = l; text = text }, (s, is, both_ways _ fails)))
+    says_tested 5 (omega arith) c l bytes rest fits text string_at string_text (string_here rest fits) refl BadKeyId
+    (Tails.then_key_id c) is_key_id (λ s. s) (λ s is fails. (
+      c,
+      rest,
+      record { lawful = l; text = text },
+      (s, is, both_ways _ fails),
+    ))
     (λ s left passes fits text. says_principals (record c { key_id = s }) (with_key_id c l s passes) bytes left
     fits text)
 
--- from the kind on
 pub says_kind : (c : CertFields) → IsCertFields c → IsBare c → (bytes rest : List ℕ) → IsBytes rest
     → bytes ≡ front 4 c ++ rest → Says bytes (Tails.from_kind c rest)
 says_kind c l bare bytes rest fits text =
-    option_cases (u32_at rest) (Says bytes (Tails.from_kind c rest))
-    (λ none. becomes bytes _ (Err Truncated) (bind_Err (kind_at rest) (Tails.then_kind c) Truncated
-    (Tails.kind_is_cut rest none))
-    (4, omega arith, c, rest, record { lawful = l; text = text }, ap is_some none))
-    (λ n is. option_cases (kind_of n.0) (Says bytes (Tails.from_kind c rest))
-    (λ none. becomes bytes _ (Err BadKind) (bind_Err (kind_at rest) (Tails.then_kind c) BadKind
-    (Tails.kind_is_bad rest n is none))
-    (c, rest, record { lawful = l; text = text }, (n, is, no_kind n.0 none)))
-    (λ kind read.
-    let here : rest ≡ u32_text (kind_number kind) ++ n.1 = number_takes w32
-    (2 ^ 32) wide32 rest n.0 n.1 fits is ∙ ap (λ k. u32_text k ++ n.1) (kind_found n.0 kind read) in
-    becomes bytes _ (Tails.then_kind c (kind, n.1)) (bind_Ok (kind_at rest) (Tails.then_kind c) (
-      kind,
-      n.1,
-    ) (Tails.kind_goes_on rest n kind is read))
-    (says_key_id (record c { kind = kind }) (with_kind c l bare kind) bytes n.1 (IsBytes_left rest (u32_text
-    (kind_number kind)) n.1 here fits)
-    (advance bytes (front 4 c) rest (u32_text (kind_number kind)) n.1 text here))))
+    says_made 4 (omega arith) c l bytes rest fits text u32_at u32_text
+    (λ n left is. number_takes w32 (2 ^ 32) wide32 rest n left fits is) refl BadKind
+    (Tails.then_kind c) kind_of kind_number (λ _. Unit {0}) (λ n kind left here e. (kind_found n kind e, tt))
+    (λ kind _. kind_again kind)
+    (λ n is none. (c, rest, record { lawful = l; text = text }, (n, is, λ kind e. none (kind, tt, e))))
+    (λ kind left _ fits text. says_key_id (record c { kind = kind }) (with_kind c l bare kind) bytes left fits text)
+
+pub says_serial : (c : CertFields) → IsCertFields c → IsBare c → (bytes rest : List ℕ) → IsBytes rest
+    → bytes ≡ front 3 c ++ rest → Says bytes (Tails.from_serial c rest)
+says_serial c l bare bytes rest fits text =
+    says_tested 3 (omega arith) c l bytes rest fits text u64_at u64_text
+    (λ n left is. number_takes w64 (2 ^ 64) wide64 rest n left fits is) refl BadSerial
+    (Tails.then_serial c) is_serial (λ n. n) (λ n is fails. (
+      c,
+      rest,
+      record { lawful = l; text = text },
+      (n, is, both_ways _ fails),
+    ))
+    (λ n left passes fits text. says_kind (record c { serial = n }) (with_serial c l n passes) bare bytes left fits
+    text)
+
+pub says_key : (c : CertFields) → IsCertFields c → IsBare c → (bytes rest : List ℕ) → IsBytes rest
+    → bytes ≡ front 2 c ++ rest → Says bytes (Tails.from_key c rest)
+says_key c l bare bytes rest fits text =
+    says_tested 2 (omega arith) c l bytes rest fits text string_at string_text (string_here rest fits) refl BadKey
+    (Tails.then_key c) (λ s. eqb (length s) 32) (λ s. s)
+    (λ s is fails. (c, rest, record { lawful = l; text = text }, (s, is, λ e. both_ways _ fails (eq-eqb _ _ e))))
+    (λ s left passes fits text. says_serial (record c { key = s }) (with_key c l s (eqb-true _ _ passes)) bare
+    bytes left fits text)
+
+pub says_nonce : (c : CertFields) → IsCertFields c → IsBare c → (bytes rest : List ℕ) → IsBytes rest
+    → bytes ≡ front 1 c ++ rest → Says bytes (Tails.from_nonce c rest)
+says_nonce c l bare bytes rest fits text =
+    says_tested 1 (omega arith) c l bytes rest fits text string_at string_text (string_here rest fits) refl BadNonce
+    (Tails.then_nonce c) (λ s. eqb (length s) 32) (λ s. s)
+    (λ s is fails. (c, rest, record { lawful = l; text = text }, (s, is, λ e. both_ways _ fails (eq-eqb _ _ e))))
+    (λ s left passes fits text. says_key (record c { nonce = s }) (with_nonce c l s (eqb-true _ _ passes)) bare
+    bytes left fits text)
+
+pub says_type : (c : CertFields) → IsCertFields c → IsBare c → (bytes rest : List ℕ) → IsBytes rest
+    → bytes ≡ front 0 c ++ rest → Says bytes (Tails.from_type c rest)
+says_type c l bare bytes rest fits text =
+    says_tested 0 (omega arith) c l bytes rest fits text string_at string_text (string_here rest fits) refl WrongType
+    (Tails.then_type c) (λ s. bytes_eq s cert_type) (λ _. tt)
+    (λ s is fails. (
+      c,
+      rest,
+      record { lawful = l; text = text },
+      (
+        s,
+        is,
+        λ e. both_ways _ fails
+            ((bytes_eq-Decides s.0 cert_type).1 e),
+      ),
+    ))
+    (λ s left passes fits text. says_nonce c l bare bytes left fits
+    (text ∙ ap (λ t. front 0 c ++ string_text t ++ left) ((bytes_eq-Decides s cert_type).0 passes)))
+
+-- what reading gives says what the bytes are
+pub body_at-says : (bytes : List ℕ) → IsBytes bytes → Says bytes (body_at bytes)
+body_at-says bytes fits =
+    becomes bytes (body_at bytes) (Tails.from_type sample bytes) (Tails.body_at-from_type sample bytes)
+    (says_type sample sample_is_lawful sample_is_bare bytes bytes fits refl)

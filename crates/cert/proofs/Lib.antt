@@ -9,6 +9,5 @@ pub mod Sizes
 pub mod Tails
 pub mod BodyParts
 pub mod BodySays
-pub mod BodyStart
 pub mod BodyAgain
 pub mod BodyLaws
