@@ -69,7 +69,8 @@ pub ca_fails : {X : Type 0} (x : CaRow) → x.number < 2 ^ 63 → (old new : Sta
 ca_fails x below =
     insert_fails puts x (RefusesCa x) (λ s c means. ca_put x s c means)
     (λ s c means out. absurd (let wrong : true ≡ false = sym (lt-ltb x.number (2 ^ 63) below) ∙ out in cc))
-    (λ s c means taken. let it = taken_number ca_cells ca_places (λ y. y.number) (s.now.trees 9) c.cas x.number (drop 1 (ca_row x))
+    (λ s c means taken. let it = taken_number ca_cells ca_places (λ y. y.number) (s.now.trees 9) c.cas x.number
+    (drop 1 (ca_row x))
     (λ y r is. ap (λ v. column v 0) is) means.kept.holds.cas taken in inl (it.0, it.1, inl it.2))
     (λ s c means clash. inl (ca_clash x s c means clash))
     (λ s c long. inr (omega (arith, long)))

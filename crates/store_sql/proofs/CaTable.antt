@@ -70,4 +70,5 @@ pub every_rises : (trees : Trees) (rows : List Row) → IsAnswer every.query (ov
     → AscendBy 0 rows
 unfolding every select
 every_rises trees rows answer =
-    in_order 9 [] columns ((col 1 0, ascending Binary) ∷ []) trees ([]) rows (λ v. column v 0 ∷ []) (λ r. refl) refl answer
+    in_order 9 [] columns ((col 1 0, ascending Binary) ∷ []) trees ([]) rows (λ v. column v 0 ∷ [])
+    (λ r. refl) refl answer

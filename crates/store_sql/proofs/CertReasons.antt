@@ -1,5 +1,6 @@
 -- Why a certificate is refused.
-use Rattle.std.proofs.Common.{◌≡◌, inl, inr, ℕ, ℤ, pos, ◌<◌, ◌^◌, List, [], ◌∷◌, drop, true, false, not, None, Some, Result, refl, sym, ap, subst, ◌∙◌, arith}
+use Rattle.std.proofs.Common.{◌≡◌, inl, inr, ℕ, ℤ, pos, ◌<◌, ◌^◌, List, [], ◌∷◌, drop, true, false, not, None, Some}
+use Rattle.std.proofs.Common.{Result, refl, sym, ap, subst, ◌∙◌, arith}
 use Rattle.store_sql.proofs.Words.{All, AllByRecursion, Applies, Binary, Blob, Enforced, ForeignKey, Has, Null, Refers}
 use Rattle.store_sql.proofs.Words.{Row, State, Text, Trees, Unique, agree, all_has, and-true, are_typed, column, equal}
 use Rattle.store_sql.proofs.Words.{has_null, has_rowid, is_referred, list_any, lt-ltb, or_null, or_right, plain}
@@ -111,7 +112,8 @@ module _ (serial : ℕ) (signature : List ℕ) where
 
   still_refers : (s : State) (c : Contents) (x : CertRow) (r : Row) (next : Trees) → Means s.now c → Has (s.now.trees 3) r
       → at_places cert_places r ≡ cert_cells x
-      → Applies whole Enforced s.now.trees (one s.now.trees cert_at (pos serial ∷ []) (cert_row (signed signature x))) next
+      → Applies whole Enforced s.now.trees
+      (one s.now.trees cert_at (pos serial ∷ []) (cert_row (signed signature x))) next
       → Refers All whole next
   still_refers s c x r next means here is did =
       let db = s.now.trees in
@@ -120,7 +122,8 @@ module _ (serial : ℕ) (signature : List ℕ) where
       let own = own_department db x r is (all_has (λ r. has_department db r ≡ true) (db 3) r was here) in
       all_refer next (subst (λ ds. AllByRecursion (λ r. (has_null (2 ∷ []) r || list_any (λ d. agree plain (1 ∷ []) d (2 ∷ []) r) ds) ≡ true) (next 3))
       (sym departments) (subst (AllByRecursion (λ r. has_department db r ≡ true)) (sym did.rows)
-      (all-put_row (λ r. has_department db r ≡ true) (cert_row (signed signature x)) (without_rowid (pos serial) (db 3)) own
+      (all-put_row (λ r. has_department db r ≡ true) (cert_row (signed signature x))
+      (without_rowid (pos serial) (db 3)) own
       (all-filter (λ r. has_department db r ≡ true) (λ r. not (has_rowid (pos serial) r)) (db 3) was))))
 
 -- ---- the calls
@@ -130,9 +133,11 @@ pub cert_fails : {X : Type 0} (x : CertRow) → x.serial < 2 ^ 63 → (old new :
 cert_fails x below =
     insert_fails puts x (RefusesCert x) (λ s c means. is_put x s c [] fits_alone means)
     (λ s c means out. absurd (let wrong : true ≡ false = sym (lt-ltb x.serial (2 ^ 63) below) ∙ out in cc))
-    (λ s c means taken. inl (taken_number cert_cells cert_places (λ y. y.serial) (s.now.trees 3) c.certs x.serial (drop 1 (cert_row x))
+    (λ s c means taken. inl (taken_number cert_cells cert_places (λ y. y.serial) (s.now.trees 3) c.certs x.serial
+    (drop 1 (cert_row x))
     (λ y r is. ap (λ v. column v 0) is) means.kept.holds.certs taken))
-    (λ s c means clash. absurd (unclashed s.now.trees cert_at [] (cert_row x) ((λ e. cc), ((λ e. cc), ((λ e. cc), ((λ e. cc), tt)))) clash))
+    (λ s c means clash. absurd (unclashed s.now.trees cert_at [] (cert_row x)
+    ((λ e. cc), ((λ e. cc), ((λ e. cc), ((λ e. cc), tt)))) clash))
     (λ s c long. inr (inr (omega (arith, long))))
     (λ s c next means did broken. inr (inl (λ named. broken (referred x s c next means named did))))
 

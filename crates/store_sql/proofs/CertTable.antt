@@ -41,14 +41,16 @@ insert_is : IsStatement INSERT_CERT.now (Insert 2 (Values terms 6)) 5
 unfolding understood everything
 insert_is = (refl, (refl, refl), (refl, refl))
 
-pub puts : IsInsert INSERT_CERT.now cert_cells cert_places 2 cert_at terms 6 with_cert (λ c. c.certs) (λ x rows. cert_row x)
+pub puts : IsInsert INSERT_CERT.now cert_cells cert_places 2 cert_at terms 6 with_cert (λ c. c.certs)
+    (λ x rows. cert_row x)
 puts = record {
   tree = tree;
   found = refl;
   is = λ x. insert_is;
   source = cert_row;
   sourced = λ x. refl;
-  typed = λ x. elim x.signature as (λ o. accepts_terms terms (stamped cert_at (cert_cells (record x { signature = o }))) ≡ true)
+  typed = λ x. elim x.signature as (λ o. accepts_terms terms (stamped cert_at
+      (cert_cells (record x { signature = o }))) ≡ true)
       [ None ↦ refl | Some b ↦ refl ];
   made = λ x rows. simp (cast_int, cast_null);
   row_is = λ x rows. refl;
@@ -69,13 +71,15 @@ shown v = column v 0 ∷ column v 1 ∷ column v 2 ∷ column v 3 ∷ column v 4
 abbrev names : List (List ℕ)
 names = codes "serial" ∷ codes "department" ∷ codes "keyid" ∷ codes "body" ∷ codes "signature" ∷ []
 
-find_is : IsSelect whole FIND_CERT.now (on_table 3 (op2 (Compare Eq Binary) (col 1 0) (col 0 0) ∷ []) columns []) names 1
+find_is : IsSelect whole FIND_CERT.now
+    (on_table 3 (op2 (Compare Eq Binary) (col 1 0) (col 0 0) ∷ []) columns []) names 1
 unfolding understood everything
 find_is = (refl, refl, (refl, refl), (refl, refl))
 
 pub find : (serial : ℕ) → Find FIND_CERT.now (Int (pos serial) ∷ []) cert_cells (certs_numbered serial)
 find serial =
-    select tree find_is (has_serial serial) (λ v. is_true (binary (Compare Eq Binary) (column v 0) (Int (pos serial))) && true)
+    select tree find_is (has_serial serial)
+    (λ v. is_true (binary (Compare Eq Binary) (column v 0) (Int (pos serial))) && true)
     shown (λ x. and-true _ ∙ int_test (pos x.serial) (pos serial) ∙ same_number x.serial serial) (λ x. refl) (λ r. refl)
     (λ r. refl) refl (λ c. refl)
 
@@ -101,13 +105,15 @@ module _ (lo hi : ℕ) where
       (and-true _ ∙ int_le_test (pos x.serial) (pos hi) ∙ le_number x.serial hi)
 
   pub within : Find CERTS_WITHIN.now ends cert_cells (certs_within lo hi)
-  within = select tree within_is (is_within lo hi) passes shown passes_is (λ x. refl) (λ r. refl) (λ r. refl) refl (λ c. refl)
+  within = select tree within_is (is_within lo hi) passes shown passes_is (λ x. refl) (λ r. refl) (λ r. refl) refl
+      (λ c. refl)
 
   pub within_rises : (trees : Trees) (rows : List Row) → IsAnswer within.query (overlay trees []) ends rows
       → AscendBy 0 rows
   unfolding within select
   within_rises trees rows answer =
-      in_order 3 within_tests columns ((col 1 0, ascending Binary) ∷ []) trees ends rows (λ v. column v 0 ∷ []) (λ r. refl)
+      in_order 3 within_tests columns ((col 1 0, ascending Binary) ∷ []) trees ends rows (λ v. column v 0 ∷ [])
+      (λ r. refl)
       refl answer
 
 -- ---- UPDATE of the signature

@@ -1,5 +1,6 @@
 -- Why a table can't be made beside the others: memory is refused, or the database fails.
-use Rattle.std.proofs.Common.{◌≡◌, inl, inr, ℕ, ◌≤◌, ◌+◌, ◌^◌, List, [], length, true, false, Option, None, Some, Ok, Err, Result, refl, sym, ap, subst, subst₂, ◌∙◌, append-nil, not, arith, IfErr}
+use Rattle.std.proofs.Common.{◌≡◌, inl, inr, ℕ, ◌≤◌, ◌+◌, ◌^◌, List, [], length, true, false, Option, None, Some, Ok}
+use Rattle.std.proofs.Common.{Err, Result, refl, sym, ap, subst, subst₂, ◌∙◌, append-nil, not, arith, IfErr}
 use Rattle.store_sql.proofs.Words.{CreateTable, Database, Does, Error, Executes, Has, IsMisplaced, IsPlain, Mode}
 use Rattle.store_sql.proofs.Words.{Schema, State, Table, automatics, codes, command_of, index_reals, is_fit}
 use Rattle.store_sql.proofs.Words.{is_formed, is_pragma, is_query, is_reserved, is_used, lacks_sequence, mode_of}

@@ -33,13 +33,15 @@ names = codes "name" ∷ codes "kind" ∷ codes "admins" ∷ codes "rules" ∷ c
 pub tree : IsTreeOf Holds department_cells department_places 1 (λ c. c.departments)
 tree = record { stored = λ trees. refl; held = λ trees c h. h.departments; apart = department_apart }
 
-find_is : IsSelect whole FIND_DEPARTMENT.now (on_table 1 (op2 (Compare Eq Binary) (col 1 1) (col 0 0) ∷ []) columns []) names 1
+find_is : IsSelect whole FIND_DEPARTMENT.now
+    (on_table 1 (op2 (Compare Eq Binary) (col 1 1) (col 0 0) ∷ []) columns []) names 1
 unfolding understood everything
 find_is = (refl, refl, (refl, refl), (refl, refl))
 
 pub find : (name : List ℕ) → Find FIND_DEPARTMENT.now (Text name ∷ []) department_cells (departments_named name)
 find name =
-    select tree find_is (has_name name) (λ v. is_true (binary (Compare Eq Binary) (column v 0) (Text name)) && true) shown
+    select tree find_is (has_name name)
+    (λ v. is_true (binary (Compare Eq Binary) (column v 0) (Text name)) && true) shown
     (λ x. and-true _ ∙ text_test x.name name) (λ x. refl) (λ r. refl) (λ r. refl) refl (λ c. refl)
 
 -- ---- SELECT of all
@@ -56,4 +58,5 @@ pub every_rises : (trees : Trees) (rows : List Row) → IsAnswer every.query (ov
     → AscendBy 0 rows
 unfolding every select
 every_rises trees rows answer =
-    in_order 1 [] columns ((col 1 1, ascending Binary) ∷ []) trees ([]) rows (λ v. column v 0 ∷ []) (λ r. refl) refl answer
+    in_order 1 [] columns ((col 1 1, ascending Binary) ∷ []) trees ([]) rows (λ v. column v 0 ∷ [])
+    (λ r. refl) refl answer

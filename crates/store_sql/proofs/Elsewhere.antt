@@ -36,7 +36,8 @@ spares edit db after did = record {
 }
 
 -- so they are those that were, with the rows of this one
-left_or_new : (tree : ℕ) (db after : Trees) (t : ℕ) → (t ≢ tree → after t ≡ db t) → with_tree db tree (after tree) t ≡ after t
+left_or_new : (tree : ℕ) (db after : Trees) (t : ℕ) → (t ≢ tree → after t ≡ db t)
+    → with_tree db tree (after tree) t ≡ after t
 left_or_new tree db after t same = elim (cases_eq t tree) [
   | inl is ↦ ap (with_tree db tree (after tree)) is ∙ this_tree db tree (after tree) ∙ ap after (sym is)
   | inr other ↦ other_tree db tree (after tree) t other ∙ sym (same other)
@@ -65,7 +66,8 @@ apart trees c h = (
 )
 
 -- of the trees that were, with the rows of one table, and so of the trees that are
-together : (tree : ℕ) (db after : Trees) (c : Contents) → Spares tree db after → Parts (with_tree db tree (after tree)) c
+together : (tree : ℕ) (db after : Trees) (c : Contents) → Spares tree db after
+    → Parts (with_tree db tree (after tree)) c
     → Holds after c
 together tree db after c o p = record {
   offices = rw (left_or_new tree db after 0 o.office) at p.0;
@@ -90,7 +92,8 @@ module _ (db after : Trees) (c : Contents) (h : Holds db c) where
   in_office xs o now = together 0 db after (record c { offices = xs }) o
       (now, was.1, was.2, was.3, was.4, was.5, was.6)
 
-  pub in_department : (xs : List DepartmentRow) → Spares 1 db after → Lists department_cells department_places (after 1) xs
+  pub in_department : (xs : List DepartmentRow) → Spares 1 db after
+      → Lists department_cells department_places (after 1) xs
       → AreNumbered (after 1)
       → Holds after (record c { departments = xs })
   in_department xs o now ids = together 1 db after (record c { departments = xs }) o

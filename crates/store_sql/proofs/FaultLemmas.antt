@@ -35,7 +35,8 @@ IsWhole sql count (Err e) = ⊥
 -- the text is one statement with so many parameters, and means this
 abbrev pub IsStatement : List ℕ → Command → ℕ → Type 0
 IsStatement sql command count =
-    (command_of (understood whole sql) ≡ command) × IsPlain (understood whole sql) × IsWhole sql count (understood whole sql)
+    (command_of (understood whole sql) ≡ command) × IsPlain (understood whole sql)
+    × IsWhole sql count (understood whole sql)
 
 -- the cause of a failure of the database
 failing : (old new : State) (too_big : Type 0) (e : Error) → Fails old new too_big e → too_big

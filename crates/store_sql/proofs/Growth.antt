@@ -1,5 +1,6 @@
 -- One table after the other.
-use Rattle.std.proofs.Common.{◌≡◌, inl, ℕ, ◌+◌, ◌<◌, drop, get_or, Bool, true, false, IsTrue, List, [], ◌∷◌, ◌++◌, length, Ok, Err, refl, sym, ap, Result, subst, ◌∙◌, arith}
+use Rattle.std.proofs.Common.{◌≡◌, inl, ℕ, ◌+◌, ◌<◌, drop, get_or, Bool, true, false, IsTrue, List, [], ◌∷◌, ◌++◌}
+use Rattle.std.proofs.Common.{length, Ok, Err, refl, sym, ap, Result, subst, ◌∙◌, arith}
 use Rattle.store_sql.proofs.Words.{AllByRecursion, IsDatabase, IsPermutation-refl, IsSound, KeepsRows, Row, Schema}
 use Rattle.store_sql.proofs.Words.{State, Survives, Table, Trees, created, survives_then}
 use Rattle.std.specs.Prelude.{if◌then◌else◌}
@@ -27,7 +28,8 @@ bare_more : (db next : Trees) (tables : List Table) (new : Table) → KeepsRows 
 bare_more db next [] new keeps empty all = (empty, tt)
 bare_more db next (t ∷ tables) new keeps empty all = (keeps.0 ∙ all.0, bare_more db next tables new keeps.1 empty all.1)
 
-bare_then : (s : Schema) (table : Table) (a b : State) → Grown a b s table → IsBare s a.now → IsBare (created s table) b.now
+bare_then : (s : Schema) (table : Table) (a b : State) → Grown a b s table → IsBare s a.now
+    → IsBare (created s table) b.now
 bare_then s table a b p bare = (
   p.schema,
   bare_more a.now.trees b.now.trees s.tables (record table { tree = next_tree s }) p.others p.empty bare.1,
@@ -82,7 +84,8 @@ none_made rest a all = record {
 
 -- ---- one more
 
-more_made : (s : Schema) (table : Table) (a b c : State) → HasMade s a b → Grown b c s table → HasMade (created s table) a c
+more_made : (s : Schema) (table : Table) (a b c : State) → HasMade s a b → Grown b c s table
+    → HasMade (created s table) a c
 more_made s table a b c h p = record {
   is_open = p.is_open ∙ sym p.was_open ∙ h.is_open;
   bare = bare_then s table b c p h.bare;
@@ -109,7 +112,11 @@ module _ (names : List TableName) (i : ℕ) (first : TableName) (inside : i < le
   at_before clean bare =
       let r = at.reaches (omega (arith, lives.clean)) bare in
       let next = subst (Completing r.0) (drop_more names i first inside) r.1 in
-      let same = sym next.0 in (subst (λ s. HasMade s a b) same r.2, subst (λ s. Completing (created s (made name)) rest) same next.1)
+      let same = sym next.0 in (
+        subst (λ s. HasMade s a b) same r.2,
+        subst
+            (λ s. Completing (created s (made name)) rest) same next.1,
+      )
 
   pub still_lives : Survives a c (Waits no_schema a)
   still_lives =
@@ -121,7 +128,8 @@ module _ (names : List TableName) (i : ℕ) (first : TableName) (inside : i < le
       → (HasCleanDisk c → Stays {X = Unit {0}} b c (Ok (tt {0}))) → IsAt rest a c
   one_more grows stays = record {
     lives = still_lives;
-    stays = λ clean. stays_then {X = Unit {0}} a b c tt (Ok (tt {0})) (at.stays (omega (arith, lives.clean))) (stays clean);
+    stays = λ clean. stays_then {X = Unit {0}} a b c tt (Ok (tt {0})) (at.stays (omega (arith, lives.clean)))
+        (stays clean);
     reaches = λ clean bare.
         let r = at_before clean bare in (
           created (before name) (made name),
@@ -171,7 +179,8 @@ completed a b at clean bare =
           };
         };
       };
-      committed = settled a.in_transaction a.committed b.now b.committed (λ inside. (at.stays clean inside).0.committed end.0) end.2;
+      committed = settled a.in_transaction a.committed b.now b.committed
+          (λ inside. (at.stays clean inside).0.committed end.0) end.2;
       mode = h.mode;
       marks = h.marks;
     }

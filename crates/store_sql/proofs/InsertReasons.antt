@@ -118,9 +118,11 @@ module _ {X : Type 0} {sql : List ℕ} {cells : X → Row} {places : List ℕ} {
       → IsHalted whole s.now.trees (one s.now.trees (uncounted table) [] (row x (s.now.trees table.tree)))
   halts s c means stops =
       let trees = s.now.trees in
-      let halts = insert_halts s.now whole means.schema at table it.found (cells x) (statement_of sql (understood whole sql))
+      let halts = insert_halts s.now whole means.schema at table it.found (cells x)
+      (statement_of sql (understood whole sql))
       (no_works table.tree) terms width (it.typed x) stops.0 stops.1 in
-      let given = subst (λ rs. IsHalted whole trees (edit_of trees (uncounted table) [] Chosen 0 rs)) (it.sourced x) halts in
+      let given = subst (λ rs. IsHalted whole trees (edit_of trees (uncounted table) [] Chosen 0 rs))
+      (it.sourced x) halts in
       subst (λ r. IsHalted whole trees (one trees (uncounted table) [] r)) (it.made x (trees table.tree)) given
 
   -- the edit of the row, and the row
@@ -130,7 +132,8 @@ module _ {X : Type 0} {sql : List ℕ} {cells : X → Row} {places : List ℕ} {
   abbrev pub new_row : State → Row
   new_row s = row x (s.now.trees table.tree)
 
-  -- Why the call fails: the number is out of range or taken, or the key is, or the row is too long, or wants its parent.
+  -- Why the call fails: the number is out of range or taken, or the key is, or the row is too long, or wants its
+  -- parent.
   pub insert_fails : (Refuses : Contents → Type 0)
       → ((s : State) (c : Contents) → Means s.now c → IsPut s.now.trees (uncounted table) [] (new_row s))
       → ((s : State) (c : Contents) → Means s.now c → fits_i64 (id_in (rowid (new_row s))) ≡ false → Refuses c)
@@ -143,5 +146,6 @@ module _ {X : Type 0} {sql : List ℕ} {cells : X → Row} {places : List ℕ} {
       → RefusedFor Refuses old new r
   insert_fails Refuses put range taken clash long orphan =
       refused_for sql (cells x) (Insert at (Values terms width)) (it.is x).0 (it.is x).2 Refuses (λ s c means stops.
-      halted s.now.trees (uncounted table) [] (new_row s) (put s c means) (range s c means) (taken s c means) (clash s c means)
+      halted s.now.trees (uncounted table) [] (new_row s) (put s c means) (range s c means) (taken s c means)
+      (clash s c means)
       (long s c) (λ next did broken. orphan s c next means did broken) (halts s c means stops))

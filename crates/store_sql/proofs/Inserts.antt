@@ -1,5 +1,6 @@
 -- INSERT of the columns of one struct.
-use Rattle.std.proofs.Common.{◌≡◌, ℕ, ◌/◌, List, [], ◌∷◌, length, slice_get, Some, None, Option, Ok, refl, ap, subst, ◌∙◌}
+use Rattle.std.proofs.Common.{◌≡◌, ℕ, ◌/◌, List, [], ◌∷◌, length, slice_get, Some, None, Option, Ok, refl, ap, subst}
+use Rattle.std.proofs.Common.{◌∙◌}
 use Rattle.store_sql.proofs.Words.{Applies, Chosen, Database, Does, Enforced, Insert, IsPermutation, Row}
 use Rattle.store_sql.proofs.Words.{Table, Tally, Term, Trees, Values, cast_row, edit_of, false, stamped}
 use Rattle.store_sql.proofs.Words.{statement_of, true, value_rows, with_rowid, works}
@@ -26,13 +27,15 @@ pub no_works : (tree : ℕ) (olds news : List Row) → works whole Enforced 0 tr
 no_works tree olds news = rw (idle (length news == 0)) refl
 
 -- The text that puts the row of a struct in. `row` is that row, beside the rows that are there.
-pub record IsInsert {X : Type 0} (sql : List ℕ) (cells : X → Row) (places : List ℕ) (at : ℕ) (table : Table) (terms : List Term)
+pub record IsInsert {X : Type 0} (sql : List ℕ) (cells : X → Row) (places : List ℕ) (at : ℕ) (table : Table)
+    (terms : List Term)
     (width : ℕ) (with_x : X → Contents → Contents) (of : Contents → List X) (row : X → List Row → Row) : Type 0 where
   pub tree : IsTreeOf Holds cells places table.tree of
   pub found : slice_get whole.tables at ≡ Some (uncounted table)
   pub is : (x : X) → IsStatement sql (Insert at (Values terms width)) (length (cells x))
   pub source : X → Row
-  pub sourced : (x : X) → value_rows (stamped (uncounted table) (cells x)) width (length terms / width) terms ≡ source x ∷ []
+  pub sourced : (x : X) → value_rows (stamped (uncounted table) (cells x)) width
+      (length terms / width) terms ≡ source x ∷ []
   pub typed : (x : X) → accepts_terms terms (stamped (uncounted table) (cells x)) ≡ true
   pub made : (x : X) (rows : List Row) → with_rowid Chosen rows (cast_row (uncounted table) (source x)) ≡ row x rows
   pub row_is : (x : X) (rows : List Row) → at_places places (row x rows) ≡ cells x
@@ -57,7 +60,8 @@ module _ {X : Type 0} {sql : List ℕ} {cells : X → Row} {places : List ℕ} {
         did.1,
         it.held x db.trees next.trees c means.kept.holds
             (spares (edit_of db.trees (uncounted table) [] Chosen 0 (source ∷ [])) db.trees next.trees put)
-            (subst (λ r. IsPermutation (r ∷ db.trees table.tree) (next.trees table.tree)) (it.made x (db.trees table.tree))
+            (subst (λ r. IsPermutation (r ∷ db.trees table.tree) (next.trees table.tree))
+            (it.made x (db.trees table.tree))
             (inserted whole (uncounted table) db.trees next.trees source put))
             (lists_more cells places (uncounted table) db.trees next.trees (of c) x source
             (it.tree.held db.trees c means.kept.holds)

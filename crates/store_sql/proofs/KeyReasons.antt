@@ -114,10 +114,12 @@ request_fails x =
     insert_fails request.puts x (RefusesRequest x) (λ s c means. request_put x s c means)
     (λ s c means out. inr (inr (full request_cells request_places (s.now.trees 4) c.requests means.kept.holds.requests
     means.kept.holds.requests_numbered out)))
-    (λ s c means taken. free (s.now.trees 4) (request_cells x) means.kept.holds.requests_numbered means.kept.holds.requests.apart taken)
+    (λ s c means taken. free (s.now.trees 4) (request_cells x) means.kept.holds.requests_numbered
+    means.kept.holds.requests.apart taken)
     (λ s c means clash. inl (request_clash x s c means clash))
     (λ s c long. inr (inl (omega (arith, long))))
-    (λ s c next means did broken. absurd (broken (refers_still s.now.trees next (one s.now.trees request_at [] (request_row x (s.now.trees 4)))
+    (λ s c next means did broken. absurd (broken (refers_still s.now.trees next
+    (one s.now.trees request_at [] (request_row x (s.now.trees 4)))
     (means.kept.sound.obeys.rules ForeignKey) did (λ e. cc) (λ e. cc))))
 
 -- ---- a revoked key id
@@ -167,8 +169,10 @@ key_id_fails x =
     insert_fails revoked.puts x (RefusesKeyId x) (λ s c means. revoked_put x s c means)
     (λ s c means out. inr (inr (full key_id_cells key_id_places (s.now.trees 7) c.revoked means.kept.holds.revoked
     means.kept.holds.revoked_numbered out)))
-    (λ s c means taken. free (s.now.trees 7) (key_id_cells x) means.kept.holds.revoked_numbered means.kept.holds.revoked.apart taken)
+    (λ s c means taken. free (s.now.trees 7) (key_id_cells x) means.kept.holds.revoked_numbered
+    means.kept.holds.revoked.apart taken)
     (λ s c means clash. inl (revoked_clash x s c means clash))
     (λ s c long. inr (inl (omega (arith, long))))
-    (λ s c next means did broken. absurd (broken (refers_still s.now.trees next (one s.now.trees revoked_at [] (revoked_row x (s.now.trees 7)))
+    (λ s c next means did broken. absurd (broken (refers_still s.now.trees next
+    (one s.now.trees revoked_at [] (revoked_row x (s.now.trees 7)))
     (means.kept.sound.obeys.rules ForeignKey) did (λ e. cc) (λ e. cc))))

@@ -32,7 +32,8 @@ stops_then a b c p (inr back) = inr (record {
 })
 
 -- What failed after a call failed since before it: a connection that is shut then was shut before.
-module _ (a b c : State) (P : Trees → Type 0) (one : Survives a b P) (was_shut : b.is_open ≡ false → a.is_open ≡ false) where
+module _ (a b c : State) (P : Trees → Type 0) (one : Survives a b P)
+    (was_shut : b.is_open ≡ false → a.is_open ≡ false) where
   failed_since : HasFailed b c → HasFailed a c
   failed_since (inl more) = inl (omega (arith, one.counts, more))
   failed_since (inr (inl shut)) = inr (inl (was_shut shut))
@@ -43,7 +44,8 @@ module _ (a b c : State) (P : Trees → Type 0) (one : Survives a b P) (was_shut
   caused_since Damaged cause = cause
   caused_since Device cause = failed_since cause
 
-pub cause_since : (a b c : State) (f : Fault) (P : Trees → Type 0) → Survives a b P → (b.is_open ≡ false → a.is_open ≡ false)
+pub cause_since : (a b c : State) (f : Fault) (P : Trees → Type 0) → Survives a b P
+    → (b.is_open ≡ false → a.is_open ≡ false)
     → HasCause b c f → HasCause a c f
 cause_since a b c f P one was_shut = caused_since a b c P one was_shut f
 

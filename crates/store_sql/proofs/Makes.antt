@@ -9,6 +9,9 @@ use Rattle.sqlite.specs.Listing.{understood}
 use Rattle.sqlite.specs.State.{CommitsBy}
 use Rattle.store_sql.specs.declared.creation.TableName.{TableName}
 use Rattle.store_sql.specs.declared.creation.TableName.TheVariants as name
+use Rattle.store_sql.specs.declared.sql.TheConstants.{CREATE_OFFICE, CREATE_DEPARTMENT, CREATE_CERT, CREATE_REQUEST}
+use Rattle.store_sql.specs.declared.sql.TheConstants.{CREATE_RUN, CREATE_REVOKED, CREATE_CA}
+use Rattle.store_sql.specs.Schema.{office, department, cert, request, run, revoked_keyid, ca}
 use Rattle.store_sql.specs.Making.{before, made, text_of}
 use Rattle.store_sql.specs.Calls.{Creates, Stays, Waits}
 use Rattle.store_sql.specs.Done.{IsDone}
@@ -67,13 +70,56 @@ module _ {text : List ℕ} {before : Schema} {table : Table} (t : Create text be
   pub creates_left : (old : State) (trees : Trees) → CommitsBy text [] old trees → Waits before old trees
   creates_left old trees h has = (commits_as text [] old before has CreateTable t.is t.plain tt trees h).0
 
+-- each CREATE text defines its table
+pub office_defined : table_defined_by CREATE_OFFICE.now ≡ Ok office
+unfolding everything
+office_defined = refl
+
+pub department_defined : table_defined_by CREATE_DEPARTMENT.now ≡ Ok department
+unfolding everything
+department_defined = refl
+
+pub cert_defined : table_defined_by CREATE_CERT.now ≡ Ok cert
+unfolding everything
+cert_defined = refl
+
+pub request_defined : table_defined_by CREATE_REQUEST.now ≡ Ok request
+unfolding everything
+request_defined = refl
+
+pub run_defined : table_defined_by CREATE_RUN.now ≡ Ok run
+unfolding everything
+run_defined = refl
+
+pub revoked_keyid_defined : table_defined_by CREATE_REVOKED.now ≡ Ok revoked_keyid
+unfolding everything
+revoked_keyid_defined = refl
+
+pub ca_defined : table_defined_by CREATE_CA.now ≡ Ok ca
+unfolding everything
+ca_defined = refl
+
 -- each of the office's tables
 pub makes : (n : TableName) → Create (text_of n) (before n) (made n)
 unfolding understood everything
-makes name.Office = record { is = refl; all = refl; plain = (refl, refl); defined = refl; uncounted = refl }
-makes name.Department = record { is = refl; all = refl; plain = (refl, refl); defined = refl; uncounted = refl }
-makes name.Cert = record { is = refl; all = refl; plain = (refl, refl); defined = refl; uncounted = refl }
-makes name.Request = record { is = refl; all = refl; plain = (refl, refl); defined = refl; uncounted = refl }
-makes name.Run = record { is = refl; all = refl; plain = (refl, refl); defined = refl; uncounted = refl }
-makes name.RevokedKeyId = record { is = refl; all = refl; plain = (refl, refl); defined = refl; uncounted = refl }
-makes name.Ca = record { is = refl; all = refl; plain = (refl, refl); defined = refl; uncounted = refl }
+makes name.Office = record { is = refl; all = refl; plain = (refl, refl); defined = office_defined; uncounted = refl }
+makes name.Department = record {
+  is = refl;
+  all = refl;
+  plain =
+      (refl, refl);
+  defined = department_defined;
+  uncounted = refl;
+}
+makes name.Cert = record { is = refl; all = refl; plain = (refl, refl); defined = cert_defined; uncounted = refl }
+makes name.Request = record { is = refl; all = refl; plain = (refl, refl); defined = request_defined; uncounted = refl }
+makes name.Run = record { is = refl; all = refl; plain = (refl, refl); defined = run_defined; uncounted = refl }
+makes name.RevokedKeyId = record {
+  is = refl;
+  all = refl;
+  plain =
+      (refl, refl);
+  defined = revoked_keyid_defined;
+  uncounted = refl;
+}
+makes name.Ca = record { is = refl; all = refl; plain = (refl, refl); defined = ca_defined; uncounted = refl }

@@ -1,5 +1,6 @@
 -- UPDATE of the struct of one number, whatever its table is: what it makes of the contents, and why it is refused.
-use Rattle.std.proofs.Common.{◌≡◌, inl, inr, ℕ, pos, ◌<◌, ◌^◌, List, [], ◌∷◌, length, map, cond, slice_get, Bool, true, false, Option, Some, None, Ok, Result, sym, ap, subst, ◌∙◌}
+use Rattle.std.proofs.Common.{◌≡◌, inl, inr, ℕ, pos, ◌<◌, ◌^◌, List, [], ◌∷◌, length, map, cond, slice_get, Bool, true}
+use Rattle.std.proofs.Common.{false, Option, Some, None, Ok, Result, sym, ap, subst, ◌∙◌}
 use Rattle.store_sql.proofs.Words.{All, AllByRecursion, Applies, Binary, Compare, Database, Does, Enforced, Eq, Given}
 use Rattle.store_sql.proofs.Words.{Has, Int, IsPermutation, Null, Refers, Row, State, Table, Tally, Term}
 use Rattle.store_sql.proofs.Words.{Trees, Update, accepts_program, and-true, cast_row, column, edit_of}
@@ -28,12 +29,14 @@ use Rattle.store_sql.proofs.UpdateReasons.{IsSole, freed, nothing_halts, picked}
 use Rattle.store_sql.proofs.Updates.{lists_changed}
 
 -- the text that changes the struct of this number so
-pub record IsUpdate {X : Type 0} (sql : List ℕ) (params : Row) (cells : X → Row) (places : List ℕ) (at : ℕ) (table : Table)
+pub record IsUpdate {X : Type 0} (sql : List ℕ) (params : Row) (cells : X → Row) (places : List ℕ) (at : ℕ)
+    (table : Table)
     (tests project : List Term) (of : Contents → List X) (after : Contents → Contents) (number : X → ℕ) (n : ℕ)
     (u : X → X) (row : X → Row) : Type 0 where
   pub tree : IsTreeOf Holds cells places table.tree of
   pub found : slice_get whole.tables at ≡ Some (uncounted table)
-  pub is : IsStatement sql (Update at (record { lets = []; body = on_table table.tree tests project [] })) (length params)
+  pub is : IsStatement sql (Update at (record { lets = []; body = on_table table.tree tests project [] }))
+      (length params)
   pub typed : accepts_program whole [] (on_table table.tree tests project []) params ≡ true
   -- the new row of a row, and the new columns of its columns
   pub next_row : Row → Row
@@ -68,10 +71,13 @@ module _ {X : Type 0} {sql : List ℕ} {params : Row} {cells : X → Row} {place
 
   -- the rows that the query shows
   shown : (trees : Trees) (rows : List Row)
-      → IsPermutation (map (λ r. eval_all project (params ∷ r ∷ [])) (filter (λ r. list_all (holds (params ∷ r ∷ [])) tests) (trees table.tree))) rows
-      → IsPermutation (map (λ r. rowid r ∷ it.next_row r) (filter (λ r. passes (at_places places r)) (trees table.tree))) rows
+      → IsPermutation (map (λ r. eval_all project (params ∷ r ∷ []))
+      (filter (λ r. list_all (holds (params ∷ r ∷ [])) tests) (trees table.tree))) rows
+      → IsPermutation (map (λ r. rowid r ∷ it.next_row r) (filter (λ r. passes (at_places places r))
+      (trees table.tree))) rows
   shown trees rows =
-      subst (λ l. IsPermutation l rows) (λ i. map (λ r. it.showing r i) (filter (λ r. it.passing r i) (trees table.tree)))
+      subst (λ l. IsPermutation l rows)
+      (λ i. map (λ r. it.showing r i) (filter (λ r. it.passing r i) (trees table.tree)))
 
   does : (limit : Option ℕ) (db next : Database) (tally : Tally) (c : Contents) → Means db c
       → Does limit mode params db (statement_of sql (understood whole sql)) None
@@ -81,8 +87,10 @@ module _ {X : Type 0} {sql : List ℕ} {params : Row} {cells : X → Row} {place
       let did = updates limit db next tally whole means.schema at table it.found params
       (statement_of sql (understood whole sql)) (record { lets = []; body = on_table table.tree tests project [] }) h
       (no_works table.tree) in
-      let all = selected table.tree tests project [] db.trees params did.0 (it.tree.stored db.trees) (did.1.answer Null) in
-      let now = lists_changed cells places (uncounted table) db.trees next.trees did.0 (of c) (λ x. number x == n) u passes
+      let all = selected table.tree tests project [] db.trees params did.0 (it.tree.stored db.trees)
+      (did.1.answer Null) in
+      let now = lists_changed cells places (uncounted table) db.trees next.trees did.0 (of c)
+      (λ x. number x == n) u passes
       it.change it.next_row tested it.changed (λ x r is. ap is_int (numbered x r is)) back
       (it.tree.held db.trees c means.kept.holds) (shown db.trees did.0 all) did.2 in (
         did.3,
@@ -105,10 +113,13 @@ module _ {X : Type 0} {sql : List ℕ} {params : Row} {cells : X → Row} {place
       (same : (x : X) → number (u x) ≡ number x) (row_number : (x : X) → rowid (row x) ≡ Int (pos (number x)))
       (long : (x : X) → 10 ^ 9 < size (row x) → IsTooLong (cells x))
       (unindexed : AllByRecursion (λ i. guards i (uncounted table) ≡ true → ⊥) whole.indexes)
-      (put : (x : X) (s : State) (c : Contents) → Means s.now c → IsPut s.now.trees (uncounted table) (pos n ∷ []) (row x))
-      (still : (s : State) (c : Contents) (x : X) (r : Row) (next : Trees) → Means s.now c → Has (s.now.trees table.tree) r
+      (put : (x : X) (s : State) (c : Contents) → Means s.now c
+      → IsPut s.now.trees (uncounted table) (pos n ∷ []) (row x))
+      (still : (s : State) (c : Contents) (x : X) (r : Row) (next : Trees) → Means s.now c
+      → Has (s.now.trees table.tree) r
       → at_places places r ≡ cells x
-      → Applies whole Enforced s.now.trees (one s.now.trees (uncounted table) (pos n ∷ []) (row (u x))) next → Refers All whole next)
+      → Applies whole Enforced s.now.trees (one s.now.trees (uncounted table) (pos n ∷ []) (row (u x))) next
+      → Refers All whole next)
     where
       hits : (x : X) (r : Row) → at_places places r ≡ cells x → passes (at_places places r) ≡ true → number x ≡ n
       hits x r is h = eqb-true (number x) n (sym (tested x) ∙ ap passes (sym is) ∙ h)
@@ -120,7 +131,8 @@ module _ {X : Type 0} {sql : List ℕ} {params : Row} {cells : X → Row} {place
           → HasOne (λ x. (number x ≡ n) × IsTooLong (cells (u x))) (of c)
       over s c means rows halts (inl none) =
           absurd (nothing_halts s.now.trees (uncounted table) means.kept.sound.obeys listed
-          (subst (λ rs. IsHalted whole s.now.trees (edit_of s.now.trees (uncounted table) (ids_of rs) Given 1 rs)) none halts))
+          (subst (λ rs. IsHalted whole s.now.trees (edit_of s.now.trees (uncounted table)
+          (ids_of rs) Given 1 rs)) none halts))
       over s c means rows halts (inr (x, has, is_n, r, here, is, alone)) =
           let db = s.now.trees in
           let t = uncounted table in
@@ -142,17 +154,22 @@ module _ {X : Type 0} {sql : List ℕ} {params : Row} {cells : X → Row} {place
           → HasOne (λ x. (number x ≡ n) × IsTooLong (cells (u x))) (of c)
       refuses s c means stops =
           let q = on_table table.tree tests project [] in
-          let kept = update_halts s.now whole means.schema at table it.found params (statement_of sql (understood whole sql))
+          let kept = update_halts s.now whole means.schema at table it.found params
+          (statement_of sql (understood whole sql))
           (no_works table.tree) (record { lets = []; body = q }) it.typed
           (λ h. elim h [ inl over ↦ over | inr fold ↦ none_overflows _ fold ]) stops.0 stops.1 in
-          let all = selected table.tree tests project [] s.now.trees params kept.0 (it.tree.stored s.now.trees) (kept.1.answer Null) in
-          over s c means kept.0 kept.2 (picked cells places number n (s.now.trees table.tree) (of c) (λ r. passes (at_places places r))
+          let all = selected table.tree tests project [] s.now.trees params kept.0 (it.tree.stored s.now.trees)
+          (kept.1.answer Null) in
+          over s c means kept.0 kept.2
+          (picked cells places number n (s.now.trees table.tree) (of c) (λ r. passes (at_places places r))
           (λ r. rowid r ∷ it.next_row r) (it.tree.held s.now.trees c means.kept.holds) numbered hits kept.0
           (shown s.now.trees kept.0 all))
 
       -- why the call fails
-      pub update_fails : {Y : Type 0} (old new : State) (r : Result Y Fault) → FailsBy (HasWriteCause sql params) old new r
+      pub update_fails : {Y : Type 0} (old new : State) (r : Result Y Fault)
+          → FailsBy (HasWriteCause sql params) old new r
           → RefusedFor (λ c. HasOne (λ x. (number x ≡ n) × IsTooLong (cells (u x))) (of c)) old new r
       update_fails =
-          refused_for sql params (Update at (record { lets = []; body = on_table table.tree tests project [] })) it.is.0 it.is.2
+          refused_for sql params (Update at (record { lets = []; body = on_table table.tree tests project [] }))
+          it.is.0 it.is.2
           (λ c. HasOne (λ x. (number x ≡ n) × IsTooLong (cells (u x))) (of c)) refuses

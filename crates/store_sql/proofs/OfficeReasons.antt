@@ -1,5 +1,6 @@
 -- Why the row of the office is refused.
-use Rattle.std.proofs.Common.{◌≡◌, inl, inr, ℕ, ℤ, pos, ◌<◌, ◌^◌, List, [], ◌∷◌, drop, true, false, Result, refl, sym, ap, ◌∙◌, arith}
+use Rattle.std.proofs.Common.{◌≡◌, inl, inr, ℕ, ℤ, pos, ◌<◌, ◌^◌, List, [], ◌∷◌, drop, true, false, Result, refl, sym}
+use Rattle.std.proofs.Common.{ap, ◌∙◌, arith}
 use Rattle.store_sql.proofs.Words.{Enforced, ForeignKey, Int, Row, State, Term, Unique}
 use Rattle.store_sql.proofs.Words.{column, is_referred, lt-ltb, references_fit}
 use Rattle.sqlite_value.specs.Keys.{joined}
@@ -55,18 +56,22 @@ pub office_fails : {X : Type 0} (x : OfficeRow) → x.id < 2 ^ 63 → (old new :
 office_fails x below =
     insert_fails puts x (RefusesOffice x) (λ s c means. office_put x s c [] office_alone means)
     (λ s c means out. absurd (let wrong : true ≡ false = sym (lt-ltb x.id (2 ^ 63) below) ∙ out in cc))
-    (λ s c means taken. inl (taken_number office_cells office_places (λ y. y.id) (s.now.trees 0) c.offices x.id (drop 1 (office_row x))
+    (λ s c means taken. inl (taken_number office_cells office_places (λ y. y.id) (s.now.trees 0) c.offices x.id
+    (drop 1 (office_row x))
     (λ y r is. ap (λ v. column v 0) is) means.kept.holds.offices taken))
-    (λ s c means clash. absurd (unclashed s.now.trees office_at [] (office_row x) ((λ e. cc), ((λ e. cc), ((λ e. cc), ((λ e. cc), tt)))) clash))
+    (λ s c means clash. absurd (unclashed s.now.trees office_at [] (office_row x)
+    ((λ e. cc), ((λ e. cc), ((λ e. cc), ((λ e. cc), tt)))) clash))
     (λ s c long. inr (omega (arith, long)))
-    (λ s c next means did broken. absurd (broken (refers_still s.now.trees next (one s.now.trees office_at [] (office_row x))
+    (λ s c next means did broken. absurd (broken (refers_still s.now.trees next
+    (one s.now.trees office_at [] (office_row x))
     (means.kept.sound.obeys.rules ForeignKey) did (λ e. cc) (λ e. cc))))
 
 -- ---- its counters, and the number of its schema
 
 -- the row of the office is not written over by the row of what the office then is, since that is too long
 module _ {sql : List ℕ} {params : Row} {project : List Term} {after : Contents → Contents} {u : OfficeRow → OfficeRow}
-    (it : IsUpdate sql params office_cells office_places 0 office_at first_test project (λ c. c.offices) after (λ o. o.id) 1 u office_row)
+    (it : IsUpdate sql params office_cells office_places 0 office_at first_test project (λ c. c.offices) after
+    (λ o. o.id) 1 u office_row)
     (same : (x : OfficeRow) → (u x).id ≡ x.id) where
   change_fails : {X : Type 0} (old new : State) (r : Result X Fault) → FailsBy (HasWriteCause sql params) old new r
       → RefusedFor (λ c. HasOne (λ o. (o.id ≡ 1) × IsTooLong (office_cells (u o))) c.offices) old new r
@@ -74,7 +79,8 @@ module _ {sql : List ℕ} {params : Row} {project : List Term} {after : Contents
       update_fails it (inl refl) refl same (λ x. refl) (λ x h. omega (arith, h))
       ((λ e. cc), ((λ e. cc), ((λ e. cc), ((λ e. cc), tt))))
       (λ x s c means. office_put x s c (pos 1 ∷ []) office_again means)
-      (λ s c x r next means here is did. refers_still s.now.trees next (one s.now.trees office_at (pos 1 ∷ []) (office_row (u x)))
+      (λ s c x r next means here is did. refers_still s.now.trees next
+      (one s.now.trees office_at (pos 1 ∷ []) (office_row (u x)))
       (means.kept.sound.obeys.rules ForeignKey) did (λ e. cc) (λ e. cc))
 
 -- ---- the calls

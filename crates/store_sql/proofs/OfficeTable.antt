@@ -44,7 +44,8 @@ insert_is : IsStatement INSERT_OFFICE.now (Insert 0 (Values terms 11)) 10
 unfolding understood everything
 insert_is = (refl, (refl, refl), (refl, refl))
 
-pub puts : IsInsert INSERT_OFFICE.now office_cells office_places 0 office_at terms 11 with_office (λ c. c.offices) (λ x rows. office_row x)
+pub puts : IsInsert INSERT_OFFICE.now office_cells office_places 0 office_at terms 11 with_office (λ c. c.offices)
+    (λ x rows. office_row x)
 puts = record {
   tree = tree;
   found = refl;
@@ -91,7 +92,8 @@ HoldsOffices trees xs = Lists office_cells office_places (trees 0) xs
 every_beside : (s : Schema) (others : List Table)
     → FindIn (beginning s others) HoldsOffices every_sql ([]) office_cells (λ xs. xs)
 every_beside s others =
-    select {places = office_places} {of = λ xs. xs} (record { stored = λ trees. refl; held = λ trees xs h. h; apart = office_apart }) (every_is s others)
+    select {places = office_places} {of = λ xs. xs}
+    (record { stored = λ trees. refl; held = λ trees xs h. h; apart = office_apart }) (every_is s others)
     (λ x. true) (λ v. true) shown (λ x. refl) (λ x. refl) (λ r. refl) (λ r. refl) refl keep_all
 
 abbrev the_others : List Table
@@ -134,4 +136,5 @@ pub every_rises : (trees : Trees) (rows : List Row) → IsAnswer every.query (ov
     → AscendBy 0 rows
 unfolding every select
 every_rises trees rows answer =
-    in_order 0 [] columns ((col 1 0, ascending Binary) ∷ []) trees ([]) rows (λ v. column v 0 ∷ []) (λ r. refl) refl answer
+    in_order 0 [] columns ((col 1 0, ascending Binary) ∷ []) trees ([]) rows (λ v. column v 0 ∷ [])
+    (λ r. refl) refl answer

@@ -25,10 +25,12 @@ first_test = op2 (Compare Eq Binary) (col 1 0) (lit (Int (pos 1))) ∷ []
 -- ---- UPDATE of the counters
 
 abbrev pub count_project : List Term
-count_project = col 1 0 ∷ col 1 0 ∷ lit Null ∷ col 1 2 ∷ col 1 3 ∷ col 1 4 ∷ col 1 5 ∷ col 1 6 ∷ col 1 7 ∷ col 0 0 ∷ col 0 1
+count_project = col 1 0 ∷ col 1 0 ∷ lit Null ∷ col 1 2 ∷ col 1 3 ∷ col 1 4 ∷ col 1 5 ∷ col 1 6 ∷ col 1 7 ∷ col 0 0
+    ∷ col 0 1
     ∷ col 0 2 ∷ []
 
-count_is : IsStatement COUNT_OFFICE.now (Update 0 (record { lets = []; body = on_table 0 first_test count_project [] })) 3
+count_is : IsStatement COUNT_OFFICE.now
+    (Update 0 (record { lets = []; body = on_table 0 first_test count_project [] })) 3
 unfolding understood everything
 count_is = (refl, (refl, refl), (refl, refl))
 
@@ -49,7 +51,8 @@ module _ (k : Counters) where
       let c7 : column r 7 ≡ Int (pos x.last) = ap (λ v. column v 6) is in
       rw (c0, c2, c3, c4, c5, c6, c7) (simp (cast_int, cast_null))
 
-  pub counts : IsUpdate COUNT_OFFICE.now (counter_cells k) office_cells office_places 0 office_at first_test count_project
+  pub counts : IsUpdate COUNT_OFFICE.now
+      (counter_cells k) office_cells office_places 0 office_at first_test count_project
       (λ c. c.offices) (with_counters k) (λ o. o.id) 1 (counted k) office_row
   counts = record {
     tree = tree;
@@ -57,7 +60,8 @@ module _ (k : Counters) where
     is = count_is;
     typed = refl;
     next_row = count_row;
-    change = λ v. column v 0 ∷ column v 1 ∷ column v 2 ∷ column v 3 ∷ column v 4 ∷ column v 5 ∷ column v 6 ∷ counter_cells k;
+    change = λ v. column v 0 ∷ column v 1 ∷ column v 2 ∷ column v 3 ∷ column v 4 ∷ column v 5 ∷ column v 6
+        ∷ counter_cells k;
     leads = λ r. refl;
     first = λ x. refl;
     passing = λ r. refl;
@@ -74,10 +78,12 @@ module _ (k : Counters) where
 -- ---- UPDATE of the number of the schema
 
 abbrev pub number_project : List Term
-number_project = col 1 0 ∷ col 1 0 ∷ lit Null ∷ col 0 0 ∷ col 1 3 ∷ col 1 4 ∷ col 1 5 ∷ col 1 6 ∷ col 1 7 ∷ col 1 8 ∷ col 1 9
+number_project = col 1 0 ∷ col 1 0 ∷ lit Null ∷ col 0 0 ∷ col 1 3 ∷ col 1 4 ∷ col 1 5 ∷ col 1 6 ∷ col 1 7 ∷ col 1 8
+    ∷ col 1 9
     ∷ col 1 10 ∷ []
 
-number_is : IsStatement NUMBER_OFFICE.now (Update 0 (record { lets = []; body = on_table 0 first_test number_project [] })) 1
+number_is : IsStatement NUMBER_OFFICE.now
+    (Update 0 (record { lets = []; body = on_table 0 first_test number_project [] })) 1
 unfolding understood everything
 number_is = (refl, (refl, refl), (refl, refl))
 
@@ -100,7 +106,8 @@ module _ (n : ℕ) where
       let c10 : column r 10 ≡ Int (pos x.date) = ap (λ v. column v 9) is in
       rw (c0, c3, c4, c5, c6, c7, c8, c9, c10) (simp (cast_int, cast_null))
 
-  pub numbers : IsUpdate NUMBER_OFFICE.now (Int (pos n) ∷ []) office_cells office_places 0 office_at first_test number_project
+  pub numbers : IsUpdate NUMBER_OFFICE.now
+      (Int (pos n) ∷ []) office_cells office_places 0 office_at first_test number_project
       (λ c. c.offices) (with_schema n) (λ o. o.id) 1 (renumbered n) office_row
   numbers = record {
     tree = tree;

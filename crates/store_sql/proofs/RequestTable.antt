@@ -37,7 +37,8 @@ insert_is : IsStatement INSERT_REQUEST.now (Insert 3 (Values terms 5)) 4
 unfolding understood everything
 insert_is = (refl, (refl, refl), (refl, refl))
 
-pub puts : IsInsert INSERT_REQUEST.now request_cells request_places 3 request_at terms 5 with_request (λ c. c.requests) request_row
+pub puts : IsInsert INSERT_REQUEST.now request_cells request_places 3 request_at terms 5 with_request
+    (λ c. c.requests) request_row
 puts = record {
   tree = tree;
   found = refl;
@@ -60,7 +61,8 @@ abbrev find_query : Query
 find_query = on_table 4 (op2 (Compare Eq Binary) (col 1 1) (col 0 0) ∷ op2 (Compare Eq Binary) (col 1 2) (col 0 1)
     ∷ []) (col 1 1 ∷ col 1 2 ∷ col 1 3 ∷ col 1 4 ∷ []) []
 
-find_is : IsSelect whole FIND_REQUEST.now find_query (codes "caller" ∷ codes "key" ∷ codes "message" ∷ codes "reply" ∷ []) 2
+find_is : IsSelect whole FIND_REQUEST.now find_query
+    (codes "caller" ∷ codes "key" ∷ codes "message" ∷ codes "reply" ∷ []) 2
 unfolding understood everything
 find_is = (refl, refl, (refl, refl), (refl, refl))
 

@@ -38,7 +38,8 @@ insert_is : IsStatement INSERT_REVOKED.now (Insert 5 (Values terms 2)) 1
 unfolding understood everything
 insert_is = (refl, (refl, refl), (refl, refl))
 
-pub puts : IsInsert INSERT_REVOKED.now key_id_cells key_id_places 5 revoked_at terms 2 with_revoked (λ c. c.revoked) revoked_row
+pub puts : IsInsert INSERT_REVOKED.now key_id_cells key_id_places 5 revoked_at terms 2 with_revoked
+    (λ c. c.revoked) revoked_row
 puts = record {
   tree = tree;
   found = refl;
@@ -57,19 +58,22 @@ put = insert puts
 
 -- ---- SELECT of one
 
-find_is : IsSelect whole FIND_REVOKED.now (on_table 7 (op2 (Compare Eq Binary) (col 1 1) (col 0 0) ∷ []) (col 1 1 ∷ []) [])
+find_is : IsSelect whole FIND_REVOKED.now
+    (on_table 7 (op2 (Compare Eq Binary) (col 1 1) (col 0 0) ∷ []) (col 1 1 ∷ []) [])
     (codes "keyid" ∷ []) 1
 unfolding understood everything
 find_is = (refl, refl, (refl, refl), (refl, refl))
 
 pub find : (key_id : List ℕ) → Find FIND_REVOKED.now (Text key_id ∷ []) key_id_cells (revoked_as key_id)
 find key_id =
-    select tree find_is (is_key_id key_id) (λ v. is_true (binary (Compare Eq Binary) (column v 0) (Text key_id)) && true)
+    select tree find_is (is_key_id key_id)
+    (λ v. is_true (binary (Compare Eq Binary) (column v 0) (Text key_id)) && true)
     (λ v. column v 0 ∷ []) (λ x. and-true _ ∙ text_test x key_id) (λ x. refl) (λ r. refl) (λ r. refl) refl (λ c. refl)
 
 -- ---- SELECT of all
 
-every_is : IsSelect whole EVERY_REVOKED.now (on_table 7 [] (col 1 1 ∷ []) ((col 1 1, ascending Binary) ∷ [])) (codes "keyid" ∷ []) 0
+every_is : IsSelect whole EVERY_REVOKED.now (on_table 7 [] (col 1 1 ∷ []) ((col 1 1, ascending Binary) ∷ []))
+    (codes "keyid" ∷ []) 0
 unfolding understood everything
 every_is = (refl, refl, (refl, refl), (refl, refl))
 

@@ -1,5 +1,6 @@
 -- Why a run is refused, and that a deletion of runs is not.
-use Rattle.std.proofs.Common.{◌≡◌, inl, inr, ℕ, ℤ, ◌<◌, ◌^◌, List, [], drop, Bool, true, false, not, Ok, Err, Result, refl, sym, ap, subst, ◌∙◌, arith}
+use Rattle.std.proofs.Common.{◌≡◌, inl, inr, ℕ, ℤ, ◌<◌, ◌^◌, List, [], drop, Bool, true, false, not, Ok, Err, Result}
+use Rattle.std.proofs.Common.{refl, sym, ap, subst, ◌∙◌, arith}
 use Rattle.store_sql.proofs.Words.{AllByRecursion, BadReference, Check, Datatype, Delete, ForeignKey, Has, Index, Keeps}
 use Rattle.store_sql.proofs.Words.{Mismatch, NoRowid, NotNull, PrimaryKey, Row, State, TooDeep, Trees, Unique, Violates}
 use Rattle.store_sql.proofs.Words.{accepts_program, all_has, cases_eq, clashes, column, guards, ids_of, lt-ltb, nat_lt}
@@ -53,7 +54,8 @@ run_fails x below =
     (λ s c means out. absurd (let wrong : true ≡ false = sym (lt-ltb x.lo (2 ^ 63) below) ∙ out in cc))
     (λ s c means taken. taken_number run_cells run_places (λ y. y.lo) (s.now.trees 6) c.runs x.lo (drop 1 (run_row x))
     (λ y r is. ap (λ v. column v 0) is) means.kept.holds.runs taken)
-    (λ s c means clash. absurd (unclashed s.now.trees run_at [] (run_row x) ((λ e. cc), ((λ e. cc), ((λ e. cc), ((λ e. cc), tt)))) clash))
+    (λ s c means clash. absurd (unclashed s.now.trees run_at [] (run_row x)
+    ((λ e. cc), ((λ e. cc), ((λ e. cc), ((λ e. cc), tt)))) clash))
     (λ s c long. absurd (omega (arith, long)))
     (λ s c next means did broken. absurd (broken (refers_still s.now.trees next (one s.now.trees run_at [] (run_row x))
     (means.kept.sound.obeys.rules ForeignKey) did (λ e. cc) (λ e. cc))))

@@ -1,5 +1,6 @@
 -- The statements on the table of runs.
-use Rattle.std.proofs.Common.{◌≡◌, ℕ, pos, List, [], ◌∷◌, codes, map, Bool, true, not, Option, None, Ok, refl, sym, ap, ap₂, subst, ◌∙◌, inl, inr, take, IsSorted}
+use Rattle.std.proofs.Common.{◌≡◌, ℕ, pos, List, [], ◌∷◌, codes, map, Bool, true, not, Option, None, Ok, refl, sym, ap}
+use Rattle.std.proofs.Common.{ap₂, subst, ◌∙◌, inl, inr, take, IsSorted}
 use Rattle.std.specs.Prelude.{◌&&◌}
 use Rattle.std.proofs.Common.{Equal}
 use Rattle.store_sql.proofs.Words.{Applies, Binary, Compare, Database, Delete, Does, Enforced, Ge, Given, Has, Insert}
@@ -69,7 +70,8 @@ put = insert puts
 abbrev columns : List Term
 columns = col 1 0 ∷ col 1 2 ∷ []
 
-every_is : IsSelect whole EVERY_RUN.now (on_table 6 [] columns ((col 1 0, ascending Binary) ∷ [])) (codes "lo" ∷ codes "hi" ∷ []) 0
+every_is : IsSelect whole EVERY_RUN.now (on_table 6 [] columns ((col 1 0, ascending Binary) ∷ []))
+    (codes "lo" ∷ codes "hi" ∷ []) 0
 unfolding understood everything
 every_is = (refl, refl, (refl, refl), (refl, refl))
 
@@ -247,4 +249,5 @@ pub every_rises : (trees : Trees) (rows : List Row) → IsAnswer every.query (ov
     → AscendBy 0 rows
 unfolding every select
 every_rises trees rows answer =
-    in_order 6 [] columns ((col 1 0, ascending Binary) ∷ []) trees ([]) rows (λ v. column v 0 ∷ []) (λ r. refl) refl answer
+    in_order 6 [] columns ((col 1 0, ascending Binary) ∷ []) trees ([]) rows (λ v. column v 0 ∷ [])
+    (λ r. refl) refl answer

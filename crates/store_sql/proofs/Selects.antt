@@ -23,7 +23,8 @@ pub record IsTreeOf {A X : Type 0} (Held : Trees → A → Type 0) (cells : X �
   pub apart : (x y : X) → cells x ≡ cells y → x ≡ y
 
 -- the structs that pass are those that are wanted
-unfoldable pub select : {A X : Type 0} {schema : Schema} {Held : Trees → A → Type 0} {cells : X → Row} {places : List ℕ} {tree : ℕ}
+unfoldable pub select : {A X : Type 0} {schema : Schema} {Held : Trees → A → Type 0} {cells : X
+    → Row} {places : List ℕ} {tree : ℕ}
     {of wanted : A → List X} {sql : List ℕ} {tests project : List Term} {order : List (Term × Key)}
     {names : List (List ℕ)} {params : Row} → IsTreeOf Held cells places tree of
     → IsSelect schema sql (on_table tree tests project order) names (length params)
@@ -33,7 +34,8 @@ unfoldable pub select : {A X : Type 0} {schema : Schema} {Held : Trees → A →
     → ((r : Row) → eval_all project (params ∷ r ∷ []) ≡ shows (at_places places r))
     → accepts_program schema [] (on_table tree tests project order) params ≡ true
     → ((a : A) → filter mine (of a) ≡ wanted a) → FindIn schema Held sql params cells wanted
-select {cells = cells} {places = places} {tree = tree} {of = of} {tests = tests} {project = project} {order = order} {names = names} {params = params} t is mine passes shows tested showed
+select {cells = cells} {places = places} {tree = tree} {of = of} {tests = tests} {project = project} {order = order}
+    {names = names} {params = params} t is mine passes shows tested showed
     passing showing typed wanted = record {
       query = on_table tree tests project order;
       names = names;
@@ -48,5 +50,6 @@ select {cells = cells} {places = places} {tree = tree} {of = of} {tests = tests}
           let all = selected tree tests project order trees params rows (t.stored trees) answer in
           subst (λ xs. IsPermutation (map cells xs) rows) (wanted a)
           (chosen cells cells mine places passes shows tested showed (trees tree) rows (of a) (t.held trees a h)
-          (subst (λ l. IsPermutation l rows) (λ i. map (λ r. showing r i) (filter (λ r. passing r i) (trees tree))) all));
+          (subst (λ l. IsPermutation l rows) (λ i. map (λ r. showing r i)
+          (filter (λ r. passing r i) (trees tree))) all));
     }

@@ -4,7 +4,8 @@ use Rattle.store_sql.proofs.Words.{Begin, Command, Commit, Compiled, CreateTable
 use Rattle.store_sql.proofs.Words.{InsertOr, IsUnchanged, KeepsCommit, Release, Returning, Rollback, RollbackTo, Row}
 use Rattle.store_sql.proofs.Words.{Runs, Select, State, Survives, Update, Writes, cases_Bool, shows_rows}
 use Rattle.store_sql.proofs.Words.{survives_then, unchanged_then}
-use Rattle.sqlite.specs.Command.TheVariants.{CreateIndex, CreateView, DropTable, DropIndex, DropView, Savepoint, Rows, Nothing}
+use Rattle.sqlite.specs.Command.TheVariants.{CreateIndex, CreateView, DropTable, DropIndex, DropView, Savepoint, Rows}
+use Rattle.sqlite.specs.Command.TheVariants.{Nothing}
 use Rattle.sqlite.specs.Listing.{understood}
 use Rattle.sqlite.specs.State.{ExecutesIn, Shows}
 use Rattle.store_sql.specs.declared.table_fault.Fault.{Fault}

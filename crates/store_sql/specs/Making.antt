@@ -4,8 +4,10 @@ use Rattle.sqlite.specs.Table.{Table}
 use Rattle.sqlite.specs.Schema.{Schema}
 use Rattle.store_sql.specs.declared.creation.TableName.{TableName}
 use Rattle.store_sql.specs.declared.creation.TableName.TheVariants as name
-use Rattle.store_sql.specs.declared.sql.TheConstants.{CREATE_OFFICE, CREATE_DEPARTMENT, CREATE_CERT, CREATE_REQUEST, CREATE_RUN, CREATE_REVOKED, CREATE_CA}
-use Rattle.store_sql.specs.Schema.{no_schema, with_office, with_department, with_cert, with_request, with_run, without_ca, office, department, cert, request, run, revoked_keyid, ca}
+use Rattle.store_sql.specs.declared.sql.TheConstants.{CREATE_OFFICE, CREATE_DEPARTMENT, CREATE_CERT, CREATE_REQUEST}
+use Rattle.store_sql.specs.declared.sql.TheConstants.{CREATE_RUN, CREATE_REVOKED, CREATE_CA}
+use Rattle.store_sql.specs.Schema.{no_schema, with_office, with_department, with_cert, with_request, with_run}
+use Rattle.store_sql.specs.Schema.{without_ca, office, department, cert, request, run, revoked_keyid, ca}
 
 -- the table of this name, as its CREATE text defines it
 abbrev pub made : TableName → Table

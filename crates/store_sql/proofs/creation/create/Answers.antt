@@ -24,5 +24,6 @@ returns g c =
       undamaged = c.done.ensures.undamaged;
       stays = λ clean. create_stays (makes name) old new c.execute.result c.done.result c.done.ensures.is
           (ran (c.execute.ensures.runs clean));
-      survives = survives_as old new _ _ (creates_left (makes name) old) (rw c.create.ensures.text at c.execute.ensures.survives);
+      survives = survives_as old new _ _ (creates_left (makes name) old)
+          (rw c.create.ensures.text at c.execute.ensures.survives);
     }

@@ -24,7 +24,8 @@ pub returns-in_err-create-clause-fault : goal.returns-in_err-create-clause-fault
 returns-in_err-create-clause-fault g c clean bare =
     let inside : c.loop-name.name-index < 7 = omega (arith, c.loop-name-test.true) in
     let told = err_from_is_err_and c.from_residual.result c.from_residual.ensures.1 in
-    let cause = none_more in_order c.loop-name.name-index Office inside _ _ _ c.loop-name.invariant c.create.ensures.survives
+    let cause = none_more in_order c.loop-name.name-index Office inside _ _ _ c.loop-name.invariant
+    c.create.ensures.survives
     c.in_err-create.field-0.0 c.in_err-create.ensures.fault clean bare in
     rw (told.1, told.2) cause
 

@@ -5,4 +5,5 @@ use Rattle.store_sql.proofs.creation.create_tables.Given as goal
 
 -- the tables up to this one are made
 abbrev pub invariant-loop-name : goal.invariant-loop-name
-invariant-loop-name g l = IsAt (drop l.name-index l.name-items) (state g.S.Store l.initial.conn) (state g.S.Store l.conn)
+invariant-loop-name g l = IsAt (drop l.name-index l.name-items) (state g.S.Store l.initial.conn)
+    (state g.S.Store l.conn)
