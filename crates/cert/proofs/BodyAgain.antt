@@ -1,5 +1,5 @@
 -- The text of lawful fields is read.
-use Rattle.std.proofs.Common.{◌≡◌, ℕ, ◌^◌, ◌<◌, Bool, true, eqb, ltb, List, [], ◌++◌, length, Option, Some, Result}
+use Rattle.std.proofs.Common.{◌≡◌, ℕ, ◌^◌, ◌<◌, Bool, true, ltb, List, [], ◌++◌, Option, Some, Result}
 use Rattle.std.proofs.Common.{Ok, refl, sym, ap, ◌∙◌, append_assoc, arith}
 use Rattle.std.specs.Int.{w32, w64}
 use Rattle.std.proofs.lemmas.Bool.{and_parts, leb-true, ltb-true, eq-eqb}
@@ -13,18 +13,15 @@ use Rattle.values.specs.declared.option_field.OptionField.TheVariants.{CriticalO
 use Rattle.cert.specs.Options.{options_text}
 use Rattle.values.proofs.SerialLemmas.{serial_small}
 use Rattle.cert.specs.Bodies.{IsCertFields, cert_type, kind_number, principals_text, front, body_text, is_validity}
-use Rattle.cert.specs.Reading.{kind_of, principals_of, options_of, validity_at, body_at}
-use Rattle.text.specs.Results.{◌>>=◌}
-use Rattle.lines.specs.Keys.{key_of}
+use Rattle.cert.specs.Reading.{check, validity_at, body_at}
+use Rattle.text.specs.Results.{◌>>=◌, or_fault}
 use Rattle.wire.specs.Reading.{u32_at, u64_at, string_at}
-use Rattle.std.specs.Str.{bytes_eq}
-use Rattle.values.specs.Names.{is_key_id}
-use Rattle.values.specs.Serials.{is_serial}
 use Rattle.cert.specs.declared.fields.CertFields.{CertFields}
 use Rattle.cert.specs.declared.cert_fault.CertFault.{CertFault}
-use Rattle.cert.specs.declared.cert_fault.CertFault.TheVariants.{WrongType, BadNonce, BadKey, BadSerial, BadKind}
+use Rattle.cert.specs.declared.cert_fault.CertFault.TheVariants.{Truncated, WrongType, BadNonce, BadKey, BadSerial}
+use Rattle.cert.specs.declared.cert_fault.CertFault.TheVariants.{BadKind}
 use Rattle.cert.specs.declared.cert_fault.CertFault.TheVariants.{BadKeyId, BadPrincipals, BadOptions, BadExtensions}
-use Rattle.cert.specs.declared.cert_fault.CertFault.TheVariants.{BadReserved, BadCa}
+use Rattle.cert.specs.declared.cert_fault.CertFault.TheVariants.{BadCa}
 use Rattle.cert.proofs.Sizes.{key_id-lt, principals_text-lt, options_text-lt}
 use Rattle.cert.proofs.NestedLaws.{principals_again}
 use Rattle.cert.proofs.OptionLaws.{options_of_again}
@@ -78,118 +75,105 @@ reads_ends a b rest h =
     (2 ^ 64) wide64 b rest small.1) h
 
 -- One more field is read of a body whose front is read.
-reads : {A : Type 0} (next : A × List ℕ → Result CertFields CertFault) (before text rest : List ℕ)
-    (read : List ℕ → Result (A × List ℕ) CertFault) (x : A)
-    → ((r : List ℕ) → body_at (before ++ r) ≡ (read r >>= next)) → read (text ++ rest) ≡ Ok (x, rest)
+reads : {S A : Type 0} (at : List ℕ → Option (S × List ℕ)) (f : S × List ℕ → Result (A × List ℕ) CertFault)
+    (next : A × List ℕ → Result CertFields CertFault) (before text rest : List ℕ) (s : S) (x : A)
+    → ((r : List ℕ) → body_at (before ++ r) ≡ ((or_fault Truncated (at r) >>= f) >>= next))
+    → at (text ++ rest) ≡ Some (s, rest) → f (s, rest) ≡ Ok (x, rest)
     → body_at ((before ++ text) ++ rest) ≡ next (x, rest)
-reads next before text rest read x so_far e = ap body_at (append_assoc before text rest) ∙ so_far (text ++ rest)
-    ∙ bind_Ok (read (text ++ rest)) next (x, rest) e
+reads at f next before text rest s x so_far here is =
+    ap body_at (append_assoc before text rest) ∙ so_far (text ++ rest)
+    ∙ ap (λ o. (or_fault Truncated o >>= f) >>= next) here ∙ ap (λ r. r >>= next) is
 
-module _ {S A : Type 0} (bad : CertFault) (at : List ℕ → Option (S × List ℕ))
-    (next : A × List ℕ → Result CertFields CertFault) (before text rest : List ℕ) (s : S)
-    (here : at (text ++ rest) ≡ Some (s, rest)) where
-  reads_tested : (test : S → Bool) (value : S → A)
-      → ((r : List ℕ) → body_at (before ++ r) ≡ (Tails.tested bad at test value r >>= next)) → test s ≡ true
-      → body_at ((before ++ text) ++ rest) ≡ next (value s, rest)
-  reads_tested test value so_far passes = reads next before text rest (Tails.tested bad at test value) (value s) so_far
-      (Tails.tested_goes_on bad at (text ++ rest) test value (s, rest) here passes)
+passes : {A : Type 0} (bad : CertFault) (b : Bool) (r : Result A CertFault) → b ≡ true → (check bad b >>= λ _. r) ≡ r
+passes bad b r e = ap (λ b. check bad b >>= λ _. r) e
 
-  reads_made : (of : S → Option A) (x : A)
-      → ((r : List ℕ) → body_at (before ++ r) ≡ (Tails.made bad at of r >>= next)) → of s ≡ Some x
-      → body_at ((before ++ text) ++ rest) ≡ next (x, rest)
-  reads_made of x so_far is = reads next before text rest (Tails.made bad at of) x so_far
-      (Tails.made_goes_on bad at (text ++ rest) of (s, rest) x here is)
+is_text : {X : Type 0} (bad : CertFault) (o : Option X) (x : X) (rest : List ℕ) → o ≡ Some x
+    → ◌>>=◌ {B = X × List ℕ} (or_fault bad o) (λ x. Ok (x, rest)) ≡ Ok (x, rest)
+is_text {X} bad o x rest e = ap (λ o. ◌>>=◌ {B = X × List ℕ} (or_fault bad o) (λ x. Ok (x, rest))) e
 
 -- ---- the front of a body is read, up to a field
 
 pub reads_type : (c : CertFields) → IsCertFields c → (rest : List ℕ)
     → body_at (front 1 c ++ rest) ≡ Tails.from_nonce sample rest
 reads_type c l rest =
-    reads_tested WrongType string_at (Tails.then_type sample) [] (string_text cert_type) rest cert_type
-    (string_again cert_type rest (omega arith)) (λ s. bytes_eq s cert_type) (λ _. tt) (Tails.body_at-from_type sample)
-    ((bytes_eq-Decides cert_type cert_type).1 refl)
+    reads string_at _ _ [] (string_text cert_type) rest cert_type tt (Tails.body_at-from_type sample)
+    (string_again cert_type rest (omega arith)) (passes WrongType _ _ ((bytes_eq-Decides cert_type cert_type).1 refl))
 
 pub reads_nonce : (c : CertFields) → IsCertFields c → (rest : List ℕ)
     → body_at (front 2 c ++ rest) ≡ Tails.from_key (upto_nonce c) rest
 reads_nonce c l rest =
-    reads_tested BadNonce string_at (Tails.then_nonce sample) (front 1 c) (string_text c.nonce) rest c.nonce
-    (string_again c.nonce rest (omega (arith, l.nonce))) (λ s. eqb (length s) 32) (λ s. s) (reads_type c l)
-    (eq-eqb _ _ l.nonce)
+    reads string_at _ _ (front 1 c) (string_text c.nonce) rest c.nonce c.nonce (reads_type c l)
+    (string_again c.nonce rest (omega (arith, l.nonce))) (passes BadNonce _ _ (eq-eqb _ _ l.nonce))
 
 pub reads_key : (c : CertFields) → IsCertFields c → (rest : List ℕ)
     → body_at (front 3 c ++ rest) ≡ Tails.from_serial (upto_key c) rest
 reads_key c l rest =
-    reads_tested BadKey string_at (Tails.then_key (upto_nonce c)) (front 2 c) (string_text c.key) rest c.key
-    (string_again c.key rest (omega (arith, l.key))) (λ s. eqb (length s) 32) (λ s. s) (reads_nonce c l)
-    (eq-eqb _ _ l.key)
+    reads string_at _ _ (front 2 c) (string_text c.key) rest c.key c.key (reads_nonce c l)
+    (string_again c.key rest (omega (arith, l.key))) (passes BadKey _ _ (eq-eqb _ _ l.key))
 
 pub reads_serial : (c : CertFields) → IsCertFields c → (rest : List ℕ)
     → body_at (front 4 c ++ rest) ≡ Tails.from_kind (upto_serial c) rest
 reads_serial c l rest =
-    reads_tested BadSerial u64_at (Tails.then_serial (upto_key c)) (front 3 c) (u64_text c.serial) rest c.serial
-    (number_again w64 (2 ^ 64) wide64 c.serial rest (serial_small c.serial l.serial)) is_serial (λ n. n)
-    (reads_key c l) l.serial
+    reads u64_at _ _ (front 3 c) (u64_text c.serial) rest c.serial c.serial (reads_key c l)
+    (number_again w64 (2 ^ 64) wide64 c.serial rest (serial_small c.serial l.serial)) (passes BadSerial _ _ l.serial)
 
 pub reads_kind : (c : CertFields) → IsCertFields c → (rest : List ℕ)
     → body_at (front 5 c ++ rest) ≡ Tails.from_key_id (upto_kind c) rest
 reads_kind c l rest =
-    reads_made BadKind u32_at (Tails.then_kind (upto_serial c)) (front 4 c) (u32_text (kind_number c.kind)) rest
-    (kind_number c.kind) (number_again w32 (2 ^ 32) wide32 (kind_number c.kind) rest (kind_small c.kind)) kind_of c.kind
-    (reads_serial c l) (kind_again c.kind)
+    let n = kind_number c.kind in
+    reads u32_at _ _ (front 4 c) (u32_text n) rest n c.kind (reads_serial c l)
+    (number_again w32 (2 ^ 32) wide32 n rest (kind_small c.kind)) (is_text BadKind _ _ _ (kind_again c.kind))
 
 pub reads_key_id : (c : CertFields) → IsCertFields c → (rest : List ℕ)
     → body_at (front 6 c ++ rest) ≡ Tails.from_principals (upto_key_id c) rest
 reads_key_id c l rest =
-    reads_tested BadKeyId string_at (Tails.then_key_id (upto_kind c)) (front 5 c) (string_text c.key_id) rest c.key_id
-    (string_again c.key_id rest (key_id-lt c.key_id l.key_id)) is_key_id (λ s. s) (reads_kind c l) l.key_id
+    reads string_at _ _ (front 5 c) (string_text c.key_id) rest c.key_id c.key_id (reads_kind c l)
+    (string_again c.key_id rest (key_id-lt c.key_id l.key_id)) (passes BadKeyId _ _ l.key_id)
 
 pub reads_principals : (c : CertFields) → IsCertFields c → (rest : List ℕ)
     → body_at (front 7 c ++ rest) ≡ Tails.from_validity (upto_principals c) rest
 reads_principals c l rest =
     let text = principals_text c.principals in
-    reads_made BadPrincipals string_at (Tails.then_principals (upto_key_id c)) (front 6 c) (string_text text) rest text
-    (string_again text rest (principals_text-lt c.principals l.principals)) principals_of c.principals
-    (reads_key_id c l) (principals_again c.principals l.principals)
+    reads string_at _ _ (front 6 c) (string_text text) rest text c.principals (reads_key_id c l)
+    (string_again text rest (principals_text-lt c.principals l.principals))
+    (is_text BadPrincipals _ _ _ (principals_again c.principals l.principals))
 
 pub reads_validity : (c : CertFields) → IsCertFields c → (rest : List ℕ)
     → body_at (front 8 c ++ rest) ≡ Tails.from_options (upto_validity c) rest
 reads_validity c l rest =
-    reads (Tails.then_validity (upto_principals c)) (front 7 c) (u64_text c.after ++ u64_text c.before) rest validity_at
-    (c.after, c.before)
-    (reads_principals c l)
+    let ends = u64_text c.after ++ u64_text c.before in
+    ap body_at (append_assoc (front 7 c) ends rest) ∙ reads_principals c l (ends ++ rest)
+    ∙ bind_Ok (validity_at (ends ++ rest)) (Tails.then_validity (upto_principals c)) ((c.after, c.before), rest)
     (reads_ends c.after c.before rest l.validity)
 
 pub reads_options : (c : CertFields) → IsCertFields c → (rest : List ℕ)
     → body_at (front 9 c ++ rest) ≡ Tails.from_extensions (upto_options c) rest
 reads_options c l rest =
     let text = options_text c.options in
-    reads_made BadOptions string_at (Tails.then_options (upto_validity c)) (front 8 c) (string_text text) rest text
+    reads string_at _ _ (front 8 c) (string_text text) rest text c.options (reads_validity c l)
     (string_again text rest (options_text-lt CriticalOptions c.kind c.options l.options))
-    (options_of CriticalOptions c.kind)
-    c.options (reads_validity c l) (options_of_again CriticalOptions c.kind c.options l.options)
+    (is_text BadOptions _ _ _ (options_of_again CriticalOptions c.kind c.options l.options))
 
 pub reads_extensions : (c : CertFields) → IsCertFields c → (rest : List ℕ)
     → body_at (front 10 c ++ rest) ≡ Tails.from_reserved (upto_extensions c) rest
 reads_extensions c l rest =
     let text = options_text c.extensions in
-    reads_made BadExtensions string_at (Tails.then_extensions (upto_options c)) (front 9 c) (string_text text) rest text
+    reads string_at _ _ (front 9 c) (string_text text) rest text c.extensions (reads_options c l)
     (string_again text rest (options_text-lt Extensions c.kind c.extensions l.extensions))
-    (options_of Extensions c.kind)
-    c.extensions (reads_options c l) (options_of_again Extensions c.kind c.extensions l.extensions)
+    (is_text BadExtensions _ _ _ (options_of_again Extensions c.kind c.extensions l.extensions))
 
 pub reads_reserved : (c : CertFields) → IsCertFields c → (rest : List ℕ)
     → body_at (front 11 c ++ rest) ≡ Tails.from_ca (upto_extensions c) rest
 reads_reserved c l rest =
-    reads_tested BadReserved string_at (Tails.then_reserved (upto_extensions c)) (front 10 c) (string_text []) rest []
-    (string_again [] rest (omega arith)) (λ s. eqb (length s) 0) (λ _. tt) (reads_extensions c l) refl
+    reads string_at _ _ (front 10 c) (string_text []) rest [] tt (reads_extensions c l)
+    (string_again [] rest (omega arith)) refl
 
 pub reads_ca : (c : CertFields) → IsCertFields c → (rest : List ℕ)
     → body_at (front 12 c ++ rest) ≡ Tails.from_end (upto_ca c) rest
 reads_ca c l rest =
     let blob = key_blob c.ca in
-    reads_made BadCa string_at (Tails.then_ca (upto_extensions c)) (front 11 c) (string_text blob) rest blob
-    (string_again blob rest (omega (arith, length-key_blob c.ca, l.ca))) key_of c.ca (reads_reserved c l)
-    (key_of_again c.ca l.ca)
+    reads string_at _ _ (front 11 c) (string_text blob) rest blob c.ca (reads_reserved c l)
+    (string_again blob rest (omega (arith, length-key_blob c.ca, l.ca))) (is_text BadCa _ _ _ (key_of_again c.ca l.ca))
 
 -- lawful fields are read from their text
 pub body_at-again : (c : CertFields) → IsCertFields c → body_at (body_text c) ≡ Ok c

@@ -1,20 +1,17 @@
 -- A fault that is there is found; what reading gives is what was answered.
-use Rattle.std.proofs.Common.{◌≡◌, ◌≢◌, ℕ, zero, suc, ◌<◌, Bool, true, false, eqb, List, [], ◌++◌, length, Some}
+use Rattle.std.proofs.Common.{◌≡◌, ◌≢◌, ℕ, zero, suc, ◌<◌, Bool, true, false, eqb, List, [], ◌++◌, length, Option, Some}
 use Rattle.std.proofs.Common.{None, is_some, Result, Ok, Err, IfOk, IfErr, refl, sym, ap, ◌∙◌, subst, arith}
 use Rattle.std.proofs.lemmas.Bool.{both_ways, false_from_ne_true, eqb-true}
 use Rattle.std.proofs.lemmas.Option.{same_Some}
 use Rattle.std.proofs.lemmas.Slice.Eq.{bytes_eq-Decides}
-use Rattle.wire.specs.Reading.{u32_at, u64_at, string_at}
+use Rattle.wire.specs.Reading.{u64_at, string_at}
 use Rattle.wire.proofs.Laws.{IsBytes, string_takes}
 use Rattle.lines.specs.Keys.{key_blob, key_of}
 use Rattle.cert.specs.Options.{options_text}
 use Rattle.lines.proofs.Blobs.{key_of_found}
 use Rattle.values.specs.declared.option_field.OptionField.TheVariants.{CriticalOptions, Extensions}
-use Rattle.std.specs.Str.{bytes_eq}
-use Rattle.values.specs.Names.{is_key_id}
-use Rattle.values.specs.Serials.{is_serial}
 use Rattle.cert.specs.Bodies.{IsCertFields, cert_type, kind_number, front, body_text, is_validity, principals_text}
-use Rattle.text.specs.Results.{◌>>=◌}
+use Rattle.text.specs.Results.{◌>>=◌, or_fault}
 use Rattle.cert.specs.Reading.{
   check,
   Gives,
@@ -49,30 +46,9 @@ use Rattle.cert.proofs.OptionLaws.{options_of_found}
 use Rattle.cert.proofs.Tails
 use Rattle.cert.proofs.BodyParts.{bind_Err, no_value, option_cases, none_of, kind_found, sample}
 use Rattle.cert.proofs.BodySays.{Says, body_at-says}
-use Rattle.cert.proofs.BodyAgain.{
-  upto_nonce,
-  upto_key,
-  upto_serial,
-  upto_kind,
-  upto_key_id,
-  upto_principals,
-  upto_validity,
-  upto_options,
-  upto_extensions,
-  reads_type,
-  reads_nonce,
-  reads_key,
-  reads_serial,
-  reads_kind,
-  reads_key_id,
-  reads_principals,
-  reads_validity,
-  reads_options,
-  reads_extensions,
-  reads_reserved,
-  reads_ca,
-  body_at-again,
-}
+use Rattle.cert.proofs.BodyAgain.{upto_principals, reads_type, reads_nonce, reads_key, reads_serial, reads_kind}
+use Rattle.cert.proofs.BodyAgain.{reads_key_id, reads_principals, reads_validity, reads_options, reads_extensions}
+use Rattle.cert.proofs.BodyAgain.{reads_reserved, reads_ca, body_at-again}
 
 -- what a string of the rest holds is bytes
 inside : (bytes before rest : List ℕ) (s : List ℕ × List ℕ) → bytes ≡ before ++ rest → string_at rest ≡ Some s
@@ -118,94 +94,77 @@ more c rest some = by (eqb (length rest) 0) refl
     by true e = absurd (some (empty rest e))
     by false e = refl
 
+-- a field is cut, fails its test, or is the text of no value
+
+cut_at : {S A B : Type 0} (o : Option S) (f : S → Result A CertFault) (next : A → Result B CertFault)
+    → is_some o ≡ false → ((or_fault Truncated o >>= f) >>= next) ≡ Err Truncated
+cut_at {S} o f next e = ap (λ (o : Option S). (or_fault Truncated o >>= f) >>= next) (none_of o e)
+
+bad_at : {S A B : Type 0} (o : Option S) (f : S → Result A CertFault) (next : A → Result B CertFault) (s : S)
+    (bad : CertFault) → o ≡ Some s → f s ≡ Err bad → ((or_fault Truncated o >>= f) >>= next) ≡ Err bad
+bad_at o f next s bad e fails = ap (λ o. (or_fault Truncated o >>= f) >>= next) e ∙ ap (λ r. r >>= next) fails
+
+fails : {A : Type 0} (bad : CertFault) (b : Bool) (f : Unit {0} → Result A CertFault) → ¬ (b ≡ true)
+    → (check bad b >>= f) ≡ Err bad
+fails bad b f other = rw (false_from_ne_true b other) refl
+
+no_text : {X A : Type 0} (bad : CertFault) (o : Option X) (f : X → Result A CertFault) → o ≡ None
+    → (or_fault bad o >>= f) ≡ Err bad
+no_text bad o f none = rw none refl
+
 cut : (n : ℕ) → n < 12 → (c : CertFields) (rest : List ℕ) → IsCertFields c → is_whole n rest ≡ false
     → body_at (front n c ++ rest) ≡ Err Truncated
-cut zero lt c rest l e = Tails.body_at-from_type sample rest
-    ∙ bind_Err _ (Tails.then_type sample) Truncated (Tails.tested_is_cut WrongType string_at rest
-    (λ s. bytes_eq s cert_type) (λ _. tt) (none_of (string_at rest) e))
-cut (suc zero) lt c rest l e = reads_type c l rest
-    ∙ bind_Err _ (Tails.then_nonce sample) Truncated (Tails.tested_is_cut BadNonce string_at rest
-    (λ s. eqb (length s) 32) (λ s. s) (none_of (string_at rest) e))
-cut (suc (suc zero)) lt c rest l e = reads_nonce c l rest
-    ∙ bind_Err _ (Tails.then_key (upto_nonce c)) Truncated (Tails.tested_is_cut BadKey string_at rest
-    (λ s. eqb (length s) 32) (λ s. s) (none_of (string_at rest) e))
-cut (suc (suc (suc zero))) lt c rest l e = reads_key c l rest
-    ∙ bind_Err _ (Tails.then_serial (upto_key c)) Truncated (Tails.tested_is_cut BadSerial u64_at rest is_serial
-    (λ n. n) (none_of (u64_at rest) e))
-cut (suc (suc (suc (suc zero)))) lt c rest l e = reads_serial c l rest
-    ∙ bind_Err _ (Tails.then_kind (upto_serial c)) Truncated (Tails.made_is_cut BadKind u32_at rest kind_of
-    (none_of (u32_at rest) e))
-cut (suc (suc (suc (suc (suc zero))))) lt c rest l e = reads_kind c l rest
-    ∙ bind_Err _ (Tails.then_key_id (upto_kind c)) Truncated (Tails.tested_is_cut BadKeyId string_at rest is_key_id
-    (λ s. s) (none_of (string_at rest) e))
-cut (suc (suc (suc (suc (suc (suc zero)))))) lt c rest l e = reads_key_id c l rest
-    ∙ bind_Err _ (Tails.then_principals (upto_key_id c)) Truncated (Tails.made_is_cut BadPrincipals string_at rest
-    principals_of (none_of (string_at rest) e))
+cut zero lt c rest l e = Tails.body_at-from_type sample rest ∙ cut_at _ _ _ e
+cut (suc zero) lt c rest l e = reads_type c l rest ∙ cut_at _ _ _ e
+cut (suc (suc zero)) lt c rest l e = reads_nonce c l rest ∙ cut_at _ _ _ e
+cut (suc (suc (suc zero))) lt c rest l e = reads_key c l rest ∙ cut_at _ _ _ e
+cut (suc (suc (suc (suc zero)))) lt c rest l e = reads_serial c l rest ∙ cut_at _ _ _ e
+cut (suc (suc (suc (suc (suc zero))))) lt c rest l e = reads_kind c l rest ∙ cut_at _ _ _ e
+cut (suc (suc (suc (suc (suc (suc zero)))))) lt c rest l e = reads_key_id c l rest ∙ cut_at _ _ _ e
 cut (suc (suc (suc (suc (suc (suc (suc zero))))))) lt c rest l e = reads_principals c l rest
     ∙ bind_Err (validity_at rest) (Tails.then_validity (upto_principals c)) Truncated (ends_are_cut rest e)
-cut (suc (suc (suc (suc (suc (suc (suc (suc zero)))))))) lt c rest l e = reads_validity c l rest
-    ∙ bind_Err _ (Tails.then_options (upto_validity c)) Truncated (Tails.made_is_cut BadOptions string_at rest
-    (options_of CriticalOptions c.kind) (none_of (string_at rest) e))
-cut (suc (suc (suc (suc (suc (suc (suc (suc (suc zero))))))))) lt c rest l e = reads_options c l rest
-    ∙ bind_Err _ (Tails.then_extensions (upto_options c)) Truncated (Tails.made_is_cut BadExtensions string_at rest
-    (options_of Extensions c.kind) (none_of (string_at rest) e))
-cut (suc (suc (suc (suc (suc (suc (suc (suc (suc (suc zero)))))))))) lt c rest l e = reads_extensions c l rest
-    ∙ bind_Err _ (Tails.then_reserved (upto_extensions c)) Truncated (Tails.tested_is_cut BadReserved string_at rest
-    (λ s. eqb (length s) 0) (λ _. tt) (none_of (string_at rest) e))
+cut (suc (suc (suc (suc (suc (suc (suc (suc zero)))))))) lt c rest l e = reads_validity c l rest ∙ cut_at _ _ _ e
+cut (suc (suc (suc (suc (suc (suc (suc (suc (suc zero))))))))) lt c rest l e = reads_options c l rest ∙ cut_at _ _ _ e
+cut (suc (suc (suc (suc (suc (suc (suc (suc (suc (suc zero)))))))))) lt c rest l e = reads_extensions c l rest ∙ cut_at
+    _ _ _ e
 cut (suc (suc (suc (suc (suc (suc (suc (suc (suc (suc (suc zero))))))))))) lt c rest l e = reads_reserved c l rest
-    ∙ bind_Err _ (Tails.then_ca (upto_extensions c)) Truncated (Tails.made_is_cut BadCa string_at rest key_of
-    (none_of (string_at rest) e))
+    ∙ cut_at _ _ _ e
 cut (suc (suc (suc (suc (suc (suc (suc (suc (suc (suc (suc (suc n)))))))))))) lt c rest l e = absurd (omega arith)
 
 -- a fault that is there is found
 pub body_at-fault : (bytes : List ℕ) (e : CertFault) → IsBytes bytes → e ≢ NoMemory → IsFault bytes e
     → body_at bytes ≡ Err e
 body_at-fault bytes WrongType fits other (c, rest, h, w) = ap body_at h.text ∙ Tails.body_at-from_type sample rest
-    ∙ bind_Err _ (Tails.then_type sample) WrongType (Tails.tested_is_bad WrongType string_at rest
-    (λ s. bytes_eq s cert_type) (λ _. tt) w.0 w.1 (false_from_ne_true _
-    (λ t. w.2 ((bytes_eq-Decides w.0.0 cert_type).0 t))))
+    ∙ bad_at _ _ _ w.0 _ w.1 (fails _ _ _ (λ t. w.2 ((bytes_eq-Decides w.0.0 cert_type).0 t)))
 body_at-fault bytes BadNonce fits other (c, rest, h, w) = ap body_at h.text ∙ reads_type c h.lawful rest
-    ∙ bind_Err _ (Tails.then_nonce sample) BadNonce (Tails.tested_is_bad BadNonce string_at rest
-    (λ s. eqb (length s) 32) (λ s. s) w.0 w.1 (false_from_ne_true _ (λ t. w.2 (eqb-true _ _ t))))
+    ∙ bad_at _ _ _ w.0 _ w.1 (fails _ _ _ (λ t. w.2 (eqb-true _ _ t)))
 body_at-fault bytes BadKey fits other (c, rest, h, w) = ap body_at h.text ∙ reads_nonce c h.lawful rest
-    ∙ bind_Err _ (Tails.then_key (upto_nonce c)) BadKey (Tails.tested_is_bad BadKey string_at rest
-    (λ s. eqb (length s) 32) (λ s. s) w.0 w.1 (false_from_ne_true _ (λ t. w.2 (eqb-true _ _ t))))
+    ∙ bad_at _ _ _ w.0 _ w.1 (fails _ _ _ (λ t. w.2 (eqb-true _ _ t)))
 body_at-fault bytes BadSerial fits other (c, rest, h, w) = ap body_at h.text ∙ reads_key c h.lawful rest
-    ∙ bind_Err _ (Tails.then_serial (upto_key c)) BadSerial (Tails.tested_is_bad BadSerial u64_at rest is_serial
-    (λ n. n) w.0 w.1 (false_from_ne_true _ w.2))
+    ∙ bad_at _ _ _ w.0 _ w.1 (fails _ _ _ w.2)
 body_at-fault bytes BadKind fits other (c, rest, h, w) = ap body_at h.text ∙ reads_serial c h.lawful rest
-    ∙ bind_Err _ (Tails.then_kind (upto_serial c)) BadKind (Tails.made_is_bad BadKind u32_at rest kind_of w.0 w.1
-    (no_value kind_of kind_number (λ _. Unit {0}) w.0.0
+    ∙ bad_at _ _ _ w.0 _ w.1 (no_text _ _ _ (no_value kind_of kind_number (λ _. Unit {0}) w.0.0
     (λ kind e. (kind_found w.0.0 kind e, tt)) (λ x. w.2 x.0 x.2)))
 body_at-fault bytes BadKeyId fits other (c, rest, h, w) = ap body_at h.text ∙ reads_kind c h.lawful rest
-    ∙ bind_Err _ (Tails.then_key_id (upto_kind c)) BadKeyId (Tails.tested_is_bad BadKeyId string_at rest is_key_id
-    (λ s. s) w.0 w.1 (false_from_ne_true _ w.2))
+    ∙ bad_at _ _ _ w.0 _ w.1 (fails _ _ _ w.2)
 body_at-fault bytes BadPrincipals fits other (c, rest, h, w) = ap body_at h.text ∙ reads_key_id c h.lawful rest
-    ∙ bind_Err _ (Tails.then_principals (upto_key_id c)) BadPrincipals
-    (Tails.made_is_bad BadPrincipals string_at rest principals_of w.0 w.1
-    (no_value principals_of principals_text _ w.0.0
+    ∙ bad_at _ _ _ w.0 _ w.1 (no_text _ _ _ (no_value principals_of principals_text _ w.0.0
     (λ x. principals_found w.0.0 x (inside bytes (front 6 c) rest w.0 h.text w.1 fits)) w.2))
 body_at-fault bytes BadValidity fits other (c, rest, h, w) = ap body_at h.text ∙ reads_principals c h.lawful rest
     ∙ bind_Err (validity_at rest) (Tails.then_validity (upto_principals c)) BadValidity
     (ends_are_bad rest w.0 w.1 (false_from_ne_true _ w.2))
 body_at-fault bytes BadOptions fits other (c, rest, h, w) = ap body_at h.text ∙ reads_validity c h.lawful rest
-    ∙ bind_Err _ (Tails.then_options (upto_validity c)) BadOptions (Tails.made_is_bad BadOptions string_at rest
-    (options_of CriticalOptions c.kind) w.0 w.1 (no_value (options_of CriticalOptions c.kind)
-    options_text _ w.0.0 (λ x. options_of_found CriticalOptions c.kind w.0.0 x (inside bytes (front 8 c) rest w.0 h.text
-    w.1 fits)) w.2))
+    ∙ bad_at _ _ _ w.0 _ w.1 (no_text _ _ _ (no_value (options_of CriticalOptions c.kind)
+    options_text _ w.0.0 (λ x. options_of_found CriticalOptions c.kind w.0.0 x
+    (inside bytes (front 8 c) rest w.0 h.text w.1 fits)) w.2))
 body_at-fault bytes BadExtensions fits other (c, rest, h, w) = ap body_at h.text ∙ reads_options c h.lawful rest
-    ∙ bind_Err _ (Tails.then_extensions (upto_options c)) BadExtensions
-    (Tails.made_is_bad BadExtensions string_at rest (options_of Extensions c.kind) w.0 w.1
-    (no_value (options_of Extensions c.kind)
-    options_text _ w.0.0 (λ x. options_of_found Extensions c.kind w.0.0 x (inside bytes (front 9 c) rest w.0 h.text w.1
-    fits)) w.2))
+    ∙ bad_at _ _ _ w.0 _ w.1 (no_text _ _ _ (no_value (options_of Extensions c.kind)
+    options_text _ w.0.0 (λ x. options_of_found Extensions c.kind w.0.0 x
+    (inside bytes (front 9 c) rest w.0 h.text w.1 fits)) w.2))
 body_at-fault bytes BadReserved fits other (c, rest, h, w) = ap body_at h.text ∙ reads_extensions c h.lawful rest
-    ∙ bind_Err _ (Tails.then_reserved (upto_extensions c)) BadReserved
-    (Tails.tested_is_bad BadReserved string_at rest (λ s. eqb (length s) 0) (λ _. tt) w.0 w.1
-    (false_from_ne_true _ (λ t. w.2 (empty w.0.0 t))))
+    ∙ bad_at _ _ _ w.0 _ w.1 (fails _ _ _ (λ t. w.2 (empty w.0.0 t)))
 body_at-fault bytes BadCa fits other (c, rest, h, w) = ap body_at h.text ∙ reads_reserved c h.lawful rest
-    ∙ bind_Err _ (Tails.then_ca (upto_extensions c)) BadCa (Tails.made_is_bad BadCa string_at rest key_of w.0 w.1
-    (no_value key_of key_blob _ w.0.0 (key_of_found w.0.0) w.2))
+    ∙ bad_at _ _ _ w.0 _ w.1 (no_text _ _ _ (no_value key_of key_blob _ w.0.0 (key_of_found w.0.0) w.2))
 body_at-fault bytes TrailingBytes fits other (c, rest, h, some) =
     ap body_at h.text ∙ reads_ca c h.lawful rest ∙ more c rest some
 body_at-fault bytes Truncated fits other (n, lt, c, rest, h, part) =

@@ -17,7 +17,7 @@ use Rattle.values.specs.declared.option_field.OptionField.TheVariants.{CriticalO
 use Rattle.cert.specs.Options.{is_options, options_text}
 use Rattle.cert.specs.Bodies.{IsCertFields, cert_type, are_principals, kind_number}
 use Rattle.cert.specs.Bodies.{principals_text, front, body_text, is_validity}
-use Rattle.text.specs.Results.{◌>>=◌}
+use Rattle.text.specs.Results.{◌>>=◌, or_fault}
 use Rattle.cert.specs.Reading.{check, kind_of, principals_of, options_of}
 use Rattle.cert.specs.Reading.{validity_at, body_at}
 use Rattle.cert.specs.Faults.{IsFault, ends_at, is_whole}
@@ -60,14 +60,15 @@ module _ (n : ℕ) (small : n < 12) (c : CertFields) (l : IsCertFields c) (bytes
     (whole : is_whole n rest ≡ is_some (at rest)) (bad : CertFault)
     (next : A × List ℕ → Result CertFields CertFault) where
   -- the field is cut, or what it holds is judged
-  says_judged : (read : Result (A × List ℕ) CertFault) → (at rest ≡ None → read ≡ Err Truncated)
-      → ((s : S × List ℕ) → at rest ≡ Some s → rest ≡ source s.0 ++ s.1 → Says bytes (read >>= next))
-      → Says bytes (read >>= next)
-  says_judged read is_cut judged =
-      option_cases (at rest) (Says bytes (read >>= next))
-      (λ none. becomes bytes _ (Err Truncated) (bind_Err read next Truncated (is_cut none))
+  says_judged : (f : S × List ℕ → Result (A × List ℕ) CertFault)
+      → ((s : S × List ℕ) → at rest ≡ Some s → rest ≡ source s.0 ++ s.1 → Says bytes (f s >>= next))
+      → Says bytes ((or_fault Truncated (at rest) >>= f) >>= next)
+  says_judged f judged =
+      let read : Option (S × List ℕ) → Result CertFields CertFault = λ o. (or_fault Truncated o >>= f) >>= next in
+      option_cases (at rest) (Says bytes (read (at rest)))
+      (λ none. becomes bytes _ (Err Truncated) (ap read none)
       (n, small, c, rest, record { lawful = l; text = text }, whole ∙ ap is_some none))
-      (λ s is. judged s is (takes s.0 s.1 is))
+      (λ s is. becomes bytes _ (f s >>= next) (ap read is) (judged s is (takes s.0 s.1 is)))
 
   -- it passes a test, or is bad
   pub says_tested : (test : S → Bool) (value : S → A)
@@ -75,16 +76,14 @@ module _ (n : ℕ) (small : n < 12) (c : CertFields) (l : IsCertFields c) (bytes
       → ((s : S) (left : List ℕ) → test s ≡ true → IsBytes left → bytes ≡ front n c ++ source s ++ left
       → Says bytes (next (value s, left)))
       → Says bytes (Tails.tested bad at test value rest >>= next)
-  says_tested test value fault on =
-      let read = Tails.tested bad at test value rest in
-      says_judged read (Tails.tested_is_cut bad at rest test value) (λ s is here. elim (cases_Bool (test s.0)) [
+  says_tested test value fault on = says_judged (λ s. check bad (test s.0) >>= λ _. Ok (value s.0, s.1)) (λ s is here.
+      let judge : Bool → Result CertFields CertFault = λ b. (check bad b >>= λ _. Ok (value s.0, s.1)) >>= next in
+      elim (cases_Bool (test s.0)) [
         | inl passes ↦
-            becomes bytes _ (next (value s.0, s.1)) (bind_Ok read next (value s.0, s.1)
-            (Tails.tested_goes_on bad at rest test value s is passes))
+            becomes bytes _ (next (value s.0, s.1)) (ap judge passes)
             (on s.0 s.1 passes (IsBytes_left rest (source s.0) s.1 here fits)
             (advance bytes (front n c) rest (source s.0) s.1 text here))
-        | inr fails ↦ becomes bytes _ (Err bad) (bind_Err read next bad (Tails.tested_is_bad bad at rest test value s
-            is fails)) (fault s is fails)
+        | inr fails ↦ becomes bytes _ (Err bad) (ap judge fails) (fault s is fails)
       ])
 
   -- it is the text of a value, or is bad
@@ -95,16 +94,16 @@ module _ (n : ℕ) (small : n < 12) (c : CertFields) (l : IsCertFields c) (bytes
       → ((x : A) (left : List ℕ) → IsLawful x → IsBytes left → bytes ≡ front n c ++ source (written x) ++ left
       → Says bytes (next (x, left)))
       → Says bytes (Tails.made bad at of rest >>= next)
-  says_made of written IsLawful found again fault on =
-      let read = Tails.made bad at of rest in
-      says_judged read (Tails.made_is_cut bad at rest of) (λ s is here.
-      option_cases (of s.0) (Says bytes (read >>= next))
-      (λ none. becomes bytes _ (Err bad) (bind_Err read next bad (Tails.made_is_bad bad at rest of s is none))
+  says_made of written IsLawful found again fault on = says_judged (λ s. or_fault bad (of s.0) >>= λ x. Ok (x, s.1))
+      (λ s is here.
+      let judge : Option A → Result CertFields CertFault = λ o. (or_fault bad o >>= λ x. Ok (x, s.1)) >>= next in
+      option_cases (of s.0) (Says bytes (judge (of s.0)))
+      (λ none. becomes bytes _ (Err bad) (ap judge none)
       (fault s is (λ w. let there : None ≡ Some w.0 = sym none ∙ ap of w.2 ∙ again w.0 w.1 in cc)))
       (λ x of_x.
       let lawful = found s.0 x s.1 here of_x in
       let same : rest ≡ source (written x) ++ s.1 = here ∙ ap (λ t. source t ++ s.1) lawful.0 in
-      becomes bytes _ (next (x, s.1)) (bind_Ok read next (x, s.1) (Tails.made_goes_on bad at rest of s x is of_x))
+      becomes bytes _ (next (x, s.1)) (ap judge of_x)
       (on x s.1 lawful.1 (IsBytes_left rest (source (written x)) s.1 same fits)
       (advance bytes (front n c) rest (source (written x)) s.1 text same))))
 

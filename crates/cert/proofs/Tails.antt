@@ -116,33 +116,8 @@ unfolding body_at from_key_id_at type_at bytes_32_at serial_at kind_at key_id_at
     ca_at
 body_at-from_type c bytes = refl
 
--- ---- how a field goes on, fails, or is cut
+-- ---- both ends: how they go on, fail, or are cut
 
-module _ {S A : Type 0} (bad : CertFault) (at : List ℕ → Option (S × List ℕ)) (bytes : List ℕ) where
-  pub tested_goes_on : (test : S → Bool) (value : S → A) (s : S × List ℕ) → at bytes ≡ Some s → test s.0 ≡ true
-      → tested bad at test value bytes ≡ Ok (value s.0, s.1)
-  tested_goes_on test value s e t = rw (e, t) refl
-
-  pub tested_is_bad : (test : S → Bool) (value : S → A) (s : S × List ℕ) → at bytes ≡ Some s → test s.0 ≡ false
-      → tested bad at test value bytes ≡ Err bad
-  tested_is_bad test value s e t = rw (e, t) refl
-
-  pub tested_is_cut : (test : S → Bool) (value : S → A) → at bytes ≡ None
-      → tested bad at test value bytes ≡ Err Truncated
-  tested_is_cut test value e = rw e refl
-
-  pub made_goes_on : (of : S → Option A) (s : S × List ℕ) (x : A) → at bytes ≡ Some s → of s.0 ≡ Some x
-      → made bad at of bytes ≡ Ok (x, s.1)
-  made_goes_on of s x e t = rw (e, t) refl
-
-  pub made_is_bad : (of : S → Option A) (s : S × List ℕ) → at bytes ≡ Some s → of s.0 ≡ None
-      → made bad at of bytes ≡ Err bad
-  made_is_bad of s e t = rw (e, t) refl
-
-  pub made_is_cut : (of : S → Option A) → at bytes ≡ None → made bad at of bytes ≡ Err Truncated
-  made_is_cut of e = rw e refl
-
--- both ends
 pub validity_goes_on : (bytes : List ℕ) (a b : ℕ × List ℕ) → u64_at bytes ≡ Some a → u64_at a.1 ≡ Some b
     → is_validity a.0 b.0 ≡ true → validity_at bytes ≡ Ok ((a.0, b.0), b.1)
 unfolding validity_at
