@@ -162,7 +162,8 @@ department_in ps = do
   extensions ← or_fault 6
       (list_after (λ ts. are_extension_names ts && fits_kind kind ts) (codes "extensions") (line_of 6 ps))
   longest_life ← or_fault 7 (number_after is_longest_life (codes "maxlife ") (line_of 7 ps))
-  namespaces ← or_fault 8 (list_after (λ ts. are_namespaces ts && fits_kind kind ts) (codes "namespaces") (line_of 8 ps))
+  namespaces ← or_fault 8
+      (list_after (λ ts. are_namespaces ts && fits_kind kind ts) (codes "namespaces") (line_of 8 ps))
   if ends_after 8 ps
       then Ok (record {
         name = name;

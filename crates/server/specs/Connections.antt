@@ -72,8 +72,8 @@ pub record IsHeld (talk : Talk) (written : List ℕ) (old new : Book) : Type 0 w
   pub one : IsOneRequest (Some left) talk.exchange.request
   pub met : IsMet old new (record { sent = talk.exchange.request ++ left; moment = talk.exchange.moment }) written
 
--- What the listener tells of a connection on which nothing was written. The listener tells the moments too, so its clock
--- doesn't fail.
+-- What the listener tells of a connection on which nothing was written. The listener tells the moments too, so its
+-- clock doesn't fail.
 abbrev pub TellsFault : Fault → (old new : Book) → Type 0
 TellsFault Socket old new = (old.coming ≡ []) × (new ≡ old)
 TellsFault Clock old new = ⊥
