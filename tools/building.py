@@ -15,6 +15,9 @@ SHARE_OF_NEED = 0.5
 # A crate of twice so many lines is proved by two processes: each reads the libraries below, which takes some seconds.
 LINES_OF_A_JOB = 400
 
+# What a process takes of the memory that proves the program beside others, in bytes.
+MEMORY_OF_A_JOB = 3_000_000_000
+
 # How far the processes of a crate give way that isn't on the longest chain.
 LATER = 5
 
@@ -66,17 +69,32 @@ class Progress:
         self.ended.set()
 
 
-def prove(crate, progress, jobs, logs):
-    """Proves a library, unless it is proved already, and returns whether that went well."""
+def prove(crate, progress, jobs, keeps, logs):
+    """Proves a library, unless it is proved already, and returns whether that went well. Its proof is kept where that is
+    wanted, or where it isn't the first."""
     if crate.is_built():
         progress.was_proved()
         return True
     progress.begins(crate.name)
     crate = copy.copy(crate)
     with open(f"{logs}/{crate.name}", "w+", errors="replace") as crate.out:
-        status = crate.build_rlib(["--jobs", str(jobs)], anew=False)
+        keeps = keeps or os.path.isdir(f"{crate.folder}/out/rlib") or crate.has_kept()
+        flags = ["--jobs", str(jobs)]
+        status = crate.build_rlib(flags, anew=False) if keeps else state(crate, flags)
     progress.ends(crate.name, status == 0)
     return status == 0
+
+
+def state(crate, flags):
+    """Proves a library from nothing, and leaves what it states and not its proofs, as the toolchain's own gate does. The
+    crates above then load half as much. Of the proofs nothing is kept: after an edit, `rt` proves the crate once more."""
+    folder, stamp, rattle = os.path.dirname(crate.rlib), crate.stamp(), sys.modules["rtlib"].RATTLE
+    os.makedirs(folder)
+    status = crate.call(rattle, "build", *crate.words(flags, keeps=False), "--statements", "-o", crate.rlib)
+    if status == 0 and stamp == crate.stamp():
+        with open(f"{folder}/stamp", "w", encoding="utf-8") as it:
+            it.write(stamp)
+    return status
 
 
 class Lanes:
@@ -86,8 +104,8 @@ class Lanes:
     idle. The system gives the most time to the crate with the longest chain of others behind it.
     """
 
-    def __init__(self, rt, libraries, progress, logs):
-        self.rt, self.progress, self.logs = rt, progress, logs
+    def __init__(self, rt, libraries, progress, logs, kept):
+        self.rt, self.progress, self.logs, self.kept = rt, progress, logs, kept
         self.processors, self.memory = rt.processors(), MEMORY_TAKEN * rt.free()
         self.size = {it.name: it.count(rb"\n") for it in libraries}
         self.behind = {}
@@ -128,7 +146,7 @@ class Lanes:
             if gives_way:
                 os.setpriority(os.PRIO_PROCESS, threading.get_native_id(), LATER)
             if all(self.proved[it.name] for it in crate.below()):
-                is_proved = prove(crate, self.progress, jobs, self.logs)
+                is_proved = prove(crate, self.progress, jobs, crate.name in self.kept, self.logs)
         finally:
             self.ended.put((crate.name, is_proved))
 
@@ -142,18 +160,25 @@ class Lanes:
         return next((name for name, is_proved in self.proved.items() if not is_proved), None)
 
 
-def prove_side_by_side(rt, libraries, progress, logs):
-    """Proves the libraries, lowest first. Returns the name of one that isn't proved, or None."""
+def prove_side_by_side(rt, libraries, progress, logs, kept=()):
+    """Proves the libraries, lowest first, and keeps the proofs of those of the names in `kept`. Returns the name of one
+    that isn't proved, or None."""
     for crate in libraries:
         os.makedirs(f"{crate.folder}/out", exist_ok=True)
     held = rt.rtlib.lock(libraries)
-    # What other checkouts on this machine proved is taken where it is the same, and what is proved here is offered to them.
-    rt.share_work(True)
+    # A newer toolchain takes what other checkouts on this machine proved, where it is the same, and offers them its own.
+    if hasattr(rt, "share_work"):
+        rt.share_work(True)
     try:
-        return Lanes(rt, libraries, progress, logs).run()
+        return Lanes(rt, libraries, progress, logs, kept).run()
     finally:
         for it in held:
             os.close(it)
+
+
+def jobs_alone(rt):
+    """By how many processes a crate is proved where nothing else runs."""
+    return max(1, min(4, rt.processors(), int(MEMORY_TAKEN * rt.free() / MEMORY_OF_A_JOB)))
 
 
 def end_of(file, count=40):

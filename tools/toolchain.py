@@ -31,10 +31,10 @@ def load():
     module = importlib.util.module_from_spec(importlib.util.spec_from_loader("rt", loader))
     sys.modules["rt"] = module
     loader.exec_module(module)
-    wanted = ("read_edit", "unread", "edits_of", "need", "free", "processors", "in_lanes", "rtlib", "share_work")
+    wanted = ("read_edit", "unread", "edits_of", "need", "free", "processors", "in_lanes", "rtlib")
     missing = [name for name in wanted if not hasattr(module, name)]
     if missing:
-        stop(f"this toolchain's rt has no {', '.join(missing)}: these scripts were written for rattle-kit-13f")
+        stop(f"this toolchain's rt has no {', '.join(missing)}: these scripts were written for rattle-kit-13b and 13f")
     # Its first call sets a signal's handler, which only the main thread may do.
     module.rtlib.guarded()
     return module
