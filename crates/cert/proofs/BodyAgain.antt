@@ -1,6 +1,6 @@
 -- The text of lawful fields is read.
-use Rattle.std.proofs.Common.{◌≡◌, ℕ, ◌^◌, ◌<◌, Bool, true, ltb, List, [], ◌++◌, Option, Some, Result}
-use Rattle.std.proofs.Common.{Ok, refl, sym, ap, ◌∙◌, append_assoc, arith}
+use Rattle.std.proofs.Common.{◌≡◌, ℕ, ◌^◌, ◌<◌, Bool, true, ltb, List, [], ◌++◌, Option, Some, Result, Ok, refl, sym}
+use Rattle.std.proofs.Common.{ap, ◌∙◌, append_assoc, arith}
 use Rattle.std.specs.Int.{w32, w64}
 use Rattle.std.proofs.lemmas.Bool.{and_parts, leb-true, ltb-true, eq-eqb}
 use Rattle.std.proofs.lemmas.List.{append-nil}
@@ -19,9 +19,8 @@ use Rattle.wire.specs.Reading.{u32_at, u64_at, string_at}
 use Rattle.cert.specs.declared.fields.CertFields.{CertFields}
 use Rattle.cert.specs.declared.cert_fault.CertFault.{CertFault}
 use Rattle.cert.specs.declared.cert_fault.CertFault.TheVariants.{Truncated, WrongType, BadNonce, BadKey, BadSerial}
-use Rattle.cert.specs.declared.cert_fault.CertFault.TheVariants.{BadKind}
-use Rattle.cert.specs.declared.cert_fault.CertFault.TheVariants.{BadKeyId, BadPrincipals, BadOptions, BadExtensions}
-use Rattle.cert.specs.declared.cert_fault.CertFault.TheVariants.{BadCa}
+use Rattle.cert.specs.declared.cert_fault.CertFault.TheVariants.{BadKind, BadKeyId, BadPrincipals, BadOptions}
+use Rattle.cert.specs.declared.cert_fault.CertFault.TheVariants.{BadExtensions, BadCa}
 use Rattle.cert.proofs.Sizes.{key_id-lt, principals_text-lt, options_text-lt}
 use Rattle.cert.proofs.NestedLaws.{principals_again}
 use Rattle.cert.proofs.OptionLaws.{options_of_again}

@@ -12,35 +12,14 @@ use Rattle.lines.proofs.Blobs.{key_of_found}
 use Rattle.values.specs.declared.option_field.OptionField.TheVariants.{CriticalOptions, Extensions}
 use Rattle.cert.specs.Bodies.{IsCertFields, cert_type, kind_number, front, body_text, is_validity, principals_text}
 use Rattle.text.specs.Results.{◌>>=◌, or_fault}
-use Rattle.cert.specs.Reading.{
-  check,
-  Gives,
-  kind_of,
-  principals_of,
-  options_of,
-  validity_at,
-  body_at,
-}
+use Rattle.cert.specs.Reading.{check, Gives, kind_of, principals_of, options_of, validity_at, body_at}
 use Rattle.cert.specs.Faults.{IsFault, ends_at, is_whole}
 use Rattle.cert.specs.declared.fields.CertFields.{CertFields}
 use Rattle.cert.specs.declared.cert_fault.CertFault.{CertFault}
-use Rattle.cert.specs.declared.cert_fault.CertFault.TheVariants.{
-  Truncated,
-  WrongType,
-  BadNonce,
-  BadKey,
-  BadSerial,
-  BadKind,
-  BadKeyId,
-  BadPrincipals,
-  BadValidity,
-  BadOptions,
-  BadExtensions,
-  BadReserved,
-  BadCa,
-  TrailingBytes,
-  NoMemory,
-}
+use Rattle.cert.specs.declared.cert_fault.CertFault.TheVariants.{Truncated, WrongType, BadNonce, BadKey, BadSerial}
+use Rattle.cert.specs.declared.cert_fault.CertFault.TheVariants.{BadKind, BadKeyId, BadPrincipals, BadValidity}
+use Rattle.cert.specs.declared.cert_fault.CertFault.TheVariants.{BadOptions, BadExtensions, BadReserved, BadCa}
+use Rattle.cert.specs.declared.cert_fault.CertFault.TheVariants.{TrailingBytes, NoMemory}
 use Rattle.cert.proofs.NestedLaws.{IsBytes_left, IsBytes_string, empty, principals_found}
 use Rattle.cert.proofs.OptionLaws.{options_of_found}
 use Rattle.cert.proofs.Tails
@@ -63,8 +42,7 @@ ends_are_bad rest ends e fails =
     option_cases (u64_at rest) (validity_at rest ≡ Err BadValidity)
     (λ none. absurd (let nothing : None ≡ Some ends = sym (no_first none) ∙ e in cc))
     (λ a is. option_cases (u64_at a.1) (validity_at rest ≡ Err BadValidity)
-    (λ none. absurd (let nothing : None ≡ Some ends = sym (no_second a is none) ∙ e in cc))
-    (λ b also.
+    (λ none. absurd (let nothing : None ≡ Some ends = sym (no_second a is none) ∙ e in cc)) (λ b also.
     let same : (a.0, b.0, b.1) ≡ ends = same_Some _ _ (sym (both a b is also) ∙ e) in
     Tails.validity_is_bad rest a b is also (subst (λ (x : ℕ × ℕ × List ℕ). is_validity x.0 x.1 ≡ false)
     (sym same) fails)))

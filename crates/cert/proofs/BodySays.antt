@@ -1,6 +1,6 @@
 -- What reading a body gives says what the bytes are.
-use Rattle.std.proofs.Common.{◌≡◌, ℕ, ◌^◌, ◌<◌, Bool, true, false, eqb, List, ◌++◌, length, Option, Some, None}
-use Rattle.std.proofs.Common.{is_some, Result, Ok, Err, refl, sym, ap, ◌∙◌, subst, append_assoc, arith, inl, inr}
+use Rattle.std.proofs.Common.{◌≡◌, ℕ, ◌^◌, ◌<◌, Bool, true, false, eqb, List, ◌++◌, length, Option, Some, None, is_some}
+use Rattle.std.proofs.Common.{Result, Ok, Err, refl, sym, ap, ◌∙◌, subst, append_assoc, arith, inl, inr}
 use Rattle.std.specs.Int.{w32, w64}
 use Rattle.std.specs.Str.{bytes_eq}
 use Rattle.std.proofs.lemmas.Bool.{cases_Bool, both_ways, eqb-true, eq-eqb}
@@ -15,25 +15,24 @@ use Rattle.values.specs.Names.{is_key_id}
 use Rattle.values.specs.Serials.{is_serial}
 use Rattle.values.specs.declared.option_field.OptionField.TheVariants.{CriticalOptions, Extensions}
 use Rattle.cert.specs.Options.{is_options, options_text}
-use Rattle.cert.specs.Bodies.{IsCertFields, cert_type, are_principals, kind_number}
-use Rattle.cert.specs.Bodies.{principals_text, front, body_text, is_validity}
+use Rattle.cert.specs.Bodies.{IsCertFields, cert_type, are_principals, kind_number, principals_text, front, body_text}
+use Rattle.cert.specs.Bodies.{is_validity}
 use Rattle.text.specs.Results.{◌>>=◌, or_fault}
-use Rattle.cert.specs.Reading.{check, kind_of, principals_of, options_of}
-use Rattle.cert.specs.Reading.{validity_at, body_at}
+use Rattle.cert.specs.Reading.{check, kind_of, principals_of, options_of, validity_at, body_at}
 use Rattle.cert.specs.Faults.{IsFault, ends_at, is_whole}
 use Rattle.cert.specs.declared.fields.CertFields.{CertFields}
 use Rattle.cert.specs.declared.cert_fault.CertFault.{CertFault}
 use Rattle.cert.specs.declared.cert_fault.CertFault.TheVariants.{Truncated, WrongType, BadNonce, BadKey, BadSerial}
-use Rattle.cert.specs.declared.cert_fault.CertFault.TheVariants.{BadKind, BadKeyId, BadPrincipals}
-use Rattle.cert.specs.declared.cert_fault.CertFault.TheVariants.{BadValidity, BadOptions, BadExtensions}
-use Rattle.cert.specs.declared.cert_fault.CertFault.TheVariants.{BadReserved, BadCa, TrailingBytes}
+use Rattle.cert.specs.declared.cert_fault.CertFault.TheVariants.{BadKind, BadKeyId, BadPrincipals, BadValidity}
+use Rattle.cert.specs.declared.cert_fault.CertFault.TheVariants.{BadOptions, BadExtensions, BadReserved, BadCa}
+use Rattle.cert.specs.declared.cert_fault.CertFault.TheVariants.{TrailingBytes}
 use Rattle.cert.proofs.NestedLaws.{empty, IsBytes_left, IsBytes_string, principals_found, principals_again}
 use Rattle.cert.proofs.OptionLaws.{options_of_found, options_of_again}
 use Rattle.cert.proofs.Tails
 use Rattle.cert.proofs.BodyParts.{bind_Ok, bind_Err, option_cases, not_empty, advance, kind_found, kind_again, IsBare}
 use Rattle.cert.proofs.BodyParts.{with_key_id, with_principals, with_options, with_extensions, with_ca, with_ends}
-use Rattle.cert.proofs.BodyParts.{with_kind, with_serial, with_key, with_nonce}
-use Rattle.cert.proofs.BodyParts.{sample, sample_is_lawful, sample_is_bare}
+use Rattle.cert.proofs.BodyParts.{with_kind, with_serial, with_key, with_nonce, sample, sample_is_lawful}
+use Rattle.cert.proofs.BodyParts.{sample_is_bare}
 
 -- fields that were read are lawful, and the bytes are their text; a fault that was found is there
 abbrev pub Says : List ℕ → Result CertFields CertFault → Type 0
@@ -97,10 +96,8 @@ module _ (n : ℕ) (small : n < 12) (c : CertFields) (l : IsCertFields c) (bytes
   says_made of written IsLawful found again fault on = says_judged (λ s. or_fault bad (of s.0) >>= λ x. Ok (x, s.1))
       (λ s is here.
       let judge : Option A → Result CertFields CertFault = λ o. (or_fault bad o >>= λ x. Ok (x, s.1)) >>= next in
-      option_cases (of s.0) (Says bytes (judge (of s.0)))
-      (λ none. becomes bytes _ (Err bad) (ap judge none)
-      (fault s is (λ w. let there : None ≡ Some w.0 = sym none ∙ ap of w.2 ∙ again w.0 w.1 in cc)))
-      (λ x of_x.
+      option_cases (of s.0) (Says bytes (judge (of s.0))) (λ none. becomes bytes _ (Err bad) (ap judge none)
+      (fault s is (λ w. let there : None ≡ Some w.0 = sym none ∙ ap of w.2 ∙ again w.0 w.1 in cc))) (λ x of_x.
       let lawful = found s.0 x s.1 here of_x in
       let same : rest ≡ source (written x) ++ s.1 = here ∙ ap (λ t. source t ++ s.1) lawful.0 in
       becomes bytes _ (next (x, s.1)) (ap judge of_x)
@@ -118,7 +115,7 @@ pub says_ca : (c : CertFields) → IsCertFields c → (bytes rest : List ℕ) �
     → bytes ≡ front 11 c ++ rest → Says bytes (Tails.from_ca c rest)
 says_ca c l bytes rest fits text =
     says_made 11 (omega arith) c l bytes rest fits text string_at string_text (string_here rest fits) refl BadCa
-    (Tails.then_ca c) key_of key_blob (λ x. length x ≡ 32) (λ s x left here e. key_of_found s x e) key_of_again
+    _ key_of key_blob (λ x. length x ≡ 32) (λ s x left here e. key_of_found s x e) key_of_again
     (λ s is none. (c, rest, record { lawful = l; text = text }, (s, is, none)))
     (λ x left lawful fits text. says_end (record c { ca = x }) (with_ca c l x lawful) bytes left text)
 
@@ -126,7 +123,7 @@ pub says_reserved : (c : CertFields) → IsCertFields c → (bytes rest : List �
     → bytes ≡ front 10 c ++ rest → Says bytes (Tails.from_reserved c rest)
 says_reserved c l bytes rest fits text =
     says_tested 10 (omega arith) c l bytes rest fits text string_at string_text (string_here rest fits) refl BadReserved
-    (Tails.then_reserved c) (λ s. eqb (length s) 0) (λ _. tt)
+    _ (λ s. eqb (length s) 0) (λ _. tt)
     (λ s is fails. (c, rest, record { lawful = l; text = text }, (s, is, not_empty s.0 fails)))
     (λ s left passes fits text. says_ca c l bytes left fits
     (text ∙ ap (λ t. front 10 c ++ string_text t ++ left) (empty s passes)))
@@ -135,7 +132,7 @@ pub says_extensions : (c : CertFields) → IsCertFields c → (bytes rest : List
     → bytes ≡ front 9 c ++ rest → Says bytes (Tails.from_extensions c rest)
 says_extensions c l bytes rest fits text =
     says_made 9 (omega arith) c l bytes rest fits text string_at string_text (string_here rest fits) refl BadExtensions
-    (Tails.then_extensions c) (options_of Extensions c.kind) options_text (λ x. is_options Extensions c.kind x ≡ true)
+    _ (options_of Extensions c.kind) options_text (λ x. is_options Extensions c.kind x ≡ true)
     (λ s x left here. options_of_found Extensions c.kind s x (IsBytes_string rest s left here fits))
     (options_of_again Extensions c.kind) (λ s is none. (c, rest, record { lawful = l; text = text }, (s, is, none)))
     (λ x left lawful fits text. says_reserved (record c { extensions = x }) (with_extensions c l x lawful) bytes left
@@ -145,15 +142,11 @@ pub says_options : (c : CertFields) → IsCertFields c → (bytes rest : List �
     → bytes ≡ front 8 c ++ rest → Says bytes (Tails.from_options c rest)
 says_options c l bytes rest fits text =
     says_made 8 (omega arith) c l bytes rest fits text string_at string_text (string_here rest fits) refl BadOptions
-    (Tails.then_options c) (options_of CriticalOptions c.kind) options_text
+    _ (options_of CriticalOptions c.kind) options_text
     (λ x. is_options CriticalOptions c.kind x ≡ true)
     (λ s x left here. options_of_found CriticalOptions c.kind s x (IsBytes_string rest s left here fits))
-    (options_of_again CriticalOptions c.kind) (λ s is none. (
-      c,
-      rest,
-      record { lawful = l; text = text },
-      (s, is, none),
-    ))
+    (options_of_again CriticalOptions c.kind)
+    (λ s is none. (c, rest, record { lawful = l; text = text }, (s, is, none)))
     (λ x left lawful fits text. says_extensions (record c { options = x }) (with_options c l x lawful) bytes left fits
     text)
 
@@ -195,7 +188,7 @@ pub says_principals : (c : CertFields) → IsCertFields c → (bytes rest : List
     → bytes ≡ front 6 c ++ rest → Says bytes (Tails.from_principals c rest)
 says_principals c l bytes rest fits text =
     says_made 6 (omega arith) c l bytes rest fits text string_at string_text (string_here rest fits) refl BadPrincipals
-    (Tails.then_principals c) principals_of principals_text (λ x. are_principals x ≡ true)
+    _ principals_of principals_text (λ x. are_principals x ≡ true)
     (λ s x left here. principals_found s x (IsBytes_string rest s left here fits)) principals_again
     (λ s is none. (c, rest, record { lawful = l; text = text }, (s, is, none)))
     (λ x left lawful fits text. says_validity (record c { principals = x }) (with_principals c l x lawful) bytes left
@@ -205,12 +198,8 @@ pub says_key_id : (c : CertFields) → IsCertFields c → (bytes rest : List ℕ
     → bytes ≡ front 5 c ++ rest → Says bytes (Tails.from_key_id c rest)
 says_key_id c l bytes rest fits text =
     says_tested 5 (omega arith) c l bytes rest fits text string_at string_text (string_here rest fits) refl BadKeyId
-    (Tails.then_key_id c) is_key_id (λ s. s) (λ s is fails. (
-      c,
-      rest,
-      record { lawful = l; text = text },
-      (s, is, both_ways _ fails),
-    ))
+    _ is_key_id (λ s. s)
+    (λ s is fails. (c, rest, record { lawful = l; text = text }, (s, is, both_ways _ fails)))
     (λ s left passes fits text. says_principals (record c { key_id = s }) (with_key_id c l s passes) bytes left
     fits text)
 
@@ -219,7 +208,7 @@ pub says_kind : (c : CertFields) → IsCertFields c → IsBare c → (bytes rest
 says_kind c l bare bytes rest fits text =
     says_made 4 (omega arith) c l bytes rest fits text u32_at u32_text
     (λ n left is. number_takes w32 (2 ^ 32) wide32 rest n left fits is) refl BadKind
-    (Tails.then_kind c) kind_of kind_number (λ _. Unit {0}) (λ n kind left here e. (kind_found n kind e, tt))
+    _ kind_of kind_number (λ _. Unit {0}) (λ n kind left here e. (kind_found n kind e, tt))
     (λ kind _. kind_again kind)
     (λ n is none. (c, rest, record { lawful = l; text = text }, (n, is, λ kind e. none (kind, tt, e))))
     (λ kind left _ fits text. says_key_id (record c { kind = kind }) (with_kind c l bare kind) bytes left fits text)
@@ -229,12 +218,8 @@ pub says_serial : (c : CertFields) → IsCertFields c → IsBare c → (bytes re
 says_serial c l bare bytes rest fits text =
     says_tested 3 (omega arith) c l bytes rest fits text u64_at u64_text
     (λ n left is. number_takes w64 (2 ^ 64) wide64 rest n left fits is) refl BadSerial
-    (Tails.then_serial c) is_serial (λ n. n) (λ n is fails. (
-      c,
-      rest,
-      record { lawful = l; text = text },
-      (n, is, both_ways _ fails),
-    ))
+    _ is_serial (λ n. n)
+    (λ n is fails. (c, rest, record { lawful = l; text = text }, (n, is, both_ways _ fails)))
     (λ n left passes fits text. says_kind (record c { serial = n }) (with_serial c l n passes) bare bytes left fits
     text)
 
@@ -242,7 +227,7 @@ pub says_key : (c : CertFields) → IsCertFields c → IsBare c → (bytes rest 
     → bytes ≡ front 2 c ++ rest → Says bytes (Tails.from_key c rest)
 says_key c l bare bytes rest fits text =
     says_tested 2 (omega arith) c l bytes rest fits text string_at string_text (string_here rest fits) refl BadKey
-    (Tails.then_key c) (λ s. eqb (length s) 32) (λ s. s)
+    _ (λ s. eqb (length s) 32) (λ s. s)
     (λ s is fails. (c, rest, record { lawful = l; text = text }, (s, is, λ e. both_ways _ fails (eq-eqb _ _ e))))
     (λ s left passes fits text. says_serial (record c { key = s }) (with_key c l s (eqb-true _ _ passes)) bare
     bytes left fits text)
@@ -251,7 +236,7 @@ pub says_nonce : (c : CertFields) → IsCertFields c → IsBare c → (bytes res
     → bytes ≡ front 1 c ++ rest → Says bytes (Tails.from_nonce c rest)
 says_nonce c l bare bytes rest fits text =
     says_tested 1 (omega arith) c l bytes rest fits text string_at string_text (string_here rest fits) refl BadNonce
-    (Tails.then_nonce c) (λ s. eqb (length s) 32) (λ s. s)
+    _ (λ s. eqb (length s) 32) (λ s. s)
     (λ s is fails. (c, rest, record { lawful = l; text = text }, (s, is, λ e. both_ways _ fails (eq-eqb _ _ e))))
     (λ s left passes fits text. says_key (record c { nonce = s }) (with_nonce c l s (eqb-true _ _ passes)) bare
     bytes left fits text)
@@ -260,18 +245,9 @@ pub says_type : (c : CertFields) → IsCertFields c → IsBare c → (bytes rest
     → bytes ≡ front 0 c ++ rest → Says bytes (Tails.from_type c rest)
 says_type c l bare bytes rest fits text =
     says_tested 0 (omega arith) c l bytes rest fits text string_at string_text (string_here rest fits) refl WrongType
-    (Tails.then_type c) (λ s. bytes_eq s cert_type) (λ _. tt)
-    (λ s is fails. (
-      c,
-      rest,
-      record { lawful = l; text = text },
-      (
-        s,
-        is,
-        λ e. both_ways _ fails
-            ((bytes_eq-Decides s.0 cert_type).1 e),
-      ),
-    ))
+    _ (λ s. bytes_eq s cert_type) (λ _. tt)
+    (λ s is fails. let other = λ (e : s.0 ≡ cert_type). both_ways _ fails ((bytes_eq-Decides s.0 cert_type).1 e) in
+    (c, rest, record { lawful = l; text = text }, (s, is, other)))
     (λ s left passes fits text. says_nonce c l bare bytes left fits
     (text ∙ ap (λ t. front 0 c ++ string_text t ++ left) ((bytes_eq-Decides s cert_type).0 passes)))
 

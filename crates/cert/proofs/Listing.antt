@@ -1,7 +1,7 @@
 -- Pairs listed one after another.
-use Rattle.std.proofs.Common.{◌≡◌, ℕ, suc, ◌+◌, ◌<◌, Bool, true, false, not, cond, ◌||◌, List}
-use Rattle.std.proofs.Common.{[], ◌∷◌, ◌++◌, length, take, drop, get_or, insert, fold, Option, Some, None}
-use Rattle.std.proofs.Common.{Err, IfSome, subst, add-one, drop-cons, sym, ap, ◌∙◌, refl, arith}
+use Rattle.std.proofs.Common.{◌≡◌, ℕ, suc, ◌+◌, ◌<◌, Bool, true, false, not, cond, ◌||◌, List, [], ◌∷◌, ◌++◌, length}
+use Rattle.std.proofs.Common.{take, drop, get_or, insert, fold, Option, Some, None, Err, IfSome, subst, add-one}
+use Rattle.std.proofs.Common.{drop-cons, sym, ap, ◌∙◌, refl, arith}
 use Rattle.std.specs.List.{list_all, list_any, position_or_len}
 use Rattle.std.specs.Option.{option_or}
 use Rattle.std.specs.Ordering.{nat_cmp, is_lt, is_eq, match_ordering, ordering_reverse}

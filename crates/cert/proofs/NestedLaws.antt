@@ -1,7 +1,7 @@
 -- What the lists inside a field say is their text, and their text is read.
-use Rattle.std.proofs.Common.{◌≡◌, ℕ, zero, suc, ◌+◌, ◌^◌, ◌<◌, ◌≤◌, Bool, true, false, cond}
-use Rattle.std.proofs.Common.{eqb, leb, ◌&&◌, List, [], ◌∷◌, ◌++◌, length, codes, Option, Some}
-use Rattle.std.proofs.Common.{None, refl, sym, ap, ◌∙◌, subst, append_assoc, arith, inl, inr}
+use Rattle.std.proofs.Common.{◌≡◌, ℕ, zero, suc, ◌+◌, ◌^◌, ◌<◌, ◌≤◌, Bool, true, false, cond, eqb, leb, ◌&&◌, List, []}
+use Rattle.std.proofs.Common.{◌∷◌, ◌++◌, length, codes, Option, Some, None, refl, sym, ap, ◌∙◌, subst, append_assoc}
+use Rattle.std.proofs.Common.{arith, inl, inr}
 use Rattle.std.specs.Option.{option_map, option_and_then}
 use Rattle.std.specs.List.{list_all, flat_map}
 use Rattle.std.specs.Str.{bytes_eq}
@@ -127,10 +127,8 @@ principals_again ps h =
     let parts = and_parts (leb 1 (length ps) && leb (length ps) 16 && list_all is_principal ps) _ h in
     let sized = and_parts (leb 1 (length ps) && leb (length ps) 16) _ parts.0 in
     let ends = and_parts (leb 1 (length ps)) _ sized.0 in
-    let read = strings_again 16 is_principal (λ s e. omega (
-      arith,
-      principal-le s e,
-    )) ps sized.1 (leb-true _ _ ends.1) in
+    let short : (s : List ℕ) → is_principal s ≡ true → length s < 2 ^ 32 = λ s e. omega (arith, principal-le s e) in
+    let read = strings_again 16 is_principal short ps sized.1 (leb-true _ _ ends.1) in
     ap (option_and_then (λ qs. cond (leb 1 (length qs) && are_distinct qs) (Some qs) None)) read
     ∙ cond-true (leb 1 (length ps) && are_distinct ps) (Some ps) None (and_from (leb 1 (length ps)) _ ends.0 parts.1)
 
@@ -246,8 +244,7 @@ pair_again p rest flagged name value =
     ∙ pair_step (string_text p.name ++ (string_text (option_data p) ++ rest)) p.name (string_text
     (option_data p) ++ rest) (option_data p) rest p.value
     (string_again p.name (string_text (option_data p) ++ rest) name) (string_again (option_data p) rest (held
-    (is_flag p.name)))
-    (value_again p.name p.value flagged (omega arith))
+    (is_flag p.name))) (value_again p.name p.value flagged (omega arith))
   where
     held : (flag : Bool) → length (cond flag [] (string_text p.value)) < 2 ^ 32
     held true = omega arith

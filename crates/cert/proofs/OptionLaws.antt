@@ -1,6 +1,5 @@
 -- What the options inside a field say is their text, and their text is read.
-use Rattle.std.proofs.Common.{◌≡◌, ℕ, zero, suc, ◌≤◌, Bool, true, cond}
-use Rattle.std.proofs.Common.{eqb, ◌&&◌, List, [], ◌∷◌, ◌++◌, length, Some}
+use Rattle.std.proofs.Common.{◌≡◌, ℕ, zero, suc, ◌≤◌, Bool, true, cond, eqb, ◌&&◌, List, [], ◌∷◌, ◌++◌, length, Some}
 use Rattle.std.proofs.Common.{None, refl, sym, ap, ◌∙◌, subst, arith}
 use Rattle.std.specs.Option.{option_map}
 use Rattle.std.specs.List.{list_all}
@@ -13,8 +12,7 @@ use Rattle.values.specs.declared.kind.Kind.{Kind}
 use Rattle.values.specs.declared.kind.Kind.TheVariants.{User, Host}
 use Rattle.values.specs.declared.option_field.OptionField.{OptionField}
 use Rattle.values.specs.declared.option_field.OptionField.TheVariants.{CriticalOptions, Extensions}
-use Rattle.cert.specs.Options.{comes_before, is_ascending, is_option, is_options}
-use Rattle.cert.specs.Options.{option_text, options_text}
+use Rattle.cert.specs.Options.{comes_before, is_ascending, is_option, is_options, option_text, options_text}
 use Rattle.cert.specs.Reading.{pair_at, comes_next, options_within, options_of}
 use Rattle.cert.proofs.Listing.{all_later}
 use Rattle.cert.proofs.Sizes.{name-le, value-le, options-few}

@@ -1,18 +1,9 @@
 -- What a certificate holds is short.
-use Rattle.std.proofs.Common.{◌≡◌, ℕ, ◌+◌, ◌*◌, ◌^◌, ◌<◌, ◌≤◌, Bool, true, false, ◌&&◌, eqb, leb, cond}
-use Rattle.std.proofs.Common.{List, [], ◌∷◌, length, drop, Option, Some, None, All, IsTrue, codes}
-use Rattle.std.proofs.Common.{arith, sym, ap, ◌∙◌, subst, refl, length-append, length-drop, inl, inr}
-use Rattle.std.specs.List.{
-  list_all,
-  list_any,
-  flat_map,
-  AllByRecursion,
-  slice_split,
-  before_first,
-  after_first,
-  join_with_byte,
-  position_or_len,
-}
+use Rattle.std.proofs.Common.{◌≡◌, ℕ, ◌+◌, ◌*◌, ◌^◌, ◌<◌, ◌≤◌, Bool, true, false, ◌&&◌, eqb, leb, cond, List, [], ◌∷◌}
+use Rattle.std.proofs.Common.{length, drop, Option, Some, None, All, IsTrue, codes, arith, sym, ap, ◌∙◌, subst, refl}
+use Rattle.std.proofs.Common.{length-append, length-drop, inl, inr}
+use Rattle.std.specs.List.{list_all, list_any, flat_map, AllByRecursion, slice_split, before_first, after_first}
+use Rattle.std.specs.List.{join_with_byte, position_or_len}
 use Rattle.std.specs.Fmt.{decimal}
 use Rattle.std.specs.Str.Parse.{digits_value}
 use Rattle.std.proofs.lemmas.Bool.{and_parts, or_cases, cases_Bool, cond-false, leb-true, eqb-true}
@@ -32,15 +23,8 @@ use Rattle.values.specs.declared.kind.Kind.{Kind}
 use Rattle.values.specs.declared.option_field.OptionField.{OptionField}
 use Rattle.text.specs.declared.pair.Pair.{Pair}
 use Rattle.wire.specs.Texts.{string_text}
-use Rattle.cert.specs.Options.{
-  is_option,
-  is_options,
-  is_ascending,
-  are_for_kind,
-  option_data,
-  option_text,
-  options_text,
-}
+use Rattle.cert.specs.Options.{is_option, is_options, is_ascending, are_for_kind, option_data, option_text}
+use Rattle.cert.specs.Options.{options_text}
 use Rattle.cert.proofs.Ascending.{length-le_known}
 use Rattle.cert.specs.Bodies.{are_principals, principals_text}
 
@@ -60,12 +44,8 @@ joined-le c k p short [] h = omega arith
 joined-le c k p short (t ∷ []) h = let parts = and_parts (p t) _ h in omega (arith, short t parts.0)
 joined-le c k p short (t ∷ u ∷ ts) h =
     let parts = and_parts (p t) _ h in
-    omega (
-      arith,
-      short t parts.0,
-      joined-le c k p short (u ∷ ts) parts.1,
-      length-append t (c ∷ join_with_byte c (u ∷ ts)),
-    )
+    let more = joined-le c k p short (u ∷ ts) parts.1 in
+    omega (arith, short t parts.0, more, length-append t (c ∷ join_with_byte c (u ∷ ts)))
 
 -- what was cut into pieces of at most k bytes
 pieces-le : (c k : ℕ) (p : List ℕ → Bool) → ((t : List ℕ) → p t ≡ true → length t ≤ k) → (t : List ℕ)
@@ -80,12 +60,8 @@ address-le : (t : List ℕ) (a : ℕ) → address_of t ≡ Some a → length t �
 address-le t a e = elim (cases_Bool (are_octets octets)) [
   | inl there ↦
       let parts = and_parts (eqb (length octets) 4) _ there in
-      omega (
-        arith,
-        eqb-true _ _ parts.0,
-        pieces-le 46 3 (is_number_below 256) (λ u h. number-le 256 3 u
-            (omega arith) (omega arith) (omega arith) h) t parts.1,
-      )
+      let small = λ (u : List ℕ). number-le 256 3 u (omega arith) (omega arith) (omega arith) in
+      omega (arith, eqb-true _ _ parts.0, pieces-le 46 3 (is_number_below 256) small t parts.1)
   | inr none ↦ let nothing : None ≡ Some a = sym (cond-false (are_octets octets) _ _ none) ∙ e in cc
 ]
   where
@@ -100,15 +76,9 @@ block-le front back None size e f h = absurd cc
 block-le front back (Some a) None e f h = absurd cc
 block-le front back (Some a) (Some n) e f h =
     let small : n ≤ 32 = leb-true _ _ (and_parts (leb n 32) _ h).0 in
-    let digits : back ≡ decimal n = number_found back (Some n) (sym f) in (
-      address-le front a e,
-      omega (
-        arith,
-        ap length digits,
-        length-decimal-le 2 n (omega arith) (omega arith)
-            (omega arith),
-      ),
-    )
+    let digits : back ≡ decimal n = number_found back (Some n) (sym f) in
+    let two = length-decimal-le 2 n (omega arith) (omega arith) (omega arith) in
+    (address-le front a e, omega (arith, ap length digits, two))
 
 -- a network, as 255.255.255.255/32
 network-le : (t : List ℕ) → is_network t ≡ true → length t ≤ 19
@@ -163,10 +133,8 @@ principals_text-lt ps h =
     let parts = and_parts (leb 1 (length ps) && leb (length ps) 16 && list_all is_principal ps) _ h in
     let lawful = and_parts (leb 1 (length ps) && leb (length ps) 16) _ parts.0 in
     let few = leb-true _ _ (and_parts (leb 1 (length ps)) _ lawful.0).1 in
-    let short : (t : List ℕ) → is_principal t ≡ true → length (string_text t) ≤ 68 = λ t e. omega (
-      arith,
-      principal-le t e,
-    ) in
+    let short : (t : List ℕ) → is_principal t ≡ true → length (string_text t) ≤ 68 =
+    λ t e. omega (arith, principal-le t e) in
     omega (arith, texts-le 68 string_text is_principal short ps lawful.1)
 
 -- one of these names is as short as they are
@@ -236,12 +204,8 @@ options-short field kind ps h =
 -- a field has at most the six extensions
 pub options-few : (field : OptionField) (ps : List Pair) → is_ascending ps ≡ true
     → list_all (is_option field) ps ≡ true → length ps ≤ 6
-options-few field ps rising lawful = omega (
-  arith,
-  length-map ps (λ p. p.name),
-  length-le_known field ps rising lawful,
-  known-few field,
-)
+options-few field ps rising lawful =
+    omega (arith, length-map ps (λ p. p.name), length-le_known field ps rising lawful, known-few field)
   where
     known-few : (field : OptionField) → length (known_names field) ≤ 6
     known-few CriticalOptions = omega arith

@@ -1,24 +1,22 @@
 -- The fields of a body read one after another: what is left to be done behind each, and how each goes on or fails.
 use Rattle.std.proofs.Common.{◌≡◌, ℕ, Bool, true, false, eqb, List, length, Option, Some, None, Result, Ok, Err, refl}
 use Rattle.std.specs.Str.{bytes_eq}
-use Rattle.text.specs.declared.pair.Pair.{Pair}
 use Rattle.wire.specs.Reading.{u32_at, u64_at, string_at}
 use Rattle.lines.specs.Keys.{key_of}
 use Rattle.values.specs.Names.{is_key_id}
-use Rattle.values.specs.declared.kind.Kind.{Kind}
 use Rattle.values.specs.declared.option_field.OptionField.TheVariants.{CriticalOptions, Extensions}
 use Rattle.values.specs.Serials.{is_serial}
 use Rattle.cert.specs.Bodies.{cert_type, is_validity}
 use Rattle.text.specs.Results.{◌>>=◌, or_fault}
-use Rattle.cert.specs.Reading.{check, kind_of, principals_of, options_of}
-use Rattle.cert.specs.Reading.{type_at, bytes_32_at, serial_at, kind_at, key_id_at, principals_at}
-use Rattle.cert.specs.Reading.{validity_at, options_at, reserved_at, ca_at, from_key_id_at, body_at}
+use Rattle.cert.specs.Reading.{check, kind_of, principals_of, options_of, type_at, bytes_32_at, serial_at, kind_at}
+use Rattle.cert.specs.Reading.{key_id_at, principals_at, validity_at, options_at, reserved_at, ca_at, from_key_id_at}
+use Rattle.cert.specs.Reading.{body_at}
 use Rattle.cert.specs.declared.fields.CertFields.{CertFields}
 use Rattle.cert.specs.declared.cert_fault.CertFault.{CertFault}
-use Rattle.cert.specs.declared.cert_fault.CertFault.TheVariants.{Truncated, WrongType, BadNonce, BadKey}
-use Rattle.cert.specs.declared.cert_fault.CertFault.TheVariants.{BadSerial, BadKind, BadKeyId, BadPrincipals}
-use Rattle.cert.specs.declared.cert_fault.CertFault.TheVariants.{BadValidity, BadOptions, BadExtensions, BadReserved}
-use Rattle.cert.specs.declared.cert_fault.CertFault.TheVariants.{BadCa, TrailingBytes}
+use Rattle.cert.specs.declared.cert_fault.CertFault.TheVariants.{Truncated, WrongType, BadNonce, BadKey, BadSerial}
+use Rattle.cert.specs.declared.cert_fault.CertFault.TheVariants.{BadKind, BadKeyId, BadPrincipals, BadValidity}
+use Rattle.cert.specs.declared.cert_fault.CertFault.TheVariants.{BadOptions, BadExtensions, BadReserved, BadCa}
+use Rattle.cert.specs.declared.cert_fault.CertFault.TheVariants.{TrailingBytes}
 
 -- ---- how a field is read
 
@@ -38,29 +36,20 @@ made bad at of bytes = or_fault Truncated (at bytes) >>= λ s. or_fault bad (of 
 abbrev pub from_end : CertFields → List ℕ → Result CertFields CertFault
 from_end c rest = check TrailingBytes (eqb (length rest) 0) >>= λ _. Ok c
 
-abbrev pub then_ca : CertFields → (List ℕ × List ℕ) → Result CertFields CertFault
-then_ca c x = from_end (record c { ca = x.0 }) x.1
-
 abbrev pub from_ca : CertFields → List ℕ → Result CertFields CertFault
-from_ca c rest = made BadCa string_at key_of rest >>= then_ca c
-
-abbrev pub then_reserved : CertFields → (Unit {0} × List ℕ) → Result CertFields CertFault
-then_reserved c x = from_ca c x.1
+from_ca c rest = made BadCa string_at key_of rest >>= λ x. from_end (record c { ca = x.0 }) x.1
 
 abbrev pub from_reserved : CertFields → List ℕ → Result CertFields CertFault
-from_reserved c rest = tested BadReserved string_at (λ s. eqb (length s) 0) (λ _. tt) rest >>= then_reserved c
-
-abbrev pub then_extensions : CertFields → (List Pair × List ℕ) → Result CertFields CertFault
-then_extensions c x = from_reserved (record c { extensions = x.0 }) x.1
+from_reserved c rest = tested BadReserved string_at (λ s. eqb (length s) 0) (λ _. tt) rest
+    >>= λ (x : Unit {0} × List ℕ). from_ca c x.1
 
 abbrev pub from_extensions : CertFields → List ℕ → Result CertFields CertFault
-from_extensions c rest = made BadExtensions string_at (options_of Extensions c.kind) rest >>= then_extensions c
-
-abbrev pub then_options : CertFields → (List Pair × List ℕ) → Result CertFields CertFault
-then_options c x = from_extensions (record c { options = x.0 }) x.1
+from_extensions c rest = made BadExtensions string_at (options_of Extensions c.kind) rest
+    >>= λ x. from_reserved (record c { extensions = x.0 }) x.1
 
 abbrev pub from_options : CertFields → List ℕ → Result CertFields CertFault
-from_options c rest = made BadOptions string_at (options_of CriticalOptions c.kind) rest >>= then_options c
+from_options c rest = made BadOptions string_at (options_of CriticalOptions c.kind) rest
+    >>= λ x. from_extensions (record c { options = x.0 }) x.1
 
 abbrev pub then_validity : CertFields → ((ℕ × ℕ) × List ℕ) → Result CertFields CertFault
 then_validity c x = from_options (record c { after = x.0.0; before = x.0.1 }) x.1
@@ -68,47 +57,31 @@ then_validity c x = from_options (record c { after = x.0.0; before = x.0.1 }) x.
 abbrev pub from_validity : CertFields → List ℕ → Result CertFields CertFault
 from_validity c rest = validity_at rest >>= then_validity c
 
-abbrev pub then_principals : CertFields → (List (List ℕ) × List ℕ) → Result CertFields CertFault
-then_principals c x = from_validity (record c { principals = x.0 }) x.1
-
 abbrev pub from_principals : CertFields → List ℕ → Result CertFields CertFault
-from_principals c rest = made BadPrincipals string_at principals_of rest >>= then_principals c
-
-abbrev pub then_key_id : CertFields → (List ℕ × List ℕ) → Result CertFields CertFault
-then_key_id c x = from_principals (record c { key_id = x.0 }) x.1
+from_principals c rest = made BadPrincipals string_at principals_of rest
+    >>= λ x. from_validity (record c { principals = x.0 }) x.1
 
 abbrev pub from_key_id : CertFields → List ℕ → Result CertFields CertFault
-from_key_id c rest = tested BadKeyId string_at is_key_id (λ s. s) rest >>= then_key_id c
-
-abbrev pub then_kind : CertFields → (Kind × List ℕ) → Result CertFields CertFault
-then_kind c x = from_key_id (record c { kind = x.0 }) x.1
+from_key_id c rest = tested BadKeyId string_at is_key_id (λ s. s) rest
+    >>= λ x. from_principals (record c { key_id = x.0 }) x.1
 
 abbrev pub from_kind : CertFields → List ℕ → Result CertFields CertFault
-from_kind c rest = made BadKind u32_at kind_of rest >>= then_kind c
-
-abbrev pub then_serial : CertFields → (ℕ × List ℕ) → Result CertFields CertFault
-then_serial c x = from_kind (record c { serial = x.0 }) x.1
+from_kind c rest = made BadKind u32_at kind_of rest >>= λ x. from_key_id (record c { kind = x.0 }) x.1
 
 abbrev pub from_serial : CertFields → List ℕ → Result CertFields CertFault
-from_serial c rest = tested BadSerial u64_at is_serial (λ n. n) rest >>= then_serial c
-
-abbrev pub then_key : CertFields → (List ℕ × List ℕ) → Result CertFields CertFault
-then_key c x = from_serial (record c { key = x.0 }) x.1
+from_serial c rest = tested BadSerial u64_at is_serial (λ n. n) rest >>= λ x. from_kind (record c { serial = x.0 }) x.1
 
 abbrev pub from_key : CertFields → List ℕ → Result CertFields CertFault
-from_key c rest = tested BadKey string_at (λ s. eqb (length s) 32) (λ s. s) rest >>= then_key c
-
-abbrev pub then_nonce : CertFields → (List ℕ × List ℕ) → Result CertFields CertFault
-then_nonce c x = from_key (record c { nonce = x.0 }) x.1
+from_key c rest = tested BadKey string_at (λ s. eqb (length s) 32) (λ s. s) rest
+    >>= λ x. from_serial (record c { key = x.0 }) x.1
 
 abbrev pub from_nonce : CertFields → List ℕ → Result CertFields CertFault
-from_nonce c rest = tested BadNonce string_at (λ s. eqb (length s) 32) (λ s. s) rest >>= then_nonce c
-
-abbrev pub then_type : CertFields → (Unit {0} × List ℕ) → Result CertFields CertFault
-then_type c x = from_nonce c x.1
+from_nonce c rest = tested BadNonce string_at (λ s. eqb (length s) 32) (λ s. s) rest
+    >>= λ x. from_key (record c { nonce = x.0 }) x.1
 
 abbrev pub from_type : CertFields → List ℕ → Result CertFields CertFault
-from_type c rest = tested WrongType string_at (λ s. bytes_eq s cert_type) (λ _. tt) rest >>= then_type c
+from_type c rest = tested WrongType string_at (λ s. bytes_eq s cert_type) (λ _. tt) rest
+    >>= λ (x : Unit {0} × List ℕ). from_nonce c x.1
 
 -- reading a body is reading from its type on
 pub body_at-from_type : (c : CertFields) (bytes : List ℕ) → body_at bytes ≡ from_type c bytes

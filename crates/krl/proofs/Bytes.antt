@@ -1,6 +1,6 @@
 -- Bytes and strings at their front.
-use Rattle.std.proofs.Common.{◌≡◌, ◌≢◌, ℕ, suc, ◌<◌, ◌^◌, List, [], ◌∷◌, ◌++◌, length, take, drop}
-use Rattle.std.proofs.Common.{cond, ltb, Bool, true, false, Option, Some, None, Bor, ap, subst, arith}
+use Rattle.std.proofs.Common.{◌≡◌, ◌≢◌, ℕ, suc, ◌<◌, ◌^◌, List, [], ◌∷◌, ◌++◌, length, take, drop, cond, ltb, Bool}
+use Rattle.std.proofs.Common.{true, false, Option, Some, None, Bor, ap, subst, arith}
 use Rattle.std.specs.Option.{option_copied, IfSome, IfNone}
 use Rattle.std.specs.Int.{w32, from_be_bytes}
 use Rattle.std.proofs.lemmas.List.{length-take}

@@ -1,8 +1,9 @@
 -- The run that covers an interval is the last of those that begin at or below it.
-use Rattle.std.proofs.Common.{◌≡◌, ℕ, zero, suc, ◌+◌, ◌-◌, ◌<◌, ◌≤◌, List, [], ◌∷◌, Bool, true, false}
-use Rattle.std.proofs.Common.{◌&&◌, ◌||◌, length, leb, leb-true, le-leb, get_or, refl, sym, arith}
+use Rattle.std.proofs.Common.{◌≡◌, ℕ, zero, suc, ◌+◌, ◌-◌, ◌<◌, ◌≤◌, List, [], ◌∷◌, Bool, true, false, ◌&&◌, ◌||◌}
+use Rattle.std.proofs.Common.{length, leb, leb-true, le-leb, get_or, refl, sym, arith}
 use Rattle.std.specs.List.{list_any}
 use Rattle.std.specs.List.Sorted.{IsPartitionPoint, IsPartitionedBy}
+use Rattle.std.proofs.Math.Bool.{or-false}
 use Rattle.krl.specs.declared.run.Run.{Run}
 use Rattle.krl.specs.Sets.{AreRunsFrom}
 use Rattle.krl.proofs.Maximal.{covered_by}
@@ -45,11 +46,7 @@ pub last_covers : (from lo hi i : ℕ) (rs : List Run) (d : Run) → AreRunsFrom
     → list_any (covered_by lo hi) rs ≡ leb hi (get_or rs i d).hi
 last_covers from lo hi i [] d h lt below above = absurd (omega arith)
 last_covers from lo hi zero (r ∷ rs) d h lt below above =
-    rw below (rw (none_covers lo hi rs (λ k e less. above (suc k) e (omega arith) (omega arith))) (or_false (leb hi r.hi)))
-  where
-    or_false : (b : Bool) → (b || false) ≡ b
-    or_false true = refl
-    or_false false = refl
+    rw below (rw (none_covers lo hi rs (λ k e less. above (suc k) e (omega arith) (omega arith))) (or-false (leb hi r.hi)))
 last_covers from lo hi (suc i) (r ∷ rs) d h lt below above =
     let rest = last_covers (r.hi + 2) lo hi i rs d h.3 (omega arith) below (λ k e less more. above (suc k) e (omega arith) (omega arith)) in
     let ends = ends_from (r.hi + 2) i rs d h.3 (omega arith) in

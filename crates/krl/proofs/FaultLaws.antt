@@ -1,21 +1,22 @@
 -- Bytes with a cut that is supported have no fault, and no bytes have two first faults.
-use Rattle.std.proofs.Common.{◌≡◌, ◌≢◌, ℕ, List, [], ◌∷◌, ◌++◌, true, ◌&&◌, inl, inr}
-use Rattle.std.proofs.Common.{Option, Some, None, refl, sym, subst, ◌∙◌, append_assoc, lit<}
+use Rattle.std.proofs.Common.{◌≡◌, ◌≢◌, ℕ, List, [], ◌∷◌, ◌++◌, true, inl, inr, Option, Some, None, refl, sym}
+use Rattle.std.proofs.Common.{subst, ◌∙◌, append_assoc, lit<}
 use Rattle.std.specs.Prelude.{MatchOption}
 use Rattle.std.specs.List.{flat_map, list_all, AllByRecursion}
 use Rattle.std.proofs.lemmas.Bool.{and_parts}
 use Rattle.wire.specs.Texts.{u32_text, u64_text, string_text}
 use Rattle.krl.specs.declared.krl_fault.KrlFault.{KrlFault}
-use Rattle.krl.specs.declared.krl_fault.KrlFault.TheVariants.{Truncated, BadMagic, BadVersion}
-use Rattle.krl.specs.declared.krl_fault.KrlFault.TheVariants.{BadFlags, Unsupported, BadSection}
-use Rattle.krl.specs.Format.{Part, Serials, Range, KeyIds, OtherPart, part_type, part_data, part_text}
-use Rattle.krl.specs.Format.{Section, Certificates, OtherSection, section_data, section_text, Header}
-use Rattle.krl.specs.Format.{header_text, magic, RevocationList, is_supported, is_supported_part}
-use Rattle.krl.specs.Format.{is_supported_section, IsString, IsPart, IsSection, IsHeader, IsCut}
+use Rattle.krl.specs.declared.krl_fault.KrlFault.TheVariants.{Truncated, BadMagic, BadVersion, BadFlags, Unsupported}
+use Rattle.krl.specs.declared.krl_fault.KrlFault.TheVariants.{BadSection}
+use Rattle.krl.specs.Format.{Part, Serials, Range, KeyIds, OtherPart, part_type, part_data, part_text, Section}
+use Rattle.krl.specs.Format.{Certificates, OtherSection, section_data, section_text, Header, header_text, magic}
+use Rattle.krl.specs.Format.{RevocationList, is_supported, is_supported_part, is_supported_section, IsString, IsPart}
+use Rattle.krl.specs.Format.{IsSection, IsHeader, IsCut}
 use Rattle.krl.specs.Faults.{FieldFault, IsU32, IsU64, accepted, refused_unless, is_magic, is_one, is_zero}
 use Rattle.krl.specs.Faults.{NothingAfter, CommentFault, ReservedFault, FlagsFault, DateFault, NumberFault}
-use Rattle.krl.specs.Faults.{VersionFault, text_of, HasString, HeaderFault, NoPart, is_part_type, PartFault}
-use Rattle.krl.specs.Faults.{IsReadPart, PartsFault, CertificatesFault, SectionFault, IsReadSection, FirstFault}
+use Rattle.krl.specs.Faults.{VersionFault, text_of, HasString, HeaderFault, NoPart, is_part_type, PartFault, IsReadPart}
+use Rattle.krl.specs.Faults.{PartsFault, CertificatesFault, SectionFault, IsReadSection, FirstFault}
+use Rattle.krl.proofs.Items.{no_items}
 use Rattle.krl.proofs.Texts.{IsUnique, HasBytes, u32_unique, u64_unique, strings_unique, tagged_unique, part_unique}
 use Rattle.krl.proofs.Texts.{part_has_bytes, section_unique, section_has_bytes, header_fields, header_unique}
 
@@ -100,12 +101,8 @@ pub supported_parts : (ps : List Part) → AllByRecursion IsPart ps → list_all
 supported_parts [] h e = tt
 supported_parts (p ∷ ps) h e = let both = and_parts (is_supported_part p) (list_all is_supported_part ps) e in (record { lawful = h.0; supported = both.0 }, supported_parts ps h.1 both.1)
 
-no_text : (ps : List Part) → ps ≢ [] → flat_map part_text ps ≢ []
-no_text [] some e = some refl
-no_text (p ∷ ps) some e = part_has_bytes p (flat_map part_text ps) e
-
 no_parts_fault : (ps : List Part) (f : KrlFault) → AllByRecursion IsReadPart ps → ps ≢ [] → PartsFault (flat_map part_text ps) f → ⊥
-no_parts_fault ps f h some (inl none) = no_text ps some none.0
+no_parts_fault ps f h some (inl none) = no_items part_text part_has_bytes ps some none.0
 no_parts_fault ps f h some (inr bad) = no_item_fault part_text IsReadPart PartFault read_parts ps bad.0 bad.1 f h bad.2 bad.3 bad.4 bad.5
 
 -- parts with bytes behind them are bytes

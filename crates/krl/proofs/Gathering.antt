@@ -1,9 +1,9 @@
 -- The runs of serials that ascend.
-use Rattle.std.proofs.Common.{◌≡◌, ℕ, suc, ◌+◌, ◌-◌, ◌<◌, ◌≤◌, ◌^◌, List, [], ◌∷◌, length, get_or}
-use Rattle.std.proofs.Common.{add-one, true, false, ◌&&◌, ◌||◌, eqb, leb, refl, ap, ◌∙◌, arith, inl, inr}
+use Rattle.std.proofs.Common.{◌≡◌, ℕ, suc, ◌+◌, ◌-◌, ◌<◌, ◌≤◌, ◌^◌, List, [], ◌∷◌, length, get_or, add-one, false}
+use Rattle.std.proofs.Common.{◌&&◌, ◌||◌, eqb, leb, refl, ap, ◌∙◌, arith, inl, inr}
 use Rattle.std.specs.Prelude.{if◌then◌else◌}
 use Rattle.std.specs.List.Sorted.{IsStrictlyIncreasing}
-use Rattle.std.proofs.lemmas.Bool.{cases_lt}
+use Rattle.std.proofs.lemmas.Bool.{cases_lt, eq-eqb}
 use Rattle.std.proofs.lemmas.Bool.Decides.{nat_tests}
 use Rattle.krl.specs.declared.run.Run.{Run}
 use Rattle.krl.specs.Sets.{is_within, contains, is_among, AreRunsFrom}
@@ -28,9 +28,6 @@ ascend n [] h fits = tt
 ascend n (m ∷ ns) h fits =
     (let lt : n < m = h 0 (omega arith) in omega arith, fits 0 (omega arith), ascend m ns (tail_increases n (m ∷ ns) h) (λ k lt. fits (suc k) (omega arith)))
 
-eqb-yes : (a b : ℕ) → a ≡ b → eqb a b ≡ true
-eqb-yes a b e = grind (arith, nat_tests)
-
 pub eqb-no : (a b : ℕ) → b < a → eqb a b ≡ false
 eqb-no a b lt = grind (arith, nat_tests)
 
@@ -40,7 +37,7 @@ gathered_runs from r [] p q t h = (p, q, t, tt)
 gathered_runs from r (n ∷ ns) p q t h =
     elim (cases_lt (r.hi + 1) n) [
       | inl apart ↦ rw (eqb-no (n - r.hi) 1 (omega arith)) (p, q, t, gathered_runs (r.hi + 2) (record { lo = n; hi = n }) ns (omega arith) (omega arith) h.1 h.2)
-      | inr near ↦ rw (eqb-yes (n - r.hi) 1 (omega arith)) (gathered_runs from (record { lo = r.lo; hi = n }) ns p (omega arith) h.1 h.2)
+      | inr near ↦ rw (eq-eqb (n - r.hi) 1 (omega arith)) (gathered_runs from (record { lo = r.lo; hi = n }) ns p (omega arith) h.1 h.2)
     ]
 
 longer : (n a b m : ℕ) → a ≤ b → m ≡ b + 1 → (leb a n && leb n m) ≡ ((leb a n && leb n b) || eqb n m)
@@ -56,6 +53,6 @@ contains_gathered r [] n p h = refl
 contains_gathered r (m ∷ ns) n p h =
     elim (cases_lt (r.hi + 1) m) [
       | inl apart ↦ rw (eqb-no (m - r.hi) 1 (omega arith)) (ap (λ b. is_within n r || b) (contains_gathered (record { lo = m; hi = m }) ns n (omega arith) h.2 ∙ ap (λ b. b || is_among ns n) (within_one n m)))
-      | inr near ↦ rw (eqb-yes (m - r.hi) 1 (omega arith)) (contains_gathered (record { lo = r.lo; hi = m }) ns n (omega arith) h.2
+      | inr near ↦ rw (eq-eqb (m - r.hi) 1 (omega arith)) (contains_gathered (record { lo = r.lo; hi = m }) ns n (omega arith) h.2
           ∙ ap (λ b. b || is_among ns n) (longer n r.lo r.hi m p (omega arith)) ∙ or_group (is_within n r) (eqb n m) (is_among ns n))
     ]

@@ -1,7 +1,7 @@
 -- Items that are read one after the other.
 use Rattle.std.proofs.Common.{◌≡◌, ◌≢◌, ℕ, List, [], ◌∷◌, ◌++◌, Bool, ◌||◌, refl, sym, ap, ◌∙◌, append_assoc}
 use Rattle.std.specs.List.{list_any, flat_map, AllByRecursion}
-use Rattle.krl.proofs.Booleans.{or_group}
+use Rattle.std.proofs.lemmas.List.Folds.{list_any-append}
 use Rattle.krl.proofs.Texts.{IsUnique, HasBytes}
 use Rattle.std.proofs.Math.Bool.{or-false}
 
@@ -18,8 +18,7 @@ text_more text [] x rest = append_assoc (text x) [] rest
 text_more text (y ∷ xs) x rest = append_assoc (text y) (flat_map text (xs ++ x ∷ [])) rest ∙ ap (λ t. text y ++ t) (text_more text xs x rest) ∙ sym (append_assoc (text y) (flat_map text xs) (text x ++ rest))
 
 any_more : {X : Type 0} (test : X → Bool) (xs : List X) (x : X) → list_any test (xs ++ x ∷ []) ≡ (list_any test xs || test x)
-any_more test [] x = or-false (test x)
-any_more test (y ∷ xs) x = ap (λ b. test y || b) (any_more test xs x) ∙ sym (or_group (test y) (list_any test xs) (test x))
+any_more test xs x = list_any-append test xs (x ∷ []) ∙ ap (λ b. list_any test xs || b) (or-false (test x))
 
 -- one item more
 pub so_far_more : {X : Type 0} (text : X → List ℕ) (Is : X → Type 0) (test : X → Bool) (bytes rest new : List ℕ) (b : Bool) (x : X) → SoFar text Is test bytes rest b → Is x → rest ≡ text x ++ new → SoFar text Is test bytes new (b || test x)

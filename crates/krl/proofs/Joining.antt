@@ -1,6 +1,6 @@
 -- Runs, and one interval more.
-use Rattle.std.proofs.Common.{◌≡◌, ℕ, ◌+◌, ◌<◌, ◌≤◌, ◌^◌, List, [], ◌∷◌}
-use Rattle.std.proofs.Common.{◌&&◌, ◌||◌, leb, refl, ap, ◌∙◌, arith, inl, inr}
+use Rattle.std.proofs.Common.{◌≡◌, ℕ, ◌+◌, ◌<◌, ◌≤◌, ◌^◌, List, [], ◌∷◌, ◌&&◌, ◌||◌, leb, refl, ap, ◌∙◌, arith, inl}
+use Rattle.std.proofs.Common.{inr}
 use Rattle.std.specs.Prelude.{nat_lt, min, max, if◌then◌else◌}
 use Rattle.std.proofs.lemmas.Bool.{cases_lt, le-ltb}
 use Rattle.std.proofs.lemmas.Bool.Decides.{nat_tests}

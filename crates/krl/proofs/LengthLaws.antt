@@ -1,6 +1,6 @@
 -- Lengths of parts and of lists, as sums.
-use Rattle.std.proofs.Common.{◌≡◌, ℕ, ◌+◌, ◌*◌, ◌<◌, ◌≤◌, List, [], ◌∷◌, ◌++◌, length, Bool}
-use Rattle.std.proofs.Common.{true, false, cond, refl, sym, ap, ◌∙◌, arith, length-append}
+use Rattle.std.proofs.Common.{◌≡◌, ℕ, ◌+◌, ◌*◌, ◌<◌, ◌≤◌, List, [], ◌∷◌, ◌++◌, length, Bool, true, false, cond, refl}
+use Rattle.std.proofs.Common.{sym, ap, ◌∙◌, arith, length-append}
 use Rattle.std.specs.List.{sum_by, flat_map}
 use Rattle.std.proofs.lemmas.Bool.Decides.{nat_tests}
 use Rattle.std.proofs.lemmas.Grind.{flat_map-append}
@@ -10,10 +10,10 @@ use Rattle.lines.specs.Keys.{key_blob}
 use Rattle.krl.specs.declared.run.Run.{Run}
 use Rattle.krl.specs.declared.ca_part.CaPart.{CaPart}
 use Rattle.krl.specs.Format.{Serials, Range, KeyIds, part_text, section_data, section_text}
-use Rattle.krl.specs.Published.{is_short, serials_of, listed, ranges, serial_list, serial_parts}
-use Rattle.krl.specs.Published.{serial_length, key_id_parts, is_idle, ca_section, published_sections}
-use Rattle.krl.specs.Lengths.{listed_text, listed_length, range_text, range_length}
-use Rattle.krl.specs.Lengths.{key_id_length, tagged_length, section_length}
+use Rattle.krl.specs.Published.{is_short, serials_of, listed, ranges, serial_list, serial_parts, serial_length}
+use Rattle.krl.specs.Published.{key_id_parts, is_idle, ca_section, published_sections}
+use Rattle.krl.specs.Lengths.{listed_text, listed_length, range_text, range_length, key_id_length, tagged_length}
+use Rattle.krl.specs.Lengths.{section_length}
 
 pub u64s_length : (ns : List ℕ) → length (flat_map u64_text ns) ≡ 8 * length ns
 u64s_length [] = refl
@@ -43,11 +43,10 @@ listed_lengths (r ∷ rs) = by_short (is_short r) (listed_lengths rs) ∙ sym (s
 -- the ranges of the long runs, a run at a time
 pub range_texts : (rs : List Run) → flat_map part_text (ranges rs) ≡ flat_map range_text rs
 range_texts [] = refl
-range_texts (r ∷ rs) = by_short (is_short r) (range_texts rs)
-  where
-    by_short : (b : Bool) → flat_map part_text (ranges rs) ≡ flat_map range_text rs → flat_map part_text (cond b (ranges rs) (Range r ∷ ranges rs)) ≡ cond b [] (part_text (Range r)) ++ flat_map range_text rs
-    by_short true more = more
-    by_short false more = ap (λ t. part_text (Range r) ++ t) more
+range_texts (r ∷ rs) =
+    elim (is_short r) as (λ b. flat_map part_text (cond b (ranges rs) (Range r ∷ ranges rs))
+    ≡ cond b [] (part_text (Range r)) ++ flat_map range_text rs)
+    [ true ↦ range_texts rs | false ↦ ap (λ t. part_text (Range r) ++ t) (range_texts rs) ]
 
 pub range_lengths : (rs : List Run) → length (flat_map part_text (ranges rs)) ≡ sum_by range_length rs
 range_lengths [] = refl

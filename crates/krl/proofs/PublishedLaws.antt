@@ -4,8 +4,8 @@ use Rattle.std.proofs.lemmas.List.Elements.{recursion_from_All, All-weaker}
 use Rattle.krl.specs.declared.ca_part.CaPart.{CaPart}
 use Rattle.krl.specs.declared.krl_head.KrlHead.{KrlHead}
 use Rattle.krl.specs.Sets.{AreRuns}
-use Rattle.krl.specs.Published.{AreOnly, AreShortest, RevokesExactly, AreDistinctCas}
-use Rattle.krl.specs.Published.{fits, published_list, published_text, serial_parts}
+use Rattle.krl.specs.Published.{AreOnly, AreShortest, RevokesExactly, AreDistinctCas, fits, published_list}
+use Rattle.krl.specs.Published.{published_text, serial_parts}
 use Rattle.krl.proofs.Publishing.{only_cut, revokes_exactly}
 use Rattle.krl.proofs.ShortestParts.{are_shortest}
 

@@ -3,8 +3,9 @@ use Rattle.std.proofs.Common.{◌≡◌, ◌≢◌, ℕ, suc, ◌+◌, ◌<◌, 
 use Rattle.std.proofs.Common.{◌&&◌, ◌||◌, cond, eqb, leb, inl, inr, refl, sym, ap, subst, ◌∙◌, arith, length-append}
 use Rattle.std.specs.List.{list_any, list_all, flat_map, AllByRecursion}
 use Rattle.std.specs.Str.{bytes_eq}
-use Rattle.std.proofs.lemmas.Bool.{and_parts}
+use Rattle.std.proofs.lemmas.Bool.{and_from, and_parts}
 use Rattle.std.proofs.lemmas.Bool.Decides.{nat_tests}
+use Rattle.std.proofs.lemmas.List.Folds.{list_all-append, list_any-append}
 use Rattle.std.proofs.lemmas.Slice.Eq.{bytes_eq-Decides}
 use Rattle.wire.specs.Texts.{string_text}
 use Rattle.lines.specs.Keys.{key_blob}
@@ -14,11 +15,11 @@ use Rattle.krl.specs.declared.krl_head.KrlHead.{KrlHead}
 use Rattle.krl.specs.Sets.{contains, AreRunsFrom, AreRuns}
 use Rattle.krl.specs.Format.{Part, Range, KeyIds, part_data, part_text, names, section_data, section_revokes, is_for}
 use Rattle.krl.specs.Format.{is_supported_part, is_supported_section, IsString, IsPart, IsPartContent, IsSection, IsCut}
-use Rattle.krl.specs.Published.{names_serial, named_set, is_short, serials_of, listed, ranges}
-use Rattle.krl.specs.Published.{serial_list, serial_parts, key_id_parts, is_idle, ca_section}
-use Rattle.krl.specs.Published.{published_sections, published_list, published_text, part_fits, fits}
-use Rattle.krl.specs.Published.{is_key_id, IsCaPartOf, AreDistinctCas, RevokesExactly, AreOnly}
-use Rattle.krl.proofs.Booleans.{or_group, clash}
+use Rattle.krl.specs.Published.{names_serial, named_set, is_short, serials_of, listed, ranges, serial_list}
+use Rattle.krl.specs.Published.{serial_parts, key_id_parts, is_idle, ca_section, published_sections, published_list}
+use Rattle.krl.specs.Published.{published_text, part_fits, fits, is_key_id, IsCaPartOf, AreDistinctCas, RevokesExactly}
+use Rattle.krl.specs.Published.{AreOnly}
+use Rattle.krl.proofs.Booleans.{clash}
 use Rattle.krl.proofs.Texts.{cut_unique}
 use Rattle.krl.proofs.ShortestParts.{serials_named}
 use Rattle.std.proofs.Math.Bool.{or-false, and-false}
@@ -52,11 +53,12 @@ listed_small from (r ∷ rs) h = by_short (is_short r) (listed_small (r.hi + 2) 
 
 ranges_small : (from : ℕ) (rs : List Run) → AreRunsFrom from rs → AllByRecursion IsPartContent (ranges rs)
 ranges_small from [] h = tt
-ranges_small from (r ∷ rs) h = by_short (is_short r) (ranges_small (r.hi + 2) rs h.3)
-  where
-    by_short : (b : Bool) → AllByRecursion IsPartContent (ranges rs) → AllByRecursion IsPartContent (cond b (ranges rs) (Range r ∷ ranges rs))
-    by_short true more = more
-    by_short false more = ((let a : r.lo ≤ r.hi = h.1 in let b : r.hi < 2 ^ 64 = h.2 in omega arith, h.2), more)
+ranges_small from (r ∷ rs) h =
+    let a : r.lo ≤ r.hi = h.1 in
+    let fits : r.hi < 2 ^ 64 = h.2 in
+    let more = ranges_small (r.hi + 2) rs h.3 in
+    elim (is_short r) as (λ b. AllByRecursion IsPartContent (cond b (ranges rs) (Range r ∷ ranges rs)))
+    [ true ↦ more | false ↦ ((omega arith, fits), more) ]
 
 all_append : {X : Type 0} (P : X → Type 0) (xs ys : List X) → AllByRecursion P xs → AllByRecursion P ys → AllByRecursion P (xs ++ ys)
 all_append P [] ys h k = k
@@ -155,31 +157,28 @@ list_supported (n ∷ ns) = refl
 
 ranges_supported : (rs : List Run) → list_all is_supported_part (ranges rs) ≡ true
 ranges_supported [] = refl
-ranges_supported (r ∷ rs) = by_short (is_short r) (ranges_supported rs)
-  where
-    by_short : (b : Bool) → list_all is_supported_part (ranges rs) ≡ true → list_all is_supported_part (cond b (ranges rs) (Range r ∷ ranges rs)) ≡ true
-    by_short true more = more
-    by_short false more = more
+ranges_supported (r ∷ rs) =
+    elim (is_short r) as (λ b. list_all is_supported_part (cond b (ranges rs) (Range r ∷ ranges rs)) ≡ true)
+    [ true ↦ ranges_supported rs | false ↦ ranges_supported rs ]
 
 ids_supported : (ids : List (List ℕ)) → list_all is_supported_part (key_id_parts ids) ≡ true
 ids_supported [] = refl
 ids_supported (i ∷ ids) = refl
 
-all_of_both : {X : Type 0} (p : X → Bool) (xs ys : List X) → list_all p xs ≡ true → list_all p ys ≡ true → list_all p (xs ++ ys) ≡ true
-all_of_both p [] ys h k = k
-all_of_both p (x ∷ xs) ys h k = let both = and_parts (p x) (list_all p xs) h in rw (both.0) (all_of_both p xs ys both.1 k)
-
-parts_supported : (rs : List Run) (ids : List (List ℕ)) → list_all is_supported_part (serial_parts rs ++ key_id_parts ids) ≡ true
+parts_supported : (rs : List Run) (ids : List (List ℕ))
+    → list_all is_supported_part (serial_parts rs ++ key_id_parts ids) ≡ true
 parts_supported rs ids =
-    all_of_both is_supported_part (serial_parts rs) (key_id_parts ids) (all_of_both is_supported_part (serial_list (listed rs)) (ranges rs) (list_supported (listed rs)) (ranges_supported rs)) (ids_supported ids)
+    list_all-append is_supported_part (serial_parts rs) (key_id_parts ids)
+    ∙ and_from _ _ (list_all-append is_supported_part (serial_list (listed rs)) (ranges rs)
+    ∙ and_from _ _ (list_supported (listed rs)) (ranges_supported rs)) (ids_supported ids)
 
 sections_supported : (cas : List CaPart) (ids : List (List ℕ)) → list_all is_supported_section (published_sections cas ids) ≡ true
 sections_supported [] ids = refl
-sections_supported (p ∷ cas) ids = by_idle (is_idle ids p) (sections_supported cas ids)
-  where
-    by_idle : (b : Bool) → list_all is_supported_section (published_sections cas ids) ≡ true → list_all is_supported_section (cond b [] (ca_section ids p ∷ []) ++ published_sections cas ids) ≡ true
-    by_idle true more = more
-    by_idle false more = rw (parts_supported p.runs ids) more
+sections_supported (p ∷ cas) ids =
+    let more = sections_supported cas ids in
+    elim (is_idle ids p) as (λ b.
+    list_all is_supported_section (cond b [] (ca_section ids p ∷ []) ++ published_sections cas ids) ≡ true)
+    [ true ↦ more | false ↦ rw (parts_supported p.runs ids) more ]
 
 -- the published text has one cut, and it is supported
 pub only_cut : (head : KrlHead) (cas : List CaPart) (ids : List (List ℕ)) → head.version < 2 ^ 64 → head.date < 2 ^ 64 → AllByRecursion (λ p. AreRuns p.runs) cas → fits cas ids ≡ true → AreOnly (published_text head cas ids) (published_list head cas ids)
@@ -193,21 +192,17 @@ only_cut head cas ids v d h e =
 
 -- ---- what it revokes
 
-any_append : {X : Type 0} (p : X → Bool) (xs ys : List X) → list_any p (xs ++ ys) ≡ (list_any p xs || list_any p ys)
-any_append p [] ys = refl
-any_append p (x ∷ xs) ys = ap (λ b. p x || b) (any_append p xs ys) ∙ sym (or_group (p x) (list_any p xs) (list_any p ys))
-
 list_names : (serial : ℕ) (key_id : List ℕ) (ns : List ℕ) → list_any (names serial key_id) (serial_list ns) ≡ named_set (serial_list ns) serial
 list_names serial key_id [] = refl
 list_names serial key_id (n ∷ ns) = refl
 
 ranges_name : (serial : ℕ) (key_id : List ℕ) (rs : List Run) → list_any (names serial key_id) (ranges rs) ≡ named_set (ranges rs) serial
 ranges_name serial key_id [] = refl
-ranges_name serial key_id (r ∷ rs) = by_short (is_short r) (ranges_name serial key_id rs)
-  where
-    by_short : (b : Bool) → list_any (names serial key_id) (ranges rs) ≡ named_set (ranges rs) serial → list_any (names serial key_id) (cond b (ranges rs) (Range r ∷ ranges rs)) ≡ named_set (cond b (ranges rs) (Range r ∷ ranges rs)) serial
-    by_short true more = more
-    by_short false more = ap (λ b. names_serial serial (Range r) || b) more
+ranges_name serial key_id (r ∷ rs) =
+    let more = ranges_name serial key_id rs in
+    elim (is_short r) as (λ b. list_any (names serial key_id) (cond b (ranges rs) (Range r ∷ ranges rs))
+    ≡ named_set (cond b (ranges rs) (Range r ∷ ranges rs)) serial)
+    [ true ↦ more | false ↦ ap (λ b. names_serial serial (Range r) || b) more ]
 
 ids_name : (serial : ℕ) (key_id : List ℕ) (ids : List (List ℕ)) → list_any (names serial key_id) (key_id_parts ids) ≡ is_key_id ids key_id
 ids_name serial key_id [] = refl
@@ -215,14 +210,14 @@ ids_name serial key_id (i ∷ ids) = or-false (is_key_id (i ∷ ids) key_id)
 
 parts_name : (serial : ℕ) (key_id : List ℕ) (rs : List Run) (ids : List (List ℕ)) → AreRuns rs → list_any (names serial key_id) (serial_parts rs ++ key_id_parts ids) ≡ (contains rs serial || is_key_id ids key_id)
 parts_name serial key_id rs ids h =
-    any_append (names serial key_id) (serial_parts rs) (key_id_parts ids)
+    list_any-append (names serial key_id) (serial_parts rs) (key_id_parts ids)
     ∙ (λ i. serials i || ids_name serial key_id ids i)
   where
     serials : list_any (names serial key_id) (serial_parts rs) ≡ contains rs serial
     serials =
-        any_append (names serial key_id) (serial_list (listed rs)) (ranges rs)
+        list_any-append (names serial key_id) (serial_list (listed rs)) (ranges rs)
         ∙ (λ i. list_names serial key_id (listed rs) i || ranges_name serial key_id rs i)
-        ∙ sym (any_append (names_serial serial) (serial_list (listed rs)) (ranges rs))
+        ∙ sym (list_any-append (names_serial serial) (serial_list (listed rs)) (ranges rs))
         ∙ serials_named rs serial h
 
 -- whether the CA part is the blob's and names the serial or the key id
@@ -250,9 +245,6 @@ list_revokes blob serial key_id (p ∷ cas) ids h = by_idle (is_idle ids p) refl
     by_idle true idle more = more ∙ sym (ap (λ b. (bytes_eq (key_blob p.ca) blob && b) || list_any (part_revokes blob serial key_id ids) cas) (nothing_idle serial key_id ids p.runs idle) ∙ ap (λ b. b || list_any (part_revokes blob serial key_id ids) cas) (and-false (bytes_eq (key_blob p.ca) blob)))
     by_idle false idle more = λ i. (for_blob blob p.ca i && parts_name serial key_id p.runs ids h.0 i) || more i
 
-same_blob : (a : List ℕ) → bytes_eq a a ≡ true
-same_blob a = (bytes_eq-Decides a a).1 refl
-
 pub bytes_other : (a b : List ℕ) → a ≢ b → bytes_eq a b ≡ false
 bytes_other a b apart = by_test (bytes_eq a b) refl
   where
@@ -272,7 +264,7 @@ one_revokes : (serial : ℕ) (key_id : List ℕ) (cas : List CaPart) (ids : List
 one_revokes serial key_id [] ids p d c = absurd c
 one_revokes serial key_id (q ∷ cas) ids p d (inl same) =
     subst (λ (x : CaPart). list_any (part_revokes (key_blob x.ca) serial key_id ids) (q ∷ cas) ≡ (contains x.runs serial || is_key_id ids key_id)) same
-    (rw (same_blob (key_blob q.ca), none_revokes (key_blob q.ca) serial key_id cas ids (λ r c e. d.0 r c (blob_key r.ca q.ca e))) (or-false (contains q.runs serial || is_key_id ids key_id)))
+    (rw ((bytes_eq-Decides (key_blob q.ca) (key_blob q.ca)).1 refl, none_revokes (key_blob q.ca) serial key_id cas ids (λ r c e. d.0 r c (blob_key r.ca q.ca e))) (or-false (contains q.runs serial || is_key_id ids key_id)))
 one_revokes serial key_id (q ∷ cas) ids p d (inr c) =
     rw (bytes_other (key_blob q.ca) (key_blob p.ca) (λ e. d.0 p c (sym (blob_key q.ca p.ca e)))) (one_revokes serial key_id cas ids p d.1 c)
 

@@ -1,6 +1,6 @@
 -- Sections and lists that are read.
-use Rattle.std.proofs.Common.{◌≡◌, ◌≢◌, ℕ, ◌<◌, List, [], ◌∷◌, ◌++◌, Bool, true, ◌&&◌, Option}
-use Rattle.std.proofs.Common.{Some, None, Result, Ok, Err, inl, inr, refl, sym, ap, ◌∙◌, arith}
+use Rattle.std.proofs.Common.{◌≡◌, ◌≢◌, ℕ, List, [], ◌∷◌, ◌++◌, Bool, true, ◌&&◌, Option, Some, None, Result, Ok}
+use Rattle.std.proofs.Common.{Err, inl, inr, refl, sym, ap, ◌∙◌}
 use Rattle.std.specs.Prelude.{IfOk, IfErr, MatchOption}
 use Rattle.std.specs.List.{list_all, flat_map, AllByRecursion}
 use Rattle.std.proofs.lemmas.Bool.{ne_eqb}
@@ -10,8 +10,8 @@ use Rattle.krl.specs.declared.krl_fault.KrlFault.TheVariants.{Unsupported}
 use Rattle.krl.specs.Format.{Part, part_text, tagged_text, names, Section, Certificates, section_text, section_revokes}
 use Rattle.krl.specs.Format.{is_for, Header, header_text, RevocationList, is_supported, is_supported_part}
 use Rattle.krl.specs.Format.{is_supported_section, revokes, IsString, IsPart, IsSection, IsHeader, IsCut}
-use Rattle.krl.specs.Faults.{FieldFault, ItemFault, NothingAfter, IsReadPart}
-use Rattle.krl.specs.Faults.{CertificatesFault, SectionFault, IsReadSection, FirstFault}
+use Rattle.krl.specs.Faults.{FieldFault, ItemFault, NothingAfter, IsReadPart, CertificatesFault, SectionFault}
+use Rattle.krl.specs.Faults.{IsReadSection, FirstFault}
 use Rattle.krl.specs.Reading.{AreItems, ReadsCertificates, ReadsList}
 use Rattle.krl.proofs.Texts.{cut_unique}
 use Rattle.krl.proofs.FaultLaws.{no_first_fault, one_first_fault}

@@ -1,14 +1,13 @@
 -- No parts that name the set of the runs are shorter than those that are written.
-use Rattle.std.proofs.Common.{◌≡◌, ℕ, ◌+◌, ◌-◌, ◌*◌, ◌<◌, ◌≤◌, List, [], ◌∷◌, ◌++◌, length, Bool, true, false}
-use Rattle.std.proofs.Common.{◌&&◌, ◌||◌, cond, leb, eqb, refl, sym, subst, ◌∙◌, arith, inl, inr, length-append}
+use Rattle.std.proofs.Common.{◌≡◌, ℕ, ◌+◌, ◌-◌, ◌*◌, ◌<◌, ◌≤◌, List, [], ◌∷◌, ◌++◌, length, Bool, true, false, ◌&&◌}
+use Rattle.std.proofs.Common.{◌||◌, cond, leb, eqb, refl, sym, ap, subst, ◌∙◌, arith, inl, inr, length-append}
 use Rattle.std.specs.Prelude.{nat_lt, if◌then◌else◌}
-use Rattle.std.proofs.lemmas.Bool.{cases_lt, le-ltb, eqb-true}
+use Rattle.std.proofs.lemmas.Bool.{cases_Bool, cases_lt, le-ltb, eqb-true, ne_eqb}
 use Rattle.std.proofs.lemmas.Bool.Decides.{nat_tests}
 use Rattle.krl.specs.declared.run.Run.{Run}
 use Rattle.krl.specs.Sets.{is_within, contains, is_among, AreRunsFrom, AreRuns, IsRunOf, IsOneOf}
 use Rattle.krl.specs.Format.{Part, Serials, Range, KeyIds, OtherPart}
-use Rattle.krl.specs.Published.{is_short, serials_of}
-use Rattle.krl.specs.Published.{listed, ranges, serial_list}
+use Rattle.krl.specs.Published.{is_short, serials_of, listed, ranges, serial_list}
 use Rattle.krl.proofs.Booleans.{ltb-yes, is_in, or_true, or_cases, clash}
 use Rattle.krl.proofs.Maximal.{run_of, each_is_run, none_below, member_contains}
 
@@ -41,59 +40,51 @@ least_of_all (r ∷ rs) = least_of r + least_of_all rs
 
 -- ---- different members count
 
+-- the list without a serial
+abbrev without : ℕ → List ℕ → List ℕ
+without a [] = []
+without a (e ∷ es) = cond (eqb a e) (without a es) (e ∷ without a es)
+
+-- a serial of the list that passes counts one more than the others that pass
+one_more : (p : ℕ → Bool) (es : List ℕ) (a : ℕ) → p a ≡ true
+    → how_many p (without a es) + cond (has es a) 1 0 ≤ how_many p es
+one_more p [] a pa = omega arith
+one_more p (e ∷ es) a pa =
+    let more = one_more p es a pa in
+    elim (cases_Bool (eqb a e)) [
+      | inl same ↦ let pe : p e ≡ true = ap p (sym (eqb-true _ _ same)) ∙ pa in rw (same, pe) (omega arith)
+      | inr other ↦ rw other (omega arith)
+    ]
+
+still_has : (es : List ℕ) (a b : ℕ) → ¬ (b ≡ a) → has es b ≡ true → has (without a es) b ≡ true
+still_has [] a b apart h = absurd cc
+still_has (e ∷ es) a b apart h = elim (or_cases (eqb b e) (has es b) h) [
+  | inl same ↦
+      let other : eqb a e ≡ false = ne_eqb a e (λ is. apart (eqb-true _ _ same ∙ sym is)) in
+      rw (other, same) refl
+  | inr later ↦ elim (cases_Bool (eqb a e)) [
+    | inl is ↦ rw is (still_has es a b apart later.1)
+    | inr other ↦ rw other (rw (still_has es a b apart later.1) (or_true (eqb b e)))
+  ]
+]
+
 one_counts : (p : ℕ → Bool) (es : List ℕ) (a : ℕ) → has es a ≡ true → p a ≡ true → 1 ≤ how_many p es
-one_counts p [] a h pa = absurd cc
-one_counts p (e ∷ es) a h pa =
-    elim (or_cases (eqb a e) (has es a) h) [
-      | inl same ↦ let is : a ≡ e = eqb-true _ _ same in let pe : p e ≡ true = subst (λ (x : ℕ). p x ≡ true) is pa in rw pe (omega arith)
-      | inr other ↦ let more = one_counts p es a other.1 pa in omega arith
-    ]
+one_counts p es a h pa = let more = rw h at (one_more p es a pa) in omega arith
 
-two_count : (p : ℕ → Bool) (es : List ℕ) (a b : ℕ) → a < b → has es a ≡ true → has es b ≡ true → p a ≡ true → p b ≡ true → 2 ≤ how_many p es
-two_count p [] a b lt ha hb pa pb = absurd cc
-two_count p (e ∷ es) a b lt ha hb pa pb =
-    elim (or_cases (eqb a e) (has es a) ha) [
-      | inl same ↦
-          let is : a ≡ e = eqb-true _ _ same in
-          let pe : p e ≡ true = subst (λ (x : ℕ). p x ≡ true) is pa in
-          elim (or_cases (eqb b e) (has es b) hb) [
-            | inl also ↦ let is-b : b ≡ e = eqb-true _ _ also in absurd (omega arith)
-            | inr other ↦ let more = one_counts p es b other.1 pb in rw pe (omega arith)
-          ]
-      | inr a-later ↦ elim (or_cases (eqb b e) (has es b) hb) [
-        | inl same ↦
-            let is : b ≡ e = eqb-true _ _ same in
-            let pe : p e ≡ true = subst (λ (x : ℕ). p x ≡ true) is pb in
-            let more = one_counts p es a a-later.1 pa in rw pe (omega arith)
-        | inr b-later ↦ let more = two_count p es a b lt a-later.1 b-later.1 pa pb in omega arith
-      ]
-    ]
+two_count : (p : ℕ → Bool) (es : List ℕ) (a b : ℕ) → a < b → has es a ≡ true → has es b ≡ true → p a ≡ true
+    → p b ≡ true → 2 ≤ how_many p es
+two_count p es a b lt ha hb pa pb =
+    let more = rw ha at (one_more p es a pa) in
+    let rest = one_counts p (without a es) b (still_has es a b (omega arith) hb) pb in
+    omega arith
 
-three_count : (p : ℕ → Bool) (es : List ℕ) (a b c : ℕ) → a < b → b < c → has es a ≡ true → has es b ≡ true → has es c ≡ true → p a ≡ true → p b ≡ true → p c ≡ true → 3 ≤ how_many p es
-three_count p [] a b c lt lu ha hb hc pa pb pc = absurd cc
-three_count p (e ∷ es) a b c lt lu ha hb hc pa pb pc =
-    elim (or_cases (eqb a e) (has es a) ha) [
-      | inl same ↦
-          let is : a ≡ e = eqb-true _ _ same in
-          let pe : p e ≡ true = subst (λ (x : ℕ). p x ≡ true) is pa in
-          let more = two_count p es b c lu (later b hb (omega arith)) (later c hc (omega arith)) pb pc in rw pe (omega arith)
-      | inr a-later ↦ elim (or_cases (eqb b e) (has es b) hb) [
-        | inl same ↦
-            let is : b ≡ e = eqb-true _ _ same in
-            let pe : p e ≡ true = subst (λ (x : ℕ). p x ≡ true) is pb in
-            let more = two_count p es a c (omega arith) a-later.1 (later c hc (omega arith)) pa pc in rw pe (omega arith)
-        | inr b-later ↦ elim (or_cases (eqb c e) (has es c) hc) [
-          | inl same ↦
-              let is : c ≡ e = eqb-true _ _ same in
-              let pe : p e ≡ true = subst (λ (x : ℕ). p x ≡ true) is pc in
-              let more = two_count p es a b lt a-later.1 b-later.1 pa pb in rw pe (omega arith)
-          | inr c-later ↦ let more = three_count p es a b c lt lu a-later.1 b-later.1 c-later.1 pa pb pc in omega arith
-        ]
-      ]
-    ]
-  where
-    later : (x : ℕ) → (eqb x e || has es x) ≡ true → ¬ (x ≡ e) → has es x ≡ true
-    later x h apart = elim (or_cases (eqb x e) (has es x) h) [ inl same ↦ absurd (apart (eqb-true _ _ same)) | inr other ↦ other.1 ]
+three_count : (p : ℕ → Bool) (es : List ℕ) (a b c : ℕ) → a < b → b < c → has es a ≡ true → has es b ≡ true
+    → has es c ≡ true → p a ≡ true → p b ≡ true → p c ≡ true → 3 ≤ how_many p es
+three_count p es a b c lt lu ha hb hc pa pb pc =
+    let more = rw ha at (one_more p es a pa) in
+    let rest = two_count p (without a es) b c lu (still_has es a b (omega arith) hb)
+    (still_has es a c (omega arith) hc) pb pc in
+    omega arith
 
 -- ---- what one run costs
 

@@ -1,15 +1,16 @@
 -- No parts that name the set of the runs are shorter, whatever they are.
-use Rattle.std.proofs.Common.{◌≡◌, ℕ, ◌+◌, ◌-◌, ◌*◌, ◌<◌, ◌≤◌, List, [], ◌∷◌, ◌++◌, length, Bool, true, false}
-use Rattle.std.proofs.Common.{◌||◌, cond, eqb, refl, sym, ap, ◌∙◌, arith, inl, inr, length-append}
+use Rattle.std.proofs.Common.{◌≡◌, ℕ, ◌+◌, ◌*◌, ◌<◌, ◌≤◌, List, [], ◌∷◌, ◌++◌, length, true, false, ◌||◌}
+use Rattle.std.proofs.Common.{cond, eqb, refl, sym, ap, ◌∙◌, arith, inl, inr, length-append}
 use Rattle.std.specs.List.{flat_map}
 use Rattle.std.proofs.lemmas.Bool.{cases_lt, le-ltb}
 use Rattle.std.proofs.lemmas.Bool.Decides.{nat_tests}
+use Rattle.std.proofs.lemmas.List.Folds.{list_any-append}
 use Rattle.std.proofs.lemmas.List.{nil_from_length}
 use Rattle.krl.specs.declared.run.Run.{Run}
 use Rattle.krl.specs.Sets.{is_within, contains, is_among, AreRunsFrom, AreRuns}
 use Rattle.krl.specs.Format.{Part, Serials, Range, KeyIds, OtherPart, part_text}
-use Rattle.krl.specs.Published.{names_serial, named_set, parts_length, is_short, serials_of}
-use Rattle.krl.specs.Published.{listed, ranges, serial_list, serial_parts, AreShortest}
+use Rattle.krl.specs.Published.{names_serial, named_set, parts_length, is_short, serials_of, listed, ranges}
+use Rattle.krl.specs.Published.{serial_list, serial_parts, AreShortest}
 use Rattle.lines.proofs.Cases.{or_order}
 use Rattle.krl.proofs.Booleans.{ltb-yes, or_group}
 use Rattle.krl.proofs.LengthLaws.{u64s_length}
@@ -34,13 +35,9 @@ ranges_in (Range r ∷ ps) = r ∷ ranges_in ps
 ranges_in (KeyIds ids ∷ ps) = ranges_in ps
 ranges_in (OtherPart t bytes ∷ ps) = ranges_in ps
 
-has_append : (xs ys : List ℕ) (n : ℕ) → has (xs ++ ys) n ≡ (has xs n || has ys n)
-has_append [] ys n = refl
-has_append (x ∷ xs) ys n = ap (λ b. eqb n x || b) (has_append xs ys n) ∙ sym (or_group (eqb n x) (has xs n) (has ys n))
-
 named_parts : (ps : List Part) (n : ℕ) → named_set ps n ≡ (has (serials_in ps) n || contains (ranges_in ps) n)
 named_parts [] n = refl
-named_parts (Serials ns ∷ ps) n = ap (λ b. has ns n || b) (named_parts ps n) ∙ sym (or_group (has ns n) (has (serials_in ps) n) (contains (ranges_in ps) n)) ∙ ap (λ b. b || contains (ranges_in ps) n) (sym (has_append ns (serials_in ps) n))
+named_parts (Serials ns ∷ ps) n = ap (λ b. has ns n || b) (named_parts ps n) ∙ sym (or_group (has ns n) (has (serials_in ps) n) (contains (ranges_in ps) n)) ∙ ap (λ b. b || contains (ranges_in ps) n) (sym (list_any-append (eqb n) ns (serials_in ps)))
 named_parts (Range r ∷ ps) n = ap (λ b. is_within n r || b) (named_parts ps n) ∙ or_order (is_within n r) (has (serials_in ps) n) (contains (ranges_in ps) n)
 named_parts (KeyIds ids ∷ ps) n = named_parts ps n
 named_parts (OtherPart t bytes ∷ ps) n = named_parts ps n
@@ -108,11 +105,12 @@ parts_bytes (p ∷ ps) = let one = part_bytes p in let more = parts_bytes ps in 
 
 ranges_bytes : (rs : List Run) → parts_length (ranges rs) ≡ parts_len (ranges rs)
 ranges_bytes [] = refl
-ranges_bytes (r ∷ rs) = by_test (is_short r) (ranges_bytes rs)
-  where
-    by_test : (b : Bool) → parts_length (ranges rs) ≡ parts_len (ranges rs) → parts_length (cond b (ranges rs) (Range r ∷ ranges rs)) ≡ parts_len (cond b (ranges rs) (Range r ∷ ranges rs))
-    by_test true more = more
-    by_test false more = let both = length-append (part_text (Range r)) (flat_map part_text (ranges rs)) in omega arith
+ranges_bytes (r ∷ rs) =
+    let both = length-append (part_text (Range r)) (flat_map part_text (ranges rs)) in
+    let more = ranges_bytes rs in
+    elim (is_short r) as (λ b.
+    parts_length (cond b (ranges rs) (Range r ∷ ranges rs)) ≡ parts_len (cond b (ranges rs) (Range r ∷ ranges rs)))
+    [ true ↦ more | false ↦ omega arith ]
 
 -- the parts that are written cost just their length
 pub serial_bytes : (rs : List Run) → parts_length (serial_parts rs) ≡ parts_len (serial_parts rs)
@@ -134,10 +132,6 @@ shortest_bytes rs others h same = let cost = shortest_cost rs others h same in l
 run_named : (r : Run) (n : ℕ) → r.lo ≤ r.hi → r.hi < r.lo + 2 → is_among (serials_of r) n ≡ is_within n r
 run_named r n le lt = grind (arith, nat_tests)
 
-named_append : (ps qs : List Part) (n : ℕ) → named_set (ps ++ qs) n ≡ (named_set ps n || named_set qs n)
-named_append [] qs n = refl
-named_append (p ∷ ps) qs n = ap (λ b. names_serial n p || b) (named_append ps qs n) ∙ sym (or_group (names_serial n p) (named_set ps n) (named_set qs n))
-
 list_named : (ns : List ℕ) (n : ℕ) → named_set (serial_list ns) n ≡ is_among ns n
 list_named [] n = refl
 list_named (m ∷ ns) n = or-false (is_among (m ∷ ns) n)
@@ -146,7 +140,7 @@ runs_named : (from : ℕ) (rs : List Run) (n : ℕ) → AreRunsFrom from rs → 
 runs_named from [] n h = refl
 runs_named from (r ∷ rs) n h = elim (cases_lt r.hi (r.lo + 2)) [
   | inl lt ↦ rw (ltb-yes lt) (
-      ap (λ b. b || named_set (ranges rs) n) (has_append (serials_of r) (listed rs) n)
+      ap (λ b. b || named_set (ranges rs) n) (list_any-append (eqb n) (serials_of r) (listed rs))
       ∙ or_group (is_among (serials_of r) n) (is_among (listed rs) n) (named_set (ranges rs) n)
       ∙ ap (λ b. b || (is_among (listed rs) n || named_set (ranges rs) n)) (run_named r n h.1 lt)
       ∙ ap (λ b. is_within n r || b) (runs_named (r.hi + 2) rs n h.3))
@@ -154,7 +148,7 @@ runs_named from (r ∷ rs) n h = elim (cases_lt r.hi (r.lo + 2)) [
 ]
 
 pub serials_named : (rs : List Run) (n : ℕ) → AreRuns rs → named_set (serial_parts rs) n ≡ contains rs n
-serials_named rs n h = named_append (serial_list (listed rs)) (ranges rs) n ∙ ap (λ b. b || named_set (ranges rs) n) (list_named (listed rs) n) ∙ runs_named 0 rs n h
+serials_named rs n h = list_any-append (names_serial n) (serial_list (listed rs)) (ranges rs) ∙ ap (λ b. b || named_set (ranges rs) n) (list_named (listed rs) n) ∙ runs_named 0 rs n h
 
 -- the parts that are written are shortest
 pub are_shortest : (rs : List Run) → AreRuns rs → AreShortest (serial_parts rs) rs

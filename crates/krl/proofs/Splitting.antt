@@ -4,7 +4,7 @@ use Rattle.std.proofs.Common.{false, ◌&&◌, ◌||◌, ◌⊎◌, leb, ltb, Op
 use Rattle.std.specs.Prelude.{min, max, slice_get}
 use Rattle.std.specs.List.{list_all, filter_map}
 use Rattle.std.specs.List.Sorted.{IsNonDecreasing}
-use Rattle.std.proofs.lemmas.Bool.{cases_lt, le-ltb}
+use Rattle.std.proofs.lemmas.Bool.{cases_lt, le-leb, le-ltb}
 use Rattle.std.proofs.lemmas.Bool.Decides.{nat_tests}
 use Rattle.std.proofs.lemmas.List.Sorted.{IsNonDecreasingBy-drop}
 use Rattle.krl.specs.declared.run.Run.{Run}
@@ -23,23 +23,20 @@ CutCases from before r =
     ((cut_run from before r ≡ None) × ((n : ℕ) → (is_between from before n && is_within n r) ≡ false))
     ⊎ ((c : Run) × (cut_run from before r ≡ Some c) × (r.lo ≤ c.lo) × (c.lo ≤ c.hi) × (c.hi ≤ r.hi) × ((n : ℕ) → is_within n c ≡ (is_between from before n && is_within n r)))
 
-leb-yes : (a b : ℕ) → a ≤ b → leb a b ≡ true
-leb-yes a b le = grind (arith, nat_tests)
-
 leb-no : (a b : ℕ) → b < a → leb a b ≡ false
 leb-no a b lt = grind (arith, nat_tests)
 
 cut_cases : (from : ℕ) (before : Option ℕ) (r : Run) → r.lo ≤ r.hi → CutCases from before r
 cut_cases from None r le = elim (cases_lt r.hi (max r.lo from)) [
   | inl lt ↦ inl (rw (leb-no (max r.lo from) r.hi lt) refl, λ n. grind (arith, nat_tests))
-  | inr ge ↦ inr (record { lo = max r.lo from; hi = r.hi }, rw (leb-yes (max r.lo from) r.hi ge) refl, omega arith, ge, omega arith, λ n. grind (arith, nat_tests))
+  | inr ge ↦ inr (record { lo = max r.lo from; hi = r.hi }, rw (le-leb (max r.lo from) r.hi ge) refl, omega arith, ge, omega arith, λ n. grind (arith, nat_tests))
 ]
 cut_cases from (Some bound) r le = elim (cases_lt (max r.lo from) bound) [
   | inl lt ↦ rw (leb-no bound (max r.lo from) lt) (elim (cases_lt (min r.hi (bound - 1)) (max r.lo from)) [
     | inl none ↦ inl (rw (leb-no (max r.lo from) (min r.hi (bound - 1)) none) refl, λ n. grind (arith, nat_tests))
-    | inr ge ↦ inr (record { lo = max r.lo from; hi = min r.hi (bound - 1) }, rw (leb-yes (max r.lo from) (min r.hi (bound - 1)) ge) refl, omega arith, ge, omega arith, λ n. grind (arith, nat_tests))
+    | inr ge ↦ inr (record { lo = max r.lo from; hi = min r.hi (bound - 1) }, rw (le-leb (max r.lo from) (min r.hi (bound - 1)) ge) refl, omega arith, ge, omega arith, λ n. grind (arith, nat_tests))
   ])
-  | inr past ↦ inl (rw (leb-yes bound (max r.lo from) past) refl, λ n. grind (arith, nat_tests))
+  | inr past ↦ inl (rw (le-leb bound (max r.lo from) past) refl, λ n. grind (arith, nat_tests))
 ]
 
 and_or : (p a b : Bool) → ((p && a) || (p && b)) ≡ (p && (a || b))

@@ -5,8 +5,8 @@ use Rattle.std.specs.Int.{w32, w64}
 use Rattle.wire.specs.Texts.{u32_text, u64_text, string_text}
 use Rattle.wire.proofs.Laws.{wide32, wide64, number_unique, string_unique}
 use Rattle.krl.specs.Format.{Part, Serials, Range, KeyIds, OtherPart, part_type, part_data, part_text, Section}
-use Rattle.krl.specs.Format.{Certificates, OtherSection, section_type, section_data, section_text, Header}
-use Rattle.krl.specs.Format.{header_text, magic, RevocationList, IsString, IsPart, IsSection, IsHeader, IsCut}
+use Rattle.krl.specs.Format.{Certificates, OtherSection, section_type, section_data, section_text, Header, header_text}
+use Rattle.krl.specs.Format.{magic, RevocationList, IsString, IsPart, IsSection, IsHeader, IsCut}
 use Rattle.krl.specs.Faults.{IsU32, IsU64, Tagged, text_of, HasString}
 
 -- what follows one text of the kind follows no other

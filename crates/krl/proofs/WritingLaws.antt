@@ -1,6 +1,6 @@
 -- Texts of parts and sections, piece by piece.
-use Rattle.std.proofs.Common.{◌≡◌, ◌≢◌, ℕ, zero, suc, ◌<◌, List, [], ◌∷◌, ◌++◌, length, get_or, true}
-use Rattle.std.proofs.Common.{false, eqb, Option, Some, None, refl, sym, ap, ◌∙◌, arith, append_assoc}
+use Rattle.std.proofs.Common.{◌≡◌, ◌≢◌, ℕ, zero, suc, ◌<◌, List, [], ◌∷◌, ◌++◌, length, get_or, true, false, eqb}
+use Rattle.std.proofs.Common.{Option, Some, None, refl, sym, ap, ◌∙◌, arith, append_assoc}
 use Rattle.std.specs.Option.{SomeIff}
 use Rattle.std.specs.List.{sum_by, flat_map}
 use Rattle.std.proofs.lemmas.Bool.{ne_eqb}
@@ -11,8 +11,8 @@ use Rattle.wire.specs.Texts.{u32_text, u64_text, string_text}
 use Rattle.krl.specs.declared.run.Run.{Run}
 use Rattle.krl.specs.declared.ca_part.CaPart.{CaPart}
 use Rattle.krl.specs.Format.{Serials, KeyIds, part_text, section_data, section_text}
-use Rattle.krl.specs.Published.{is_short, listed, ranges, serial_list, serial_parts, key_id_parts}
-use Rattle.krl.specs.Published.{is_idle, ca_section, sections_of, published_sections}
+use Rattle.krl.specs.Published.{is_short, listed, ranges, serial_list, serial_parts, key_id_parts, is_idle, ca_section}
+use Rattle.krl.specs.Published.{sections_of, published_sections}
 use Rattle.krl.specs.Lengths.{listed_text, listed_length, range_text, key_id_length}
 use Rattle.krl.proofs.LengthLaws.{listed_texts, listed_lengths, range_texts, key_ids_lengths}
 

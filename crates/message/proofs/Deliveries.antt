@@ -9,7 +9,7 @@ use Rattle.message.specs.Values.{is_delivery, is_digest, is_lower_hex, is_signat
 use Rattle.message.specs.Texts.{delivery_lines}
 use Rattle.message.specs.Reading.{delivery_in}
 use Rattle.message.specs.declared.delivery.Delivery.{Delivery}
-use Rattle.message.proofs.Fields.{lacks_by, text_field}
+use Rattle.message.proofs.Fields.{text_field}
 use Rattle.values.proofs.SerialLemmas.{serial_small}
 use Rattle.message.proofs.Numbers.{number_field}
 use Rattle.message.proofs.Signatures.{signature_field}
@@ -33,15 +33,13 @@ whole_lines : IsReading 0 delivery_in IsWhole delivery_lines
 unfolding delivery_in
 whole_lines =
     line_then 0 _ _ _ (λ d. d.serial) _ _ _
-    (number_field is_serial (codes "deliver ") (lacks_by 10 (codes "deliver ") refl) refl serial_small) 1 refl
+    (number_field is_serial (codes "deliver ") refl refl serial_small) 1 refl
     (λ serial _. line_then 1 _ _ _ (λ d. d.digest) _ _ _
-    (text_field (codes "digest ") is_digest (lacks_by 10 (codes "digest ") refl) refl digest_line)
-    (replicate 64 48) refl
+    (text_field (codes "digest ") is_digest refl refl digest_line) (replicate 64 48) refl
     (λ digest _. line_then 2 _ _ _ (λ d. d.signature) _ _ _
-    (signature_field (codes "signature ") (lacks_by 10 (codes "signature ") refl) refl) some_signature refl
+    (signature_field (codes "signature ") refl refl) some_signature refl
     (λ signature _. then_end 3 (record { serial = serial; digest = digest; signature = signature }))
-    (λ x d e. ap (λ (d : Delivery). d.signature) e))
-    (λ x d p. ap (λ (d : Delivery). d.digest) p.1))
+    (λ x d e. ap (λ (d : Delivery). d.signature) e)) (λ x d p. ap (λ (d : Delivery). d.digest) p.1))
     (λ x d p. ap (λ (d : Delivery). d.serial) p.1.1)
 
 -- a delivery is read from its text alone, its text is read, and the fault is at the first line of no delivery

@@ -9,16 +9,8 @@ use Rattle.values.specs.Names.{is_name}
 use Rattle.values.specs.declared.kind.Kind.{Kind}
 use Rattle.values.specs.declared.kind.Kind.TheVariants.{User, Host}
 use Rattle.message.specs.declared.department.Department.{Department}
-use Rattle.message.specs.Values.{
-  are_administrators,
-  are_rules,
-  are_option_names,
-  are_extension_names,
-  are_namespaces,
-  fits_kind,
-  is_longest_life,
-  is_department,
-}
+use Rattle.message.specs.Values.{are_administrators, are_rules, are_option_names, are_extension_names, are_namespaces}
+use Rattle.message.specs.Values.{fits_kind, is_longest_life, is_department}
 use Rattle.message.specs.Texts.{kind_text, department_lines}
 use Rattle.message.specs.Reading.{kind_of, department_in}
 use Rattle.message.proofs.Readings.{IsField, IsLine, IsReading}
@@ -26,14 +18,8 @@ use Rattle.message.proofs.FirstLines.{line_then}
 use Rattle.message.proofs.Ends.{then_end}
 use Rattle.message.proofs.Wordings.{same_messages}
 use Rattle.message.proofs.Fields.{lacks_by, text_field, list_field}
-use Rattle.message.proofs.Elements.{
-  name_lacks,
-  administrators_lack,
-  rules_lack,
-  option_names_lack,
-  extension_names_lack,
-  namespaces_lack,
-}
+use Rattle.message.proofs.Elements.{name_lacks, administrators_lack, rules_lack, option_names_lack}
+use Rattle.message.proofs.Elements.{extension_names_lack, namespaces_lack}
 use Rattle.message.proofs.Numbers.{number_field, longest_life_small}
 
 -- the line of a kind
@@ -81,32 +67,24 @@ whole_lines : IsReading 0 department_in IsWhole department_lines
 unfolding department_in
 whole_lines =
     line_then 0 _ _ _ (λ d. d.name) _ _ _
-    (text_field (codes "department ") is_name (lacks_by 10 (codes "department ") refl) refl (name_lacks 10 refl))
-    (codes "a") refl
+    (text_field (codes "department ") is_name refl refl (name_lacks 10 refl)) (codes "a") refl
     (λ name _. line_then 1 _ _ _ (λ d. d.kind) _ _ _ kind_field User tt
     (λ kind _. line_then 2 _ _ _ (λ d. d.administrators) _ _ _
-    (list_field (codes "admins") are_administrators (lacks_by 10 (codes "admins") refl) refl
-    administrators_lack) [] refl
-    (λ administrators _. line_then 3 _ _ _ (λ d. d.rules) _ _ _
-    (list_field (codes "principals") are_rules (lacks_by 10 (codes "principals") refl) refl rules_lack)
-    (codes "a" ∷ []) refl
+    (list_field (codes "admins") are_administrators refl refl
+    administrators_lack) [] refl (λ administrators _. line_then 3 _ _ _ (λ d. d.rules) _ _ _
+    (list_field (codes "principals") are_rules refl refl rules_lack) (codes "a" ∷ []) refl
     (λ rules _. line_then 4 _ _ _ (λ d. d.options) _ _ _
     (list_field (codes "options") (λ ts. are_option_names ts && fits_kind kind ts)
-    (lacks_by 10 (codes "options") refl) refl (λ ts is. option_names_lack ts (and_parts _ _ is).0)) []
-    (none_fits kind)
+    refl refl (λ ts is. option_names_lack ts (and_parts _ _ is).0)) [] (none_fits kind)
     (λ options _. line_then 5 _ _ _ (λ d. d.extensions) _ _ _
     (list_field (codes "extensions") (λ ts. are_extension_names ts && fits_kind kind ts)
-    (lacks_by 10 (codes "extensions") refl) refl (λ ts is. extension_names_lack ts (and_parts _ _ is).0)) []
-    (none_fits kind)
+    refl refl (λ ts is. extension_names_lack ts (and_parts _ _ is).0)) [] (none_fits kind)
     (λ extensions _. line_then 6 _ _ _ (λ d. d.longest_life) _ _ _
-    (number_field is_longest_life (codes "maxlife ") (lacks_by 10 (codes "maxlife ") refl) refl
-    longest_life_small) 1 refl
-    (λ longest_life _. line_then 7 _ _ _ (λ d. d.namespaces) _ _ _
+    (number_field is_longest_life (codes "maxlife ") refl refl
+    longest_life_small) 1 refl (λ longest_life _. line_then 7 _ _ _ (λ d. d.namespaces) _ _ _
     (list_field (codes "namespaces") (λ ts. are_namespaces ts && fits_kind kind ts)
-    (lacks_by 10 (codes "namespaces") refl) refl (λ ts is. namespaces_lack ts (and_parts _ _ is).0)) []
-    (none_fits kind)
-    (λ namespaces _. then_end 8
-    (record {
+    refl refl (λ ts is. namespaces_lack ts (and_parts _ _ is).0)) [] (none_fits kind)
+    (λ namespaces _. then_end 8 (record {
       name = name;
       kind = kind;
       administrators = administrators;
@@ -117,8 +95,7 @@ whole_lines =
       longest_life = longest_life;
       namespaces = namespaces;
     }))
-    (λ x d e. ap (λ (d : Department). d.namespaces) e))
-    (λ x d p. ap (λ (d : Department). d.longest_life) p.1))
+    (λ x d e. ap (λ (d : Department). d.namespaces) e)) (λ x d p. ap (λ (d : Department). d.longest_life) p.1))
     (λ x d p. ap (λ (d : Department). d.extensions) p.1.1))
     (λ x d p. ap (λ (d : Department). d.options) p.1.1.1))
     (λ x d p. ap (λ (d : Department). d.rules) p.1.1.1.1))

@@ -1,7 +1,7 @@
 -- What may stand in a line: no name, rule, principal, key id, namespace, option or number has a line feed or, in
 -- lists, a comma.
-use Rattle.std.proofs.Common.{◌≡◌, ℕ, List, [], ◌∷◌, length, drop, Bool, true}
-use Rattle.std.proofs.Common.{false, not, eqb, refl, sym, ap, subst, ◌∙◌, inl, inr}
+use Rattle.std.proofs.Common.{◌≡◌, ℕ, List, [], ◌∷◌, length, drop, Bool, true, false, not, eqb, refl, sym, ap, subst}
+use Rattle.std.proofs.Common.{◌∙◌, inl, inr}
 use Rattle.std.specs.List.{list_all, list_any}
 use Rattle.std.specs.Str.{bytes_eq}
 use Rattle.std.proofs.lemmas.Bool.{and_parts, or_cases, eqb-true}
@@ -12,8 +12,8 @@ use Rattle.values.specs.Names.{is_key_id, is_key_id_byte, is_key_id_end, is_name
 use Rattle.values.specs.Options.{is_known, known_names}
 use Rattle.values.specs.declared.option_field.OptionField.{OptionField}
 use Rattle.values.specs.declared.option_field.OptionField.TheVariants.{CriticalOptions, Extensions}
-use Rattle.message.specs.Values.{are_administrators, are_rules, are_principals}
-use Rattle.message.specs.Values.{are_option_names, are_extension_names, are_namespaces}
+use Rattle.message.specs.Values.{are_administrators, are_rules, are_principals, are_option_names, are_extension_names}
+use Rattle.message.specs.Values.{are_namespaces}
 use Rattle.values.proofs.Lacking.{Lacks, lacks_from}
 use Rattle.message.proofs.Fields.{lacks_by, AllLack, all_lack}
 use Rattle.values.proofs.NameLemmas.{department_cut}

@@ -1,33 +1,6 @@
 -- The end behind the last line.
-use Rattle.std.proofs.Common.{
-  ◌≡◌,
-  ℕ,
-  suc,
-  ◌+◌,
-  ◌-◌,
-  ◌<◌,
-  List,
-  [],
-  ◌∷◌,
-  length,
-  drop,
-  Bool,
-  true,
-  false,
-  cond,
-  eqb,
-  Option,
-  Result,
-  Ok,
-  Err,
-  refl,
-  sym,
-  ap,
-  ◌∙◌,
-  arith,
-  length-drop,
-  eq-eqb,
-}
+use Rattle.std.proofs.Common.{◌≡◌, ℕ, suc, ◌+◌, ◌-◌, ◌<◌, List, [], ◌∷◌, length, drop, Bool, true, false, cond, eqb}
+use Rattle.std.proofs.Common.{Option, Result, Ok, Err, refl, sym, ap, ◌∙◌, arith, length-drop, eq-eqb}
 use Rattle.std.specs.List.{list_any}
 use Rattle.std.proofs.Math.Bool.{or-false}
 use Rattle.std.proofs.lemmas.Bool.{eqb-true, and_parts}
@@ -72,15 +45,12 @@ module _ {M : Type 0} (k : ℕ) (whole : M) where
       → FirstFault k (λ m. m ≡ whole) (λ _. []) ps i
   end_fault ps i true inside e = absurd cc
   end_fault ps i false inside e =
-      let from : 0 < length (drop k ps) = rw (length-drop k ps) (omega arith) in (
-        0,
-        (
-          error_at k i e,
-          (whole, (refl, shares_none (drop k ps) ([] ∷ []) from (omega arith))),
-          λ m is shared.
-              absurd (omega (arith, shared.1)),
-        ),
-      )
+      let from : 0 < length (drop k ps) = rw (length-drop k ps) (omega arith) in record {
+        count = 0;
+        at = error_at k i e;
+        some = (whole, refl, shares_none (drop k ps) ([] ∷ []) from (omega arith));
+        none = λ m is shared. absurd (omega (arith, shared.1));
+      }
 
   -- the end behind the last line
   pub then_end : IsReading k (λ ps. cond (ends_after k ps) (Ok whole) (Err (suc k))) (λ m. m ≡ whole) (λ _. [])

@@ -1,6 +1,6 @@
 -- Values behind a word: what is read is the value's text, and the text is read.
-use Rattle.std.proofs.Common.{◌≡◌, ℕ, List, [], ◌∷◌, ◌++◌, length, take, drop, Bool, true, false, not, eqb}
-use Rattle.std.proofs.Common.{Option, Some, None, refl, sym, ap, subst, ◌∙◌, arith, inl, inr, append-nil}
+use Rattle.std.proofs.Common.{◌≡◌, ℕ, List, [], ◌∷◌, ◌++◌, length, take, drop, Bool, true, false, not, eqb, Option}
+use Rattle.std.proofs.Common.{Some, None, refl, sym, ap, subst, ◌∙◌, arith, inl, inr, append-nil}
 use Rattle.std.specs.List.{list_all, slice_split, join_with_byte, AllByRecursion}
 use Rattle.std.specs.Option.{option_and_then}
 use Rattle.std.specs.Str.{bytes_eq}
@@ -8,17 +8,13 @@ use Rattle.std.proofs.Math.Seq.{take-append_seam, drop-append_seam}
 use Rattle.std.proofs.lemmas.Bool.{cases_Bool, cond-true, cond-false, and_parts, eqb-true, not-true}
 use Rattle.std.proofs.lemmas.List.{take-append-drop}
 use Rattle.std.proofs.lemmas.List.Elements.{All-append, All-cons, All-nil}
-use Rattle.std.proofs.lemmas.List.Splits.{
-  slice_split_at,
-  slice_split_none,
-  join_with_byte-slice_split,
-  length-slice_split,
-}
+use Rattle.std.proofs.lemmas.List.Splits.{join_with_byte-slice_split}
+use Rattle.std.proofs.lemmas.List.Splits.{length-slice_split}
 use Rattle.std.proofs.lemmas.List.Sums.{AllPass-from_list_all}
 use Rattle.std.proofs.lemmas.Option.{option_and_then_some, same_Some}
 use Rattle.std.proofs.lemmas.Slice.Eq.{bytes_eq-Decides}
 use Rattle.base64.specs.GeneralPurpose.{IsBytes}
-use Rattle.values.proofs.Lacking.{Lacks}
+use Rattle.values.proofs.Lacking.{Lacks, slice_split-join_with_byte}
 use Rattle.lines.proofs.Base64.{IsBytes-drop}
 use Rattle.message.specs.Texts.{list_line}
 use Rattle.message.specs.Reading.{after, passing, listed}
@@ -29,6 +25,10 @@ use Rattle.message.proofs.Readings.{IsField, IsLine}
 -- a text of which this can be computed
 pub lacks_by : (byte : ℕ) (t : List ℕ) → list_all (λ b. not (eqb b byte)) t ≡ true → Lacks byte t
 lacks_by byte t all = λ k d inside. not-true _ (AllPass-from_list_all (λ b. not (eqb b byte)) t all k d inside)
+
+-- A word that stands at the head of a line has no line feed.
+abbrev pub IsHead : List ℕ → Type 0
+IsHead head = list_all (λ b. not (eqb b 10)) head ≡ true
 
 -- texts, none of which has the byte
 abbrev pub AllLack : ℕ → List (List ℕ) → Type 0
@@ -99,7 +99,7 @@ value_passing read text test found again is_line = record {
 
 -- a value behind a word that can be computed with
 pub value_after : {X : Type 0} (head : List ℕ) (read : List ℕ → Option X) (text : X → List ℕ) (IsLawful : X → Type 0)
-    → IsLine head → after head [] ≡ None → IsValue read text IsLawful
+    → IsHead head → after head [] ≡ None → IsValue read text IsLawful
     → IsField (λ l. option_and_then read (after head l)) (λ x. head ++ text x) IsLawful
 value_after head read text IsLawful line empty value = record {
   found = λ l x fits e. option_and_then_some read (after head l) x e
@@ -110,18 +110,15 @@ value_after head read text IsLawful line empty value = record {
       (is.0, at.0 ∙ ap (λ (y : List ℕ). head ++ y) is.1));
   again = λ x lawful. ap (option_and_then read) (after_again head (text x)) ∙ value.again x lawful;
   empty = ap (option_and_then read) empty;
-  is_line = λ x lawful. All-append (λ b. eqb b 10 ≡ false) head (text x) line (value.is_line x lawful);
+  is_line = λ x lawful.
+      All-append (λ b. eqb b 10 ≡ false) head (text x) (lacks_by 10 head line) (value.is_line x lawful);
 }
 
 -- a field by another way of reading
 pub same_field : {X : Type 0} (read again : List ℕ → Option X) (text : X → List ℕ) (IsLawful : X → Type 0)
     → ((l : List ℕ) → again l ≡ read l) → IsField read text IsLawful → IsField again text IsLawful
-same_field read again text IsLawful same field = record {
-  found = λ l x fits e. field.found l x fits (sym (same l) ∙ e);
-  again = λ x lawful. same (text x) ∙ field.again x lawful;
-  empty = same [] ∙ field.empty;
-  is_line = field.is_line;
-}
+same_field {X} read again text IsLawful same field =
+    subst (λ (r : List ℕ → Option X). IsField r text IsLawful) (λ i l. sym (same l) i) field
 
 and_then_assoc : {A B C : Type 0} (f : A → Option B) (g : B → Option C) (o : Option A)
     → option_and_then g (option_and_then f o) ≡ option_and_then (λ x. option_and_then g (f x)) o
@@ -130,7 +127,7 @@ and_then_assoc f g (Some x) = refl
 
 -- a value behind a word that passes a test
 pub field_passing : {X : Type 0} (head : List ℕ) (read : List ℕ → Option X) (text : X → List ℕ) (test : X → Bool)
-    → IsLine head → after head [] ≡ None
+    → IsHead head → after head [] ≡ None
     → ((t : List ℕ) (x : X) → IsBytes t → read t ≡ Some x → t ≡ text x)
     → ((x : X) → test x ≡ true → read (text x) ≡ Some x)
     → ((x : X) → test x ≡ true → IsLine (text x))
@@ -139,13 +136,12 @@ pub field_passing : {X : Type 0} (head : List ℕ) (read : List ℕ → Option X
 field_passing head read text test line empty found again is_line =
     same_field (λ l. option_and_then (λ t. option_and_then (passing test) (read t)) (after head l))
     (λ l. option_and_then (passing test) (option_and_then read (after head l))) (λ x. head ++ text x)
-    (λ x. test x ≡ true)
-    (λ l. and_then_assoc read (passing test) (after head l))
+    (λ x. test x ≡ true) (λ l. and_then_assoc read (passing test) (after head l))
     (value_after head (λ t. option_and_then (passing test) (read t)) text (λ x. test x ≡ true) line empty
     (value_passing read text test found again is_line))
 
 -- a text behind a word that passes a test
-pub text_field : (head : List ℕ) (test : List ℕ → Bool) → IsLine head → after head [] ≡ None
+pub text_field : (head : List ℕ) (test : List ℕ → Bool) → IsHead head → after head [] ≡ None
     → ((t : List ℕ) → test t ≡ true → IsLine t)
     → IsField (λ l. option_and_then (passing test) (after head l)) (λ t. head ++ t) (λ t. test t ≡ true)
 text_field head test line empty is_line =
@@ -169,20 +165,13 @@ list_text word (t ∷ ts) = refl
 -- a field with the same texts
 pub same_text : {X : Type 0} (read : List ℕ → Option X) (text texts : X → List ℕ) (IsLawful : X → Type 0)
     → ((x : X) → text x ≡ texts x) → IsField read text IsLawful → IsField read texts IsLawful
-same_text read text texts IsLawful same field = record {
-  found = λ l x fits e. let is = field.found l x fits e in (is.0, is.1 ∙ same x);
-  again = λ x lawful. ap read (sym (same x)) ∙ field.again x lawful;
-  empty = field.empty;
-  is_line = λ x lawful. subst IsLine (same x) (field.is_line x lawful);
-}
+same_text {X} read text texts IsLawful same field =
+    subst (λ (t : X → List ℕ). IsField read t IsLawful) (λ i x. same x i) field
 
 -- texts joined by commas are cut at the commas
 pub split_joined : (t : List ℕ) (ts : List (List ℕ)) → AllLack 44 (t ∷ ts)
     → slice_split (λ c. eqb c 44) (join_with_byte 44 (t ∷ ts)) ≡ t ∷ ts
-split_joined t [] h = slice_split_none (λ c. eqb c 44) t h.0
-split_joined t (u ∷ ts) h =
-    slice_split_at (λ c. eqb c 44) t 44 (join_with_byte 44 (u ∷ ts)) h.0 refl
-    ∙ ap (λ (xs : List (List ℕ)). t ∷ xs) (split_joined u ts h.1)
+split_joined = slice_split-join_with_byte 44
 
 -- the text of a list that is not empty
 cut_text : (text : List ℕ) (ts : List (List ℕ)) → slice_split (λ c. eqb c 44) text ≡ ts → 32 ∷ text ≡ listed_text ts
@@ -210,7 +199,7 @@ listed_line (t ∷ ts) h =
     All-cons (λ b. eqb b 10 ≡ false) 32 (join_with_byte 44 (t ∷ ts)) refl (lacks_joined 10 44 (t ∷ ts) refl h)
 
 -- a list behind its word that passes a test
-pub list_field : (word : List ℕ) (test : List (List ℕ) → Bool) → IsLine word → after word [] ≡ None
+pub list_field : (word : List ℕ) (test : List (List ℕ) → Bool) → IsHead word → after word [] ≡ None
     → ((ts : List (List ℕ)) → test ts ≡ true → AllLack 44 ts × AllLack 10 ts)
     → IsField (λ l. option_and_then (passing test) (option_and_then listed (after word l))) (list_line word)
     (λ ts. test ts ≡ true)

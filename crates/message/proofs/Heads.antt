@@ -1,28 +1,6 @@
 -- What a line begins with.
-use Rattle.std.proofs.Common.{
-  ◌≡◌,
-  ℕ,
-  List,
-  [],
-  ◌∷◌,
-  ◌++◌,
-  length,
-  take,
-  drop,
-  Bool,
-  true,
-  false,
-  not,
-  ◌||◌,
-  eqb,
-  Some,
-  None,
-  sym,
-  ap,
-  ◌∙◌,
-  inl,
-  inr,
-}
+use Rattle.std.proofs.Common.{◌≡◌, ℕ, List, [], ◌∷◌, ◌++◌, length, take, drop, Bool, true, false, not, ◌||◌, eqb, Some}
+use Rattle.std.proofs.Common.{None, sym, ap, ◌∙◌, inl, inr}
 use Rattle.std.specs.Option.{is_some}
 use Rattle.std.specs.Str.{bytes_eq}
 use Rattle.std.proofs.lemmas.Bool.{cases_Bool, cond-false, or_cases, not-true, eq-eqb}
@@ -36,11 +14,11 @@ has_head head line = is_some (after head line)
 
 -- Line 1 of a text begins with these bytes, or does not.
 abbrev pub Heads : List ℕ → Bool → List (List ℕ) → Type 0
-Heads head answer lines = (l : List ℕ) × ((ls : List (List ℕ)) × ((lines ≡ l ∷ ls) × (has_head head l ≡ answer)))
+Heads head answer lines = (l : List ℕ) × (ls : List (List ℕ)) × (lines ≡ l ∷ ls) × (has_head head l ≡ answer)
 
 -- Line 1 of a text is these bytes and more.
 abbrev pub Begins : List ℕ → List (List ℕ) → Type 0
-Begins head lines = (t : List ℕ) × ((ls : List (List ℕ)) × (lines ≡ (head ++ t) ∷ ls))
+Begins head lines = (t : List ℕ) × (ls : List (List ℕ)) × (lines ≡ (head ++ t) ∷ ls)
 
 -- two beginnings that differ within the shorter one
 abbrev pub are_apart : List ℕ → List ℕ → Bool
@@ -61,7 +39,7 @@ not_front (a ∷ h) (b ∷ g) t e same = elim (or_cases (not (eqb a b)) (are_apa
 -- a line that begins with the one does not begin with the other
 pub other_head : (head begun : List ℕ) → are_apart head begun ≡ true → (lines : List (List ℕ)) → Begins begun lines
     → Heads head false lines
-other_head head begun apart lines first = (begun ++ first.0, (first.1.0, (first.1.1, not_begun first.0)))
+other_head head begun apart lines first = (begun ++ first.0, first.1, first.2, not_begun first.0)
   where
     not_begun : (t : List ℕ) → has_head head (begun ++ t) ≡ false
     not_begun t = elim (cases_Bool (bytes_eq (take (length head) (begun ++ t)) head)) [
@@ -71,5 +49,4 @@ other_head head begun apart lines first = (begun ++ first.0, (first.1.0, (first.
 
 -- a line that begins so
 pub same_head : (head : List ℕ) (lines : List (List ℕ)) → Begins head lines → Heads head true lines
-same_head head lines first =
-    (head ++ first.0, (first.1.0, (first.1.1, ap is_some (after_again head first.0))))
+same_head head lines first = (head ++ first.0, first.1, first.2, ap is_some (after_again head first.0))

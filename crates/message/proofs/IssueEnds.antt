@@ -1,7 +1,7 @@
 -- Issues from their option lines on.
-use Rattle.std.proofs.Common.{◌≡◌, ℕ, zero, suc, ◌+◌, ◌≤◌, List, [], ◌∷◌, ◌++◌, length, map, drop}
-use Rattle.std.proofs.Common.{true, cond, ◌⊎◌, Option, Some, None, Result, Ok, Err, refl, sym, ap}
-use Rattle.std.proofs.Common.{subst, ◌∙◌, arith, inl, inr, append-nil, append_assoc, length-append}
+use Rattle.std.proofs.Common.{◌≡◌, ℕ, zero, suc, ◌+◌, ◌≤◌, List, [], ◌∷◌, ◌++◌, length, map, drop, true, cond, ◌⊎◌}
+use Rattle.std.proofs.Common.{Some, None, Result, Ok, Err, refl, sym, ap, subst, ◌∙◌, arith, inl, inr}
+use Rattle.std.proofs.Common.{append-nil, append_assoc, length-append}
 use Rattle.std.specs.Prelude.{codes}
 use Rattle.std.proofs.Math.Seq.{drop-append_seam, drop-length}
 use Rattle.text.specs.declared.pair.Pair.{Pair}
@@ -10,14 +10,13 @@ use Rattle.message.specs.declared.issue.Issue.{Issue}
 use Rattle.message.specs.Values.{are_extension_names}
 use Rattle.message.specs.Texts.{list_line, option_line}
 use Rattle.text.specs.Results.{◌>>=◌, or_fault}
-use Rattle.message.specs.Reading.{line_of, ends_after, list_after}
-use Rattle.message.specs.Reading.{option_after, is_new_option, options_from}
+use Rattle.message.specs.Reading.{line_of, ends_after, list_after, option_after, is_new_option, options_from}
 use Rattle.message.proofs.Readings.{IsReading}
 use Rattle.message.proofs.FirstLines.{line_then}
 use Rattle.message.proofs.Ends.{then_end}
-use Rattle.message.proofs.Wordings.{same_messages, same_reading}
+use Rattle.message.proofs.Wordings.{same_messages}
 use Rattle.message.proofs.Choices.{line_or}
-use Rattle.message.proofs.Fields.{lacks_by, list_field}
+use Rattle.message.proofs.Fields.{list_field}
 use Rattle.message.proofs.Elements.{extension_names_lack}
 use Rattle.message.proofs.Options.{AreNew, option_field}
 
@@ -54,10 +53,8 @@ module _ (department key_id : List ℕ) (key : KeyLine) (principals : List (List
   stop_from : (k : ℕ) (options : List Pair)
       → IsReading k (tail_at (suc k) (suc (suc k)) options) (IsStop options) last_lines
   stop_from k options =
-      line_then k _ _ _ (λ i. i.extensions) _ _ _
-      (list_field (codes "extensions") are_extension_names (lacks_by 10 (codes "extensions") refl) refl
-      extension_names_lack) [] refl
-      (λ extensions _. then_end (suc k) (whole options extensions))
+      line_then k _ _ _ (λ i. i.extensions) _ _ _ (list_field (codes "extensions") are_extension_names refl refl
+      extension_names_lack) [] refl (λ extensions _. then_end (suc k) (whole options extensions))
       (λ x i e. ap (λ (i : Issue). i.extensions) e)
 
   stop_reads : (k : ℕ) (options : List Pair) → k ≡ 6 + length options
@@ -72,8 +69,8 @@ module _ (department key_id : List ℕ) (key : KeyLine) (principals : List (List
   -- An issue whose options are these and then up to so many more.
   abbrev pub IsAfter : ℕ → List Pair → Issue → Type 0
   IsAfter most options i =
-      (more : List Pair) × ((i.options ≡ options ++ more) × ((length more ≤ most) × (AreNew options more
-      × ((are_extension_names i.extensions ≡ true) × (i ≡ whole i.options i.extensions)))))
+      (more : List Pair) × (i.options ≡ options ++ more) × (length more ≤ most) × AreNew options more
+      × (are_extension_names i.extensions ≡ true) × (i ≡ whole i.options i.extensions)
 
   abbrev pub lines_after : List Pair → Issue → List (List ℕ)
   lines_after options i = map option_line (drop (length options) i.options) ++ last_lines i
@@ -81,23 +78,9 @@ module _ (department key_id : List ℕ) (key : KeyLine) (principals : List (List
   stop_is : (most : ℕ) (options : List Pair) (i : Issue) → IsStop options i → IsAfter most options i
       × (lines_after options i ≡ last_lines i)
   stop_is most options i is =
-      let same : i.options ≡ options = ap (λ (i : Issue). i.options) is.1 in (
-        (
-          [],
-          (
-            same ∙ sym (append-nil options),
-            (
-              omega arith,
-              (
-                tt,
-                (
-                  is.0,
-                  is.1 ∙ ap (λ (o : List Pair). whole o i.extensions) (sym same),
-                ),
-              ),
-            ),
-          ),
-        ),
+      let same : i.options ≡ options = ap (λ (i : Issue). i.options) is.1 in
+      let all : i ≡ whole i.options i.extensions = is.1 ∙ ap (λ (o : List Pair). whole o i.extensions) (sym same) in (
+        ([], same ∙ sym (append-nil options), omega arith, tt, is.0, all),
         ap (λ (o : List Pair). map option_line o ++ last_lines i)
             (ap (drop (length options)) same ∙ drop-length options),
       )
@@ -105,52 +88,42 @@ module _ (department key_id : List ℕ) (key : KeyLine) (principals : List (List
   stop_found : (most : ℕ) (options : List Pair) (i : Issue) → IsAfter most options i → (is : IsAfter most options i)
       → is.0 ≡ [] → IsStop options i
   stop_found most options i _ is none =
-      let same : i.options ≡ options = is.1.0 ∙ ap (λ (m : List Pair). options ++ m) none ∙ append-nil options in
-      (is.1.1.1.1.0, is.1.1.1.1.1 ∙ ap (λ (o : List Pair). whole o i.extensions) same)
+      let same : i.options ≡ options = is.1 ∙ ap (λ (m : List Pair). options ++ m) none ∙ append-nil options in
+      (is.4, is.5 ∙ ap (λ (o : List Pair). whole o i.extensions) same)
 
   more_is : (most : ℕ) (options : List Pair) (p : Pair) (i : Issue) → is_new_option options p ≡ true
       → IsAfter most (options ++ p ∷ []) i
       → IsAfter (suc most) options i × (lines_after options i ≡ option_line p ∷ lines_after (options ++ p ∷ []) i)
   more_is most options p i new is =
       let more = is.0 in
-      let all : i.options ≡ options ++ p ∷ more = is.1.0 ∙ append_assoc options (p ∷ []) more in
+      let all : i.options ≡ options ++ p ∷ more = is.1 ∙ append_assoc options (p ∷ []) more in
       let left : drop (length options) i.options ≡ p ∷ more =
       ap (drop (length options)) all ∙ drop-append_seam options (p ∷ more) in
       let rest : drop (length (options ++ p ∷ [])) i.options ≡ more =
-      ap (drop (length (options ++ p ∷ []))) is.1.0 ∙ drop-append_seam (options ++ p ∷ []) more in (
-        (p ∷ more, (all, (omega (arith, is.1.1.0), ((new, is.1.1.1.0), is.1.1.1.1)))),
+      ap (drop (length (options ++ p ∷ []))) is.1 ∙ drop-append_seam (options ++ p ∷ []) more in (
+        (p ∷ more, all, omega (arith, is.2), (new, is.3), is.4, is.5),
         ap (λ (o : List Pair). map option_line o ++ last_lines i) left
             ∙ ap (λ (o : List Pair). option_line p ∷ (map option_line o ++ last_lines i)) (sym rest),
       )
 
   cases : (most : ℕ) (options : List Pair) (i : Issue) → IsAfter (suc most) options i
-      → IsStop options i ⊎ ((p : Pair) × ((is_new_option options p ≡ true) × IsAfter most (options ++ p ∷ []) i))
+      → IsStop options i ⊎ ((p : Pair) × (is_new_option options p ≡ true) × IsAfter most (options ++ p ∷ []) i)
   cases most options i is = by is.0 refl
     where
       by : (more : List Pair) → is.0 ≡ more
-          → IsStop options i ⊎ ((p : Pair) × ((is_new_option options p ≡ true) × IsAfter most (options ++ p ∷ []) i))
+          → IsStop options i ⊎ ((p : Pair) × (is_new_option options p ≡ true) × IsAfter most (options ++ p ∷ []) i)
       by [] e = inl (stop_found (suc most) options i is is e)
       by (p ∷ more) e =
-          let new : AreNew options (p ∷ more) = subst (AreNew options) e is.1.1.1.0 in
-          let few : length (p ∷ more) ≤ suc most = subst (λ (m : List Pair). length m ≤ suc most) e is.1.1.0 in
-          inr (
-            p,
-            (
-              new.0,
-              (
-                more,
-                (
-                  is.1.0 ∙ ap (λ (m : List Pair). options ++ m) e ∙ sym (append_assoc options (p ∷ []) more),
-                  (omega (arith, few), (new.1, is.1.1.1.1)),
-                ),
-              ),
-            ),
-          )
+          let new : AreNew options (p ∷ more) = subst (AreNew options) e is.3 in
+          let few : length (p ∷ more) ≤ suc most = subst (λ (m : List Pair). length m ≤ suc most) e is.2 in
+          let all : i.options ≡ (options ++ p ∷ []) ++ more =
+          is.1 ∙ ap (λ (m : List Pair). options ++ m) e ∙ sym (append_assoc options (p ∷ []) more) in
+          inr (p, new.0, (more, all, omega (arith, few), new.1, is.4, is.5))
 
   -- the line of extensions is no option line
   stops : (options : List Pair) (i : Issue) → IsStop options i
-      → (l : List ℕ) × ((ls : List (List ℕ)) × ((last_lines i ≡ l ∷ ls) × (option_after options l ≡ None)))
-  stops options i is = (list_line (codes "extensions") i.extensions, ([], (refl, no_option i.extensions)))
+      → (l : List ℕ) × (ls : List (List ℕ)) × (last_lines i ≡ l ∷ ls) × (option_after options l ≡ None)
+  stops options i is = (list_line (codes "extensions") i.extensions, [], refl, no_option i.extensions)
     where
       no_option : (ts : List (List ℕ)) → option_after options (list_line (codes "extensions") ts) ≡ None
       no_option [] = refl
@@ -161,34 +134,22 @@ module _ (department key_id : List ℕ) (key : KeyLine) (principals : List (List
     where
       by : (more : List Pair) → is.0 ≡ more → IsStop options i
       by [] e = stop_found 0 options i is is e
-      by (p ∷ more) e = absurd (omega (arith, subst (λ (m : List Pair). length m ≤ 0) e is.1.1.0))
-
-  by_option : (most n : ℕ) (options : List Pair) (ps : List (List ℕ)) (o : Option Pair)
-      → (elim o as (λ _. Result Issue ℕ)
-      [ None ↦ tail options ps | Some p ↦ tail (options_from most (suc n) (options ++ p ∷ []) ps) ps ])
-      ≡ tail (elim o as (λ _. List Pair)
-      [ None ↦ options | Some p ↦ options_from most (suc n) (options ++ p ∷ []) ps ]) ps
-  unfolding options_from
-  by_option most n options ps None = refl
-  by_option most n options ps (Some p) = refl
+      by (p ∷ more) e = absurd (omega (arith, subst (λ (m : List Pair). length m ≤ 0) e is.2))
 
   pub options_read : (most k : ℕ) (options : List Pair) → k ≡ 6 + length options
       → IsReading k (λ ps. tail (options_from most (suc k) options ps) ps) (IsAfter most options) (lines_after options)
   unfolding options_from
   options_read zero k options e =
       same_messages k (tail options) (IsStop options) (IsAfter 0 options) last_lines (lines_after options)
-      (λ i is. let said = stop_is 0 options i is in (said.0, sym said.1)) (none_left options) (stop_reads k options e)
+      (stop_is 0 options) (none_left options) (stop_reads k options e)
   options_read (suc most) k options e =
-      same_reading k _ (λ ps. tail (options_from (suc most) (suc k) options ps) ps) (IsAfter (suc most) options)
-      (lines_after options)
-      (λ ps. by_option most (suc k) options ps (option_after options (line_of (suc k) ps)))
-      (line_or k (option_after options) option_line (λ p. is_new_option options p ≡ true)
-      (tail options) (λ p ps. tail (options_from most (suc (suc k)) (options ++ p ∷ []) ps) ps)
+      line_or k (option_after options) option_line (λ p. is_new_option options p ≡ true)
+      (λ o ps. tail (elim o as (λ _. List Pair)
+      [ None ↦ options | Some p ↦ options_from most (suc (suc k)) (options ++ p ∷ []) ps ]) ps)
       (IsStop options) (λ p. IsAfter most (options ++ p ∷ [])) last_lines (λ p. lines_after (options ++ p ∷ []))
-      (IsAfter (suc most) options) (lines_after options)
-      (option_field options) (stop_reads k options e)
+      (IsAfter (suc most) options) (lines_after options) (option_field options) (stop_reads k options e)
       (λ p new. options_read most (suc k) (options ++ p ∷ []) (longer options p k e))
-      (stop_is (suc most) options) (more_is most options) (cases most options) (stops options))
+      (stop_is (suc most) options) (λ p i new is. more_is most options p i new is) (cases most options) (stops options)
     where
       longer : (options : List Pair) (p : Pair) (k : ℕ) → k ≡ 6 + length options → suc k
           ≡ 6 + length (options ++ p ∷ [])

@@ -12,7 +12,7 @@ use Rattle.message.specs.Reading.{issue_in}
 use Rattle.message.proofs.Readings.{IsReading}
 use Rattle.message.proofs.FirstLines.{line_then}
 use Rattle.message.proofs.Wordings.{same_messages}
-use Rattle.message.proofs.Fields.{lacks_by, text_field, list_field}
+use Rattle.message.proofs.Fields.{text_field, list_field}
 use Rattle.message.proofs.Elements.{name_lacks, key_id_line, principals_lack}
 use Rattle.message.proofs.Numbers.{number_field, end_small}
 use Rattle.message.proofs.Options.{options_are_new, new_are_options}
@@ -29,27 +29,21 @@ whole_lines : IsReading 0 issue_in IsWhole issue_lines
 unfolding issue_in
 whole_lines =
     line_then 0 _ _ _ (λ i. i.department) _ _ _
-    (text_field (codes "issue ") is_name (lacks_by 10 (codes "issue ") refl) refl (name_lacks 10 refl))
-    (codes "a") refl
+    (text_field (codes "issue ") is_name refl refl (name_lacks 10 refl)) (codes "a") refl
     (λ department _. line_then 1 _ _ _ (λ i. i.key_id) _ _ _
-    (text_field (codes "keyid ") is_key_id (lacks_by 10 (codes "keyid ") refl) refl key_id_line) (codes "a/a")
-    refl
-    (λ key_id _. line_then 2 _ _ _ (λ i. i.key) _ _ _
-    (key_field (codes "key ") (lacks_by 10 (codes "key ") refl) refl) some_key refl
+    (text_field (codes "keyid ") is_key_id refl refl key_id_line) (codes "a/a") refl
+    (λ key_id _. line_then 2 _ _ _ (λ i. i.key) _ _ _ (key_field (codes "key ") refl refl) some_key refl
     (λ key _. line_then 3 _ _ _ (λ i. i.principals) _ _ _
-    (list_field (codes "principals") are_principals (lacks_by 10 (codes "principals") refl) refl
-    principals_lack) (codes "a" ∷ []) refl
-    (λ principals _. line_then 4 _ _ _ (λ i. i.after) _ _ _
-    (number_field is_end (codes "after ") (lacks_by 10 (codes "after ") refl) refl end_small) 0 refl
+    (list_field (codes "principals") are_principals refl refl
+    principals_lack) (codes "a" ∷ []) refl (λ principals _. line_then 4 _ _ _ (λ i. i.after) _ _ _
+    (number_field is_end (codes "after ") refl refl end_small) 0 refl
     (λ after _. line_then 5 _ _ _ (λ i. i.before) _ _ _
-    (number_field is_end (codes "before ") (lacks_by 10 (codes "before ") refl) refl end_small) 0 refl
+    (number_field is_end (codes "before ") refl refl end_small) 0 refl
     (λ before _. options_read department key_id key principals after before 3 6 [] refl)
-    (λ x i p. ap (λ (i : Issue). i.before) p.1.1.1.1.1))
-    (λ x i p. ap (λ (i : Issue). i.after) p.1.1.1.1.1.1))
-    (λ x i p. ap (λ (i : Issue). i.principals) p.1.1.1.1.1.1.1))
-    (λ x i p. ap (λ (i : Issue). i.key) p.1.1.1.1.1.1.1.1))
-    (λ x i p. ap (λ (i : Issue). i.key_id) p.1.1.1.1.1.1.1.1.1))
-    (λ x i p. ap (λ (i : Issue). i.department) p.1.1.1.1.1.1.1.1.1.1)
+    (λ x i p. ap (λ (i : Issue). i.before) p.5)) (λ x i p. ap (λ (i : Issue). i.after) p.1.5))
+    (λ x i p. ap (λ (i : Issue). i.principals) p.1.1.5)) (λ x i p. ap (λ (i : Issue). i.key) p.1.1.1.5))
+    (λ x i p. ap (λ (i : Issue). i.key_id) p.1.1.1.1.5))
+    (λ x i p. ap (λ (i : Issue). i.department) p.1.1.1.1.1.5)
 
 -- an issue is read from its text alone, its text is read, and the fault is at the first line of no issue
 pub issue_reads : IsReading 0 issue_in (λ i. is_issue i ≡ true) issue_lines
@@ -59,13 +53,13 @@ issue_reads = same_messages 0 issue_in
     to : (i : Issue) → IsWhole i → is_issue i ≡ true
     to i is =
         let end = is.1.1.1.1.1.1 in
-        let all : i.options ≡ end.0 = end.1.0 in
+        let all : i.options ≡ end.0 = end.1 in
         let options : are_options i.options ≡ true =
         subst (λ (o : List Pair). are_options o ≡ true) (sym all)
-        (and_from _ _ (le-leb _ _ end.1.1.0) (new_are_options end.0 end.1.1.1.0)) in
+        (and_from _ _ (le-leb _ _ end.2) (new_are_options end.0 end.3)) in
         and_from _ _ is.0 (and_from _ _ is.1.0
         (and_from _ _ is.1.1.0 (and_from _ _ is.1.1.1.0 (and_from _ _ is.1.1.1.1.0
-        (and_from _ _ is.1.1.1.1.1.0 (and_from _ _ options end.1.1.1.1.0))))))
+        (and_from _ _ is.1.1.1.1.1.0 (and_from _ _ options end.4))))))
 
     from : (i : Issue) → is_issue i ≡ true → IsWhole i
     from i is =
@@ -76,22 +70,8 @@ issue_reads = same_messages 0 issue_in
         let p5 = and_parts _ _ p4.1 in
         let p6 = and_parts _ _ p5.1 in
         let p7 = and_parts _ _ p6.1 in
-        let options = and_parts _ _ p7.0 in (
-          p1.0,
-          (
-            p2.0,
-            (
-              p3.0,
-              (
-                p4.0,
-                (
-                  p5.0,
-                  (
-                    p6.0,
-                    (i.options, (refl, (leb-true _ _ options.0, (options_are_new i.options options.1, (p7.1, refl))))),
-                  ),
-                ),
-              ),
-            ),
-          ),
-        )
+        let options = and_parts _ _ p7.0 in
+        let new = options_are_new i.options options.1 in
+        let end : IsAfter i.department i.key_id i.key i.principals i.after i.before 3 [] i =
+        (i.options, refl, leb-true _ _ options.0, new, p7.1, refl) in
+        (p1.0, (p2.0, (p3.0, (p4.0, (p5.0, (p6.0, end))))))

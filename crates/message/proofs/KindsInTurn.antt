@@ -1,29 +1,13 @@
 -- Kinds of messages, tried in turn.
-use Rattle.std.proofs.Common.{
-  ◌≡◌,
-  ℕ,
-  List,
-  [],
-  ◌∷◌,
-  true,
-  false,
-  cond,
-  ◌⊎◌,
-  Result,
-  Err,
-  sym,
-  ap,
-  subst,
-  ◌∙◌,
-  inl,
-  inr,
-}
+use Rattle.std.proofs.Common.{◌≡◌, ℕ, List, [], ◌∷◌, Bool, true, false, cond, ◌⊎◌, Result, Err, refl, sym, ap, subst}
+use Rattle.std.proofs.Common.{◌∙◌, inl, inr}
 use Rattle.std.specs.List.{list_all}
 use Rattle.std.proofs.lemmas.Bool.{and_parts}
 use Rattle.message.specs.Reading.{made, line_of}
 use Rattle.message.proofs.Heads.{Begins, Heads, are_apart, has_head, other_head, same_head}
-use Rattle.message.proofs.KindReadings.{IsOf, of_kind, this_alone, this_or}
+use Rattle.message.proofs.KindReadings.{IsOf, of_kind, this_or}
 use Rattle.message.proofs.Readings.{IsReading}
+use Rattle.message.proofs.Wordings.{same_reading}
 
 -- A reading of messages, each of which begins with one of these heads.
 pub record IsChoice {M : Type 0} (heads : List (List ℕ)) (read : List (List ℕ) → Result M ℕ) (Is : M → Type 0)
@@ -41,15 +25,20 @@ module _ {A M : Type 0} (all : M → List (List ℕ)) (head : List ℕ) (of : A 
   IsThis m = IsOf of Is m
 
   begun : (m : M) → IsThis m → Begins head (all m)
-  begun m is = subst (Begins head) (sym (same is.0) ∙ ap all (sym is.1.0)) (begins is.0)
+  begun m is = subst (Begins head) (sym (same is.0) ∙ ap all (sym is.1)) (begins is.0)
 
-  -- this kind and no other
-  pub kind_alone : IsChoice (head ∷ []) (λ ps. cond (has_head head (line_of 1 ps)) (this ps) (Err 1)) IsThis all
-  kind_alone = record {
-    reads = this_alone all head this IsThis (of_kind all of read Is lines same reads)
-        (λ m is. same_head head (all m) (begun m is));
+  -- this kind and no other, where each of its values begins so
+  pub kind_alone : ((ps : List (List ℕ)) → has_head head (line_of 1 ps) ≡ false → read ps ≡ Err 1)
+      → IsChoice (head ∷ []) (λ ps. cond (has_head head (line_of 1 ps)) (this ps) (Err 1)) IsThis all
+  kind_alone unread = record {
+    reads = same_reading 0 this _ IsThis all (λ ps. by ps (has_head head (line_of 1 ps)) refl)
+        (of_kind all of read Is lines same reads);
     differs = λ g apart m is. other_head g head (and_parts _ _ apart).0 (all m) (begun m is);
   }
+    where
+      by : (ps : List (List ℕ)) (b : Bool) → has_head head (line_of 1 ps) ≡ b → this ps ≡ cond b (this ps) (Err 1)
+      by ps true is = refl
+      by ps false is = ap (made of) (unread ps is)
 
   -- this kind, or others
   pub kind_or : {heads : List (List ℕ)} {others : List (List ℕ) → Result M ℕ} {IsOther : M → Type 0}

@@ -1,6 +1,7 @@
 -- Lines among the pieces of a text, and how many of them two texts share.
-use Rattle.std.proofs.Common.{◌≡◌, ℕ, suc, ◌-◌, ◌<◌, List, [], ◌∷◌, length, take, drop, get_or, Bool, true}
-use Rattle.std.proofs.Common.{false, cond, ◌⊎◌, ltb, refl, sym, ap, ◌∙◌, arith, inl, inr, length-drop, drop-cons}
+use Rattle.std.proofs.Common.{◌≡◌, ℕ, suc, ◌-◌, ◌<◌, List, [], ◌∷◌, ◌++◌, length, take, drop, get_or, Bool, true, false}
+use Rattle.std.proofs.Common.{cond, ◌⊎◌, ltb, refl, sym, ap, subst, ◌∙◌, arith, inl, inr, length-append, length-drop}
+use Rattle.std.proofs.Common.{drop-cons}
 use Rattle.std.proofs.lemmas.Bool.{ltb-true, lt-ltb, cond-true}
 use Rattle.message.specs.Reading.{line_of}
 
@@ -27,31 +28,48 @@ line_is_ended k ps some =
       | inr none ↦ absurd (some (sym none.1))
     ]
 
--- pieces that begin with a line and go on have that line
-pub line_is : (k : ℕ) (ps : List (List ℕ)) (l : List ℕ) (rest : List (List ℕ)) → drop k ps ≡ l ∷ rest → 0 < length rest
-    → (suc k < length ps) × (line_of (suc k) ps ≡ l) × (drop (suc k) ps ≡ rest)
-line_is k ps l rest e more =
-    let count : length ps - k ≡ suc (length rest) = sym (length-drop k ps) ∙ ap length e in
-    let ended : suc k < length ps = omega arith in
-    let both : line_of (suc k) ps ∷ drop (suc k) ps ≡ l ∷ rest = sym (line_there k ps ended) ∙ e in
-    (ended, cc, cc)
+-- lines, and the last piece of a text of them, which has no bytes
+abbrev pub ended : List (List ℕ) → List (List ℕ)
+ended ls = ls ++ [] ∷ []
+
+pub more_than_none : (ls : List (List ℕ)) → 0 < length (ended ls)
+more_than_none ls = rw (length-append ls ([] ∷ [])) (omega arith)
+
+-- pieces that are lines and then the end have the first line, and then the others
+pub line_is : (k : ℕ) (ps : List (List ℕ)) (l : List ℕ) (ls lines : List (List ℕ)) → lines ≡ l ∷ ls
+    → drop k ps ≡ ended lines → (line_of (suc k) ps ≡ l) × (drop (suc k) ps ≡ ended ls)
+line_is k ps l ls lines is e =
+    let whole : drop k ps ≡ l ∷ ended ls = e ∙ ap ended is in
+    let some = more_than_none ls in
+    let count : length ps - k ≡ suc (length (ended ls)) = sym (length-drop k ps) ∙ ap length whole in
+    let both : line_of (suc k) ps ∷ drop (suc k) ps ≡ l ∷ ended ls = sym (line_there k ps (omega arith)) ∙ whole in
+    (cc, cc)
 
 -- the first j lines of one text, all ended, are those of the other
 abbrev pub Shares : ℕ → List (List ℕ) → List (List ℕ) → Type 0
 Shares j xs ys = (j < length xs) × (j < length ys) × (take j xs ≡ take j ys)
 
--- one more line in front
-pub shares_more : (j : ℕ) (a b : List ℕ) (xs ys : List (List ℕ)) → a ≡ b → Shares j xs ys
-    → Shares (suc j) (a ∷ xs) (b ∷ ys)
-shares_more j a b xs ys e s = (omega (arith, s.0), omega (arith, s.1), cc (e, s.2))
-
--- one line less in front
-pub shares_less : (j : ℕ) (a b : List ℕ) (xs ys : List (List ℕ)) → Shares (suc j) (a ∷ xs) (b ∷ ys) → (a ≡ b)
-    × Shares j xs ys
-shares_less j a b xs ys s =
-    let both : a ∷ take j xs ≡ b ∷ take j ys = s.2 in
-    (cc, (omega (arith, s.0), omega (arith, s.1), cc))
-
 -- no line is shared by all texts
 pub shares_none : (xs ys : List (List ℕ)) → 0 < length xs → 0 < length ys → Shares 0 xs ys
 shares_none xs ys some one = (some, one, refl)
+
+-- one more line in front
+pub shares_more : (k j : ℕ) (ps : List (List ℕ)) (l : List ℕ) (ls lines : List (List ℕ)) → lines ≡ l ∷ ls
+    → drop k ps ≡ l ∷ drop (suc k) ps → Shares j (drop (suc k) ps) (ended ls) → Shares (suc j) (drop k ps) (ended lines)
+shares_more k j ps l ls lines is there s =
+    let both : Shares (suc j) (l ∷ drop (suc k) ps) (l ∷ ended ls) =
+    (omega (arith, s.0), omega (arith, s.1), ap (λ (xs : List (List ℕ)). l ∷ xs) s.2) in
+    subst (λ (xs : List (List ℕ)). Shares (suc j) xs (ended lines)) (sym there)
+    (subst (λ (xs : List (List ℕ)). Shares (suc j) (l ∷ drop (suc k) ps) (ended xs)) (sym is) both)
+
+-- one line less in front
+pub shares_less : (k j : ℕ) (ps : List (List ℕ)) (l : List ℕ) (ls lines : List (List ℕ)) → lines ≡ l ∷ ls
+    → Shares (suc j) (drop k ps) (ended lines) → (line_of (suc k) ps ≡ l) × Shares j (drop (suc k) ps) (ended ls)
+shares_less k j ps l ls lines is shared =
+    let count : length (drop k ps) ≡ length ps - k = length-drop k ps in
+    let there : suc k < length ps = omega (arith, shared.0) in
+    let s : Shares (suc j) (line_of (suc k) ps ∷ drop (suc k) ps) (l ∷ ended ls) =
+    subst (λ (xs : List (List ℕ)). Shares (suc j) xs (l ∷ ended ls)) (line_there k ps there)
+    (subst (λ (xs : List (List ℕ)). Shares (suc j) (drop k ps) (ended xs)) is shared) in
+    let both : line_of (suc k) ps ∷ take j (drop (suc k) ps) ≡ l ∷ take j (ended ls) = s.2 in
+    (cc, (omega (arith, s.0), omega (arith, s.1), cc))

@@ -7,11 +7,11 @@ use Rattle.values.proofs.DecimalLemmas.{number_of-decimal, number_spelled}
 use Rattle.values.proofs.Lacking.{decimal_lacks}
 use Rattle.message.specs.Values.{is_longest_life, is_end}
 use Rattle.message.specs.Reading.{after, number_after}
-use Rattle.message.proofs.Fields.{field_passing}
-use Rattle.message.proofs.Readings.{IsLine, IsField}
+use Rattle.message.proofs.Fields.{IsHead, field_passing}
+use Rattle.message.proofs.Readings.{IsField}
 
 -- a number behind a word that passes a test
-pub number_field : (test : ℕ → Bool) (head : List ℕ) → IsLine head → after head [] ≡ None
+pub number_field : (test : ℕ → Bool) (head : List ℕ) → IsHead head → after head [] ≡ None
     → ((n : ℕ) → test n ≡ true → n < 2 ^ 64)
     → IsField (number_after test head) (λ n. head ++ decimal n) (λ n. test n ≡ true)
 number_field test head line empty small =

@@ -4,8 +4,8 @@ use Rattle.std.proofs.Common.{eqb, Option, Some, None, All, refl, sym, ap, subst
 use Rattle.std.specs.Prelude.{codes}
 use Rattle.std.specs.List.{list_all, list_any}
 use Rattle.std.specs.Str.{bytes_eq}
-use Rattle.std.proofs.lemmas.Bool.{cases_Bool, and_parts, and_from, or_parts, or_from}
-use Rattle.std.proofs.lemmas.Bool.{cond-true, cond-false, eqb-true, not-true, not_from_false}
+use Rattle.std.proofs.lemmas.Bool.{cases_Bool, and_parts, and_from, or_parts, or_from, cond-true, cond-false, eqb-true}
+use Rattle.std.proofs.lemmas.Bool.{not-true, not_from_false}
 use Rattle.std.proofs.lemmas.Cmp.{nat_list_eq_equiv}
 use Rattle.std.proofs.lemmas.List.{nil_from_length}
 use Rattle.std.proofs.lemmas.List.Elements.{All-append, All-cons, recursion_from_All}
@@ -26,7 +26,7 @@ use Rattle.message.specs.Texts.{option_text, option_line}
 use Rattle.message.specs.Values.{is_option}
 use Rattle.message.specs.Reading.{pair_of, is_new_option, option_after}
 use Rattle.message.proofs.Readings.{IsField, IsLine}
-use Rattle.message.proofs.Fields.{AllLack, lacks_by, lacks_joined, field_passing}
+use Rattle.message.proofs.Fields.{AllLack, lacks_joined, field_passing}
 use Rattle.message.proofs.Elements.{known_lacks_space, known_line}
 
 -- ---- the text of an option
@@ -112,11 +112,9 @@ pair_again p is =
 
 all_networks_lack : (ns : List Network) → All IsNetwork ns → AllLack 10 (map network_text ns)
 all_networks_lack [] each = tt
-all_networks_lack (n ∷ ns) each = (
-  network_lacks 10 n (each 0 n (omega arith)) refl refl refl,
-  all_networks_lack ns
-      (λ k d inside. each (suc k) d (omega (arith, inside))),
-)
+all_networks_lack (n ∷ ns) each =
+    let others = all_networks_lack ns (λ k d inside. each (suc k) d (omega (arith, inside))) in
+    (network_lacks 10 n (each 0 n (omega arith)) refl refl refl, others)
 
 networks_line : (t : List ℕ) → are_networks t ≡ true → IsLine t
 networks_line t is =
@@ -143,16 +141,14 @@ option_is_line p is =
   where
     with_value : (p : Pair) → IsLine p.name → is_flag p.name ≡ false → IsLine p.value → IsLine (option_text p)
     with_value p name other value =
-        subst IsLine (sym (value_text p other))
-        (All-append (λ b. eqb b 10 ≡ false) p.name (32 ∷ p.value) name
+        subst IsLine (sym (value_text p other)) (All-append (λ b. eqb b 10 ≡ false) p.name (32 ∷ p.value) name
         (All-cons (λ b. eqb b 10 ≡ false) 32 p.value refl value))
 
 -- the line of an option that may follow those before it
 pub option_field : (before : List Pair) → IsField (option_after before) option_line (λ p. is_new_option before p ≡ true)
 option_field before =
-    field_passing (codes "option ") pair_of option_text (is_new_option before) (lacks_by 10 (codes "option ") refl) refl
-    (λ t p fits e. pair_found t p e)
-    (λ p is. pair_again p (and_parts _ _ is).0)
+    field_passing (codes "option ") pair_of option_text (is_new_option before) refl refl
+    (λ t p fits e. pair_found t p e) (λ p is. pair_again p (and_parts _ _ is).0)
     (λ p is. option_is_line p (and_parts _ _ is).0)
 
 -- ---- options one after the other

@@ -1,5 +1,5 @@
 -- Lines as they are put.
-use Rattle.std.proofs.Common.{◌≡◌, ℕ, List, [], ◌∷◌, ◌++◌, refl, sym, ap, ◌∙◌, append-nil, append_assoc}
+use Rattle.std.proofs.Common.{◌≡◌, ℕ, List, [], ◌∷◌, ◌++◌, refl, sym, ap, subst, ◌∙◌, append-nil, append_assoc}
 use Rattle.std.specs.List.{join_with_byte}
 use Rattle.message.specs.Texts.{lines_text, list_line}
 
@@ -9,13 +9,26 @@ text_append [] ms = refl
 text_append (l ∷ ls) ms =
     ap (λ (t : List ℕ). l ++ 10 ∷ t) (text_append ls ms) ∙ sym (append_assoc l (10 ∷ lines_text ls) (lines_text ms))
 
+-- These lines are what was put behind the start.
+pub record IsPut (start : List ℕ) (ls : List (List ℕ)) (out : List ℕ) : Type 0 where
+  pub is : out ≡ start ++ lines_text ls
+
+pub none_put : (start : List ℕ) → IsPut start [] start
+none_put start = record { is = sym (append-nil start) }
+
 -- lines behind lines that were put
-pub then_put : (start before after : List ℕ) (ls ms : List (List ℕ)) → before ≡ start ++ lines_text ls → after
-    ≡ before ++ lines_text ms
-    → after ≡ start ++ lines_text (ls ++ ms)
-then_put start before after ls ms first next =
-    next ∙ ap (λ (t : List ℕ). t ++ lines_text ms) first ∙ append_assoc start (lines_text ls) (lines_text ms)
-    ∙ ap (λ (t : List ℕ). start ++ t) (sym (text_append ls ms))
+pub then_lines : {start before after : List ℕ} {ls : List (List ℕ)} → IsPut start ls before → (ms : List (List ℕ))
+    → after ≡ before ++ lines_text ms → IsPut start (ls ++ ms) after
+then_lines {start} {ls = ls} put ms next = record {
+  is = next ∙ ap (λ (t : List ℕ). t ++ lines_text ms) put.is ∙ append_assoc start (lines_text ls) (lines_text ms)
+      ∙ ap (λ (t : List ℕ). start ++ t) (sym (text_append ls ms));
+}
+
+-- one line behind them, said otherwise
+pub then_line : {start before after l : List ℕ} {ls : List (List ℕ)} → IsPut start ls before → (line : List ℕ)
+    → l ≡ line → after ≡ before ++ lines_text (l ∷ []) → IsPut start (ls ++ line ∷ []) after
+then_line {start} {after = after} {l = l} {ls = ls} put line same next =
+    subst (λ (x : List ℕ). IsPut start (ls ++ x ∷ []) after) same (then_lines put (l ∷ []) next)
 
 -- texts, each after a byte, the first after this one
 abbrev pub each_after : ℕ → List (List ℕ) → List ℕ
@@ -31,13 +44,6 @@ after_joined before t (u ∷ ts) = ap (λ (x : List ℕ). before ∷ t ++ x) (af
 pub list_put : (word : List ℕ) (ts : List (List ℕ)) → word ++ each_after 32 ts ≡ list_line word ts
 list_put word [] = append-nil word
 list_put word (t ∷ ts) = ap (λ (x : List ℕ). word ++ x) (after_joined 32 t ts)
-
--- one line behind lines that were put
-pub then_line : (start before after : List ℕ) (ls : List (List ℕ)) (l line : List ℕ) → l ≡ line → before ≡ start
-    ++ lines_text ls → after ≡ before ++ lines_text (l ∷ [])
-    → after ≡ start ++ lines_text (ls ++ line ∷ [])
-then_line start before after ls l line same first next =
-    then_put start before after ls (l ∷ []) first next ∙ ap (λ (x : List ℕ). start ++ lines_text (ls ++ x ∷ [])) same
 
 -- three texts put one behind the other
 pub in_turn : (start one two three a b c : List ℕ) → one ≡ start ++ a → two ≡ one ++ b → three ≡ two ++ c

@@ -1,6 +1,6 @@
 -- Ranges of serials in lines.
-use Rattle.std.proofs.Common.{◌≡◌, ℕ, ◌<◌, ◌^◌, List, [], ◌∷◌, ◌++◌, true}
-use Rattle.std.proofs.Common.{false, eqb, Option, Some, None, refl, ap, ◌∙◌}
+use Rattle.std.proofs.Common.{◌≡◌, ℕ, ◌<◌, ◌^◌, List, [], ◌∷◌, ◌++◌, true, false, eqb, Option, Some, None, refl, ap}
+use Rattle.std.proofs.Common.{◌∙◌}
 use Rattle.std.specs.Fmt.{decimal}
 use Rattle.std.specs.Option.{option_and_then}
 use Rattle.std.proofs.lemmas.Bool.{and_parts}
@@ -8,7 +8,7 @@ use Rattle.std.proofs.lemmas.List.Elements.{All-append, All-cons, recursion_from
 use Rattle.std.proofs.lemmas.Option.{option_and_then_some, same_Some}
 use Rattle.base64.specs.GeneralPurpose.{IsBytes}
 use Rattle.values.specs.Decimals.{number_of}
-use Rattle.values.proofs.DecimalLemmas.{number_of-decimal}
+use Rattle.values.proofs.DecimalLemmas.{number_of-decimal, number_spelled}
 use Rattle.values.proofs.Lacking.{decimal_lacks}
 use Rattle.lines.specs.KeyLines.{comment_text}
 use Rattle.lines.specs.Reading.{comment_of, word_of}
@@ -18,8 +18,7 @@ use Rattle.message.specs.Texts.{range_text}
 use Rattle.message.specs.Reading.{after, range_after, range_between, range_of}
 use Rattle.message.specs.declared.serial_range.SerialRange.{SerialRange}
 use Rattle.message.proofs.Readings.{IsField, IsLine}
-use Rattle.message.proofs.Fields.{field_passing}
-use Rattle.values.proofs.DecimalLemmas.{number_spelled}
+use Rattle.message.proofs.Fields.{IsHead, field_passing}
 use Rattle.values.proofs.SerialLemmas.{serial_small}
 
 -- two numbers that make a range
@@ -61,7 +60,7 @@ range_is_line r is =
     (All-cons (λ b. eqb b 10 ≡ false) 32 (decimal r.hi) refl (decimal_lacks 10 r.hi refl hi))
 
 -- a range behind a word
-pub range_field : (head : List ℕ) → IsLine head → after head [] ≡ None
+pub range_field : (head : List ℕ) → IsHead head → after head [] ≡ None
     → IsField (range_after head) (λ r. head ++ range_text r) (λ r. is_range r ≡ true)
 range_field head line empty =
     field_passing head range_of range_text is_range line empty range_found range_again range_is_line

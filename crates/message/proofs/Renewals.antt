@@ -7,7 +7,6 @@ use Rattle.message.specs.Values.{is_end, is_renewal}
 use Rattle.message.specs.Texts.{renewal_lines}
 use Rattle.message.specs.Reading.{renewal_in}
 use Rattle.message.specs.declared.renewal.Renewal.{Renewal}
-use Rattle.message.proofs.Fields.{lacks_by}
 use Rattle.values.proofs.SerialLemmas.{serial_small}
 use Rattle.message.proofs.Numbers.{end_small, number_field}
 use Rattle.message.proofs.Readings.{IsReading}
@@ -23,14 +22,13 @@ whole_lines : IsReading 0 renewal_in IsWhole renewal_lines
 unfolding renewal_in
 whole_lines =
     line_then 0 _ _ _ (λ r. r.serial) _ _ _
-    (number_field is_serial (codes "renew ") (lacks_by 10 (codes "renew ") refl) refl serial_small) 1 refl
+    (number_field is_serial (codes "renew ") refl refl serial_small) 1 refl
     (λ serial _. line_then 1 _ _ _ (λ r. r.after) _ _ _
-    (number_field is_end (codes "after ") (lacks_by 10 (codes "after ") refl) refl end_small) 0 refl
+    (number_field is_end (codes "after ") refl refl end_small) 0 refl
     (λ after _. line_then 2 _ _ _ (λ r. r.before) _ _ _
-    (number_field is_end (codes "before ") (lacks_by 10 (codes "before ") refl) refl end_small) 0 refl
+    (number_field is_end (codes "before ") refl refl end_small) 0 refl
     (λ before _. then_end 3 (record { serial = serial; after = after; before = before }))
-    (λ x r e. ap (λ (r : Renewal). r.before) e))
-    (λ x r p. ap (λ (r : Renewal). r.after) p.1))
+    (λ x r e. ap (λ (r : Renewal). r.before) e)) (λ x r p. ap (λ (r : Renewal). r.after) p.1))
     (λ x r p. ap (λ (r : Renewal). r.serial) p.1.1)
 
 -- a renewal is read from its text alone, its text is read, and the fault is at the first line of no renewal

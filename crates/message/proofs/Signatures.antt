@@ -1,6 +1,6 @@
 -- Signatures in lines.
-use Rattle.std.proofs.Common.{◌≡◌, ℕ, List, [], ◌++◌, length, take, drop, replicate, true, ◌&&◌}
-use Rattle.std.proofs.Common.{eqb, Option, Some, None, refl, sym, ap, subst, ◌∙◌, arith, inl, inr}
+use Rattle.std.proofs.Common.{◌≡◌, ℕ, List, [], ◌++◌, length, take, drop, replicate, true, ◌&&◌, eqb, Option, Some}
+use Rattle.std.proofs.Common.{None, refl, sym, ap, subst, ◌∙◌, arith, inl, inr}
 use Rattle.std.specs.Option.{option_and_then, option_map}
 use Rattle.std.specs.Result.{result_ok}
 use Rattle.std.specs.Str.{bytes_eq}
@@ -12,21 +12,15 @@ use Rattle.base64.specs.Engines.{standard}
 use Rattle.base64.specs.GeneralPurpose.{IsBytes, decode_of, encode_of}
 use Rattle.lines.specs.Keys.{signature_blob, signature_of}
 use Rattle.lines.specs.declared.signature.Signature.{Signature}
-use Rattle.lines.proofs.Base64.{
-  IsBytes-append,
-  IsBytes-decode_of,
-  IsBytes-drop,
-  base64_again,
-  base64_found,
-  length-encode_of,
-}
+use Rattle.lines.proofs.Base64.{IsBytes-append, IsBytes-decode_of, IsBytes-drop, base64_again, base64_found}
+use Rattle.lines.proofs.Base64.{length-encode_of}
 use Rattle.lines.proofs.Blobs.{IsBytes_from, all_bytes}
 use Rattle.message.specs.Values.{is_signature}
 use Rattle.message.specs.Texts.{signature_text}
 use Rattle.message.specs.Reading.{after, signature_after, signature_at}
 use Rattle.lines.proofs.Cases.{ok_of}
-use Rattle.message.proofs.Readings.{IsField, IsLine}
-use Rattle.message.proofs.Fields.{value_after}
+use Rattle.message.proofs.Readings.{IsField}
+use Rattle.message.proofs.Fields.{IsHead, value_after}
 use Rattle.message.proofs.Keys.{base64_line}
 
 -- ---- blobs
@@ -75,8 +69,7 @@ mapped (Some b) s e = ap (λ (s : Signature). Some s.bytes) (same_Some (of b) s 
 whole : (t : List ℕ) (s : Signature) → IsBytes t → bytes_in t ≡ Some s.bytes
     → (is_signature s ≡ true) × (t ≡ signature_text s)
 whole t s fits e =
-    option_and_then_some signature_of (result_ok (decode_of standard t)) s.bytes e
-    (λ blob decoded read.
+    option_and_then_some signature_of (result_ok (decode_of standard t)) s.bytes e (λ blob decoded read.
     let is = blob_found blob s.bytes read in
     let blob_fits : IsBytes blob = IsBytes-decode_of standard t blob fits (ok_of _ blob decoded) in
     let bytes_fit : IsBytes s.bytes = subst IsBytes (sym is.2) (IsBytes-drop 19 blob blob_fits) in (
@@ -104,7 +97,7 @@ signature_again s is =
     ∙ rw (base64_again blob (blob_is_bytes s.bytes size fits)) (rw (blob_again s.bytes size) refl)
 
 -- a signature behind a word
-pub signature_field : (head : List ℕ) → IsLine head → after head [] ≡ None
+pub signature_field : (head : List ℕ) → IsHead head → after head [] ≡ None
     → IsField (signature_after head) (λ s. head ++ signature_text s) (λ s. is_signature s ≡ true)
 signature_field head line empty =
     value_after head signature_at signature_text (λ s. is_signature s ≡ true) line empty (record {

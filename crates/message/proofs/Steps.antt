@@ -1,54 +1,8 @@
--- Steps of reading, one line after the other.
-use Rattle.std.proofs.Common.{
-  ◌≡◌,
-  ℕ,
-  zero,
-  suc,
-  ◌+◌,
-  ◌-◌,
-  ◌<◌,
-  ◌≤◌,
-  List,
-  [],
-  ◌∷◌,
-  ◌++◌,
-  length,
-  Bool,
-  true,
-  false,
-  cond,
-  ◌&&◌,
-  Option,
-  Some,
-  None,
-  Result,
-  Ok,
-  Err,
-  refl,
-  sym,
-  ap,
-  subst,
-  ◌∙◌,
-  arith,
-  length-append,
-}
+-- Option lines, read one after the other.
+use Rattle.std.proofs.Common.{◌≡◌, ℕ, zero, suc, ◌+◌, ◌-◌, ◌<◌, ◌≤◌, List, [], ◌∷◌, ◌++◌, length, Bool, true, false}
+use Rattle.std.proofs.Common.{◌&&◌, Option, Some, None, refl, sym, ap, ◌∙◌, arith, length-append}
 use Rattle.text.specs.declared.pair.Pair.{Pair}
-use Rattle.text.specs.Results.{◌>>=◌, or_fault}
-use Rattle.message.specs.Reading.{line_of, ends_after, option_after, options_from}
-
--- a line that fits, as it was read, and what follows
-pub on : {A B : Type 0} (n : ℕ) (read : List ℕ → Option A) (l line : List ℕ) (o : Option A) (x : A)
-    (f : A → Result B ℕ) (r : Result B ℕ)
-    → o ≡ Some x → o ≡ read l → l ≡ line → f x ≡ r → (or_fault n (read line) >>= f) ≡ r
-on {A} n read l line o x f r some is at rest =
-    ap (λ (o : Option A). or_fault n o >>= f) (sym (ap read at) ∙ sym is ∙ some) ∙ rest
-
--- a line that doesn't fit
-pub off : {A B : Type 0} (n : ℕ) (read : List ℕ → Option A) (l line : List ℕ) (o : Option A) (f : A → Result B ℕ)
-    → o ≡ None → o ≡ read l → l ≡ line → (or_fault n (read line) >>= f) ≡ Err n
-off {A} n read l line o f none is at = ap (λ (o : Option A). or_fault n o >>= f) (sym (ap read at) ∙ sym is ∙ none)
-
--- ---- option lines
+use Rattle.message.specs.Reading.{line_of, option_after, options_from}
 
 -- one more option
 pub one_option : (left n : ℕ) (before : List Pair) (ps : List (List ℕ)) (p : Pair) → 0 < left
@@ -59,8 +13,7 @@ one_option zero n before ps p some is = absurd (omega arith)
 one_option (suc k) n before ps p some is =
     let less : suc k - 1 ≡ k = omega arith in
     let next : n + 1 ≡ suc n = omega arith in
-    taken k n before ps p (option_after before (line_of n ps)) is
-    ∙ rw (less, next) refl
+    taken k n before ps p (option_after before (line_of n ps)) is ∙ rw (less, next) refl
   where
     taken : (k n : ℕ) (before : List Pair) (ps : List (List ℕ)) (p : Pair) (o : Option Pair) → o ≡ Some p
         → (elim o as (λ _. List Pair) [ None ↦ before | Some p ↦ options_from k (suc n) (before ++ p ∷ []) ps ])
@@ -96,45 +49,21 @@ few_options (suc k) n before ps =
     few k n before ps (λ p. options_from k (suc n) (before ++ p ∷ []) ps) (option_after before (line_of n ps))
     (λ p. few_options k (suc n) (before ++ p ∷ []) ps)
 
+-- options that go on as those from line 7 on are these, where no line is left or the next one is none
+pub are_options : (n : ℕ) (before : List Pair) (ps : List (List ℕ))
+    → options_from (10 - n) n before ps ≡ options_from 3 7 [] ps → options_from (10 - n) n before ps ≡ before
+    → (before ≡ options_from 3 7 [] ps) × (length before ≤ 3)
+are_options n before ps so_far no_more =
+    let same : before ≡ options_from 3 7 [] ps = sym no_more ∙ so_far in
+    (same, omega (arith, ap (λ (os : List Pair). length os) same, few_options 3 7 [] ps))
+
 -- no lines are left
-pub all_options : (n : ℕ) (before : List Pair) (ps : List (List ℕ)) → options_from 0 n before ps ≡ before
+pub all_options : (n : ℕ) (before : List Pair) (ps : List (List ℕ)) → 10 - n ≡ 0
+    → options_from (10 - n) n before ps ≡ before
 unfolding options_from
-all_options n before ps = refl
+all_options n before ps none = rw none refl
 
 -- two tests in turn
 pub and_second : (a b c : Bool) → a ≡ true → c ≡ b → c ≡ (a && b)
 and_second true b c is e = e
 and_second false b c is e = absurd cc
-
--- ---- the lines behind the options
-
--- the line behind these options doesn't fit
-pub end_off : {A B : Type 0} (read : List ℕ → Option A) (ps : List (List ℕ)) (options given slice : List Pair)
-    (l : List ℕ) (o : Option A) (f : A → Result B ℕ)
-    → slice ≡ given → given ≡ options → o ≡ None → o ≡ read l → l ≡ line_of (7 + length slice) ps
-    → (or_fault (7 + length options) (read (line_of (7 + length options) ps)) >>= f) ≡ Err (7 + length slice)
-end_off {A} {B} read ps options given slice l o f sliced same none is at =
-    subst (λ (x : List Pair). (or_fault (7 + length x) (read (line_of (7 + length x) ps)) >>= f)
-    ≡ Err (7 + length slice)) (sliced ∙ same)
-    (off (7 + length slice) read l (line_of (7 + length slice) ps) o f none is at)
-
--- the line behind these options fits, and the text ends there or goes on
-pub end_on : {A B : Type 0} (read : List ℕ → Option A) (ps : List (List ℕ)) (options given slice : List Pair)
-    (l : List ℕ) (o : Option A) (x : A)
-    (whole : List Pair → A → B) (ends : Bool)
-    → slice ≡ given → given ≡ options → o ≡ Some x → o ≡ read l → l ≡ line_of (7 + length slice) ps → ends
-    ≡ ends_after (7 + length slice) ps
-    → (or_fault (7 + length options) (read (line_of (7 + length options) ps)) >>=
-    (λ y. cond (ends_after (7 + length options) ps) (Ok (whole options y)) (Err (8 + length options))))
-    ≡ cond ends (Ok (whole given x)) (Err (7 + length slice + 1))
-end_on {A} {B} read ps options given slice l o x whole ends sliced same some is at over =
-    let number : 8 + length slice ≡ 7 + length slice + 1 = omega arith in
-    subst (λ (z : List Pair).
-    (or_fault (7 + length z) (read (line_of (7 + length z) ps)) >>=
-    (λ y. cond (ends_after (7 + length z) ps) (Ok (whole z y)) (Err (8 + length z))))
-    ≡ cond ends (Ok (whole given x)) (Err (7 + length slice + 1))) (sliced ∙ same)
-    (on (7 + length slice) read l (line_of (7 + length slice) ps) o x
-    (λ y. cond (ends_after (7 + length slice) ps) (Ok (whole slice y)) (Err (8 + length slice))) _ some is at
-    (ap (λ (b : Bool). cond b (Ok (whole slice x)) (Err (8 + length slice))) (sym over)
-    ∙ ap (λ (z : List Pair). cond ends (Ok (whole z x)) (Err (8 + length slice))) sliced
-    ∙ ap (λ (n : ℕ). cond ends (Ok (whole given x)) (Err n)) number))

@@ -1,7 +1,7 @@
 -- Messages as texts: a text is read as the message that it belongs to, and the fault is at the first line of none.
-use Rattle.std.proofs.Common.{◌≡◌, ◌↔◌, ℕ, zero, suc, ◌-◌, ◌<◌, ◌≤◌, List, [], ◌∷◌, ◌++◌}
-use Rattle.std.proofs.Common.{length, take, get_or, Bool, true, false, cond, eqb, ltb, Some}
-use Rattle.std.proofs.Common.{Result, Ok, Err, refl, sym, ap, subst, ◌∙◌, arith, inl, inr}
+use Rattle.std.proofs.Common.{◌≡◌, ◌↔◌, ℕ, zero, suc, ◌-◌, ◌<◌, ◌≤◌, List, [], ◌∷◌, ◌++◌, length, take, get_or, Bool}
+use Rattle.std.proofs.Common.{true, false, cond, eqb, ltb, Some, Result, Ok, Err, refl, sym, ap, subst, ◌∙◌, arith, inl}
+use Rattle.std.proofs.Common.{inr}
 use Rattle.std.specs.Prelude.{IsTrue, IfOk}
 use Rattle.std.specs.Result.{result_ok}
 use Rattle.std.specs.List.{AllByRecursion, slice_split, onto_first, join_with_byte}
@@ -17,6 +17,7 @@ use Rattle.message.specs.Belonging.{BelongsTo}
 use Rattle.message.specs.Reading.{Gives, pieces, message_in, message_at, message_of}
 use Rattle.message.specs.Faults.{SharesLines, IsFirstBad}
 use Rattle.lines.proofs.Cases.{ok_of}
+use Rattle.message.proofs.Lines.{Shares}
 use Rattle.message.proofs.Readings.{IsLine, AreBytes, IsReading}
 use Rattle.message.proofs.Messages.{messages_read}
 
@@ -129,9 +130,9 @@ some_pieces bytes = omega (arith, length-slice_split (λ b. eqb b 10) bytes)
 pub first_bad : (bytes : List ℕ) (n : ℕ) → IsBytes bytes → message_at bytes ≡ Err n → IsFirstBad bytes n
 first_bad bytes n fits e =
     let first = reads.fault (pieces bytes) n (lines_fit bytes fits) (some_pieces bytes) e in
-    let j = first.0 in
-    let at : n ≡ suc j = omega (arith, first.1.0) in
-    let m = first.1.1.0 in
+    let j = first.count in
+    let at : n ≡ suc j = omega (arith, first.at) in
+    let m = first.some.0 in
     let before : n - 1 ≡ j = omega arith in
     record {
       counted = omega arith;
@@ -139,17 +140,14 @@ first_bad bytes n fits e =
       some = (
         m,
         (
-          first.1.1.1.0,
+          first.some.1,
           subst (λ (k : ℕ). SharesLines k bytes (message_text m)) (sym before)
-              (subst (λ (ps : List (List ℕ)). (j < length (pieces bytes)) × (j < length ps)
-              × (take j (pieces bytes) ≡ take j ps))
-              (sym (pieces_of_message m first.1.1.1.0)) first.1.1.1.1),
+              (subst (Shares j (pieces bytes)) (sym (pieces_of_message m first.some.1)) first.some.2),
         ),
       );
-      none = λ a is shared. first.1.2 a is
-          (subst (λ (ps : List (List ℕ)). (suc j < length (pieces bytes)) × (suc j < length ps)
-          × (take (suc j) (pieces bytes) ≡ take (suc j) ps))
-          (pieces_of_message a is) (subst (λ (k : ℕ). SharesLines k bytes (message_text a)) at shared));
+      none = λ a is shared. first.none a is
+          (subst (Shares (suc j) (pieces bytes)) (pieces_of_message a is)
+          (subst (λ (k : ℕ). SharesLines k bytes (message_text a)) at shared));
     }
   where
     apart : (bytes : List ℕ) (m : Message) (n : ℕ) → ◌≡◌ {A = Result Message ℕ} (Err n) (Ok m) → ⊥

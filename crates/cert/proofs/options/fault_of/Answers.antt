@@ -12,16 +12,10 @@ abbrev by_tests : Bool → Bool → Bool → Option OptionFault
 by_tests known twice lawful = cond (not known) (Some Unknown) (cond twice (Some Twice) (cond (not lawful)
     (Some BadValue) None))
 
-is_twice : (known twice lawful : Bool) → known ≡ true → twice ≡ true → Some Twice ≡ by_tests known twice lawful
-is_twice known twice lawful p q = rw (p, q) refl
-
-is_bad : (known twice lawful : Bool) → known ≡ true → twice ≡ false → lawful ≡ false
-    → Some BadValue ≡ by_tests known twice lawful
-is_bad known twice lawful p q r = rw (p, q, r) refl
-
-is_lawful : (known twice lawful : Bool) → known ≡ true → twice ≡ false → lawful ≡ true
-    → None ≡ by_tests known twice lawful
-is_lawful known twice lawful p q r = rw (p, q, r) refl
+-- tests that answered so name the fault
+as_tests : (known twice lawful : Bool) {k t l : Bool} → known ≡ k → twice ≡ t → lawful ≡ l
+    → by_tests k t l ≡ by_tests known twice lawful
+as_tests known twice lawful p q r = rw (p, q, r) refl
 
 -- what a test answered at a copy of the name
 at_name : (test : List ℕ → Bool) (name copy : List ℕ) (r b : Bool) → copy ≡ name → r ≡ test copy → r ≡ b → test name ≡ b
@@ -31,17 +25,17 @@ pub returns-then-has_name : goal.returns-then-has_name
 returns-then-has_name c =
     let p = c.args.pair.now in
     let earlier = c.args.earlier.now in
-    is_twice (is_known c.args.field p.name) (list_any (λ (q : Pair). bytes_eq q.name p.name) earlier)
+    as_tests (is_known c.args.field p.name) (list_any (λ (q : Pair). bytes_eq q.name p.name) earlier)
     (is_option_value p.name p.value)
     (at_name (is_known c.args.field) _ _ _ true c.as_slice-name.ensures c.is_known.ensures c.if-not-is_known.false)
     (at_name (λ n. list_any (λ (q : Pair). bytes_eq q.name n) earlier) _ _ _ true c.as_slice-name.ensures
-    c.has_name.ensures c.if-has_name.true)
+    c.has_name.ensures c.if-has_name.true) refl
 
 pub returns-then-not-is_option_value : goal.returns-then-not-is_option_value
 returns-then-not-is_option_value c =
     let p = c.args.pair.now in
     let earlier = c.args.earlier.now in
-    is_bad (is_known c.args.field p.name) (list_any (λ (q : Pair). bytes_eq q.name p.name) earlier)
+    as_tests (is_known c.args.field p.name) (list_any (λ (q : Pair). bytes_eq q.name p.name) earlier)
     (is_option_value p.name p.value)
     (at_name (is_known c.args.field) _ _ _ true c.as_slice-name.ensures c.is_known.ensures c.if-not-is_known.false)
     (at_name (λ n. list_any (λ (q : Pair). bytes_eq q.name n) earlier) _ _ _ false c.as_slice-name.ensures
@@ -53,7 +47,7 @@ pub returns-else-not-is_option_value : goal.returns-else-not-is_option_value
 returns-else-not-is_option_value c =
     let p = c.args.pair.now in
     let earlier = c.args.earlier.now in
-    is_lawful (is_known c.args.field p.name) (list_any (λ (q : Pair). bytes_eq q.name p.name) earlier)
+    as_tests (is_known c.args.field p.name) (list_any (λ (q : Pair). bytes_eq q.name p.name) earlier)
     (is_option_value p.name p.value)
     (at_name (is_known c.args.field) _ _ _ true c.as_slice-name.ensures c.is_known.ensures c.if-not-is_known.false)
     (at_name (λ n. list_any (λ (q : Pair). bytes_eq q.name n) earlier) _ _ _ false c.as_slice-name.ensures

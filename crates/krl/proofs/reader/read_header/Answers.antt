@@ -3,8 +3,8 @@ use Rattle.std.proofs.lemmas.Result.{err_from_is_err_and}
 use Rattle.wire.specs.Texts.{u32_text, u64_text, string_text}
 use Rattle.krl.specs.declared.krl_fault.KrlFault.TheVariants.{Truncated, BadMagic, BadVersion, BadFlags}
 use Rattle.krl.specs.Format.{Header, magic, IsString}
-use Rattle.krl.specs.Faults.{IsU32, IsU64, accepted, refused_unless, is_magic, is_one, is_zero}
-use Rattle.krl.specs.Faults.{CommentFault, ReservedFault, FlagsFault, DateFault, NumberFault, VersionFault}
+use Rattle.krl.specs.Faults.{IsU32, IsU64, accepted, refused_unless, is_magic, is_one, is_zero, CommentFault}
+use Rattle.krl.specs.Faults.{ReservedFault, FlagsFault, DateFault, NumberFault, VersionFault}
 use Rattle.krl.proofs.Bytes.{suffix_bytes}
 use Rattle.krl.proofs.Texts.{header_fields}
 use Rattle.krl.proofs.SectionReading.{more_after, later}

@@ -1,7 +1,7 @@
-use Rattle.std.proofs.Common.{◌≡◌, ◌+◌, ◌<◌, ◌-◌, ℕ, List, [], ◌∷◌, ◌++◌, length, Some, None, map, sym, ap, ◌∙◌, arith}
+use Rattle.std.proofs.Common.{◌≡◌, ◌+◌, ◌<◌, ◌-◌, ℕ, List, [], ◌∷◌, ◌++◌, Some, None, map, sym, ap, ◌∙◌, arith}
 use Rattle.text.specs.declared.pair.Pair.{Pair}
 use Rattle.message.specs.Reading.{line_of, option_after, options_from}
-use Rattle.message.proofs.Steps.{all_options, few_options, no_option, one_option}
+use Rattle.message.proofs.Steps.{all_options, are_options, no_option, one_option}
 use Rattle.message.proofs.issue.options_in.Goals as goal
 
 pub loop-n-preserved : goal.loop-n-preserved
@@ -18,34 +18,19 @@ loop-n-preserved c =
     ∙ ap (λ (k : ℕ). options_from k (n + 1) (before ++ option ∷ []) pieces) fewer
     ∙ sym (one_option (10 - n) n before pieces option left is) ∙ c.loop-n.invariant
 
-pub returns-in_default-clause-read : goal.returns-in_default-clause-read
-returns-in_default-clause-read c =
+pub returns-in_default : goal.returns-in_default
+returns-in_default c =
     let pieces : List (List ℕ) = map (λ x. x.now) c.args.pieces.now in
     let is : option_after c.loop-n.options (line_of c.loop-n.n pieces) ≡ None =
     sym (ap (option_after c.loop-n.options) c.line.ensures) ∙ sym c.in_ok-option.ensures ∙ c.in_default.is in
-    sym (no_option (10 - c.loop-n.n) c.loop-n.n c.loop-n.options pieces is) ∙ c.loop-n.invariant
+    let said = are_options c.loop-n.n c.loop-n.options pieces c.loop-n.invariant
+    (no_option (10 - c.loop-n.n) c.loop-n.n c.loop-n.options pieces is) in
+    record { read = said.0; few = said.1 }
 
-pub returns-in_default-clause-few : goal.returns-in_default-clause-few
-returns-in_default-clause-few c =
-    let pieces : List (List ℕ) = map (λ x. x.now) c.args.pieces.now in
-    let is : option_after c.loop-n.options (line_of c.loop-n.n pieces) ≡ None =
-    sym (ap (option_after c.loop-n.options) c.line.ensures) ∙ sym c.in_ok-option.ensures ∙ c.in_default.is in
-    let same : c.loop-n.options ≡ options_from 3 7 [] pieces =
-    sym (no_option (10 - c.loop-n.n) c.loop-n.n c.loop-n.options pieces is) ∙ c.loop-n.invariant in
-    omega (arith, ap (λ (os : List Pair). length os) same, few_options 3 7 [] pieces)
-
-pub returns-clause-read : goal.returns-clause-read
-returns-clause-read c =
+pub returns : goal.returns
+returns c =
     let pieces : List (List ℕ) = map (λ x. x.now) c.args.pieces.now in
     let none : 10 - c.loop-n.n ≡ 0 = omega arith in
-    sym (all_options c.loop-n.n c.loop-n.options pieces)
-    ∙ ap (λ (k : ℕ). options_from k c.loop-n.n c.loop-n.options pieces) (sym none) ∙ c.loop-n.invariant
-
-pub returns-clause-few : goal.returns-clause-few
-returns-clause-few c =
-    let pieces : List (List ℕ) = map (λ x. x.now) c.args.pieces.now in
-    let none : 10 - c.loop-n.n ≡ 0 = omega arith in
-    let same : c.loop-n.options ≡ options_from 3 7 [] pieces =
-    sym (all_options c.loop-n.n c.loop-n.options pieces)
-    ∙ ap (λ (k : ℕ). options_from k c.loop-n.n c.loop-n.options pieces) (sym none) ∙ c.loop-n.invariant in
-    omega (arith, ap (λ (os : List Pair). length os) same, few_options 3 7 [] pieces)
+    let said = are_options c.loop-n.n c.loop-n.options pieces c.loop-n.invariant
+    (all_options c.loop-n.n c.loop-n.options pieces none) in
+    record { read = said.0; few = said.1 }
