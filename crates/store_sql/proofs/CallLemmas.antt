@@ -1,29 +1,22 @@
 -- What the calls do, from what their texts mean.
-use Rattle.std.proofs.Common.{◌≡◌, ◌⊎◌, inl, inr, ℕ, List, [], length, true, false, None, Option, Ok, Result, refl, sym, ap, ◌∙◌, subst, IfOk, IfErr}
-use Rattle.std.specs.Prelude.{◌||◌}
-use Rattle.std.proofs.Common.{map}
-use Rattle.store_sql.proofs.Words.{Begin, Command, Commit, Compiled, Database, Delete, Does, Error, Executes, Global}
-use Rattle.store_sql.proofs.Words.{Insert, InsertOr, IsAnswer, IsPermutation, IsPlain, IsWrite, ProgramOverflows}
-use Rattle.store_sql.proofs.Words.{Query, Release, Rollback, RollbackTo, Row, Runs, Schema, Select, State, Survives}
-use Rattle.store_sql.proofs.Words.{Tally, Trees, Update, Vec, Writes, accepts_program, command_of, is_pragma}
-use Rattle.store_sql.proofs.Words.{is_query, is_select, overlay, reads_listing, statement_of}
-use Rattle.sqlite.specs.Listing.{understood}
-use Rattle.sqlite.specs.State.{CommitsBy, Shown, FailsToQuery, CommitsShowing}
-use Rattle.store_sql.specs.declared.table_fault.Fault.{Fault}
-use Rattle.store_sql.specs.Schema.{whole}
-use Rattle.store_sql.specs.Contents.{Contents, Holds, Means}
-use Rattle.store_sql.specs.Calls.{Changes, FailsBy, FailsIn, Finds, FindsIn, FindsOne, Leaves, Never, OnlyReads, Stays}
-use Rattle.store_sql.specs.Done.{IsDone, IsRead, IsFirstRead}
-use Rattle.store_sql.specs.Faults.{fault_of, HasCause}
+use Rattle.store_sql.proofs.Words.{Begin, Changes, Command, Commit, CommitsBy, CommitsShowing, Compiled, Contents}
+use Rattle.store_sql.proofs.Words.{Database, Delete, Does, Error, Executes, FailsBy, FailsIn, FailsToQuery, Fault}
+use Rattle.store_sql.proofs.Words.{Finds, FindsIn, FindsOne, Global, HasCause, HasCleanDisk, Holds, IfErr, IfOk, Insert}
+use Rattle.store_sql.proofs.Words.{InsertOr, IsAnswer, IsDone, IsFirstRead, IsPermutation, IsPlain, IsRead, IsUnchanged}
+use Rattle.store_sql.proofs.Words.{IsWrite, Leaves, List, Means, Never, None, Ok, OnOk, OnlyReads, Option}
+use Rattle.store_sql.proofs.Words.{ProgramOverflows, Query, Release, Result, Rollback, RollbackTo, Row, Runs, Schema}
+use Rattle.store_sql.proofs.Words.{Select, Shown, State, Stays, Survives, Tally, Trees, Update, Vec, Writes, []}
+use Rattle.store_sql.proofs.Words.{accepts_program, ap, command_of, false, fault_of, inl, inr, is_pragma, is_query}
+use Rattle.store_sql.proofs.Words.{is_select, length, map, overlay, reads_listing, refl, statement_of, subst, sym, true}
+use Rattle.store_sql.proofs.Words.{understood, whole, ℕ, ◌||◌, ◌∙◌, ◌≡◌, ◌⊎◌}
 use Rattle.store_sql.proofs.Statements.{mode, survives_as}
 use Rattle.store_sql.proofs.Commands.{closes}
 use Rattle.store_sql.proofs.Forms.{ends_nowhere, is_compiled, query_everywhere}
 use Rattle.store_sql.proofs.Staying.{stays_done}
 use Rattle.store_sql.proofs.Queries.{answers_still, shown_never}
-use Rattle.store_sql.proofs.Texts.{Shows, changes, leaves, finds}
-use Rattle.store_sql.proofs.FaultLemmas.{HasWriteCause, IsWhole, faults, write_faults}
-use Rattle.store_sql.proofs.DoneLemmas.{changes_done, fault_done}
-use Rattle.store_sql.proofs.FoundLemmas.{finds_read, finds_first, causes_read, causes_first, read_only, first_only}
+use Rattle.store_sql.proofs.FoundLemmas.{Shows, changes, leaves, finds, done_as, fault_done, finds_read, finds_first}
+use Rattle.store_sql.proofs.FoundLemmas.{causes_read, causes_first, read_only, first_only}
+use Rattle.store_sql.proofs.FaultLemmas.{HasWriteCause, IsStatement, IsWhole, faults, write_faults}
 
 -- ---- writes
 
@@ -38,9 +31,7 @@ IsOnRows _ = ⊥
 -- a text that makes this of the contents
 pub record Write (sql : List ℕ) (params : Row) (after : Contents → Contents) : Type 0 where
   pub command : Command
-  pub is : command_of (understood whole sql) ≡ command
-  pub plain : IsPlain (understood whole sql)
-  pub one : IsWhole sql (length params) (understood whole sql)
+  pub is : IsStatement sql command (length params)
   pub on_rows : IsOnRows command
   pub does : (limit : Option ℕ) (db next : Database) (tally : Tally) (c : Contents) → Means db c
       → Does limit mode params db (statement_of sql (understood whole sql)) None command (Ok (tally, next))
@@ -85,47 +76,52 @@ closes_none (Update at q) on = refl
 closes_none (Delete at q) on = refl
 closes_none _ on = absurd on
 
-module _ {X : Type 0} {sql : List ℕ} {params : Row} {after : Contents → Contents} (w : Write sql params after)
-    (old new : State) where
-  pub write_stays : (answer : Result ℕ Error) (r : Result X Fault) → IsDone answer r
-      → Executes sql params old new answer → Stays old new r
-  write_stays answer r done ran =
-      let known = is_compiled (understood whole sql) w.plain in
-      stays_done sql params old new
-      (λ c is. ends_nowhere whole old.now.schema sql known.0 c known.1 is
-      (ap closes (sym (ap command_of known.1) ∙ w.is) ∙ closes_none w.command w.on_rows)) answer r done ran
+-- all that a call of such a text does, which fails for these reasons
+pub record Wrote {X : Type 0} (after : Contents → Contents) (Refuses : State → State → Result X Fault → Type 0)
+    (old new : State) (r : Result X Fault) : Type 0 where
+  pub changes : HasCleanDisk new → Changes after old new r
+  pub fault : HasCleanDisk new → Refuses old new r
+  pub stays : HasCleanDisk new → Stays old new r
+  pub survives : Survives old new (Leaves after old)
 
-  pub write_changes : (answer : Result ℕ Error) (r : Result X Fault) → IsDone answer r
-      → Executes sql params old new answer → Changes after old new r
-  write_changes answer r done ran =
-      changes_done old new after answer r done
-      (changes sql params w.command w.is w.plain (is_write w.command w.on_rows)
-      (writes w.command w.on_rows params) after w.does old new answer ran)
-
-  pub write_fails : (answer : Result ℕ Error) (r : Result X Fault) → IsDone answer r
-      → Executes sql params old new answer → FailsBy (HasWriteCause sql params) old new r
-  write_fails answer r done ran =
-      fault_done (λ f. (c : Contents) → Means old.now c → HasWriteCause sql params old new f) answer r done
-      (write_faults sql params w.command w.is w.plain w.one (shows_none w.command w.on_rows)
-      (ends_none w.command w.on_rows) (saves_none w.command w.on_rows) old new answer ran)
-
-pub write_survives : {sql : List ℕ} {params : Row} {after : Contents → Contents} (w : Write sql params after)
-    (old new : State) → Survives old new (CommitsBy sql params old) → Survives old new (Leaves after old)
-write_survives {sql} {params} {after} w old new = survives_as old new _ _
-    (leaves sql params w.command w.is w.plain (is_write w.command w.on_rows) (writes w.command w.on_rows params) after
-    w.does old)
+pub wrote : {X : Type 0} {sql : List ℕ} {params : Row} {after : Contents → Contents}
+    {Refuses : State → State → Result X Fault → Type 0} {old new : State} (w : Write sql params after)
+    → ((old new : State) (r : Result X Fault) → FailsBy (HasWriteCause sql params) old new r → Refuses old new r)
+    → (answer : Result ℕ Error) (r : Result X Fault)
+    → (HasCleanDisk new → Executes sql params old new answer) → Survives old new (CommitsBy sql params old)
+    → IsDone answer r → Wrote after Refuses old new r
+wrote {sql = sql} {params = params} {after = after} {old = old} {new = new} w fails answer r ran lives done =
+    let write = is_write w.command w.on_rows in
+    let writing = writes w.command w.on_rows params in
+    let known = is_compiled (understood whole sql) w.is.1 in
+    record {
+      changes = λ clean. done_as (Changes after old new) (Changes after old new) (λ n x h. h) (λ e h. h) answer r done
+          (changes sql params w.command w.is.0 w.is.1 write writing after w.does old new answer (ran clean));
+      fault = λ clean. fails old new r (fault_done
+          (λ f. (c : Contents) → Means old.now c → HasWriteCause sql params old new f)
+          answer r done (write_faults sql params w.command w.is.0 w.is.1 w.is.2 (shows_none w.command w.on_rows)
+          (ends_none w.command w.on_rows) (saves_none w.command w.on_rows) old new answer (ran clean)));
+      stays = λ clean. stays_done sql params old new (λ c is. ends_nowhere whole old.now.schema sql known.0 c known.1 is
+          (ap closes (sym (ap command_of known.1) ∙ w.is.0) ∙ closes_none w.command w.on_rows)) answer r done
+          (ran clean);
+      survives = survives_as old new _ _ (leaves sql params w.command w.is.0 w.is.1 write writing after w.does old)
+          lives;
+    }
 
 -- ---- queries
+
+-- the text is one query, of so many parameters
+abbrev pub IsSelect : Schema → List ℕ → Query → List (List ℕ) → ℕ → Type 0
+IsSelect schema sql query names count =
+    (command_of (understood schema sql) ≡ Select (record { lets = []; body = query }) names)
+    × (reads_listing schema sql ≡ false) × IsPlain (understood schema sql) × IsWhole sql count (understood schema sql)
 
 -- a text that finds these structs in a database of this schema, whose trees hold something
 pub record FindIn {A X : Type 0} (schema : Schema) (Held : Trees → A → Type 0) (sql : List ℕ) (params : Row) (cells : X → Row)
     (of : A → List X) : Type 0 where
   pub query : Query
   pub names : List (List ℕ)
-  pub is : command_of (understood schema sql) ≡ Select (record { lets = []; body = query }) names
-  pub unlisted : reads_listing schema sql ≡ false
-  pub plain : IsPlain (understood schema sql)
-  pub one : IsWhole sql (length params) (understood schema sql)
+  pub is : IsSelect schema sql query names (length params)
   pub typed : accepts_program schema [] query params ≡ true
   pub sure : (trees : Trees) → ProgramOverflows trees params [] [] query → ⊥
   pub apart : (x y : X) → cells x ≡ cells y → x ≡ y
@@ -142,11 +138,12 @@ module _ {A X : Type 0} {schema : Schema} {Held : Trees → A → Type 0} {sql :
     (answer : Result (Vec Row Global) Error) (ok : IfOk answer (λ rows. Shown sql params old new rows.items))
     (err : IfErr answer (FailsToQuery sql params old new)) where
   pub shown : Shows Has cells of old new answer
-  shown = finds schema Has Held known sql params f.query f.names f.is f.plain f.unlisted cells of f.answers old new answer ok err
+  shown = finds schema Has Held known sql params f.query f.names f.is.0 f.is.2 f.is.1 cells of f.answers old new answer
+      ok err
 
   pub causes : IfErr answer (λ e. (a : A) → Has a old.now → HasCause old new (fault_of e))
-  causes = faults schema Has (λ a db has. (known a db has).0) sql params f.query f.names f.is f.plain f.unlisted f.one f.typed
-      f.sure old new answer err
+  causes = faults schema Has (λ a db has. (known a db has).0) sql params f.query f.names f.is.0 f.is.2 f.is.1 f.is.3
+      f.typed f.sure old new answer err
 
   pub found_all : (r : Result (Vec X Global) Fault) → IsRead cells answer r → FindsIn Has of old new r
   found_all r read = finds_read Has cells of f.apart old new answer r read shown
@@ -161,8 +158,8 @@ in_tables c db means = (means.schema, means.kept.holds)
 silent : {X : Type 0} {sql : List ℕ} {params : Row} {cells : X → Row} {of : Contents → List X} (f : Find sql params cells of)
     (s : State) (c : Compiled) → understood s.now.schema sql ≡ Ok c → c.returning ≡ None
 silent {sql = sql} f s c is =
-    let known = is_compiled (understood whole sql) f.plain in
-    query_everywhere whole s.now.schema sql known.0 c known.1 is (ap is_select (sym (ap command_of known.1) ∙ f.is))
+    let known = is_compiled (understood whole sql) f.is.2 in
+    query_everywhere whole s.now.schema sql known.0 c known.1 is (ap is_select (sym (ap command_of known.1) ∙ f.is.0))
 
 module _ {X : Type 0} {sql : List ℕ} {params : Row} {cells : X → Row} {of : Contents → List X}
     (f : Find sql params cells of) (old new : State) (answer : Result (Vec Row Global) Error)
@@ -174,29 +171,50 @@ module _ {X : Type 0} {sql : List ℕ} {params : Row} {cells : X → Row} {of : 
   rows_shown : Shows Has cells of old new answer
   rows_shown = shown f Has in_tables old new answer ok err
 
-  pub find_all : (r : Result (Vec X Global) Fault) → IsRead cells answer r → Finds of old new r
-  find_all r read = found_all f Has in_tables old new answer ok err r read
+  still : OnOk answer (IsUnchanged old new)
+  still = answers_still sql params old new answer (silent f old) ok
 
-  pub find_all_fails : (r : Result (Vec X Global) Fault) → IsRead cells answer r → FailsBy HasCause old new r
-  find_all_fails r read = found_fails f Has in_tables old new answer ok err r read
+  find_all : (r : Result (Vec X Global) Fault) → IsRead cells answer r
+      → Finds of old new r × OnlyReads old new r × FailsBy HasCause old new r
+  find_all r read = (
+    found_all f Has in_tables old new answer ok err r read,
+    read_only Has cells of old new answer r read still rows_shown,
+    found_fails f Has in_tables old new answer ok err r read,
+  )
 
-  pub find_all_reads : (r : Result (Vec X Global) Fault) → IsRead cells answer r → OnlyReads old new r
-  find_all_reads r read =
-      read_only Has cells of old new answer r read (answers_still sql params old new answer (silent f old) ok) rows_shown
+  find_one : (r : Result (Option X) Fault) → IsFirstRead cells answer r
+      → FindsOne of old new r × OnlyReads old new r × FailsBy HasCause old new r
+  find_one r read = (
+    finds_first cells of f.apart old new answer r read rows_shown,
+    first_only Has cells of old new answer r read still rows_shown,
+    causes_first Has cells of f.apart old new answer r read rows_shown (causes f Has in_tables old new answer ok err),
+  )
 
-  pub find_one : (r : Result (Option X) Fault) → IsFirstRead cells answer r → FindsOne of old new r
-  find_one r read = finds_first cells of f.apart old new answer r read rows_shown
+-- all that a call of such a text does
+pub record Found {X : Type 0} (Finding : State → State → Result X Fault → Type 0) (old new : State)
+    (r : Result X Fault) : Type 0 where
+  pub finds : HasCleanDisk new → Finding old new r
+  pub reads : HasCleanDisk new → OnlyReads old new r
+  pub fault : HasCleanDisk new → FailsBy HasCause old new r
+  pub survives : Survives old new Never
 
-  pub find_one_fails : (r : Result (Option X) Fault) → IsFirstRead cells answer r → FailsBy HasCause old new r
-  find_one_fails r read =
-      causes_first Has cells of f.apart old new answer r read rows_shown (causes f Has in_tables old new answer ok err)
+module _ {X : Type 0} {sql : List ℕ} {params : Row} {cells : X → Row} {of : Contents → List X}
+    (f : Find sql params cells of) {old new : State} (answer : Result (Vec Row Global) Error)
+    (ok : HasCleanDisk new → IfOk answer (λ rows. Shown sql params old new rows.items))
+    (err : HasCleanDisk new → IfErr answer (FailsToQuery sql params old new))
+    (lives : Survives old new (CommitsShowing sql params old)) where
+  abbrev of_all : {Y : Type 0} {Finding : State → State → Result Y Fault → Type 0} {r : Result Y Fault}
+      → (HasCleanDisk new → Finding old new r × OnlyReads old new r × FailsBy HasCause old new r)
+      → Found Finding old new r
+  of_all all = record {
+    finds = λ clean. (all clean).0;
+    reads = λ clean. (all clean).1;
+    fault = λ clean. (all clean).2;
+    survives = survives_as old new _ _ (shown_never sql params old (silent f old)) lives;
+  }
 
-  pub find_one_reads : (r : Result (Option X) Fault) → IsFirstRead cells answer r → OnlyReads old new r
-  find_one_reads r read =
-      first_only Has cells of old new answer r read (answers_still sql params old new answer (silent f old) ok) rows_shown
+  pub found : (r : Result (Vec X Global) Fault) → IsRead cells answer r → Found (Finds of) old new r
+  found r read = of_all (λ clean. find_all f old new answer (ok clean) (err clean) r read)
 
-pub find_survives : {X : Type 0} {sql : List ℕ} {params : Row} {cells : X → Row} {of : Contents → List X}
-    (f : Find sql params cells of) (old new : State)
-    → Survives old new (CommitsShowing sql params old) → Survives old new Never
-find_survives {sql = sql} {params = params} f old new =
-    survives_as old new _ _ (shown_never sql params old (silent f old))
+  pub found_one : (r : Result (Option X) Fault) → IsFirstRead cells answer r → Found (FindsOne of) old new r
+  found_one r read = of_all (λ clean. find_one f old new answer (ok clean) (err clean) r read)

@@ -1,31 +1,35 @@
 -- What a command is, whatever the tables are: whether it is a query, and whether it may end a transaction.
-use Rattle.std.proofs.Common.{◌≡◌, ℕ, Bool, true, false, List, [], length, Option, Some, None, Ok, Err, refl}
-use Rattle.store_sql.proofs.Words.{Checked, CompileError, Name, NoSuchTable, and_then, is_select, is_some, not}
-use Rattle.std.specs.Prelude.{if◌then◌else◌, ◌&&◌, ◌==◌}
+use Rattle.store_sql.proofs.Words.{Bool, Checked, CompileError, Err, List, Name, NoSuchTable, None, Ok, Option, Some}
+use Rattle.store_sql.proofs.Words.{[], and_then, command, false, if◌then◌else◌, is_select, is_some, length, not, refl}
+use Rattle.store_sql.proofs.Words.{true, ℕ, ◌&&◌, ◌==◌, ◌≡◌}
 use Rattle.sqlite_ast.specs.declared.Expr.{Expr}
 use Rattle.sqlite_ast.specs.declared.Rows.{Rows as Given}
 use Rattle.sqlite_ast.specs.declared.Upsert.{Upsert}
 use Rattle.sqlite_ast.specs.declared.CreateTable.{CreateTable as Definition}
 use Rattle.sqlite_ast.specs.declared.CreateIndex.{CreateIndex as IndexDefinition}
-use Rattle.sqlite_ast.specs.declared.Select as written_select
 use Rattle.sqlite_schema.specs.declared.schema.Schema.{Schema}
 use Rattle.sqlite_schema.specs.declared.schema.Table.{Table}
 use Rattle.sqlite_schema.specs.declared.command.Command.{Command}
-use Rattle.sqlite_schema.specs.declared.command.Command.TheVariants.{Commit, Rollback, Release, Nothing, DropTable, DropView, DropIndex}
+use Rattle.sqlite_schema.specs.declared.command.Command.TheVariants.{Commit, Rollback, Release, Nothing, DropTable}
+use Rattle.sqlite_schema.specs.declared.command.Command.TheVariants.{DropView, DropIndex}
 use Rattle.sqlite_schema.specs.declared.command.Conflict.{Conflict}
 use Rattle.sqlite_resolve.specs.declared.error.CompileError.TheVariants.{NoSuchIndex, Unsupported}
-use Rattle.sqlite_resolve.specs.Compile.{command, create_index, create_table, create_view, creates, delete, drop_index, drop_table, drop_view, dropped, insert, insert_or, insert_or_abort, is_attached, is_reserved, new_rows, on_table, read, target, update}
+use Rattle.sqlite_resolve.specs.Compile.{create_index, create_table, create_view, creates, delete, drop_index}
+use Rattle.sqlite_resolve.specs.Compile.{drop_table, drop_view, dropped, insert, insert_or, insert_or_abort}
+use Rattle.sqlite_resolve.specs.Compile.{is_attached, is_reserved, new_rows, on_table, read, target, update}
 use Rattle.sqlite_resolve.specs.declared.pragma.Known.{Known}
-use Rattle.sqlite_resolve.specs.declared.pragma.Known.TheVariants.{ForeignKeys, JournalMode, BusyTimeout, Synchronous, Optimize, Hint, Unknown}
-use Rattle.sqlite_schema.specs.declared.command.Conflict.TheVariants as how
+use Rattle.sqlite_resolve.specs.declared.pragma.Known.TheVariants.{ForeignKeys, JournalMode, BusyTimeout, Synchronous}
+use Rattle.sqlite_resolve.specs.declared.pragma.Known.TheVariants.{Optimize, Hint, Unknown}
 use Rattle.sqlite_schema.specs.Names.{index_named, table_named, view_named}
 use Rattle.std.specs.Option.{option_or}
 use Rattle.sqlite_resolve.specs.Body.{table_at}
 use Rattle.sqlite_resolve.specs.Program.{program, query}
 use Rattle.sqlite_resolve.specs.Write.{updated, deleted}
 use Rattle.sqlite_resolve.specs.Given.{upserts}
-use Rattle.sqlite_resolve.specs.Define as define
 use Rattle.sqlite_resolve.specs.Pragma.{foreign_keys, is_on, known, pragma, pragma_by}
+use Rattle.sqlite_ast.specs.declared.Select as written_select
+use Rattle.sqlite_schema.specs.declared.command.Conflict.TheVariants as how
+use Rattle.sqlite_resolve.specs.Define as define
 
 -- ---- steps
 
@@ -91,8 +95,7 @@ insert_or_abort_is schema base name columns rows clauses =
 
 pub create_table_is : (schema : Schema) (formats : List Name) (def : Definition) → Is false false (create_table schema formats def)
 unfolding create_table
-create_table_is schema formats def =
-    either false false (is_attached schema def.name) _ _ tt (follows false false
+create_table_is schema formats def = either false false (is_attached schema def.name) _ _ tt (follows false false
     (creates def.if_missing def.name (option_or (table_named schema def.name) (view_named schema def.name)) (index_named schema def.name)) _
     (λ is_new. either false false is_new _ _ (follows false false (define.table formats def) _
     (λ t. either false false (length t.computed == length t.stamps.places && not def.resolves) _ _ (refl, refl) tt)) (refl, refl)))
@@ -139,8 +142,7 @@ drop_table_is schema if_exists name =
 
 pub drop_view_is : (schema : Schema) (if_exists : Bool) (name : Name) → Is false false (drop_view schema if_exists name)
 unfolding drop_view
-drop_view_is schema if_exists name =
-    either false false (is_some (table_named schema name)) _ _ tt
+drop_view_is schema if_exists name = either false false (is_some (table_named schema name)) _ _ tt
     (dropped_is DropView NoSuchTable if_exists (view_named schema name) (λ n. (refl, refl)))
 
 pub drop_index_is : (schema : Schema) (if_exists : Bool) (name : Name) → Is false false (drop_index schema if_exists name)

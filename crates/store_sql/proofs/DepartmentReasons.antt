@@ -1,48 +1,31 @@
 -- Why a department is refused.
-use Rattle.std.proofs.Common.{◌≡◌, inl, inr, ℕ, ℤ, pos, ◌^◌, ◌++◌, List, [], ◌∷◌, length, map, Bool, true, false, not, Some, Result, refl, sym, ap, subst, ◌∙◌, is_eq, arith}
-use Rattle.store_sql.proofs.Words.{Abort, All, AllByRecursion, Applies, AreConflicts, BadReference, Binary, Check}
-use Rattle.store_sql.proofs.Words.{Datatype, Enforced, ForeignKey, Given, Has, InsertOr, Int, IsJudged, IsPermutation}
-use Rattle.store_sql.proofs.Words.{Mismatch, NoRowid, NotNull, Null, PrimaryKey, Refers, Refusal, Row, State, Text}
-use Rattle.store_sql.proofs.Words.{TooDeep, Trees, Unique, Values, Violates, accepts_program, agree, all_from}
-use Rattle.store_sql.proofs.Words.{all_has, cases_Bool, cast_row, column, edit_of, equal, filter, guards}
-use Rattle.store_sql.proofs.Words.{has_filtered, has_kept, has_rowid, id_in, ids_of, is_referred, left_by, list_any}
-use Rattle.store_sql.proofs.Words.{ltb-false, next_rowid, or_right, plain, references_fit, rowid, shown, some_from}
-use Rattle.store_sql.proofs.Words.{some_has, statement_of, without_rowid}
-use Rattle.std.specs.Prelude.{◌&&◌}
+use Rattle.store_sql.proofs.Words.{All, AllByRecursion, Applies, AreConflicts, BadReference, Binary, Bool, Check}
+use Rattle.store_sql.proofs.Words.{Contents, Datatype, DepartmentRow, Enforced, FailsBy, Fault, ForeignKey, Given, Has}
+use Rattle.store_sql.proofs.Words.{Int, IsJudged, IsNumber, IsPermutation, List, Means, Mismatch, NoRowid, NotNull}
+use Rattle.store_sql.proofs.Words.{Null, PrimaryKey, Refers, Refusal, RefusedFor, Result, Row, Some, State, Text}
+use Rattle.store_sql.proofs.Words.{TooDeep, Trees, Unique, Violates, [], accepts_program, agree, all_from, all_has, ap}
+use Rattle.store_sql.proofs.Words.{arith, cases_Bool, cast_row, column, department_at, department_cells}
+use Rattle.store_sql.proofs.Words.{department_places, edit_of, equal, false, filter, first_key, guards, has_filtered}
+use Rattle.store_sql.proofs.Words.{has_kept, has_rowid, id_in, ids_of, inl, inr, is_eq, left_by, length, list_any}
+use Rattle.store_sql.proofs.Words.{ltb-false, map, next_rowid, not, or_right, plain, pos, refl, rowid, shown, some_from}
+use Rattle.store_sql.proofs.Words.{some_has, statement_of, subst, sym, true, understood, value_cmp, whole}
+use Rattle.store_sql.proofs.Words.{without_rowid, ℕ, ℤ, ◌&&◌, ◌++◌, ◌^◌, ◌∙◌, ◌∷◌, ◌≡◌}
+use Rattle.sqlite_trees.specs.View.{IsStorable}
+use Rattle.store_sql.proofs.Reasons.{is_exact, HasClash, IsPut, halted, one, storable}
 use Rattle.std.proofs.lemmas.Bool.{or_cases, or_left}
-use Rattle.sqlite_value.specs.Keys.{first_key, joined}
-use Rattle.sqlite_schema.specs.Names.{same_name}
-use Rattle.sqlite.specs.Order.{value_cmp}
-use Rattle.sqlite.specs.Listing.{understood}
 use Rattle.sqlite_rules.proofs.TableLemmas.{put_all_adds, put_all_keeps}
-use Rattle.store_sql.specs.Schema.{whole, department_at}
-use Rattle.store_sql.specs.Cells.{department_cells}
-use Rattle.store_sql.specs.Contents.{Contents, IsNumber, Means, department_places}
-use Rattle.store_sql.specs.Refusals.{RefusedFor, RefusesDepartment}
-use Rattle.store_sql.specs.declared.departments.DepartmentRow.{DepartmentRow}
-use Rattle.store_sql.proofs.DepartmentUpsert.{conflict_is, fresh_row, has_id, name_is, named, next_row, none_named, own_row, put_is, put_query, put_sql, source, terms, the_row, unique}
-use Rattle.store_sql.proofs.RowTests.{only_one}
-use Rattle.store_sql.specs.declared.table_fault.Fault.{Fault}
-use Rattle.store_sql.specs.Calls.{FailsBy}
-use Rattle.store_sql.proofs.FaultLemmas.{HasWriteCause, none_overflows}
-use Rattle.store_sql.proofs.InsertReasons.{all_refer, each_refers, has_department}
-use Rattle.store_sql.proofs.Inserts.{no_works}
-use Rattle.store_sql.proofs.KeyReasons.{counted, free, full}
+use Rattle.store_sql.specs.Refusals.{RefusesDepartment}
+use Rattle.store_sql.proofs.DepartmentUpsert.{conflict_is, fresh_row, has_id, name_is, named, next_row, none_named}
+use Rattle.store_sql.proofs.DepartmentUpsert.{own_row, put_is, put_query, put_sql, source, terms, the_row, unique}
+use Rattle.store_sql.proofs.DepartmentUpsert.{put_program, put_command}
+use Rattle.store_sql.proofs.Rows.{only_one, cast_int, cast_null}
+use Rattle.store_sql.proofs.FaultLemmas.{HasWriteCause, none_overflows, Stops, refused_for}
+use Rattle.store_sql.proofs.Inserts.{all_refer, each_refers, has_department, no_works}
+use Rattle.store_sql.proofs.KeyTables.{counted, free, full}
 use Rattle.store_sql.proofs.Queries.{selected}
-use Rattle.store_sql.proofs.Reasons.{HasClash, IsPut, halted, one, storable}
-use Rattle.store_sql.proofs.Refused.{Stops, refused_for}
-use Rattle.store_sql.proofs.Rows.{cast_int, cast_null}
 use Rattle.store_sql.proofs.Stops.{IsHalted}
-use Rattle.store_sql.proofs.UpdateReasons.{freed, sole}
-use Rattle.store_sql.proofs.UpsertStops.{IsUnmet, upsert_halts}
-
-fits_alone : references_fit whole department_at true false ≡ true
-unfolding same_name joined
-fits_alone = refl
-
-fits_again : references_fit whole department_at true true ≡ true
-unfolding same_name joined
-fits_again = refl
+use Rattle.store_sql.proofs.NumberUpdates.{freed, sole}
+use Rattle.store_sql.proofs.Upserts.{IsUnmet, upsert_halts}
 
 -- certificates keep their departments where each name stays
 names_stay : (db next : Trees) → next 3 ≡ db 3
@@ -64,27 +47,18 @@ module _ (d : DepartmentRow) where
   fresh_is : (rows : List Row) → fresh_row d rows ≡ row_at (next_rowid rows)
   fresh_is rows = rw cast_null (simp cast_int)
 
-  is_put : (s : State) (c : Contents) (gone : List ℤ) (id : ℤ)
-      → is_referred whole Enforced (one s.now.trees department_at gone (row_at id)) ≡ true → Means s.now c
-      → IsPut s.now.trees department_at gone (row_at id)
-  is_put s c gone id referred means = record {
+  is_put : (id : ℤ) → IsPut department_at (row_at id)
+  is_put id = record {
     listed = inr (inl refl);
-    ordered = means.kept.holds.departments.apart;
-    typed = refl;
-    present = refl;
-    checked = refl;
-    keyed = refl;
-    referred = referred;
-    unique = means.kept.sound.obeys.rules Unique;
-    short = λ fits. (
-      storable _ (row_at id) refl (refl, (refl, (refl, (refl, (refl, (refl, (refl, (refl, (refl, tt)))))))))
-          (omega arith, omega arith) fits,
-      omega arith,
-    );
-    entries = λ fits. (
-      (λ e. storable _ (Text d.name ∷ Int id ∷ []) refl (refl, (refl, tt)) (omega arith, omega arith) (omega (arith, fits))),
-      ((λ e. cc), ((λ e. cc), ((λ e. cc), tt))),
-    );
+    formed = (refl, refl, refl, refl);
+    short = λ fits.
+        let exact : AllByRecursion (λ v. is_exact v ≡ true) (row_at id) =
+        (refl, (refl, (refl, (refl, (refl, (refl, (refl, (refl, (refl, tt))))))))) in
+        (storable _ (row_at id) refl exact (omega arith, omega arith) fits, omega arith);
+    entries = λ fits.
+        let key : IsStorable 0 (Text d.name ∷ Int id ∷ []) =
+        storable _ _ refl (refl, (refl, tt)) (omega arith, omega arith) (omega (arith, fits)) in
+        ((λ e. key), ((λ e. cc), ((λ e. cc), ((λ e. cc), tt))));
   }
 
   well_judged : (id : ℤ) (why : Refusal) → IsJudged department_at (row_at id) (Some why) → ⊥
@@ -122,7 +96,8 @@ module _ (d : DepartmentRow) where
       let new = row_at (next_rowid (db 1)) in
       let is : cast_row department_at (fresh_row d (db 1)) ≡ new = rw (fresh_is (db 1)) (simp cast_int) in
       let stopped = subst (λ row. IsHalted whole db (one db department_at [] row)) is halts in
-      halted db department_at [] new (is_put s c [] (next_rowid (db 1)) fits_alone means)
+      halted db department_at [] new (is_put (next_rowid (db 1))) h.departments.apart
+      (means.kept.sound.obeys.rules Unique)
       (λ out. inr (full department_cells department_places (db 1) c.departments h.departments h.departments_numbered out))
       (λ taken. free (db 1) (department_cells d) h.departments_numbered h.departments.apart taken)
       (λ clash. let it = clash_named db [] (next_rowid (db 1)) clash in
@@ -184,7 +159,8 @@ module _ (d : DepartmentRow) where
         let new = row_at (pos k.0) in
         let stopped = subst (λ row. IsHalted whole db (one db department_at (pos k.0 ∷ []) row)) (kept_row k.0 id) at_id in
         let count = counted department_cells department_places (db 1) c.departments h.departments in
-        halted db department_at (pos k.0 ∷ []) new (is_put s c (pos k.0 ∷ []) (pos k.0) fits_again means)
+        halted db department_at (pos k.0 ∷ []) new (is_put (pos k.0)) h.departments.apart
+        (means.kept.sound.obeys.rules Unique)
         (λ out. let big = ltb-false k.0 (2 ^ 63) out in inr (omega (arith, big, k.2, count)))
         (λ taken. absurd (freed (db 1) (pos k.0) new refl taken))
         (λ clash. absurd (let it = clash_named db (pos k.0 ∷ []) (pos k.0) clash in
@@ -206,22 +182,19 @@ module _ (d : DepartmentRow) where
       let id : rowid there ≡ Int (pos k.0) = ap rowid met.3 ∙ k.1 in
       rw id refl
 
-  pub refuses_department : (s : State) (c : Contents) → Means s.now c
-      → Stops put_sql (department_cells d) (InsertOr 1 Abort (Values terms 9)
-      (record { target = Some (1 ∷ []); update = Some (record { lets = []; body = put_query }) } ∷ [])) s
+  pub refuses_department : (s : State) (c : Contents) → Means s.now c → Stops put_sql (department_cells d) put_command s
       → RefusesDepartment d c
   refuses_department s c means stops = go
       (upsert_halts s.now whole means.schema 1 department_at refl (department_cells d)
-      (statement_of put_sql (understood whole put_sql)) (Some (1 ∷ [])) (record { lets = []; body = put_query }) (no_works 1)
+      (statement_of put_sql (understood whole put_sql)) (Some (1 ∷ [])) put_program (no_works 1)
       (row_at (next_rowid (s.now.trees 1))) (put_typed s c means)
       (λ given h. elim h [ inl over ↦ over | inr fold ↦ none_overflows _ fold ]) terms 9 (source d) refl refl
       (fresh_is (s.now.trees 1)) stops.0 stops.1)
     where
       go : IsUnmet s.now whole means.schema 1 department_at refl (department_cells d)
-          (statement_of put_sql (understood whole put_sql)) (Some (1 ∷ [])) (record { lets = []; body = put_query }) (no_works 1)
+          (statement_of put_sql (understood whole put_sql)) (Some (1 ∷ [])) put_program (no_works 1)
           (row_at (next_rowid (s.now.trees 1))) (put_typed s c means)
-          (λ given h. elim h [ inl over ↦ over | inr fold ↦ none_overflows _ fold ])
-          → RefusesDepartment d c
+          (λ given h. elim h [ inl over ↦ over | inr fold ↦ none_overflows _ fold ]) → RefusesDepartment d c
       go (inl out) =
           let h = means.kept.holds in
           inr (full department_cells department_places (s.now.trees 1) c.departments h.departments h.departments_numbered out)
@@ -243,7 +216,5 @@ module _ (d : DepartmentRow) where
 
 pub department_fails : {X : Type 0} (d : DepartmentRow) (old new : State) (r : Result X Fault)
     → FailsBy (HasWriteCause put_sql (department_cells d)) old new r → RefusedFor (RefusesDepartment d) old new r
-department_fails d old new r =
-    refused_for put_sql (department_cells d) (InsertOr 1 Abort (Values terms 9)
-    (record { target = Some (1 ∷ []); update = Some (record { lets = []; body = put_query }) } ∷ [])) put_is.0 put_is.2
+department_fails d old new r = refused_for put_sql (department_cells d) put_command put_is.0 put_is.2
     (RefusesDepartment d) (refuses_department d) old new r

@@ -1,40 +1,34 @@
--- The statement that puts a department into its table, or in the place of the one that has its name.
-use Rattle.std.proofs.Common.{◌≡◌, ℕ, pos, length, List, [], ◌∷◌, ◌++◌, map, Bool, true, false, not, Option, None, Some, Ok, refl, sym, ap, subst, subst₂, ◌∙◌, inl, inr, is_eq, arith}
-use Rattle.store_sql.proofs.Words.{Abort, Applies, AreConflicts, Binary, Chosen, Compare, Database, Does, Enforced}
-use Rattle.store_sql.proofs.Words.{Eq, Given, Has, InsertOr, IsPermutation, IsPermutation-cons, IsPermutation-map}
-use Rattle.store_sql.proofs.Words.{IsPermutation-trans, IsPlain, IsTable, IsTable-put_row, Ne, Null, Query, Row}
-use Rattle.store_sql.proofs.Words.{Tally, Term, Text, Trees, Unique, Values, all-permutation, all_from, all_has}
-use Rattle.store_sql.proofs.Words.{and-true, and_parts, bytes_eq-Decides, cases_Bool, cast_row, col, column}
-use Rattle.store_sql.proofs.Words.{command_of, edit_of, filter, has_filtered, ids_of, is_int, is_true}
-use Rattle.store_sql.proofs.Words.{length_permutation, list_any, lit, next_rowid, op2, rowid, shown, statement_of}
-use Rattle.store_sql.proofs.Words.{tied_itself, tied_same, value_cmp_total, with_rowid}
-use Rattle.std.specs.Prelude.{◌&&◌}
+-- The statements on the table of departments.
+use Rattle.store_sql.proofs.Words.{Abort, Applies, AreConflicts, Binary, Bool, Chosen, Command, Compare, Contents}
+use Rattle.store_sql.proofs.Words.{Database, DepartmentRow, Does, Enforced, Eq, Given, Has, Holds, InsertOr, IsNumber}
+use Rattle.store_sql.proofs.Words.{IsPermutation, IsPermutation-cons, IsPermutation-map, IsPermutation-trans, IsTable}
+use Rattle.store_sql.proofs.Words.{IsTable-put_row, Kept, List, Means, Ne, None, Null, Ok, Option, Program, Query, Row}
+use Rattle.store_sql.proofs.Words.{Some, Tally, Term, Text, Trees, Unique, Values, [], all-permutation, all_from}
+use Rattle.store_sql.proofs.Words.{all_has, and-true, and_parts, ap, arith, ascending, at_places, binary}
+use Rattle.store_sql.proofs.Words.{bytes_eq-Decides, cases_Bool, cast_row, codes, col, column, department_at}
+use Rattle.store_sql.proofs.Words.{department_cells, department_places, edit_of, everything, false, filter, first_key}
+use Rattle.store_sql.proofs.Words.{has_filtered, has_name, ids_of, inl, inr, is_eq, is_int, is_true, length}
+use Rattle.store_sql.proofs.Words.{length_permutation, list_any, lit, map, nat_cmp, next_rowid, not, op2, pos, refl}
+use Rattle.store_sql.proofs.Words.{rowid, shown, slice_cmp, statement_of, subst, subst₂, sym, tied_itself, tied_same}
+use Rattle.store_sql.proofs.Words.{true, understood, value_cmp, value_cmp_total, whole, with_rowid, ℕ, ◌&&◌, ◌++◌, ◌∙◌}
+use Rattle.store_sql.proofs.Words.{◌∷◌, ◌≡◌}
 use Rattle.std.proofs.Math.Bool.{or-false}
-use Rattle.sqlite.specs.Order.{value_cmp}
-use Rattle.sqlite_value.specs.Keys.{first_key}
 use Rattle.std.proofs.lemmas.Bool.{not-true}
 use Rattle.store_sql.proofs.Upserts.{Upserted, upserts}
-use Rattle.sqlite.specs.Ops.{binary}
 use Rattle.std.proofs.lemmas.List.Filters.{length-filter_both}
-use Rattle.store_sql.proofs.Numbering.{ints_of, more_numbered, next_number, still_numbered}
+use Rattle.store_sql.proofs.Rows.{ints_of, more_numbered, next_number, still_numbered, cast_null, cast_int, put_adds}
+use Rattle.store_sql.proofs.Rows.{and_first, eq_tie, ne_tie, not_ne, none_passes, only_one, own_text}
 use Rattle.sqlite_rules.specs.Keys.{conflicts}
-use Rattle.sqlite_tied.specs.Compute.{everything}
-use Rattle.sqlite.specs.Listing.{understood}
-use Rattle.store_sql.specs.Schema.{whole, department_at}
-use Rattle.store_sql.specs.Cells.{department_cells}
-use Rattle.store_sql.specs.Contents.{Contents, Holds, IsNumber, Kept, Means, at_places, department_places}
-use Rattle.store_sql.specs.Changes.{has_name, with_department}
-use Rattle.store_sql.specs.declared.sql.TheConstants.{PUT_DEPARTMENT}
-use Rattle.store_sql.specs.declared.departments.DepartmentRow.{DepartmentRow}
-use Rattle.store_sql.proofs.CallLemmas.{Write}
+use Rattle.store_sql.specs.Changes.{with_department, departments_named}
+use Rattle.store_sql.specs.declared.sql.TheConstants.{PUT_DEPARTMENT, FIND_DEPARTMENT, EVERY_DEPARTMENT}
+use Rattle.store_sql.proofs.CallLemmas.{IsSelect, Write, Find}
 use Rattle.store_sql.proofs.Edits.{keep_all, equal_is, filter_alike, of_record, updated, updated_apart}
-use Rattle.store_sql.proofs.Elsewhere.{spares, in_department}
-use Rattle.store_sql.proofs.FaultLemmas.{IsWhole}
+use Rattle.store_sql.proofs.Elsewhere.{in_department, department_apart}
 use Rattle.store_sql.proofs.Inserts.{no_works}
 use Rattle.store_sql.proofs.Queries.{on_table, selected, lists_left, text_test}
-use Rattle.store_sql.proofs.Rows.{cast_null, cast_int, put_adds, and_first}
 use Rattle.store_sql.proofs.Statements.{mode}
-use Rattle.store_sql.proofs.RowTests.{eq_tie, ne_tie, not_ne, none_passes, only_one, own_text}
+use Rattle.store_sql.proofs.FaultLemmas.{IsStatement}
+use Rattle.store_sql.proofs.Selects.{IsTreeOf, select, text_cmp, FindSorted, select_all}
 
 abbrev pub put_sql : List ℕ
 put_sql = PUT_DEPARTMENT.now
@@ -47,9 +41,13 @@ abbrev pub put_query : Query
 put_query = on_table 1 (op2 (Compare Eq Binary) (col 1 0) (col 0 8) ∷ [])
     (col 1 0 ∷ col 1 0 ∷ col 1 1 ∷ col 0 11 ∷ col 0 12 ∷ col 0 13 ∷ col 0 14 ∷ col 0 15 ∷ col 0 16 ∷ col 0 17 ∷ []) []
 
-pub put_is : (command_of (understood whole put_sql) ≡ InsertOr 1 Abort (Values terms 9)
-    (record { target = Some (1 ∷ []); update = Some (record { lets = []; body = put_query }) } ∷ []))
-    × IsPlain (understood whole put_sql) × IsWhole put_sql 8 (understood whole put_sql)
+abbrev pub put_program : Program
+put_program = record { lets = []; body = put_query }
+
+abbrev pub put_command : Command
+put_command = InsertOr 1 Abort (Values terms 9) (record { target = Some (1 ∷ []); update = Some put_program } ∷ [])
+
+pub put_is : IsStatement put_sql put_command 8
 unfolding understood everything
 put_is = (refl, (refl, refl), (refl, refl))
 
@@ -102,8 +100,7 @@ module _ (d : DepartmentRow) where
       lists_left department_cells (λ e. not (has_name d.name e)) department_places
       (λ v. not (is_true (binary (Compare Eq Binary) (column v 0) (Text d.name)) && true))
       (λ e. ap not (and-true _ ∙ text_test e.name d.name)) (db 1) c.departments h.departments in
-      IsPermutation-trans _ _ _
-      (subst (λ v. IsPermutation (department_cells d ∷ map department_cells others)
+      IsPermutation-trans _ _ _ (subst (λ v. IsPermutation (department_cells d ∷ map department_cells others)
       (v ∷ map (at_places department_places) left)) (sym is) (IsPermutation-cons (department_cells d) _ _ rest))
       (IsPermutation-map (at_places department_places) _ _ put)
 
@@ -119,7 +116,7 @@ module _ (d : DepartmentRow) where
       ∙ keep_all (db 1) in
       let put : IsPermutation (new ∷ db 1) (after 1) = subst (IsPermutation (new ∷ db 1)) (sym did.rows)
       (put_adds new (db 1) (and_first _ _ did.fresh)) in
-      in_department db after c h _ (spares (edit_of db department_at [] Given 0 (fresh_row (db 1) ∷ [])) db after did)
+      in_department db after c h _ did.tables
       (record {
         same = replaced c db after new h (put_in (db 1))
             (subst (λ l. IsPermutation (new ∷ l) (after 1)) (sym left) put);
@@ -210,7 +207,7 @@ module _ (d : DepartmentRow) where
         let alone = ap (λ (l : List Row). length l) one in
         let both = length-filter_both has_id (λ r. not (has_id r)) (λ r. refl) (db 1) in
         omega (arith, all_of, others, alone, both) in
-        in_department db after c h _ (spares (edit_of db department_at (ids_of rows) Given 1 rows) db after did)
+        in_department db after c h _ did.tables
         (record {
           same = replaced c db after next h (put_over (db 1) r0 (name_is r0 here0 hit0)) put;
           apart = updated_apart whole department_at db after rows has_id (next_row new) h.departments.apart ints all
@@ -225,21 +222,17 @@ module _ (d : DepartmentRow) where
         )))
 
   put_does : (limit : Option ℕ) (db next : Database) (tally : Tally) (c : Contents) → Means db c
-      → Does limit mode (department_cells d) db (statement_of put_sql (understood whole put_sql)) None
-      (InsertOr 1 Abort (Values terms 9)
-      (record { target = Some (1 ∷ []); update = Some (record { lets = []; body = put_query }) } ∷ []))
-      (Ok (tally, next))
-      → (next.schema ≡ whole) × Holds next.trees (with_department d c)
+      → Does limit mode (department_cells d) db (statement_of put_sql (understood whole put_sql)) None put_command
+      (Ok (tally, next)) → (next.schema ≡ whole) × Holds next.trees (with_department d c)
   put_does limit db next tally c means did =
       let it = upserts limit db next tally whole means.schema 1 department_at refl (department_cells d)
-      (statement_of put_sql (understood whole put_sql)) (Some (1 ∷ [])) (record { lets = []; body = put_query })
+      (statement_of put_sql (understood whole put_sql)) (Some (1 ∷ [])) put_program
       (no_works 1) terms 9 source refl did in
       (it.1, go it.0)
     where
       go : Upserted limit db next tally whole means.schema 1 department_at refl (department_cells d)
-          (statement_of put_sql (understood whole put_sql)) (Some (1 ∷ [])) (record { lets = []; body = put_query })
-          (no_works 1) (fresh_row (db.trees 1)) next.trees
-          → Holds next.trees (with_department d c)
+          (statement_of put_sql (understood whole put_sql)) (Some (1 ∷ [])) put_program
+          (no_works 1) (fresh_row (db.trees 1)) next.trees → Holds next.trees (with_department d c)
       go (inl it) = put_new c db.trees next.trees means.kept.holds it.0 it.1
       go (inr it) =
           let there = it.0 in
@@ -250,12 +243,39 @@ module _ (d : DepartmentRow) where
           put_same c db.trees means.kept met.0 met.1 hit next.trees it.3 (rw (met.3) at all) it.5
 
 pub put : (d : DepartmentRow) → Write put_sql (department_cells d) (with_department d)
-put d = record {
-  command = InsertOr 1 Abort (Values terms 9)
-      (record { target = Some (1 ∷ []); update = Some (record { lets = []; body = put_query }) } ∷ []);
-  is = put_is.0;
-  plain = put_is.1;
-  one = put_is.2;
-  on_rows = tt;
-  does = put_does d;
-}
+put d = record { command = put_command; is = put_is; on_rows = tt; does = put_does d }
+
+-- ---- SELECT of one
+
+abbrev columns : List Term
+columns = col 1 1 ∷ col 1 2 ∷ col 1 3 ∷ col 1 4 ∷ col 1 5 ∷ col 1 6 ∷ col 1 7 ∷ col 1 8 ∷ []
+
+abbrev columns_shown : Row → Row
+columns_shown v = column v 0 ∷ column v 1 ∷ column v 2 ∷ column v 3 ∷ column v 4 ∷ column v 5 ∷ column v 6 ∷ column v 7
+    ∷ []
+
+abbrev names : List (List ℕ)
+names = codes "name" ∷ codes "kind" ∷ codes "admins" ∷ codes "rules" ∷ codes "options" ∷ codes "extensions"
+    ∷ codes "maxlife" ∷ codes "namespaces" ∷ []
+
+pub tree : IsTreeOf Holds department_cells department_places 1 (λ c. c.departments)
+tree = record { stored = λ trees. refl; held = λ trees c h. h.departments; apart = department_apart }
+
+find_is : IsSelect whole FIND_DEPARTMENT.now
+    (on_table 1 (op2 (Compare Eq Binary) (col 1 1) (col 0 0) ∷ []) columns []) names 1
+unfolding understood everything
+find_is = (refl, refl, (refl, refl), (refl, refl))
+
+pub find : (name : List ℕ) → Find FIND_DEPARTMENT.now (Text name ∷ []) department_cells (departments_named name)
+find name = select tree find_is (has_name name)
+    (λ v. is_true (binary (Compare Eq Binary) (column v 0) (Text name)) && true) columns_shown
+    (λ x. and-true _ ∙ text_test x.name name) (λ x. refl) (λ r. refl) (λ r. refl) refl (λ c. refl)
+
+-- ---- SELECT of all
+
+every_is : IsSelect whole EVERY_DEPARTMENT.now (on_table 1 [] columns ((col 1 1, ascending Binary) ∷ [])) names 0
+unfolding understood everything
+every_is = (refl, refl, (refl, refl), (refl, refl))
+
+pub every : FindSorted EVERY_DEPARTMENT.now ([]) department_cells (λ c. c.departments) (λ d. d.name) (slice_cmp nat_cmp)
+every = select_all tree every_is columns_shown (λ x. refl) (λ r. refl) refl (λ r. refl) (λ x y. text_cmp x.name y.name)

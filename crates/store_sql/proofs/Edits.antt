@@ -1,21 +1,19 @@
 -- What DELETE and UPDATE leave of the rows.
-use Rattle.std.proofs.Common.{◌≡◌, inl, inr, ℕ, ℤ, List, [], ◌∷◌, ◌++◌, map, Bool, true, false, not, cond, refl, sym, ap, ap₂, subst, ◌∙◌, is_eq, Ordering, Less, Equal, Greater}
-use Rattle.std.specs.Prelude.{◌||◌, ◌&&◌}
+use Rattle.store_sql.proofs.Words.{Applies, Bool, Enforced, Equal, Given, Greater, Has, Int, IsPermutation}
+use Rattle.store_sql.proofs.Words.{IsPermutation-cons, IsPermutation-filter, IsPermutation-map, IsPermutation-middle}
+use Rattle.store_sql.proofs.Words.{IsPermutation-refl, IsPermutation-sym, IsPermutation-trans, IsTable, IsTable-put_row}
+use Rattle.store_sql.proofs.Words.{Less, List, Lists, Ordering, Row, Schema, Table, Trees, [], all-permutation}
+use Rattle.store_sql.proofs.Words.{all_from, all_has, ap, ap₂, at_places, cases_Bool, cast_row, cond, drop, edit_of}
+use Rattle.store_sql.proofs.Words.{false, filter, filter-map, has_filtered, has_kept, has_rowid, id_in, ids_of, inl}
+use Rattle.store_sql.proofs.Words.{inr, int_is, is_eq, is_int, is_taken, left_by, list_any, map, map-map, mapped_has}
+use Rattle.store_sql.proofs.Words.{not, put_row, refl, rowid, some_from, some_has, subst, sym, tied_itself, tied_same}
+use Rattle.store_sql.proofs.Words.{true, value_cmp, value_cmp_total, whole, without_all, without_rowid, ℕ, ℤ, ◌&&◌}
+use Rattle.store_sql.proofs.Words.{◌++◌, ◌||◌, ◌∙◌, ◌∷◌, ◌≡◌}
 use Rattle.std.proofs.lemmas.List.Sorted.{IsPermutation-append, IsPermutation-append_left, IsPermutation-append_right}
 use Rattle.std.proofs.lemmas.List.Sorted.{list_any-IsPermutation}
-use Rattle.sqlite.specs.Order.{value_cmp}
 use Rattle.sqlite.specs.Edit.{put_all, numbered, are_fresh}
-use Rattle.std.proofs.Common.{drop}
-use Rattle.store_sql.proofs.Words.{Applies, Enforced, Given, Has, Int, IsPermutation, IsPermutation-cons}
-use Rattle.store_sql.proofs.Words.{IsPermutation-filter, IsPermutation-map, IsPermutation-middle, IsPermutation-refl}
-use Rattle.store_sql.proofs.Words.{IsPermutation-sym, IsPermutation-trans, IsTable, IsTable-put_row, Row, Schema, Table}
-use Rattle.store_sql.proofs.Words.{Trees, all-permutation, all_from, all_has, cases_Bool, cast_row, edit_of, filter}
-use Rattle.store_sql.proofs.Words.{filter-map, has_filtered, has_kept, has_rowid, id_in, ids_of, int_is, is_int}
-use Rattle.store_sql.proofs.Words.{is_taken, left_by, list_any, map-map, mapped_has, put_row, rowid, some_from}
-use Rattle.store_sql.proofs.Words.{some_has, tied_itself, tied_same, value_cmp_total, without_all, without_rowid}
 use Rattle.std.proofs.lemmas.List.{map-append}
 use Rattle.store_sql.proofs.Rows.{put_adds}
-use Rattle.store_sql.specs.Contents.{Lists, at_places}
 
 pub keep_all : {X : Type 0} (xs : List X) → filter (λ x. true) xs ≡ xs
 keep_all [] = refl
@@ -30,8 +28,7 @@ filter_twice p q (x ∷ xs) = go (q x) (p x) (filter_twice p q xs)
         → filter (λ x. not (p x)) (cond (not b) (x ∷ filter (λ x. not (q x)) xs) (filter (λ x. not (q x)) xs)) ≡ cond
         (not (b || p x)) (x ∷ filter (λ x. not (q x || p x)) xs) (filter (λ x. not (q x || p x)) xs)
     go true c more = more
-    go false c more = elim (p x) as
-        (λ b. cond (not b) (x ∷ filter (λ x. not (p x)) (filter (λ x. not (q x)) xs))
+    go false c more = elim (p x) as (λ b. cond (not b) (x ∷ filter (λ x. not (p x)) (filter (λ x. not (q x)) xs))
         (filter (λ x. not (p x)) (filter (λ x. not (q x)) xs)) ≡ cond (not b) (x ∷ filter (λ x. not (q x || p x)) xs)
         (filter (λ x. not (q x || p x)) xs)) [ true ↦ more | false ↦ ap (λ l. x ∷ l) more ]
 
@@ -100,8 +97,7 @@ filter_table p [] up = tt
 filter_table p (r ∷ rows) up = elim (cases_Bool (p r)) [
   | inl e ↦ rw e (
     all_from _ (filter p rows) (λ y h. all_has _ rows y up.0 (has_filtered p rows y h).0),
-    filter_table
-        p rows up.1,
+    filter_table p rows up.1,
   )
   | inr e ↦ rw e (filter_table p rows up.1)
 ]
@@ -114,8 +110,7 @@ mapped_from f (x ∷ xs) y (inr h) = let it = mapped_from f xs y h in (it.0, inr
 -- each row is a record's
 pub of_record : {X : Type 0} (cells : X → Row) (places : List ℕ) (rows : List Row) (xs : List X) (r : Row)
     → Lists cells places rows xs → Has rows r → (x : X) × Has xs x × (at_places places r ≡ cells x)
-of_record cells places rows xs r h here =
-    mapped_from cells xs (at_places places r)
+of_record cells places rows xs r h here = mapped_from cells xs (at_places places r)
     (all_has (Has (map cells xs)) (map (at_places places) rows) (at_places places r)
     (all-permutation (Has (map cells xs)) (map cells xs) (map (at_places places) rows) h.same
     (all_from (Has (map cells xs)) (map cells xs) (λ e k. k)))
@@ -233,13 +228,11 @@ module _ (schema : Schema) (table : Table) (db after : Trees) (rows : List Row) 
       (after table.tree)
   updated =
       let ids : IsPermutation (map (λ r. id_in (rowid r)) (filter p old)) (ids_of rows) =
-      subst (λ l. IsPermutation l (ids_of rows))
-      (map-map (λ r. id_in (rowid r)) (λ r. rowid r ∷ new r) (filter p old))
+      subst (λ l. IsPermutation l (ids_of rows)) (map-map (λ r. id_in (rowid r)) (λ r. rowid r ∷ new r) (filter p old))
       (IsPermutation-map (λ r. id_in (rowid r)) _ _ all) in
       let left = left_is p old up ints (ids_of rows) ids in
       let made : IsPermutation (map (λ r. cast_row table (new r)) (filter p old)) news =
-      subst (λ l. IsPermutation l news)
-      (map-map (λ s. cast_row table (drop 1 s)) (λ r. rowid r ∷ new r) (filter p old))
+      subst (λ l. IsPermutation l news) (map-map (λ s. cast_row table (drop 1 s)) (λ r. rowid r ∷ new r) (filter p old))
       (IsPermutation-map (λ s. cast_row table (drop 1 s)) _ _ all) in
       let fresh : are_fresh (without_all old (ids_of rows)) news ≡ true = subst
       (λ l. are_fresh (without_all old (ids_of rows)) l ≡ true) (given _ news) did.fresh in
@@ -254,6 +247,31 @@ module _ (schema : Schema) (table : Table) (db after : Trees) (rows : List Row) 
       (subst (IsPermutation (news ++ without_all old (ids_of rows))) (sym is) put)
 
   pub updated_apart : IsTable (after table.tree)
-  updated_apart = subst IsTable (sym did.rows)
-      (put_all_table (edit_of db table (ids_of rows) Given 1 rows).news
+  updated_apart = subst IsTable (sym did.rows) (put_all_table (edit_of db table (ids_of rows) Given 1 rows).news
       (left_by db (edit_of db table (ids_of rows) Given 1 rows)) (without_all_table (ids_of rows) old up))
+
+-- ---- UPDATE of the rows that pass a test
+
+-- each struct that passes is changed: `next_row` is a row's new row
+pub lists_changed : {X : Type 0} (cells : X → Row) (places : List ℕ) (table : Table) (db after : Trees)
+    (rows : List Row) (xs : List X) (mine : X → Bool) (u : X → X)
+    (tests : Row → Bool) (change next_row : Row → Row) → ((x : X) → tests (cells x) ≡ mine x)
+    → ((x : X) → change (cells x) ≡ cells (u x))
+    → ((x : X) (r : Row) → at_places places r ≡ cells x → is_int (rowid r) ≡ true)
+    → ((x : X) (r : Row) → at_places places r ≡ cells x
+    → at_places places (cast_row table (next_row r)) ≡ change (at_places places r))
+    → Lists cells places (db table.tree) xs → IsPermutation
+    (map (λ r. rowid r ∷ next_row r) (filter (λ r. tests (at_places places r)) (db table.tree))) rows
+    → Applies whole Enforced db (edit_of db table (ids_of rows) Given 1 rows) after
+    → Lists cells places (after table.tree) (map (λ x. cond (mine x) (u x) x) xs)
+lists_changed cells places table db after rows xs mine u tests change next_row tested changed int back h all did =
+    let p = λ (r : Row). tests (at_places places r) in
+    let each = λ (r : Row) (here : Has (db table.tree) r). of_record cells places (db table.tree) xs r h here in
+    let ints = λ (r : Row) (here : Has (db table.tree) r). let it = each r here in int it.0 r it.2 in
+    let news = λ (r : Row) (here : Has (db table.tree) r). let it = each r here in back it.0 r it.2 in
+    record {
+      same = lists_updated cells places mine u tests change (λ r. cast_row table (next_row r)) tested changed
+          (db table.tree) (after table.tree) xs h news
+          (updated whole table db after rows p next_row h.apart ints all did);
+      apart = updated_apart whole table db after rows p next_row h.apart ints all did;
+    }

@@ -1,42 +1,41 @@
 -- BEGIN, COMMIT and ROLLBACK.
-use Rattle.std.proofs.Common.{IfErr, ◌≡◌, ◌⊎◌, inl, inr, ℕ, List, [], codes, Option, Some, None, Ok, Err, Result, refl, sym, ap, subst, subst₂, ◌∙◌, true, false, IsTrue, append-nil}
-use Rattle.store_sql.proofs.Words.{Begin, Command, Commit, Does, Error, Executes, Fails, IsMisplaced, IsPlain}
-use Rattle.store_sql.proofs.Words.{IsRolledBack, IsSome, IsUnchanged, IsWrite, MayCommit, Returning, Rollback, Row}
-use Rattle.store_sql.proofs.Words.{Schema, State, Trees, command_of, is_pragma, is_query, is_some, leb-true, mode_of}
-use Rattle.store_sql.proofs.Words.{not, runs_as, statement_of, text_of, timed}
-use Rattle.sqlite_tied.specs.Compute.{everything}
-use Rattle.sqlite.specs.Listing.{understood}
-use Rattle.sqlite.specs.State.{ExecutesIn, CommitsBy, IsNotRun}
-use Rattle.std.specs.Prelude.{MatchBool, ◌||◌, ◌&&◌}
+use Rattle.store_sql.proofs.Words.{Begin, Begins, Command, Commit, Commits, CommitsBy, Does, Err, Error, Executes}
+use Rattle.store_sql.proofs.Words.{ExecutesIn, Fails, HasCause, IfErr, IsMisplaced, IsNotRun, IsPlain, IsRolledBack}
+use Rattle.store_sql.proofs.Words.{IsSome, IsTrue, IsUnchanged, IsWrite, List, MayCommit, None, Ok, Option, Result}
+use Rattle.store_sql.proofs.Words.{Returning, Rollback, Row, Schema, Some, State, Trees, [], ap, append-nil, codes}
+use Rattle.store_sql.proofs.Words.{command_of, everything, false, fault_of, inl, inr, is_pragma, is_query, is_some}
+use Rattle.store_sql.proofs.Words.{leb-true, mode_of, not, refl, runs_as, statement_of, subst, subst₂, sym, text_of}
+use Rattle.store_sql.proofs.Words.{timed, true, understood, ℕ, ◌&&◌, ◌||◌, ◌∙◌, ◌≡◌, ◌⊎◌}
+use Rattle.std.specs.Prelude.{MatchBool}
 use Rattle.sqlite.specs.declared.error.Error.TheVariants.{ExecuteReturnedResults}
-use Rattle.store_sql.specs.Calls.{Begins, Commits}
 use Rattle.store_sql.proofs.Statements.{stopped}
 use Rattle.store_sql.proofs.FaultLemmas.{IsWhole, failed, not_run}
-use Rattle.store_sql.specs.Faults.{fault_of, HasCause}
+
+-- the text is that command, whatever the tables are
+abbrev IsText : List ℕ → Command → Type 0
+IsText sql command = (schema : Schema) → (command_of (understood schema sql) ≡ command)
+    × IsPlain (understood schema sql) × IsWhole sql 0 (understood schema sql)
 
 abbrev pub begin_text : List ℕ
 begin_text = codes "BEGIN"
 
-begin_is : (schema : Schema) → (command_of (understood schema begin_text) ≡ Begin)
-    × IsPlain (understood schema begin_text)
+begin_is : IsText begin_text Begin
 unfolding understood everything
-begin_is schema = (refl, (refl, refl))
+begin_is schema = (refl, (refl, refl), (refl, refl))
 
 abbrev pub commit_text : List ℕ
 commit_text = codes "COMMIT"
 
-commit_is : (schema : Schema) → (command_of (understood schema commit_text) ≡ Commit)
-    × IsPlain (understood schema commit_text)
+commit_is : IsText commit_text Commit
 unfolding understood everything
-commit_is schema = (refl, (refl, refl))
+commit_is schema = (refl, (refl, refl), (refl, refl))
 
 abbrev pub rollback_text : List ℕ
 rollback_text = codes "ROLLBACK"
 
-rollback_is : (schema : Schema) → (command_of (understood schema rollback_text) ≡ Rollback)
-    × IsPlain (understood schema rollback_text)
+rollback_is : IsText rollback_text Rollback
 unfolding understood everything
-rollback_is schema = (refl, (refl, refl))
+rollback_is schema = (refl, (refl, refl), (refl, refl))
 
 pub begins : (old new : State) (r : Result ℕ Error) → Executes begin_text [] old new r → Begins old new r
 begins old new (Err e) h = stopped begin_text [] old new e h
@@ -84,18 +83,6 @@ commit_leaves s trees h = go (commits_at commit_text [] s Commit (commit_is _).0
     go (inl h) = h.1
     go (inr wrote) = absurd (let e = wrote.3 in cc)
 
-rollback_whole : (schema : Schema) → IsWhole rollback_text 0 (understood schema rollback_text)
-unfolding understood everything
-rollback_whole schema = (refl, refl)
-
-begin_whole : (schema : Schema) → IsWhole begin_text 0 (understood schema begin_text)
-unfolding understood everything
-begin_whole schema = (refl, refl)
-
-commit_whole : (schema : Schema) → IsWhole commit_text 0 (understood schema commit_text)
-unfolding understood everything
-commit_whole schema = (refl, refl)
-
 abbrev none_of : (A : Type 0) → Option A
 none_of A = None
 
@@ -110,9 +97,9 @@ unfolding ExecutesIn IsNotRun
 rolls old new (Ok count) inside h =
     (runs_as rollback_text [] old new old.now.schema refl Rollback (rollback_is _).0 (rollback_is _).1 count h).1
 rolls old new (Err e) inside (inl (inl (inl fault, same))) = absurd
-    (subst (IsWhole rollback_text 0) fault.1 (rollback_whole old.now.schema))
+    (subst (IsWhole rollback_text 0) fault.1 (rollback_is old.now.schema).2)
 rolls old new (Err e) inside (inl (inl (inr found, same))) =
-    let fits = subst (IsWhole rollback_text 0) found.1 (rollback_whole old.now.schema) in
+    let fits = subst (IsWhole rollback_text 0) found.1 (rollback_is old.now.schema).2 in
     let plain = subst IsPlain found.1 (rollback_is old.now.schema).1 in
     absurd (elim found.2 [
       | inl long ↦ long.0 (leb-true _ _ fits.0)
@@ -138,23 +125,20 @@ rolls old new (Err e) inside (inr h) =
       | inl refused ↦ absurd
           (elim refused.0 [
             | inl m ↦ misplaced old e inside m
-            | inr w ↦ elim w.0
-                [ inl q ↦ q | inr q ↦ (let f : false ≡ true = q in cc) ]
+            | inr w ↦ elim w.0 [ inl q ↦ q | inr q ↦ (let f : false ≡ true = q in cc) ]
           ])
       | inr broke ↦ broke.3
     ]
 
 -- why a statement on the transaction itself fails, where it has its place
-module _ (sql : List ℕ) (command : Command)
-    (is : (schema : Schema) → (command_of (understood schema sql) ≡ command) × IsPlain (understood schema sql))
-    (one : (schema : Schema) → IsWhole sql 0 (understood schema sql))
+module _ (sql : List ℕ) (command : Command) (is : IsText sql command)
     (shows : (is_query command || (is_pragma command || false)) ≡ false) (writes : IsWrite command → ⊥)
     (big : (old : State) (text : List ℕ) → Does old.step_limit (mode_of old) [] old.now text None command (Err None)
     → ⊥) where
   placed : (old new : State) (e : Error) → (IsMisplaced old command e → ⊥) → Executes sql [] old new (Err e)
       → HasCause old new (fault_of e)
   unfolding ExecutesIn
-  placed old new e never (inl h) = not_run sql [] old new (is old.now.schema).1 (one old.now.schema) e h
+  placed old new e never (inl h) = not_run sql [] old new (is old.now.schema).1 (is old.now.schema).2 e h
   placed old new e never (inr h) =
       let known = sym h.1.is in
       let plain = subst IsPlain (sym known) (is old.now.schema).1 in
@@ -175,7 +159,7 @@ module _ (sql : List ℕ) (command : Command)
 pub begin_faults : (old new : State) (r : Result ℕ Error) → old.in_transaction ≡ false
     → Executes begin_text [] old new r → IfErr r (λ e. HasCause old new (fault_of e))
 begin_faults old new (Ok n) outside h = tt
-begin_faults old new (Err e) outside h = placed begin_text Begin begin_is begin_whole refl (λ w. w)
+begin_faults old new (Err e) outside h = placed begin_text Begin begin_is refl (λ w. w)
     (λ s text out. let f = out in cc) old new e never h
   where
     never : IsMisplaced old Begin e → ⊥
@@ -187,7 +171,7 @@ begin_faults old new (Err e) outside h = placed begin_text Begin begin_is begin_
 pub commit_faults : (old new : State) (r : Result ℕ Error) → old.in_transaction ≡ true
     → Executes commit_text [] old new r → IfErr r (λ e. HasCause old new (fault_of e))
 commit_faults old new (Ok n) inside h = tt
-commit_faults old new (Err e) inside h = placed commit_text Commit commit_is commit_whole refl (λ w. w)
+commit_faults old new (Err e) inside h = placed commit_text Commit commit_is refl (λ w. w)
     (λ s text out. let f = out in cc) old new e never h
   where
     never : IsMisplaced old Commit e → ⊥

@@ -1,24 +1,22 @@
 -- Why a query or a write fails.
-use Rattle.std.proofs.Common.{◌≡◌, ◌⊎◌, inl, inr, ℕ, List, [], length, Option, Some, None, Ok, Err, Result, sym, ap, subst, subst₂, ◌∙◌, true, false, append-nil, Any, IfErr}
-use Rattle.store_sql.proofs.Words.{Begin, Command, Commit, CompileError, Compiled, Database, Does, Error, Executes}
-use Rattle.store_sql.proofs.Words.{Fails, Global, IfOk, IsMisplaced, IsPlain, ProgramOverflows, Query, Release}
-use Rattle.store_sql.proofs.Words.{Rollback, RollbackTo, Row, Schema, Select, State, Trees, Vec, accepts_program}
-use Rattle.store_sql.proofs.Words.{command_of, is_pragma, is_query, leb-true, mode_of, nat_le, reads_listing, text_of}
-use Rattle.std.specs.Prelude.{◌||◌, if◌then◌else◌}
+use Rattle.store_sql.proofs.Words.{Begin, Command, Commit, CompileError, Compiled, Contents, Damaged, Database, Device}
+use Rattle.store_sql.proofs.Words.{Does, Err, Error, Executes, ExecutesIn, Fails, FailsBy, FailsToQuery, Fault, Global}
+use Rattle.store_sql.proofs.Words.{HasCause, HasCauseOr, HasFailed, IfErr, IfOk, IsMisplaced, IsNotRun, IsPlain, List}
+use Rattle.store_sql.proofs.Words.{Means, NoMemory, None, Ok, Option, ProgramOverflows, Query, RefusedFor, Release}
+use Rattle.store_sql.proofs.Words.{Result, Rollback, RollbackTo, Row, Schema, Select, Some, State, Trees, Vec, []}
+use Rattle.store_sql.proofs.Words.{accepts_program, ap, append-nil, command_of, false, fault_of, if◌then◌else◌, inl}
+use Rattle.store_sql.proofs.Words.{inr, is_out_of_memory, is_pragma, is_query, leb-true, length, mode_of, nat_le}
+use Rattle.store_sql.proofs.Words.{reads_listing, refl, statement_of, subst, subst₂, sym, text_of, true, understood}
+use Rattle.store_sql.proofs.Words.{whole, ℕ, ◌||◌, ◌∙◌, ◌≡◌, ◌⊎◌}
+use Rattle.std.proofs.Common.{Any}
 use Rattle.sqlite_trees.specs.declared.error.StoreError.TheVariants.{OutOfMemory, Io, Corrupt, Full, Broken, Unstorable}
-use Rattle.sqlite.specs.Listing.{understood, IsSourceOf}
+use Rattle.sqlite.specs.Listing.{IsSourceOf}
 use Rattle.sqlite.specs.Effect.{RefusesToRead}
-use Rattle.sqlite.specs.State.{FailsToQuery, IsNotRun, ExecutesIn}
-use Rattle.store_sql.specs.Schema.{whole}
-use Rattle.store_sql.specs.Contents.{Contents, Means}
-use Rattle.store_sql.specs.Faults.{is_out_of_memory, fault_of, HasCause, HasFailed}
-use Rattle.store_sql.specs.declared.table_fault.Fault.TheVariants.{Device, Damaged, NoMemory}
-use Rattle.store_sql.specs.declared.table_fault.Fault.{Fault}
+use Rattle.store_sql.proofs.Statements.{mode}
 
 -- the rules of the tables refuse the statement, as for a key that is taken, or a row of it is too big
 abbrev pub IsRefused : List ℕ → Row → State → Type 0
-IsRefused sql params s =
-    IfOk (understood whole sql) (λ c. (stop : Option Error)
+IsRefused sql params s = IfOk (understood whole sql) (λ c. (stop : Option Error)
     × Does s.step_limit (mode_of s) params s.now (text_of sql c) None c.command (Err stop))
 
 -- the cause of each fault of a write on tables that mean something
@@ -34,8 +32,7 @@ IsWhole sql count (Err e) = ⊥
 
 -- the text is one statement with so many parameters, and means this
 abbrev pub IsStatement : List ℕ → Command → ℕ → Type 0
-IsStatement sql command count =
-    (command_of (understood whole sql) ≡ command) × IsPlain (understood whole sql)
+IsStatement sql command count = (command_of (understood whole sql) ≡ command) × IsPlain (understood whole sql)
     × IsWhole sql count (understood whole sql)
 
 -- the cause of a failure of the database
@@ -77,8 +74,7 @@ module _ {A : Type 0} (schema : Schema) (Has : A → Database → Type 0)
     (names : List (List ℕ))
     (is : command_of (understood schema sql) ≡ Select (record { lets = []; body = query }) names)
     (plain : IsPlain (understood schema sql)) (unlisted : reads_listing schema sql ≡ false)
-    (one : IsWhole sql (length params) (understood schema sql))
-    (typed : accepts_program schema [] query params ≡ true)
+    (one : IsWhole sql (length params) (understood schema sql)) (typed : accepts_program schema [] query params ≡ true)
     (sure : (trees : Trees) → ProgramOverflows trees params [] [] query → ⊥) where
   query_fault : (old new : State) (e : Error) (a : A) → Has a old.now → FailsToQuery sql params old new e
       → HasCause old new (fault_of e)
@@ -99,8 +95,7 @@ module _ {A : Type 0} (schema : Schema) (Has : A → Database → Type 0)
             ∙ ap (λ s. accepts_program s [] query params) (sym (same a old.now has)) ∙ mismatch.1 in cc)
         | inr other ↦ elim other [
           | inl over ↦ absurd (sure old.now.trees over.1)
-          | inr interrupted ↦ rw interrupted.0
-              (inr (inr interrupted.1))
+          | inr interrupted ↦ rw interrupted.0 (inr (inr interrupted.1))
         ]
       ]
 
@@ -147,8 +142,7 @@ module _ (sql : List ℕ) (params : Row) (command : Command) (is : command_of (u
       let bare = subst IsPlain known plain in
       let said = λ (stop : Option Error)
       (did : Does old.step_limit (mode_of old) params old.now (text_of sql h.0) None h.0.command (Err stop)).
-      refused_is sql params old new e
-      (subst (λ r. IfOk r (λ c. (stop : Option Error)
+      refused_is sql params old new e (subst (λ r. IfOk r (λ c. (stop : Option Error)
       × Does old.step_limit (mode_of old) params old.now (text_of sql c) None c.command (Err stop))) (sym known)
       (stop, did)) in
       let ran = rw (bare.0, bare.1, append-nil params) at h.2 in
@@ -156,10 +150,52 @@ module _ (sql : List ℕ) (params : Row) (command : Command) (is : command_of (u
       let plainly : (is_query h.0.command || (is_pragma h.0.command || false)) ≡ false = rw same shows in
       elim (rw plainly at ran) [
         | inl refused ↦ elim refused.0 [
-          | inl m ↦ absurd
-              (never_misplaced old e (subst (λ k. IsMisplaced old k e) same m))
+          | inl m ↦ absurd (never_misplaced old e (subst (λ k. IsMisplaced old k e) same m))
           | inr w ↦ said (Some e) w.1
         ]
         | inr wrong ↦ elim (failing old new _ e wrong)
             [ inl big ↦ said None big | inr cause ↦ write_cause sql params old new (fault_of e) cause ]
       ]
+
+-- ---- why a row is not written
+
+-- a statement of no limit that is refused stops
+abbrev pub Stops : List ℕ → Row → Command → State → Type 0
+Stops sql params command s = (stop : Option Error)
+    × Does None mode params s.now (statement_of sql (understood whole sql)) None command (Err stop)
+
+module _ (sql : List ℕ) (params : Row) (command : Command) (is : command_of (understood whole sql) ≡ command)
+    (one : IsWhole sql (length params) (understood whole sql)) where
+  stops : (s : State) → s.step_limit ≡ None → IsRefused sql params s → Stops sql params command s
+  stops s unlimited h = go (understood whole sql) is one h
+    where
+      go : (u : Result Compiled CompileError) → command_of u ≡ command → IsWhole sql (length params) u
+          → IfOk u (λ k. (stop : Option Error)
+          × Does s.step_limit mode params s.now (text_of sql k) None k.command (Err stop))
+          → (stop : Option Error) × Does None mode params s.now (statement_of sql u) None command (Err stop)
+      go (Ok k) is one h = (
+        h.0,
+        subst (λ m. Does None mode params s.now (text_of sql k) None m (Err h.0)) is
+            (subst (λ limit. Does limit mode params s.now (text_of sql k) None k.command (Err h.0)) unlimited h.1),
+      )
+      go (Err e) is one h = absurd one
+
+  -- what stops it is why it is refused
+  module _ (Refuses : Contents → Type 0)
+      (refuses : (s : State) (c : Contents) → Means s.now c → Stops sql params command s → Refuses c) where
+    cause : (old new : State) (c : Contents) (f : Fault) → Means old.now c → HasWriteCause sql params old new f
+        → HasCauseOr (Refuses c) old new f
+    cause old new c NoMemory means h = tt
+    cause old new c Device means (inl failed) = inl failed
+    cause old new c Device means (inr refused) = go old.step_limit refl
+      where
+        go : (limit : Option ℕ) → old.step_limit ≡ limit → HasCauseOr (Refuses c) old new Device
+        go None unlimited = inr (refuses old c means (stops old unlimited refused))
+        go (Some n) limited = inl (inr (inr (subst Rattle.std.specs.Prelude.IsSome (sym limited) refl)))
+    cause old new c Damaged means h = h
+
+    -- each fault of the write has its cause
+    pub refused_for : {X : Type 0} (old new : State) (r : Result X Fault) → FailsBy (HasWriteCause sql params) old new r
+        → RefusedFor Refuses old new r
+    refused_for old new (Ok x) h = tt
+    refused_for old new (Err f) h = λ c means. cause old new c f means (h c means)

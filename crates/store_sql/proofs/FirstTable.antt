@@ -1,8 +1,7 @@
 -- The table of the office is the first of the office's tables.
-use Rattle.std.proofs.Common.{◌≡◌, List, [], ◌∷◌, slice_get, true, Some, ap, sym, subst}
-use Rattle.store_sql.proofs.Words.{Database, Schema, Table, list_any}
-use Rattle.store_sql.specs.Schema.{office_at}
-use Rattle.store_sql.specs.Contents.{Contents, HasOffices, Means, MeansWithoutCa}
+use Rattle.store_sql.proofs.Words.{Contents, Database, HasOffices, List, Means, Schema, Some, Table, [], ap, list_any}
+use Rattle.store_sql.proofs.Words.{office_at, slice_get, subst, sym, true, ◌∷◌, ◌≡◌}
+use Rattle.store_sql.specs.Contents.{MeansWithoutCa}
 use Rattle.store_sql.specs.Look.{first_is_office, is_office_table}
 
 -- in schema 2

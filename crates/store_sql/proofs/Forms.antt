@@ -1,19 +1,22 @@
 -- What a text is, whatever the tables are: a query under one schema is a query under each, and a text that ends no
 -- transaction under one ends none under each.
-use Rattle.std.proofs.Common.{◌≡◌, ◌⊎◌, inl, inr, ℕ, Bool, true, false, List, length, ◌+◌, Option, None, Ok, Err, Result, refl, sym, subst, ◌∙◌}
-use Rattle.store_sql.proofs.Words.{Checked, CompileError, Compiled, IsPlain, Name, NoSuchTable, Returning, and_then}
-use Rattle.store_sql.proofs.Words.{is_select, reads_listing}
-use Rattle.std.specs.Prelude.{if◌then◌else◌, ◌==◌}
+use Rattle.store_sql.proofs.Words.{Bool, Checked, CompileError, Compiled, Err, IsPlain, List, Name, NoSuchTable, None}
+use Rattle.store_sql.proofs.Words.{Ok, Option, Result, Returning, and_then, command, false, if◌then◌else◌, inl, inr}
+use Rattle.store_sql.proofs.Words.{is_select, length, reads_listing, refl, subst, sym, true, understood, ℕ, ◌+◌, ◌==◌}
+use Rattle.store_sql.proofs.Words.{◌∙◌, ◌≡◌, ◌⊎◌}
 use Rattle.sqlite_ast.specs.declared.Statement.{Statement}
-use Rattle.sqlite_ast.specs.declared.Statement.TheVariants as written
-use Rattle.sqlite_ast.specs.declared.Conflict.TheVariants as conflict
 use Rattle.sqlite_syntax.specs.declared.statement.Parsed.{Parsed}
 use Rattle.sqlite_schema.specs.declared.schema.Schema.{Schema}
 use Rattle.sqlite_schema.specs.declared.command.Command.{Command}
-use Rattle.sqlite_resolve.specs.Compile.{command, command_by, compiled, first, meaning, planned, returning, returning_by, small, timed, with_command}
+use Rattle.sqlite_resolve.specs.Compile.{command_by, compiled, first, meaning, planned, returning, returning_by, small}
+use Rattle.sqlite_resolve.specs.Compile.{timed, with_command}
+use Rattle.sqlite.specs.Listing.{if_select, listing_schema}
+use Rattle.store_sql.proofs.Commands.{Is, closes, same_ok, gone, either, read_is, insert_or_is, insert_or_abort_is}
+use Rattle.store_sql.proofs.Commands.{create_table_is, create_index_is, create_view_is, update_is, delete_is}
+use Rattle.store_sql.proofs.Commands.{drop_table_is, drop_view_is, drop_index_is, pragma_is}
+use Rattle.sqlite_ast.specs.declared.Statement.TheVariants as written
+use Rattle.sqlite_ast.specs.declared.Conflict.TheVariants as conflict
 use Rattle.sqlite_schema.specs.declared.command.Conflict.TheVariants as how
-use Rattle.sqlite.specs.Listing.{if_select, listing_schema, understood}
-use Rattle.store_sql.proofs.Commands.{Is, closes, same_ok, gone, either, read_is, insert_or_is, insert_or_abort_is, create_table_is, create_index_is, create_view_is, update_is, delete_is, drop_table_is, drop_view_is, drop_index_is, pragma_is}
 
 -- ---- what the written statement says of it
 

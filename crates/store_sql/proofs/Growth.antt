@@ -1,22 +1,19 @@
 -- One table after the other.
-use Rattle.std.proofs.Common.{◌≡◌, inl, ℕ, ◌+◌, ◌<◌, drop, get_or, Bool, true, false, IsTrue, List, [], ◌∷◌, ◌++◌}
-use Rattle.std.proofs.Common.{length, Ok, Err, refl, sym, ap, Result, subst, ◌∙◌, arith}
-use Rattle.store_sql.proofs.Words.{AllByRecursion, IsDatabase, IsPermutation-refl, IsSound, KeepsRows, Row, Schema}
-use Rattle.store_sql.proofs.Words.{State, Survives, Table, Trees, created, survives_then}
-use Rattle.std.specs.Prelude.{if◌then◌else◌}
+use Rattle.store_sql.proofs.Words.{AllByRecursion, Bool, Creates, Err, Fault, HasCause, HasCleanDisk, IsDatabase}
+use Rattle.store_sql.proofs.Words.{IsPermutation-refl, IsSound, IsTrue, KeepsRows, List, Lists, Ok, Result, Row, Schema}
+use Rattle.store_sql.proofs.Words.{State, Stays, Survives, Table, TableName, Trees, Waits, [], ap, arith, before, ca}
+use Rattle.store_sql.proofs.Words.{ca_cells, ca_places, cert_cells, cert_places, created, department_cells}
+use Rattle.store_sql.proofs.Words.{department_places, drop, false, get_or, if◌then◌else◌, inl, key_id_cells}
+use Rattle.store_sql.proofs.Words.{key_id_places, length, made, office_cells, office_places, refl, request_cells}
+use Rattle.store_sql.proofs.Words.{request_places, run_cells, run_places, subst, survives_then, sym, true, whole, ℕ}
+use Rattle.store_sql.proofs.Words.{◌++◌, ◌+◌, ◌<◌, ◌∙◌, ◌∷◌, ◌≡◌}
 use Rattle.std.proofs.lemmas.List.{drop_more}
 use Rattle.sqlite.specs.Change.{next_tree}
-use Rattle.sqlite.specs.State.{HasCleanDisk}
-use Rattle.store_sql.specs.declared.creation.TableName.{TableName}
-use Rattle.store_sql.specs.declared.table_fault.Fault.{Fault}
-use Rattle.store_sql.specs.Schema.{no_schema, whole, without_ca, ca}
-use Rattle.store_sql.specs.Making.{before, made}
-use Rattle.store_sql.specs.Cells.{office_cells, department_cells, cert_cells, request_cells, run_cells, key_id_cells, ca_cells}
-use Rattle.store_sql.specs.Contents.{Lists, no_contents, office_places, department_places, cert_places, request_places, run_places, key_id_places, ca_places}
-use Rattle.store_sql.specs.Faults.{HasCause}
+use Rattle.store_sql.specs.Schema.{no_schema, without_ca}
+use Rattle.store_sql.specs.Contents.{no_contents}
 use Rattle.store_sql.proofs.Later.{cause_since}
 use Rattle.store_sql.proofs.Staying.{stays_then}
-use Rattle.store_sql.specs.Calls.{Grown, Creates, IsBare, AddsCa, Stays, Steps, Waits}
+use Rattle.store_sql.specs.Calls.{Grown, IsBare, AddsCa, Steps}
 
 -- a table with no row
 lists_none : {X : Type 0} (cells : X → Row) (places : List ℕ) (rows : List Row) → rows ≡ [] → Lists cells places rows []
@@ -30,10 +27,8 @@ bare_more db next (t ∷ tables) new keeps empty all = (keeps.0 ∙ all.0, bare_
 
 bare_then : (s : Schema) (table : Table) (a b : State) → Grown a b s table → IsBare s a.now
     → IsBare (created s table) b.now
-bare_then s table a b p bare = (
-  p.schema,
-  bare_more a.now.trees b.now.trees s.tables (record table { tree = next_tree s }) p.others p.empty bare.1,
-)
+bare_then s table a b p bare =
+    (p.schema, bare_more a.now.trees b.now.trees s.tables (record table { tree = next_tree s }) p.others p.empty bare.1)
 
 -- ---- the tables of an office
 
@@ -114,13 +109,11 @@ module _ (names : List TableName) (i : ℕ) (first : TableName) (inside : i < le
       let next = subst (Completing r.0) (drop_more names i first inside) r.1 in
       let same = sym next.0 in (
         subst (λ s. HasMade s a b) same r.2,
-        subst
-            (λ s. Completing (created s (made name)) rest) same next.1,
+        subst (λ s. Completing (created s (made name)) rest) same next.1,
       )
 
   pub still_lives : Survives a c (Waits no_schema a)
-  still_lives =
-      survives_then a b c (Waits no_schema a) (Waits (before name) b) (Waits no_schema a) (λ clean db h. h)
+  still_lives = survives_then a b c (Waits no_schema a) (Waits (before name) b) (Waits no_schema a) (λ clean db h. h)
       (λ clean db h has. let it = (at_before clean (has, tt)).0 in sym it.mode ∙ h it.bare.0) at.lives lives
 
   -- the table is made

@@ -1,14 +1,16 @@
--- A row that has just these kinds of columns is made of what is read from them.
-use Rattle.std.proofs.Common.{◌≡◌, ℕ, pos, negsuc, ◌+◌, List, [], ◌∷◌, map, Bool, true, false, length, refl, sym, ap₂, ◌∙◌, arith}
-use Rattle.store_sql.proofs.Words.{Row, Value, column, list_all, nat_tests, or_null}
-use Rattle.std.specs.Prelude.{◌&&◌, ◌==◌}
-use Rattle.std.specs.List.{enumerate_from, range_with_len}
+-- A row that has just these kinds of columns is made of what is read from them; and names of columns.
+use Rattle.store_sql.proofs.Words.{Bool, List, Row, Value, [], ap, ap₂, arith, blob_in, bytes_eq, column, false, length}
+use Rattle.store_sql.proofs.Words.{list_all, map, nat_tests, negsuc, number_in, optional_blob_in, or_null, pos, refl}
+use Rattle.store_sql.proofs.Words.{sym, text_in, true, ℕ, ◌&&◌, ◌+◌, ◌==◌, ◌∙◌, ◌∷◌, ◌≡◌}
+use Rattle.std.specs.List.{enumerate_from, range_with_len, zip}
 use Rattle.std.proofs.lemmas.List.{ext_get_or}
 use Rattle.std.proofs.lemmas.List.FromFn.{length-map-range_with_len, get_or-map-range_with_len}
-use Rattle.sqlite.specs.declared.types.Value.TheVariants as value
 use Rattle.store_sql.specs.declared.kind.Kind.{Kind}
 use Rattle.store_sql.specs.declared.kind.Kind.TheVariants.{Number, Text, Blob, OptionalBlob}
-use Rattle.store_sql.specs.Kinds.{holds, has_kinds, text_in, blob_in, optional_blob_in, number_in}
+use Rattle.store_sql.specs.Kinds.{holds, has_kinds}
+use Rattle.std.proofs.Common.{Bor}
+use Rattle.sqlite_schema.specs.declared.schema.Column.{Column}
+use Rattle.sqlite.specs.declared.types.Value.TheVariants as value
 
 -- the value that is read from a column, as it is kept
 abbrev pub kept : Kind → Value → Value
@@ -56,8 +58,7 @@ all_kept (k ∷ kinds) at row h = let parts = both (holds k (column row at)) _ h
     (kept_is k (column row at) parts.0) (all_kept kinds (at + 1) row parts.1)
 
 columns_of : (row : Row) (n : ℕ) → length row ≡ n → row ≡ map (column row) (range_with_len 0 n)
-columns_of row n is =
-    ext_get_or value.Null row (map (column row) (range_with_len 0 n))
+columns_of row n is = ext_get_or value.Null row (map (column row) (range_with_len 0 n))
     (is ∙ sym (length-map-range_with_len (column row) 0 n))
     (λ i low. sym (get_or-map-range_with_len (column row) 0 n i i value.Null (omega arith) (omega arith)))
 
@@ -66,3 +67,10 @@ fits kinds row h =
     let parts = both (length row == length kinds) _ h in
     let many : length row ≡ length kinds = grind (arith, nat_tests) in
     columns_of row (length kinds) many ∙ all_kept kinds 0 row parts.1
+
+pub same_names : (columns : List Column) (names : List (Bor (List ℕ)))
+    → list_all (λ p. bytes_eq p.0.name p.1.now) (zip columns names) ≡ list_all (λ p. bytes_eq p.0.name p.1)
+    (zip columns (map (λ n. n.now) names))
+same_names [] names = refl
+same_names (c ∷ columns) [] = refl
+same_names (c ∷ columns) (n ∷ names) = ap (λ b. bytes_eq c.name n.now && b) (same_names columns names)

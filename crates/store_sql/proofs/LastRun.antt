@@ -1,16 +1,14 @@
 -- The last of the runs that begin with a serial or before it.
-use Rattle.std.proofs.Common.{◌≡◌, inl, inr, arith, ℕ, suc, ◌<◌, ◌≤◌, List, [], ◌∷◌, map, Bool, true, false, length, Option, None, Some, Ok, Err, Result, refl, sym, ap, subst, ◌∙◌, nat_cmp, is_lt, IsSorted, IsPermutation, take, pos}
-use Rattle.store_sql.proofs.Words.{AllByRecursion, IsPermutation-sym, State, all-permutation, cases_Bool, filter}
-use Rattle.store_sql.proofs.Words.{length_permutation, nat_le, nat_tests}
+use Rattle.store_sql.proofs.Words.{AllByRecursion, Bool, Contents, Err, Fault, FindsOne, IsOneOf, IsPermutation-sym}
+use Rattle.store_sql.proofs.Words.{IsSorted, List, None, Ok, Option, Result, RunRow, Some, State, [], all-permutation}
+use Rattle.store_sql.proofs.Words.{ap, arith, cases_Bool, false, filter, inl, inr, length_permutation, nat_cmp, nat_le}
+use Rattle.store_sql.proofs.Words.{nat_tests, refl, suc, take, true, ℕ, ◌<◌, ◌∷◌, ◌≡◌, ◌≤◌}
+use Rattle.std.proofs.Common.{is_lt, IsPermutation}
 use Rattle.sqlite_trees.proofs.ListLemmas.{all_weaker}
+use Rattle.store_sql.specs.Runs.{FindsIts, last_at, later}
 pub use Rattle.sqlite_rules.specs.Lists.{Has}
 pub use Rattle.sqlite_rules.proofs.ListLemmas.{has_filtered, has_kept, all_has, all_from, some_has, some_from}
 pub use Rattle.sqlite_rules.proofs.ProbeLemmas.{mapped_has}
-use Rattle.store_sql.specs.declared.table_fault.Fault.{Fault}
-use Rattle.store_sql.specs.declared.runs.RunRow.{RunRow}
-use Rattle.store_sql.specs.Contents.{Contents}
-use Rattle.store_sql.specs.Calls.{FindsOne, IsOneOf}
-use Rattle.store_sql.specs.Runs.{FindsIts, last_at, later}
 
 -- ---- one that is found
 

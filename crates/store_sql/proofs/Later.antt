@@ -1,12 +1,9 @@
 -- A call that comes after another.
-use Rattle.std.proofs.Common.{◌≡◌, inl, inr, Bool, true, false, IsTrue, subst, ◌∙◌, arith}
-use Rattle.store_sql.proofs.Words.{IsSome, IsUnchanged, KeepsCommit, State, Survives, Trees, unchanged_then}
-use Rattle.std.specs.Prelude.{Option, if◌then◌else◌}
+use Rattle.store_sql.proofs.Words.{Bool, Damaged, Device, Fault, HasCause, HasFailed, IsSome, IsTrue, IsUnchanged}
+use Rattle.store_sql.proofs.Words.{KeepsCommit, NoMemory, Option, State, Survives, Trees, arith, false, if◌then◌else◌}
+use Rattle.store_sql.proofs.Words.{inl, inr, subst, true, unchanged_then, ◌∙◌, ◌≡◌}
 use Rattle.std.proofs.lemmas.Bool.{both_ways}
 use Rattle.store_sql.specs.Calls.{Fails}
-use Rattle.store_sql.specs.Faults.{HasCause, HasFailed}
-use Rattle.store_sql.specs.declared.table_fault.Fault.{Fault}
-use Rattle.store_sql.specs.declared.table_fault.Fault.TheVariants.{Damaged, Device, NoMemory}
 
 -- what a failure leaves in a transaction
 pub stops : (a b : State) → Fails a b → KeepsCommit a b
@@ -45,8 +42,7 @@ module _ (a b c : State) (P : Trees → Type 0) (one : Survives a b P)
   caused_since Device cause = failed_since cause
 
 pub cause_since : (a b c : State) (f : Fault) (P : Trees → Type 0) → Survives a b P
-    → (b.is_open ≡ false → a.is_open ≡ false)
-    → HasCause b c f → HasCause a c f
+    → (b.is_open ≡ false → a.is_open ≡ false) → HasCause b c f → HasCause a c f
 cause_since a b c f P one was_shut = caused_since a b c P one was_shut f
 
 pub failed_then : (a b c : State) (P : Trees → Type 0) → Survives a b P → IsTrue b.is_open → HasFailed b c → HasFailed a c

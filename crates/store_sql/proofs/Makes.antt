@@ -1,40 +1,49 @@
--- CREATE TABLE.
-use Rattle.std.proofs.Common.{◌≡◌, ℕ, List, [], None, Ok, Err, Result, refl, sym, ap, subst, ◌∙◌, false}
-use Rattle.store_sql.proofs.Words.{CreateTable, Database, Error, Executes, IsPlain, KeepsRows, Schema, State, Table}
-use Rattle.store_sql.proofs.Words.{Tally, Trees, Writes, command_of, created, lacks_sequence, runs_as, statement_of}
-use Rattle.store_sql.proofs.Words.{table_defined_by}
-use Rattle.sqlite.specs.Change.{next_tree}
-use Rattle.sqlite_tied.specs.Compute.{everything}
-use Rattle.sqlite.specs.Listing.{understood}
-use Rattle.sqlite.specs.State.{CommitsBy}
-use Rattle.store_sql.specs.declared.creation.TableName.{TableName}
-use Rattle.store_sql.specs.declared.creation.TableName.TheVariants as name
+-- CREATE TABLE: the tables that it makes, that no rule refuses them, and why they can't be made: memory is refused, or
+-- the database fails.
+use Rattle.store_sql.proofs.Words.{CommitsBy, CreateTable, Creates, Database, Does, Err, Error, Executes, ExecutesIn}
+use Rattle.store_sql.proofs.Words.{Fault, Has, HasCause, IfErr, IsDone, IsMisplaced, IsPlain, KeepsRows, List, Mode}
+use Rattle.store_sql.proofs.Words.{None, Ok, Option, Result, Schema, Some, State, Stays, Table, TableName, Tally, Trees}
+use Rattle.store_sql.proofs.Words.{Waits, Writes, [], ap, append-nil, arith, automatics, before, ca, codes, command_of}
+use Rattle.store_sql.proofs.Words.{created, everything, false, fault_of, index_reals, inl, inr, is_fit, is_formed}
+use Rattle.store_sql.proofs.Words.{is_pragma, is_query, is_reserved, is_used, lacks_sequence, length, list_all, made}
+use Rattle.store_sql.proofs.Words.{mode_of, nat_lt, next_tree, not, refl, runs_as, same_name, statement_of, subst}
+use Rattle.store_sql.proofs.Words.{subst₂, sym, table_defined_by, table_reals, test_has, text_of, true, understood}
+use Rattle.store_sql.proofs.Words.{value_cmp, ℕ, ◌*◌, ◌+◌, ◌^◌, ◌||◌, ◌∙◌, ◌≡◌, ◌≤◌}
 use Rattle.store_sql.specs.declared.sql.TheConstants.{CREATE_OFFICE, CREATE_DEPARTMENT, CREATE_CERT, CREATE_REQUEST}
 use Rattle.store_sql.specs.declared.sql.TheConstants.{CREATE_RUN, CREATE_REVOKED, CREATE_CA}
-use Rattle.store_sql.specs.Schema.{office, department, cert, request, run, revoked_keyid, ca}
-use Rattle.store_sql.specs.Making.{before, made, text_of}
-use Rattle.store_sql.specs.Calls.{Creates, Stays, Waits}
-use Rattle.store_sql.specs.Done.{IsDone}
-use Rattle.store_sql.specs.declared.table_fault.Fault.{Fault}
+use Rattle.store_sql.specs.Schema.{office, department, cert, request, run, revoked_keyid}
+use Rattle.sqlite.specs.Change.{next_tree as new_tree}
+use Rattle.store_sql.specs.Making.{text_of as sql_of}
 use Rattle.store_sql.proofs.Commands.{closes}
 use Rattle.store_sql.proofs.Forms.{ends_nowhere, is_compiled}
 use Rattle.store_sql.proofs.Staying.{stays_done}
 use Rattle.store_sql.proofs.Statements.{went, same_value, stopped, commits_as}
+use Rattle.std.specs.Str.{is_utf8, chars}
+use Rattle.sqlite_value.specs.declared.value.Value.TheVariants.{Text}
+use Rattle.sqlite_trees.specs.Sound.{begins, fits_kind, is_free_name, same_name as same_letters}
+use Rattle.store_sql.proofs.FaultLemmas.{IsWhole, failed, not_run}
+use Rattle.std.specs.Prelude.{IsUtf8}
+use Rattle.std.proofs.lemmas.Bool.{ltb-true}
+use Rattle.std.proofs.lemmas.Str.{IsUtf8-from_is_utf8}
+use Rattle.sqlite_catalog.specs.Calls.{RefusesTable, IsLongTable}
+use Rattle.sqlite_catalog.specs.declared.error.Refusal.TheVariants.{Invalid, NameTaken, BadName, TooBig, BadKey}
+use Rattle.sqlite_catalog.specs.declared.error.Refusal.TheVariants.{BadText, Violates}
+use Rattle.sqlite.specs.Does.{MakesTable}
+use Rattle.store_sql.specs.declared.creation.TableName.TheVariants as name
+use Rattle.sqlite_catalog.specs.declared.error.Refusal as alter
 
 -- a text that makes this table of the schema before
 pub record Create (text : List ℕ) (before : Schema) (table : Table) : Type 0 where
-  pub is : command_of (understood before text) ≡ CreateTable
-  pub all : statement_of text (understood before text) ≡ text
-  pub plain : IsPlain (understood before text)
+  pub told : (command_of (understood before text) ≡ CreateTable) × (statement_of text (understood before text) ≡ text)
+      × IsPlain (understood before text) × (lacks_sequence (created before table) ≡ false)
   pub defined : table_defined_by text ≡ Ok table
-  pub uncounted : lacks_sequence (created before table) ≡ false
 
 module _ {text : List ℕ} {before : Schema} {table : Table} (t : Create text before table) where
   pub creates : (old new : State) (r : Result ℕ Error) → Executes text [] old new r → Creates before table old new r
   creates old new (Err e) h = stopped text [] old new e h
   creates old new (Ok count) h = λ has.
-      let w = subst (λ sql. Writes old new None CreateTable sql [] count) t.all
-      (runs_as text [] old new before has CreateTable t.is t.plain count h) in
+      let w = subst (λ sql. Writes old new None CreateTable sql [] count) t.told.1
+      (runs_as text [] old new before has CreateTable t.told.0 t.told.2 count h) in
       let done = went w.changed in
       let first = went done.1 in
       let made = first.1 in
@@ -42,15 +51,15 @@ module _ {text : List ℕ} {before : Schema} {table : Table} (t : Create text be
       let same : made.table ≡ table = cc in
       let schema : first.0.schema ≡ created before table = made.is ∙ ap (λ s. created s made.table) has
       ∙ ap (created before) same in
-      let none : lacks_sequence first.0.schema ≡ false = ap lacks_sequence schema ∙ t.uncounted in
+      let none : lacks_sequence first.0.schema ≡ false = ap lacks_sequence schema ∙ t.told.3 in
       let now : new.now ≡ first.0 = ap (λ (p : Tally × Database). p.1) (same_value done.2)
       ∙ same_value (rw none at first.2) in
       record {
         was_open = w.shown.was_open;
         is_open = w.shown.is_open;
         schema = ap (λ (d : Database). d.schema) now ∙ schema;
-        empty = ap (λ (d : Database). d.trees (next_tree before)) now
-            ∙ subst (λ s. first.0.trees (next_tree s) ≡ []) has made.empty;
+        empty = ap (λ (d : Database). d.trees (new_tree before)) now
+            ∙ subst (λ s. first.0.trees (new_tree s) ≡ []) has made.empty;
         others = subst (λ (d : Database). KeepsRows before.tables old.now.trees d.trees) (sym now)
             (subst (λ s. KeepsRows s.tables old.now.trees first.0.trees) has made.others);
         sound = w.sound;
@@ -62,13 +71,13 @@ module _ {text : List ℕ} {before : Schema} {table : Table} (t : Create text be
   pub create_stays : {X : Type 0} (old new : State) (answer : Result ℕ Error) (r : Result X Fault) → IsDone answer r
       → Executes text [] old new answer → Stays old new r
   create_stays old new answer r done ran =
-      let known = is_compiled (understood before text) t.plain in
-      stays_done text [] old new
-      (λ c is. ends_nowhere before old.now.schema text known.0 c known.1 is (ap closes (sym (ap command_of known.1) ∙ t.is)))
+      let known = is_compiled (understood before text) t.told.2 in
+      stays_done text [] old new (λ c is. ends_nowhere before old.now.schema text known.0 c known.1 is
+      (ap closes (sym (ap command_of known.1) ∙ t.told.0)))
       answer r done ran
 
   pub creates_left : (old : State) (trees : Trees) → CommitsBy text [] old trees → Waits before old trees
-  creates_left old trees h has = (commits_as text [] old before has CreateTable t.is t.plain tt trees h).0
+  creates_left old trees h has = (commits_as text [] old before has CreateTable t.told.0 t.told.2 tt trees h).0
 
 -- each CREATE text defines its table
 pub office_defined : table_defined_by CREATE_OFFICE.now ≡ Ok office
@@ -100,26 +109,167 @@ unfolding everything
 ca_defined = refl
 
 -- each of the office's tables
-pub makes : (n : TableName) → Create (text_of n) (before n) (made n)
+pub makes : (n : TableName) → Create (sql_of n) (before n) (made n)
 unfolding understood everything
-makes name.Office = record { is = refl; all = refl; plain = (refl, refl); defined = office_defined; uncounted = refl }
-makes name.Department = record {
-  is = refl;
-  all = refl;
-  plain =
-      (refl, refl);
-  defined = department_defined;
-  uncounted = refl;
-}
-makes name.Cert = record { is = refl; all = refl; plain = (refl, refl); defined = cert_defined; uncounted = refl }
-makes name.Request = record { is = refl; all = refl; plain = (refl, refl); defined = request_defined; uncounted = refl }
-makes name.Run = record { is = refl; all = refl; plain = (refl, refl); defined = run_defined; uncounted = refl }
-makes name.RevokedKeyId = record {
-  is = refl;
-  all = refl;
-  plain =
-      (refl, refl);
-  defined = revoked_keyid_defined;
-  uncounted = refl;
-}
-makes name.Ca = record { is = refl; all = refl; plain = (refl, refl); defined = ca_defined; uncounted = refl }
+makes name.Office = record { told = (refl, refl, (refl, refl), refl); defined = office_defined }
+makes name.Department = record { told = (refl, refl, (refl, refl), refl); defined = department_defined }
+makes name.Cert = record { told = (refl, refl, (refl, refl), refl); defined = cert_defined }
+makes name.Request = record { told = (refl, refl, (refl, refl), refl); defined = request_defined }
+makes name.Run = record { told = (refl, refl, (refl, refl), refl); defined = run_defined }
+makes name.RevokedKeyId = record { told = (refl, refl, (refl, refl), refl); defined = revoked_keyid_defined }
+makes name.Ca = record { told = (refl, refl, (refl, refl), refl); defined = ca_defined }
+
+-- ---- tables that no rule refuses
+
+-- the names are free: that of the table isn't reserved, and none of its indexes is there
+abbrev AreFree : Schema → Table → Type 0
+AreFree before table = (not (is_used before table.name) ≡ true) × (not (is_reserved table.name) ≡ true)
+    × (list_all (λ i. not (is_used before i.name)) (automatics table 0 0 table.uniques) ≡ true)
+
+-- the text is whole
+abbrev IsFormed : List ℕ → Table → Type 0
+IsFormed text table = (is_formed table ≡ true)
+    × (is_fit (Text (codes "table")) (Text table.name) (Text table.name) (Text text) ≡ true)
+    × (is_utf8 text ≡ true) × (is_utf8 table.name ≡ true)
+
+-- numbers are within their bounds, of trees, of reals, of the reals of a key, and of bytes
+abbrev IsSmall : List ℕ → Schema → Table → Type 0
+IsSmall text before table = (nat_lt (next_tree before + length table.uniques) 65536 ≡ true)
+    × (nat_lt (table_reals table) (2 ^ 64) ≡ true)
+    × (list_all (λ key. nat_lt (index_reals (table_reals table) key) (2 ^ 64)) table.uniques ≡ true)
+    × (nat_lt (2 * length table.name + length text + 200) (10 ^ 9) ≡ true)
+
+pub record IsMakeable (text : List ℕ) (before : Schema) (table : Table) : Type 0 where
+  pub create : Create text before table
+  pub one : IsWhole text 0 (understood before text)
+  pub free : AreFree before table
+  pub formed : IsFormed text table
+  pub small : IsSmall text before table
+
+all_of : {text : List ℕ} {before : Schema} {table : Table} → Create text before table
+    → IsWhole text 0 (understood before text) → AreFree before table → IsFormed text table → IsSmall text before table
+    → IsMakeable text before table
+all_of create one free formed small = record { create = create; one = one; free = free; formed = formed; small = small }
+
+-- so is each of the office's tables
+pub makeable : (n : TableName) → IsMakeable (sql_of n) (before n) (made n)
+unfolding understood everything same_name same_letters fits_kind is_free_name value_cmp begins lib.Ieee.is_nan lib.Ieee.lt is_utf8 chars lib.Utf8.encode
+makeable name.Office = all_of (makes name.Office) (refl, refl) (refl, refl, refl)
+    (refl, refl, refl, refl) (refl, refl, refl, refl)
+makeable name.Department = all_of (makes name.Department) (refl, refl) (refl, refl, refl)
+    (refl, refl, refl, refl) (refl, refl, refl, refl)
+makeable name.Cert = all_of (makes name.Cert) (refl, refl) (refl, refl, refl)
+    (refl, refl, refl, refl) (refl, refl, refl, refl)
+makeable name.Request = all_of (makes name.Request) (refl, refl) (refl, refl, refl)
+    (refl, refl, refl, refl) (refl, refl, refl, refl)
+makeable name.Run = all_of (makes name.Run) (refl, refl) (refl, refl, refl)
+    (refl, refl, refl, refl) (refl, refl, refl, refl)
+makeable name.RevokedKeyId = all_of (makes name.RevokedKeyId) (refl, refl) (refl, refl, refl)
+    (refl, refl, refl, refl) (refl, refl, refl, refl)
+makeable name.Ca = all_of (makes name.Ca) (refl, refl) (refl, refl, refl)
+    (refl, refl, refl, refl) (refl, refl, refl, refl)
+
+-- ---- why a table can't be made
+
+never_misplaced : (s : State) (e : Error) → IsMisplaced s CreateTable e → ⊥
+never_misplaced s e (inl (_, inl (k, _))) = cc
+never_misplaced s e (inl (_, inr (inl k, _))) = cc
+never_misplaced s e (inl (_, inr (inr k, _))) = cc
+never_misplaced s e (inr (_, name, inl k, _)) = cc
+never_misplaced s e (inr (_, name, inr k, _)) = cc
+
+module _ {text : List ℕ} {before : Schema} {table : Table} (m : IsMakeable text before table) where
+  -- ---- no rule refuses it
+
+  is_table : (other : Table) → table_defined_by text ≡ Ok other → table ≡ other
+  is_table other is = let both : Ok table ≡ Ok other = sym m.create.defined ∙ is in cc
+
+  no_reason : (reason : alter.Refusal) → RefusesTable before text reason → ⊥
+  no_reason (Invalid e) h = let wrong : Ok table ≡ Err e = sym m.create.defined ∙ h in cc
+  no_reason NameTaken (other, is, inl used) =
+      let mine = subst (λ (t : Table). is_used before t.name ≡ true) (sym (is_table other is)) used in
+      let free = m.free.0 in
+      let wrong = rw mine at free in cc
+  no_reason NameTaken (other, is, inr (index, has, used)) =
+      let none = test_has (λ i. not (is_used before i.name)) (automatics table 0 0 table.uniques) index m.free.2
+      (subst (λ (t : Table). Has (automatics t 0 0 t.uniques) index) (sym (is_table other is)) has) in
+      let wrong = rw used at none in cc
+  no_reason BadName (other, is, inl bad) =
+      bad (subst (λ (t : Table). IsUtf8 t.name) (is_table other is) (IsUtf8-from_is_utf8 table.name m.formed.3))
+  no_reason BadName (other, is, inr bad) =
+      let mine = subst (λ (t : Table). is_reserved t.name ≡ true) (sym (is_table other is)) bad.0 in
+      let free = m.free.1 in
+      let wrong = rw mine at free in cc
+  no_reason TooBig (other, is, inl many) =
+      let few = ltb-true (next_tree before + length table.uniques) 65536 m.small.0 in
+      let all = subst (λ (t : Table). 65536 ≤ next_tree before + length t.uniques) (sym (is_table other is)) many in
+      omega (arith, few, all)
+  no_reason TooBig (other, is, inr (inl many)) =
+      let few = ltb-true (table_reals table) (2 ^ 64) m.small.1 in
+      let all = subst (λ (t : Table). 2 ^ 64 ≤ table_reals t) (sym (is_table other is)) many in omega (arith, few, all)
+  no_reason TooBig (other, is, inr (inr (key, has, many))) =
+      let same = sym (is_table other is) in
+      let few = ltb-true (index_reals (table_reals table) key) (2 ^ 64)
+      (test_has (λ k. nat_lt (index_reals (table_reals table) k) (2 ^ 64)) table.uniques key m.small.2
+      (subst (λ (t : Table). Has t.uniques key) same has)) in
+      let all = subst (λ (t : Table). 2 ^ 64 ≤ index_reals (table_reals t) key) same many in omega (arith, few, all)
+  no_reason BadKey (other, is, bad) =
+      let wrong : true ≡ false = sym m.formed.0 ∙ (ap is_formed (is_table other is) ∙ bad) in cc
+  no_reason BadText (other, is, bad) =
+      let wrong : true ≡ false = sym m.formed.1
+      ∙ (ap (λ (t : Table). is_fit (Text (codes "table")) (Text t.name) (Text t.name) (Text text)) (is_table other is) ∙ bad) in cc
+  no_reason (Violates rule) h = h
+
+  not_long : IsLongTable text → ⊥
+  not_long (other, is, many) =
+      let few = ltb-true (2 * length table.name + length text + 200) (10 ^ 9) m.small.3 in
+      let all = subst (λ (t : Table). 10 ^ 9 ≤ 2 * length t.name + length text + 200) (sym (is_table other is)) many in
+      omega (arith, few, all)
+
+  -- ---- so it is made, or memory is refused, or the database fails
+
+  not_made : (db : Database) (stop : Option Error) → db.schema ≡ before → MakesTable text db (Err stop) → ⊥
+  not_made db None is h = not_long h
+  not_made db (Some e) is (inl bad) = bad.0 (IsUtf8-from_is_utf8 text m.formed.2)
+  not_made db (Some e) is (inr (reason, refuses, told)) =
+      no_reason reason (subst (λ s. RefusesTable s text reason) is refuses)
+
+  never_refused : (limit : Option ℕ) (mode : Mode) (db : Database) (stop : Option Error) → db.schema ≡ before
+      → Does limit mode [] db text None CreateTable (Err stop) → ⊥
+  never_refused limit mode db stop is (inl (why, inl (cause, made, e), f)) = not_made db cause is made
+  never_refused limit mode db stop is (inl (why, inr (after, made, sequence), f)) =
+      let schema : after.schema ≡ created before table =
+      made.is ∙ ap (λ s. created s made.table) is ∙ ap (created before) (sym (is_table made.table made.defined)) in
+      let none : lacks_sequence after.schema ≡ false = ap lacks_sequence schema ∙ m.create.told.3 in
+      let wrong : Err why ≡ Ok after = rw none at sequence in absurd cc
+  never_refused limit mode db stop is (inr (after, made, gives)) = cc
+
+  -- why the call fails
+  module _ (old new : State) (has : old.now.schema ≡ before) where
+    create_fault : (e : Error) → Executes text [] old new (Err e) → HasCause old new (fault_of e)
+    unfolding ExecutesIn
+    create_fault e (inl h) =
+        let known = sym (ap (λ s. understood s text) has) in
+        not_run text [] old new (subst IsPlain known m.create.told.2) (subst (IsWhole text 0) known m.one) e h
+    create_fault e (inr h) =
+        let known = sym (ap (λ s. understood s text) has) ∙ h.1.is in
+        let bare = subst IsPlain known m.create.told.2 in
+        let ran = rw (bare.0, bare.1, append-nil []) at h.2 in
+        let same : h.0.command ≡ CreateTable = ap command_of (sym known) ∙ m.create.told.0 in
+        let stated : text_of text h.0 ≡ text = ap (statement_of text) (sym known) ∙ m.create.told.1 in
+        let refuses = λ (stop : Option Error)
+        (did : Does old.step_limit (mode_of old) [] old.now (text_of text h.0) None h.0.command (Err stop)).
+        never_refused old.step_limit (mode_of old) old.now stop has
+        (subst₂ (λ t k. Does old.step_limit (mode_of old) [] old.now t None k (Err stop)) stated same did) in
+        let plainly : (is_query h.0.command || (is_pragma h.0.command || false)) ≡ false = rw same refl in
+        elim (rw plainly at ran) [
+          | inl refused ↦ elim refused.0 [
+            | inl m ↦ absurd (never_misplaced old e (subst (λ k. IsMisplaced old k e) same m))
+            | inr w ↦ absurd (refuses (Some e) w.1)
+          ]
+          | inr wrong ↦ failed old new _ e (refuses None) wrong
+        ]
+
+    pub create_faults : (r : Result ℕ Error) → Executes text [] old new r → IfErr r (λ e. HasCause old new (fault_of e))
+    create_faults (Ok n) h = tt
+    create_faults (Err e) h = create_fault e h

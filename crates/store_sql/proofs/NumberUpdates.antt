@@ -1,32 +1,134 @@
 -- UPDATE of the struct of one number, whatever its table is: what it makes of the contents, and why it is refused.
-use Rattle.std.proofs.Common.{◌≡◌, inl, inr, ℕ, pos, ◌<◌, ◌^◌, List, [], ◌∷◌, length, map, cond, slice_get, Bool, true}
-use Rattle.std.proofs.Common.{false, Option, Some, None, Ok, Result, sym, ap, subst, ◌∙◌}
-use Rattle.store_sql.proofs.Words.{All, AllByRecursion, Applies, Binary, Compare, Database, Does, Enforced, Eq, Given}
-use Rattle.store_sql.proofs.Words.{Has, Int, IsPermutation, Null, Refers, Row, State, Table, Tally, Term}
-use Rattle.store_sql.proofs.Words.{Trees, Update, accepts_program, and-true, cast_row, column, edit_of}
-use Rattle.store_sql.proofs.Words.{eqb-true, eval_all, filter, fits_i64, guards, holds, id_in, ids_of, is_int}
-use Rattle.store_sql.proofs.Words.{is_true, list_all, rowid, statement_of}
-use Rattle.std.specs.Prelude.{◌&&◌, ◌==◌}
-use Rattle.sqlite.specs.Ops.{binary}
-use Rattle.sqlite.specs.Listing.{understood}
-use Rattle.store_sql.specs.Schema.{whole}
-use Rattle.store_sql.specs.Contents.{Contents, Holds, Lists, Means, at_places}
-use Rattle.store_sql.specs.declared.table_fault.Fault.{Fault}
-use Rattle.store_sql.specs.Calls.{FailsBy}
-use Rattle.store_sql.specs.Refusals.{HasOne, IsTooLong, RefusedFor}
+use Rattle.store_sql.proofs.Words.{All, AllByRecursion, Applies, BadReference, Binary, Bool, Check, Command, Compare}
+use Rattle.store_sql.proofs.Words.{Contents, Database, Datatype, Does, Edit, Enforced, Eq, FailsBy, Fault, ForeignKey}
+use Rattle.store_sql.proofs.Words.{Given, Has, HasOne, Holds, Int, IsPermutation, IsTooLong, Keeps, List, Lists, Means}
+use Rattle.store_sql.proofs.Words.{Mismatch, NoRowid, None, NotNull, Null, Ok, Option, PrimaryKey, Program, Refers}
+use Rattle.store_sql.proofs.Words.{RefusedFor, Result, Row, Some, State, Table, Tally, Term, TooDeep, Trees, Unique}
+use Rattle.store_sql.proofs.Words.{Update, Violates, [], accepts_program, all_has, and-true, ap, arith, at_places}
+use Rattle.store_sql.proofs.Words.{binary, cases_Bool, cases_eq, cast_row, column, cond, edit_of, eqb-true, eval_all}
+use Rattle.store_sql.proofs.Words.{false, filter, fits_i64, guards, has_filtered, has_rowid, holds, id_in, ids_of, inl}
+use Rattle.store_sql.proofs.Words.{inr, is_eq, is_int, is_taken, is_true, length, length_permutation, list_all}
+use Rattle.store_sql.proofs.Words.{list_any, map, nat_lt, not, pos, references_fit, refl, rowid, slice_get, some_has}
+use Rattle.store_sql.proofs.Words.{statement_of, subst, sym, tied_itself, tied_same, true, understood, value_cmp}
+use Rattle.store_sql.proofs.Words.{value_cmp_total, whole, with_tree, without_rowid, ℕ, ℤ, ◌&&◌, ◌<◌, ◌==◌, ◌^◌, ◌∙◌}
+use Rattle.store_sql.proofs.Words.{◌∷◌, ◌≡◌, ◌≢◌, ◌⊎◌}
+use Rattle.store_sql.proofs.Reasons.{fit, IsPut, halted, one, size, unclashed}
+use Rattle.sqlite_rules.specs.Edit.{edited}
 use Rattle.store_sql.proofs.CallLemmas.{Write}
-use Rattle.store_sql.proofs.Elsewhere.{Spares, spares}
-use Rattle.store_sql.proofs.FaultLemmas.{HasWriteCause, IsStatement, none_overflows}
-use Rattle.store_sql.proofs.Inserts.{no_works}
-use Rattle.store_sql.proofs.Numbers.{same_number}
+use Rattle.store_sql.proofs.Elsewhere.{Spares}
+use Rattle.store_sql.proofs.FaultLemmas.{HasWriteCause, IsStatement, none_overflows, Stops, refused_for}
+use Rattle.store_sql.proofs.Inserts.{no_works, all_refer, each_refers}
+use Rattle.store_sql.proofs.Rows.{same_number, none_passes, only_one}
 use Rattle.store_sql.proofs.Queries.{int_test, on_table, selected}
-use Rattle.store_sql.proofs.Reasons.{IsPut, halted, one, size, unclashed}
-use Rattle.store_sql.proofs.Refused.{Stops, refused_for}
 use Rattle.store_sql.proofs.Selects.{IsTreeOf}
 use Rattle.store_sql.proofs.Statements.{mode, uncounted, updates}
 use Rattle.store_sql.proofs.Stops.{IsHalted, update_halts}
-use Rattle.store_sql.proofs.UpdateReasons.{IsSole, freed, nothing_halts, picked}
-use Rattle.store_sql.proofs.Updates.{lists_changed}
+use Rattle.store_sql.proofs.Edits.{lists_changed, of_record}
+use Rattle.sqlite_rules.proofs.RuleLemmas.{keeps_same, refers_same}
+use Rattle.sqlite_schema.specs.Rules.{Obeys}
+
+no_hits : (p : Row → Bool) (rows : List Row) → ((r : Row) → Has rows r → p r ≡ false) → filter p rows ≡ []
+no_hits p [] none = refl
+no_hits p (r ∷ rows) none = rw (none r (inl refl)) (no_hits p rows (λ s here. none s (inr here)))
+
+-- a list that is as one element
+pub sole : {X : Type 0} (x : X) (xs : List X) → IsPermutation (x ∷ []) xs → xs ≡ x ∷ []
+sole x [] same = let n = length_permutation _ _ same in absurd (omega (arith, n))
+sole x (y ∷ []) same =
+    let here = Rattle.sqlite_trees.proofs.ListLemmas.all-permutation (λ z. z ≡ x) (x ∷ []) (y ∷ []) same (refl, tt) in
+    ap (λ z. z ∷ []) here.0
+sole x (y ∷ z ∷ xs) same = let n = length_permutation _ _ same in absurd (omega (arith, n))
+
+pub void : {X : Type 0} (xs : List X) → IsPermutation [] xs → xs ≡ []
+void [] same = refl
+void (x ∷ xs) same = let n = length_permutation _ _ same in absurd (omega (arith, n))
+
+-- the rowid of a row is free once the row is taken out
+pub freed : (rows : List Row) (id : ℤ) (new : Row) → rowid new ≡ Int id → is_taken (without_rowid id rows) new ≡ true → ⊥
+freed rows id new is taken =
+    let found = some_has (λ r. is_eq (value_cmp (rowid r) (rowid new))) (without_rowid id rows) taken in
+    let left = has_filtered (λ r. not (has_rowid id r)) rows found.0 found.1 in
+    let tie : has_rowid id found.0 ≡ true = subst (λ v. is_eq (value_cmp (rowid found.0) v) ≡ true) is found.2 in
+    let wrong = rw tie at left.1 in cc
+
+-- The rows that a test picks are none, or the one of a struct that passes; those that a query shows of them are none, or its.
+module _ {X : Type 0} (cells : X → Row) (places : List ℕ) (number : X → ℕ) (n : ℕ) (rows : List Row) (xs : List X)
+    (p : Row → Bool) (shows : Row → Row) (h : Lists cells places rows xs)
+    (ids : (x : X) (r : Row) → at_places places r ≡ cells x → rowid r ≡ Int (pos (number x)))
+    (passes : (x : X) (r : Row) → at_places places r ≡ cells x → p r ≡ true → number x ≡ n) where
+  abbrev pub IsSole : List Row → Type 0
+  IsSole shown =
+      (shown ≡ []) ⊎ ((x : X) × Has xs x × (number x ≡ n) × (r : Row) × Has rows r × (at_places places r ≡ cells x)
+      × (shown ≡ shows r ∷ []))
+
+  number_of : (r : Row) → Has rows r → p r ≡ true → rowid r ≡ Int (pos n)
+  number_of r here hit =
+      let it = of_record cells places rows xs r h here in
+      ids it.0 r it.2 ∙ ap (λ k. Int (pos k)) (passes it.0 r it.2 hit)
+
+  only : (r s : Row) → Has rows r → p r ≡ true → Has rows s → p s ≡ true → s ≡ r
+  only r s here hit there hits = tied_same rows s r h.apart there here
+      (ap (λ v. value_cmp v (rowid r)) (number_of s there hits ∙ sym (number_of r here hit)) ∙ tied_itself value_cmp_total (rowid r))
+
+  pub picked : (shown : List Row) → IsPermutation (map shows (filter p rows)) shown → IsSole shown
+  picked shown same = elim (cases_Bool (list_any p rows)) [
+    | inl some ↦
+        let found = some_has p rows some in
+        let it = of_record cells places rows xs found.0 h found.1 in
+        let alone : filter p rows ≡ found.0 ∷ [] =
+        only_one p rows found.0 h.apart found.1 found.2 (λ s there hits. only found.0 s found.1 found.2 there hits) in
+        inr (
+          it.0,
+          it.1,
+          passes it.0 found.0 it.2 found.2,
+          found.0,
+          found.1,
+          it.2,
+          sole (shows found.0) shown (subst (λ l. IsPermutation (map shows l) shown) alone same),
+        )
+    | inr none ↦ inl (void shown (subst (λ l. IsPermutation (map shows l) shown) (no_hits p rows (none_passes p rows none)) same))
+  ]
+
+-- ---- no row at all
+
+same_trees : (db : Trees) (tree t : ℕ) → with_tree db tree (db tree) t ≡ db t
+same_trees db tree t = elim (cases_Bool (t == tree)) [
+  | inl same ↦ rw same (ap db (sym (eqb-true t tree same)))
+  | inr apart ↦ rw apart refl
+]
+
+-- an edit that only takes rows out is made, where keys and references stay
+pub removal_halts : (db : Trees) (table : Table) (gone : List ℤ)
+    → let edit : Edit = record { table = table; gone = gone; news = [] } in
+    Has whole.tables table → Keeps Unique whole (with_tree db table.tree (edited db edit))
+    → ((next : Trees) → Applies whole Enforced db edit next → Refers All whole next) → IsHalted whole db edit → ⊥
+removal_halts db table gone listed unique refers (inl (Violates Datatype, h)) = let wrong : true ≡ false = h in cc
+removal_halts db table gone listed unique refers (inl (Violates NotNull, h)) = let wrong : true ≡ false = h in cc
+removal_halts db table gone listed unique refers (inl (Violates Check, h)) = let wrong : true ≡ false = h in cc
+removal_halts db table gone listed unique refers (inl (Violates PrimaryKey, h)) = let wrong : true ≡ false = h in cc
+removal_halts db table gone listed unique refers (inl (Violates Unique, h)) = h unique
+removal_halts db table gone listed unique refers (inl (Violates ForeignKey, h)) = h
+removal_halts db table gone listed unique refers (inl (Mismatch, h)) = let wrong : true ≡ false = h in cc
+removal_halts db table gone listed unique refers (inl (NoRowid, h)) = let wrong : true ≡ false = h in cc
+removal_halts db table gone listed unique refers (inl (BadReference, h)) =
+    let fits = all_has (λ t. references_fit whole t false (nat_lt 0 (length gone)) ≡ true) whole.tables table
+    (fit false (nat_lt 0 (length gone))) listed in
+    let wrong : true ≡ false = sym fits ∙ h in cc
+removal_halts db table gone listed unique refers (inl (TooDeep, h)) = h
+removal_halts db table gone listed unique refers (inr (inl (row, none, big))) = none
+removal_halts db table gone listed unique refers (inr (inr (next, did, broken))) = broken (refers next did)
+
+-- an edit of no row is made
+pub nothing_halts : (db : Trees) (table : Table) → Obeys whole db → Has whole.tables table
+    → IsHalted whole db (record { table = table; gone = []; news = [] }) → ⊥
+nothing_halts db table obeys listed = removal_halts db table [] listed
+    (keeps_same whole db (with_tree db table.tree (db table.tree)) (λ t known. same_trees db table.tree t.tree) Unique
+    (obeys.rules Unique)) (λ next did. refers_same All whole db next (λ t known. elim (cases_eq t.tree table.tree) [
+      | inl same ↦ ap next same ∙ did.rows ∙ ap db (sym same)
+      | inr other ↦ all_has (λ (u : Table). u.tree ≢ table.tree → next u.tree ≡ db u.tree) whole.tables t did.tables known other
+    ]) (all_refer db (each_refers db (obeys.rules ForeignKey))))
+
+-- ---- UPDATE
 
 -- the text that changes the struct of this number so
 pub record IsUpdate {X : Type 0} (sql : List ℕ) (params : Row) (cells : X → Row) (places : List ℕ) (at : ℕ)
@@ -38,17 +140,15 @@ pub record IsUpdate {X : Type 0} (sql : List ℕ) (params : Row) (cells : X → 
   pub is : IsStatement sql (Update at (record { lets = []; body = on_table table.tree tests project [] }))
       (length params)
   pub typed : accepts_program whole [] (on_table table.tree tests project []) params ≡ true
-  -- the new row of a row, and the new columns of its columns
-  pub next_row : Row → Row
+  -- the new row of a row's columns, and their new columns
+  pub next : Row → Row
   pub change : Row → Row
-  pub leads : (r : Row) → column (at_places places r) 0 ≡ rowid r
-  pub first : (x : X) → column (cells x) 0 ≡ Int (pos (number x))
-  pub passing : (r : Row) → list_all (holds (params ∷ r ∷ [])) tests
-      ≡ (is_true (binary (Compare Eq Binary) (column (at_places places r) 0) (Int (pos n))) && true)
-  pub showing : (r : Row) → eval_all project (params ∷ r ∷ []) ≡ rowid r ∷ next_row r
-  pub changed : (x : X) → change (cells x) ≡ cells (u x)
-  pub made : (x : X) (r : Row) → at_places places r ≡ cells x → cast_row (uncounted table) (next_row r) ≡ row (u x)
-  pub row_is : (x : X) → at_places places (row x) ≡ cells x
+  pub on_row : (r : Row) → (column (at_places places r) 0 ≡ rowid r) × (list_all (holds (params ∷ r ∷ [])) tests
+      ≡ (is_true (binary (Compare Eq Binary) (column (at_places places r) 0) (Int (pos n))) && true))
+      × (eval_all project (params ∷ r ∷ []) ≡ rowid r ∷ next (at_places places r))
+  pub on_struct : (x : X) → (column (cells x) 0 ≡ Int (pos (number x))) × (change (cells x) ≡ cells (u x))
+      × (at_places places (row x) ≡ cells x)
+  pub made : (x : X) → cast_row (uncounted table) (next (cells x)) ≡ row (u x)
   pub held : (db next : Trees) (c : Contents) → Holds db c → Spares table.tree db next
       → Lists cells places (next table.tree) (map (λ x. cond (number x == n) (u x) x) (of c)) → Holds next (after c)
 
@@ -56,68 +156,67 @@ module _ {X : Type 0} {sql : List ℕ} {params : Row} {cells : X → Row} {place
     {tests project : List Term} {of : Contents → List X} {after : Contents → Contents} {number : X → ℕ} {n : ℕ}
     {u : X → X} {row : X → Row}
     (it : IsUpdate sql params cells places at table tests project of after number n u row) where
+  abbrev program : Program
+  program = record { lets = []; body = on_table table.tree tests project [] }
+
+  abbrev command : Command
+  command = Update at program
+
   abbrev passes : Row → Bool
   passes v = is_true (binary (Compare Eq Binary) (column v 0) (Int (pos n))) && true
 
+  abbrev next_row : Row → Row
+  next_row r = it.next (at_places places r)
+
+  is_made : (x : X) (r : Row) → at_places places r ≡ cells x → cast_row (uncounted table) (next_row r) ≡ row (u x)
+  is_made x r is = ap (λ v. cast_row (uncounted table) (it.next v)) is ∙ it.made x
+
   tested : (x : X) → passes (cells x) ≡ (number x == n)
-  tested x = rw (it.first x) (and-true _ ∙ int_test (pos (number x)) (pos n) ∙ same_number (number x) n)
+  tested x = rw (it.on_struct x).0 (and-true _ ∙ int_test (pos (number x)) (pos n) ∙ same_number (number x) n)
 
   numbered : (x : X) (r : Row) → at_places places r ≡ cells x → rowid r ≡ Int (pos (number x))
-  numbered x r is = sym (it.leads r) ∙ ap (λ v. column v 0) is ∙ it.first x
+  numbered x r is = sym ((it.on_row r).0) ∙ ap (λ v. column v 0) is ∙ (it.on_struct x).0
 
   back : (x : X) (r : Row) → at_places places r ≡ cells x
-      → at_places places (cast_row (uncounted table) (it.next_row r)) ≡ it.change (at_places places r)
-  back x r is = ap (at_places places) (it.made x r is) ∙ it.row_is (u x) ∙ sym (it.changed x) ∙ sym (ap it.change is)
+      → at_places places (cast_row (uncounted table) (next_row r)) ≡ it.change (at_places places r)
+  back x r is = ap (at_places places) (is_made x r is) ∙ (it.on_struct (u x)).2 ∙ sym (it.on_struct x).1 ∙ sym
+      (ap it.change is)
 
   -- the rows that the query shows
-  shown : (trees : Trees) (rows : List Row)
-      → IsPermutation (map (λ r. eval_all project (params ∷ r ∷ []))
+  shown : (trees : Trees) (rows : List Row) → IsPermutation (map (λ r. eval_all project (params ∷ r ∷ []))
       (filter (λ r. list_all (holds (params ∷ r ∷ [])) tests) (trees table.tree))) rows
-      → IsPermutation (map (λ r. rowid r ∷ it.next_row r) (filter (λ r. passes (at_places places r))
+      → IsPermutation (map (λ r. rowid r ∷ next_row r) (filter (λ r. passes (at_places places r))
       (trees table.tree))) rows
-  shown trees rows =
-      subst (λ l. IsPermutation l rows)
-      (λ i. map (λ r. it.showing r i) (filter (λ r. it.passing r i) (trees table.tree)))
+  shown trees rows = subst (λ l. IsPermutation l rows)
+      (λ i. map (λ r. (it.on_row r).2 i) (filter (λ r. (it.on_row r).1 i) (trees table.tree)))
 
   does : (limit : Option ℕ) (db next : Database) (tally : Tally) (c : Contents) → Means db c
-      → Does limit mode params db (statement_of sql (understood whole sql)) None
-      (Update at (record { lets = []; body = on_table table.tree tests project [] })) (Ok (tally, next))
+      → Does limit mode params db (statement_of sql (understood whole sql)) None command (Ok (tally, next))
       → (next.schema ≡ whole) × Holds next.trees (after c)
   does limit db next tally c means h =
       let did = updates limit db next tally whole means.schema at table it.found params
-      (statement_of sql (understood whole sql)) (record { lets = []; body = on_table table.tree tests project [] }) h
-      (no_works table.tree) in
+      (statement_of sql (understood whole sql)) program h (no_works table.tree) in
       let all = selected table.tree tests project [] db.trees params did.0 (it.tree.stored db.trees)
       (did.1.answer Null) in
       let now = lists_changed cells places (uncounted table) db.trees next.trees did.0 (of c)
-      (λ x. number x == n) u passes
-      it.change it.next_row tested it.changed (λ x r is. ap is_int (numbered x r is)) back
+      (λ x. number x == n) u passes it.change next_row tested (λ x. (it.on_struct x).1)
+      (λ x r is. ap is_int (numbered x r is)) back
       (it.tree.held db.trees c means.kept.holds) (shown db.trees did.0 all) did.2 in (
         did.3,
-        it.held db.trees next.trees c means.kept.holds
-            (spares (edit_of db.trees (uncounted table) (ids_of did.0) Given 1 did.0) db.trees next.trees did.2) now,
+        it.held db.trees next.trees c means.kept.holds did.2.tables now,
       )
 
   pub update : Write sql params after
-  update = record {
-    command = Update at (record { lets = []; body = on_table table.tree tests project [] });
-    is = it.is.0;
-    plain = it.is.1;
-    one = it.is.2;
-    on_rows = tt;
-    does = does;
-  }
+  update = record { command = Update at program; is = it.is; on_rows = tt; does = does }
 
   -- It is refused where the struct is then too long: its number stays, and breaks no reference.
   module _ (listed : Has whole.tables (uncounted table)) (fits : fits_i64 (pos n) ≡ true)
       (same : (x : X) → number (u x) ≡ number x) (row_number : (x : X) → rowid (row x) ≡ Int (pos (number x)))
       (long : (x : X) → 10 ^ 9 < size (row x) → IsTooLong (cells x))
       (unindexed : AllByRecursion (λ i. guards i (uncounted table) ≡ true → ⊥) whole.indexes)
-      (put : (x : X) (s : State) (c : Contents) → Means s.now c
-      → IsPut s.now.trees (uncounted table) (pos n ∷ []) (row x))
+      (put : (x : X) → IsPut (uncounted table) (row x))
       (still : (s : State) (c : Contents) (x : X) (r : Row) (next : Trees) → Means s.now c
-      → Has (s.now.trees table.tree) r
-      → at_places places r ≡ cells x
+      → Has (s.now.trees table.tree) r → at_places places r ≡ cells x
       → Applies whole Enforced s.now.trees (one s.now.trees (uncounted table) (pos n ∷ []) (row (u x))) next
       → Refers All whole next)
     where
@@ -127,7 +226,7 @@ module _ {X : Type 0} {sql : List ℕ} {params : Row} {cells : X → Row} {place
       over : (s : State) (c : Contents) (means : Means s.now c) (rows : List Row)
           → IsHalted whole s.now.trees (edit_of s.now.trees (uncounted table) (ids_of rows) Given 1 rows)
           → IsSole cells places number n (s.now.trees table.tree) (of c) (λ r. passes (at_places places r))
-          (λ r. rowid r ∷ it.next_row r) (it.tree.held s.now.trees c means.kept.holds) numbered hits rows
+          (λ r. rowid r ∷ next_row r) (it.tree.held s.now.trees c means.kept.holds) numbered hits rows
           → HasOne (λ x. (number x ≡ n) × IsTooLong (cells (u x))) (of c)
       over s c means rows halts (inl none) =
           absurd (nothing_halts s.now.trees (uncounted table) means.kept.sound.obeys listed
@@ -140,36 +239,32 @@ module _ {X : Type 0} {sql : List ℕ} {params : Row} {cells : X → Row} {place
           let id : rowid r ≡ Int (pos n) = numbered x r is ∙ ap (λ k. Int (pos k)) is_n in
           let new_id : rowid new ≡ Int (pos n) = row_number (u x) ∙ ap (λ k. Int (pos k)) (same x ∙ is_n) in
           let step = subst (λ rs. IsHalted whole db (edit_of db t (ids_of rs) Given 1 rs)) alone halts in
-          let at_id = subst (λ v. IsHalted whole db (one db t (id_in v ∷ []) (cast_row t (it.next_row r)))) id step in
-          let stopped = subst (λ row. IsHalted whole db (one db t (pos n ∷ []) row)) (it.made x r is) at_id in
-          halted db t (pos n ∷ []) new (put (u x) s c means)
+          let at_id = subst (λ v. IsHalted whole db (one db t (id_in v ∷ []) (cast_row t (next_row r)))) id step in
+          let stopped = subst (λ row. IsHalted whole db (one db t (pos n ∷ []) row)) (is_made x r is) at_id in
+          halted db t (pos n ∷ []) new (put (u x)) (it.tree.held db c means.kept.holds).apart
+          (means.kept.sound.obeys.rules Unique)
           (λ out. absurd (let wrong : true ≡ false = sym fits ∙ ap (λ v. fits_i64 (id_in v)) (sym new_id) ∙ out in cc))
           (λ taken. absurd (freed (db table.tree) (pos n) new new_id taken))
-          (λ clash. absurd (unclashed db t (pos n ∷ []) new unindexed clash))
-          (λ big. (x, has, (is_n, long (u x) big)))
+          (λ clash. absurd (unclashed db t (pos n ∷ []) new unindexed clash)) (λ big. (x, has, (is_n, long (u x) big)))
           (λ next did broken. absurd (broken (still s c x r next means here is did))) stopped
 
-      refuses : (s : State) (c : Contents) → Means s.now c
-          → Stops sql params (Update at (record { lets = []; body = on_table table.tree tests project [] })) s
+      refuses : (s : State) (c : Contents) → Means s.now c → Stops sql params command s
           → HasOne (λ x. (number x ≡ n) × IsTooLong (cells (u x))) (of c)
       refuses s c means stops =
           let q = on_table table.tree tests project [] in
           let kept = update_halts s.now whole means.schema at table it.found params
-          (statement_of sql (understood whole sql))
-          (no_works table.tree) (record { lets = []; body = q }) it.typed
+          (statement_of sql (understood whole sql)) (no_works table.tree) (record { lets = []; body = q }) it.typed
           (λ h. elim h [ inl over ↦ over | inr fold ↦ none_overflows _ fold ]) stops.0 stops.1 in
           let all = selected table.tree tests project [] s.now.trees params kept.0 (it.tree.stored s.now.trees)
           (kept.1.answer Null) in
           over s c means kept.0 kept.2
           (picked cells places number n (s.now.trees table.tree) (of c) (λ r. passes (at_places places r))
-          (λ r. rowid r ∷ it.next_row r) (it.tree.held s.now.trees c means.kept.holds) numbered hits kept.0
+          (λ r. rowid r ∷ next_row r) (it.tree.held s.now.trees c means.kept.holds) numbered hits kept.0
           (shown s.now.trees kept.0 all))
 
       -- why the call fails
       pub update_fails : {Y : Type 0} (old new : State) (r : Result Y Fault)
           → FailsBy (HasWriteCause sql params) old new r
           → RefusedFor (λ c. HasOne (λ x. (number x ≡ n) × IsTooLong (cells (u x))) (of c)) old new r
-      update_fails =
-          refused_for sql params (Update at (record { lets = []; body = on_table table.tree tests project [] }))
-          it.is.0 it.is.2
-          (λ c. HasOne (λ x. (number x ≡ n) × IsTooLong (cells (u x))) (of c)) refuses
+      update_fails = refused_for sql params command
+          it.is.0 it.is.2 (λ c. HasOne (λ x. (number x ≡ n) × IsTooLong (cells (u x))) (of c)) refuses

@@ -1,31 +1,27 @@
--- The statements that write the row of the office, and that read it.
-use Rattle.std.proofs.Common.{◌≡◌, ℕ, pos, List, [], ◌∷◌, codes, drop, true, Ok, Err, Result, IfOk, IfErr, refl, ap}
-use Rattle.store_sql.proofs.Words.{Binary, Blob, Database, Error, Global, Insert, Int, IsAnswer, Null, Row, Schema}
-use Rattle.store_sql.proofs.Words.{State, Table, Term, Text, Trees, Values, Vec, ascending, col, column, lit, overlay}
-use Rattle.sqlite.specs.State.{FailsToQuery, Shown}
-use Rattle.sqlite_tied.specs.Compute.{everything}
-use Rattle.sqlite.specs.Listing.{understood}
-use Rattle.store_sql.proofs.Selects.{IsSelect, IsTreeOf, select}
-use Rattle.store_sql.proofs.FaultLemmas.{IsStatement}
+-- The statements that write the row of the office, that read it, and that change its counters and the number of its
+-- schema; and why that row is refused.
+use Rattle.store_sql.proofs.Words.{AllByRecursion, Binary, Blob, COUNT_OFFICE, Compare, Contents, Counters, Database}
+use Rattle.store_sql.proofs.Words.{Eq, Err, Error, FailsBy, FailsIn, FailsToQuery, Fault, FindsIn, Global, HasCause}
+use Rattle.store_sql.proofs.Words.{HasOffices, HasOne, Holds, INSERT_OFFICE, IfErr, IfOk, Insert, Int, IsRead}
+use Rattle.store_sql.proofs.Words.{IsTooLong, List, Lists, NUMBER_OFFICE, Null, OfficeRow, Ok, RefusedFor, Result, Row}
+use Rattle.store_sql.proofs.Words.{Schema, Shown, State, Table, Term, Text, Trees, Update, Values, Vec, [], ap, arith}
+use Rattle.store_sql.proofs.Words.{ascending, codes, col, column, counter_cells, drop, everything, false, inl, inr, lit}
+use Rattle.store_sql.proofs.Words.{lt-ltb, nat_cmp, office_at, office_cells, office_places, op2, pos, refl, sym, true}
+use Rattle.store_sql.proofs.Words.{understood, whole, ℕ, ◌<◌, ◌^◌, ◌∙◌, ◌∷◌, ◌≡◌}
+use Rattle.store_sql.proofs.Reasons.{is_exact, IsPut, storable, unclashed}
+use Rattle.store_sql.proofs.Selects.{IsTreeOf, select, number_cmp, FindSorted, select_all}
+use Rattle.store_sql.proofs.FaultLemmas.{IsStatement, HasWriteCause}
 use Rattle.store_sql.proofs.Rows.{cast_null, cast_int}
-use Rattle.store_sql.specs.Schema.{whole, office_at}
-use Rattle.store_sql.specs.Cells.{office_cells}
-use Rattle.store_sql.specs.Contents.{HasOffices, Holds, Lists, office_places}
-use Rattle.store_sql.specs.Calls.{FailsIn, FindsIn}
-use Rattle.store_sql.specs.Done.{IsRead}
-use Rattle.store_sql.specs.Faults.{HasCause}
-use Rattle.store_sql.specs.declared.table_fault.Fault.{Fault}
-use Rattle.store_sql.specs.Changes.{with_office}
-use Rattle.store_sql.specs.declared.sql.TheConstants.{INSERT_OFFICE, EVERY_OFFICE}
-use Rattle.store_sql.specs.declared.offices.OfficeRow.{OfficeRow}
-use Rattle.store_sql.proofs.Apart.{office_apart}
-use Rattle.store_sql.proofs.CallLemmas.{Find, FindIn, Write, found_all, found_fails}
+use Rattle.store_sql.specs.Changes.{with_office, counted, renumbered, with_counters, with_schema}
+use Rattle.store_sql.specs.declared.sql.TheConstants.{EVERY_OFFICE}
+use Rattle.store_sql.proofs.Elsewhere.{office_apart, in_office}
+use Rattle.store_sql.proofs.CallLemmas.{IsSelect, FindIn, Write, found_all, found_fails}
 use Rattle.store_sql.proofs.Edits.{keep_all}
-use Rattle.store_sql.proofs.Elsewhere.{in_office}
 use Rattle.store_sql.proofs.FirstTable.{first_is}
-use Rattle.store_sql.proofs.Inserts.{IsInsert, insert}
-use Rattle.store_sql.proofs.Queries.{on_table, in_order}
-use Rattle.store_sql.proofs.Rising.{AscendBy}
+use Rattle.store_sql.proofs.Inserts.{IsInsert, insert, insert_fails, refers_still, taken_number}
+use Rattle.store_sql.proofs.Queries.{on_table}
+use Rattle.store_sql.proofs.NumberUpdates.{IsUpdate, update, update_fails}
+use Rattle.store_sql.specs.Refusals.{RefusesCounters, RefusesNumber, RefusesOffice}
 
 pub tree : IsTreeOf Holds office_cells office_places 0 (λ c. c.offices)
 tree = record { stored = λ trees. refl; held = λ trees c h. h.offices; apart = office_apart }
@@ -51,10 +47,8 @@ puts = record {
   found = refl;
   is = λ x. insert_is;
   source = office_row;
-  sourced = λ x. refl;
-  typed = λ x. refl;
-  made = λ x rows. simp (cast_int, cast_null);
-  row_is = λ x rows. refl;
+  sourced = λ x. (refl, refl);
+  made = λ x rows. (simp (cast_int, cast_null), refl);
   held = λ x db after c h o put. in_office db after c h (x ∷ c.offices) o;
 }
 
@@ -91,17 +85,16 @@ HoldsOffices trees xs = Lists office_cells office_places (trees 0) xs
 
 every_beside : (s : Schema) (others : List Table)
     → FindIn (beginning s others) HoldsOffices every_sql ([]) office_cells (λ xs. xs)
-every_beside s others =
-    select {places = office_places} {of = λ xs. xs}
+every_beside s others = select {places = office_places} {of = λ xs. xs}
     (record { stored = λ trees. refl; held = λ trees xs h. h; apart = office_apart }) (every_is s others)
     (λ x. true) (λ v. true) shown (λ x. refl) (λ x. refl) (λ r. refl) (λ r. refl) refl keep_all
 
 abbrev the_others : List Table
 the_others = drop 1 whole.tables
 
-pub every : Find every_sql ([]) office_cells (λ c. c.offices)
-every = select tree (every_is whole the_others) (λ x. true) (λ v. true) shown (λ x. refl) (λ x. refl) (λ r. refl)
-    (λ r. refl) refl (λ c. keep_all c.offices)
+pub every : FindSorted every_sql ([]) office_cells (λ c. c.offices) (λ o. o.id) nat_cmp
+every = select_all tree (every_is whole the_others) shown (λ x. refl) (λ r. refl) refl (λ r. refl)
+    (λ x y. number_cmp x.id y.id)
 
 -- the rows of that table, whatever the others are
 module _ (old new : State) (answer : Result (Vec Row Global) Error)
@@ -132,9 +125,125 @@ module _ (old new : State) (answer : Result (Vec Row Global) Error)
       let it = beside xs has in
       found_fails (every_beside old.now.schema it.0) (IsBeside it.0) (λ xs db is. is) old new answer ok err (Err f) read xs it.1
 
-pub every_rises : (trees : Trees) (rows : List Row) → IsAnswer every.query (overlay trees []) ([]) rows
-    → AscendBy 0 rows
-unfolding every select
-every_rises trees rows answer =
-    in_order 0 [] columns ((col 1 0, ascending Binary) ∷ []) trees ([]) rows (λ v. column v 0 ∷ [])
-    (λ r. refl) refl answer
+-- ---- its counters, and the number of its schema
+
+abbrev pub first_test : List Term
+first_test = op2 (Compare Eq Binary) (col 1 0) (lit (Int (pos 1))) ∷ []
+
+-- ---- UPDATE of the counters
+
+abbrev pub count_project : List Term
+count_project = col 1 0 ∷ col 1 0 ∷ lit Null ∷ col 1 2 ∷ col 1 3 ∷ col 1 4 ∷ col 1 5 ∷ col 1 6 ∷ col 1 7 ∷ col 0 0
+    ∷ col 0 1 ∷ col 0 2 ∷ []
+
+count_is : IsStatement COUNT_OFFICE.now
+    (Update 0 (record { lets = []; body = on_table 0 first_test count_project [] })) 3
+unfolding understood everything
+count_is = (refl, (refl, refl), (refl, refl))
+
+module _ (k : Counters) where
+  abbrev count_row : Row → Row
+  count_row v = column v 0 ∷ Null ∷ column v 1 ∷ column v 2 ∷ column v 3 ∷ column v 4 ∷ column v 5 ∷ column v 6
+      ∷ counter_cells k
+
+  pub counts : IsUpdate COUNT_OFFICE.now
+      (counter_cells k) office_cells office_places 0 office_at first_test count_project
+      (λ c. c.offices) (with_counters k) (λ o. o.id) 1 (counted k) office_row
+  counts = record {
+    tree = tree;
+    found = refl;
+    is = count_is;
+    typed = refl;
+    next = count_row;
+    change = λ v. column v 0 ∷ column v 1 ∷ column v 2 ∷ column v 3 ∷ column v 4 ∷ column v 5 ∷ column v 6
+        ∷ counter_cells k;
+    on_row = λ r. (refl, refl, refl);
+    on_struct = λ x. (refl, refl, refl);
+    made = λ x. simp (cast_int, cast_null);
+    held = λ db next c h o. in_office db next c h _ o;
+  }
+
+  pub count : Write COUNT_OFFICE.now (counter_cells k) (with_counters k)
+  count = update counts
+
+-- ---- UPDATE of the number of the schema
+
+abbrev pub number_project : List Term
+number_project = col 1 0 ∷ col 1 0 ∷ lit Null ∷ col 0 0 ∷ col 1 3 ∷ col 1 4 ∷ col 1 5 ∷ col 1 6 ∷ col 1 7 ∷ col 1 8
+    ∷ col 1 9 ∷ col 1 10 ∷ []
+
+number_is : IsStatement NUMBER_OFFICE.now
+    (Update 0 (record { lets = []; body = on_table 0 first_test number_project [] })) 1
+unfolding understood everything
+number_is = (refl, (refl, refl), (refl, refl))
+
+module _ (n : ℕ) where
+  abbrev number_row : Row → Row
+  number_row v = column v 0 ∷ Null ∷ Int (pos n) ∷ column v 2 ∷ column v 3 ∷ column v 4 ∷ column v 5 ∷ column v 6
+      ∷ column v 7 ∷ column v 8 ∷ column v 9 ∷ []
+
+  pub numbers : IsUpdate NUMBER_OFFICE.now
+      (Int (pos n) ∷ []) office_cells office_places 0 office_at first_test number_project
+      (λ c. c.offices) (with_schema n) (λ o. o.id) 1 (renumbered n) office_row
+  numbers = record {
+    tree = tree;
+    found = refl;
+    is = number_is;
+    typed = refl;
+    next = number_row;
+    change = λ v. column v 0 ∷ Int (pos n) ∷ column v 2 ∷ column v 3 ∷ column v 4 ∷ column v 5 ∷ column v 6 ∷ column v 7
+        ∷ column v 8 ∷ column v 9 ∷ [];
+    on_row = λ r. (refl, refl, refl);
+    on_struct = λ x. (refl, refl, refl);
+    made = λ x. simp (cast_int, cast_null);
+    held = λ db next c h o. in_office db next c h _ o;
+  }
+
+  pub number : Write NUMBER_OFFICE.now (Int (pos n) ∷ []) (with_schema n)
+  number = update numbers
+
+-- ---- why the row of the office is refused
+
+office_put : (o : OfficeRow) → IsPut office_at (office_row o)
+office_put o = record {
+  listed = inl refl;
+  formed = (refl, refl, refl, refl);
+  short = λ fits.
+      let exact : AllByRecursion (λ v. is_exact v ≡ true) (office_row o) =
+      (refl, (refl, (refl, (refl, (refl, (refl, (refl, (refl, (refl, (refl, (refl, tt))))))))))) in
+      (storable _ (office_row o) refl exact (omega arith, omega arith) fits, omega arith);
+  entries = λ fits. ((λ e. cc), ((λ e. cc), ((λ e. cc), ((λ e. cc), tt))));
+}
+
+pub office_fails : {X : Type 0} (x : OfficeRow) → x.id < 2 ^ 63 → (old new : State) (r : Result X Fault)
+    → FailsBy (HasWriteCause INSERT_OFFICE.now (office_cells x)) old new r → RefusedFor (RefusesOffice x) old new r
+office_fails x below = insert_fails puts x (RefusesOffice x) (λ s. office_put x)
+    (λ s c means out. absurd (let wrong : true ≡ false = sym (lt-ltb x.id (2 ^ 63) below) ∙ out in cc))
+    (λ s c means taken. inl (taken_number (λ y. y.id) x.id
+    (drop 1 (office_row x)) (λ y r is. ap (λ v. column v 0) is) means.kept.holds.offices taken))
+    (λ s c means clash. absurd (unclashed s.now.trees office_at [] (office_row x)
+    ((λ e. cc), ((λ e. cc), ((λ e. cc), ((λ e. cc), tt)))) clash))
+    (λ s c long. inr (omega (arith, long))) (λ s c next means did broken. absurd (broken (refers_still means did (λ e. cc) (λ e. cc))))
+
+-- ---- its counters, and the number of its schema
+
+-- the row of the office is not written over by the row of what the office then is, since that is too long
+module _ {sql : List ℕ} {params : Row} {project : List Term} {after : Contents → Contents} {u : OfficeRow → OfficeRow}
+    (it : IsUpdate sql params office_cells office_places 0 office_at first_test project (λ c. c.offices) after
+    (λ o. o.id) 1 u office_row)
+    (same : (x : OfficeRow) → (u x).id ≡ x.id) where
+  change_fails : {X : Type 0} (old new : State) (r : Result X Fault) → FailsBy (HasWriteCause sql params) old new r
+      → RefusedFor (λ c. HasOne (λ o. (o.id ≡ 1) × IsTooLong (office_cells (u o))) c.offices) old new r
+  change_fails = update_fails it (inl refl) refl same (λ x. refl) (λ x h. omega (arith, h))
+      ((λ e. cc), ((λ e. cc), ((λ e. cc), ((λ e. cc), tt)))) office_put
+      (λ s c x r next means here is did. refers_still means did (λ e. cc) (λ e. cc))
+
+-- ---- the calls
+
+pub counters_fail : {X : Type 0} (k : Counters) (old new : State) (r : Result X Fault)
+    → FailsBy (HasWriteCause COUNT_OFFICE.now (counter_cells k)) old new r → RefusedFor (RefusesCounters k) old new r
+counters_fail k = change_fails (counts k) (λ x. refl)
+
+pub number_fails : {X : Type 0} (n : ℕ) (old new : State) (r : Result X Fault)
+    → FailsBy (HasWriteCause NUMBER_OFFICE.now (Int (pos n) ∷ [])) old new r → RefusedFor (RefusesNumber n) old new r
+number_fails n = change_fails (numbers n) (λ x. refl)

@@ -1,27 +1,24 @@
 -- What a SELECT on one table shows.
-use Rattle.std.proofs.Common.{◌≡◌, ◌⊎◌, inl, inr, ℕ, ℤ, pos, negsuc, List, [], ◌∷◌, map, Bool, true, false, cond, Option, None, Some, Ok, Err, refl, sym, ap, subst, ◌∙◌, ◌++◌}
+use Rattle.store_sql.proofs.Words.{AllByRecursion, Binary, Blob, Bool, CommitsShowing, Compare, Compiled, Eq, Err}
+use Rattle.store_sql.proofs.Words.{Error, FailsToQuery, Ge, Global, IfOk, Int, IsAnswer, IsNotRun, IsPermutation}
+use Rattle.store_sql.proofs.Words.{IsPermutation-filter, IsPermutation-map, IsPermutation-refl, IsPermutation-trans}
+use Rattle.store_sql.proofs.Words.{IsPlain, IsRolledBack, IsSorted, IsSorted-from_map, IsUnchanged, Key, Le, List}
+use Rattle.store_sql.proofs.Words.{Lists, Ne, Never, None, Ok, OnOk, Option, Output, Query, Result, Returning, Row}
+use Rattle.store_sql.proofs.Words.{Shown, Some, State, Term, Text, Trees, Vec, [], all-permutation, ap, ap₂, at_places}
+use Rattle.store_sql.proofs.Words.{binary, bytes_eq, cond, eval_all, false, filter, filter-map, holds, inl, inr}
+use Rattle.store_sql.proofs.Words.{int_cmp, is_eq, is_eq-slice_cmp, is_ge, is_le, is_ne, is_some, is_true, key_cmp}
+use Rattle.store_sql.proofs.Words.{list_all, lit, map, map-map, negsuc, overlay, pos, refl, subst, sym, timed, true}
+use Rattle.store_sql.proofs.Words.{understood, value_cmp-Int, value_cmp-Text, ℕ, ℤ, ◌++◌, ◌∙◌, ◌∷◌, ◌≡◌, ◌⊎◌}
 use Rattle.std.specs.Prelude.{flat_map}
-use Rattle.std.proofs.Common.{ap₂, Result, IfOk}
-use Rattle.store_sql.proofs.Words.{AllByRecursion, Binary, Blob, Compare, Compiled, Eq, Error, Ge, Global, Int}
-use Rattle.store_sql.proofs.Words.{IsAnswer, IsPermutation, IsPermutation-filter, IsPermutation-map, IsPermutation-refl}
-use Rattle.store_sql.proofs.Words.{IsPermutation-trans, IsPlain, IsRolledBack, IsSorted, IsSorted-from_map, IsUnchanged}
-use Rattle.store_sql.proofs.Words.{Key, Le, Ne, OnOk, Output, Query, Returning, Row, State, Term, Text, Trees, Vec}
-use Rattle.store_sql.proofs.Words.{all-permutation, bytes_eq, eval_all, filter, filter-map, holds, int_cmp, is_eq}
-use Rattle.store_sql.proofs.Words.{is_eq-slice_cmp, is_ge, is_le, is_ne, is_some, is_true, key_cmp, list_all, lit}
-use Rattle.store_sql.proofs.Words.{map-map, overlay, timed, value_cmp-Int, value_cmp-Text}
 use Rattle.sqlite.specs.Query.{output_cmp, inner, end, output}
-use Rattle.sqlite.specs.State.{CommitsShowing, FailsToQuery, FailsToShow, IsNotRun, Shown, ShowsRows}
-use Rattle.sqlite.specs.Listing.{understood}
-use Rattle.sqlite.specs.Ops.{binary, from_truth}
+use Rattle.sqlite.specs.State.{FailsToShow, ShowsRows}
+use Rattle.sqlite.specs.Ops.{from_truth}
 use Rattle.sqlite_value.proofs.OrderLemmas.{value_cmp-Blob}
-use Rattle.store_sql.specs.Contents.{Lists, at_places}
-use Rattle.store_sql.specs.Calls.{Never}
 
 picked : {A B : Type 0} (p : A → Bool) (f : A → B) (xs : List A)
     → flat_map (λ x. cond (p x) (f x ∷ []) []) xs ≡ map f (filter p xs)
 picked p f [] = refl
-picked p f (x ∷ xs) = elim (p x) as
-    (λ b. cond b (f x ∷ []) [] ++ flat_map (λ x. cond (p x) (f x ∷ []) []) xs ≡ map f
+picked p f (x ∷ xs) = elim (p x) as (λ b. cond b (f x ∷ []) [] ++ flat_map (λ x. cond (p x) (f x ∷ []) []) xs ≡ map f
     (cond b (x ∷ filter p xs) (filter p xs))) [ true ↦ ap (λ l. f x ∷ l) (picked p f xs) | false ↦ picked p f xs ]
 
 -- SELECT .. FROM the table WHERE .. ORDER BY ..

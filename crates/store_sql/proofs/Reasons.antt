@@ -1,13 +1,15 @@
 -- Why one row is not put into a table of the office.
-use Rattle.std.proofs.Common.{◌≡◌, ◌≢◌, ◌⊎◌, inl, inr, ℕ, ℤ, pos, negsuc, ◌≤◌, ◌<◌, ◌^◌, ◌+◌, List, [], ◌∷◌, drop, length, Bool, true, false, not, refl, sym, subst, ◌∙◌, arith}
-use Rattle.store_sql.proofs.Words.{All, AllByRecursion, Applies, BadReference, Blob, Check, Datatype, Edit, Enforced}
-use Rattle.store_sql.proofs.Words.{ForeignKey, Has, Index, Int, IsOversized, IsTable, Keeps, Mismatch, NoRowid}
-use Rattle.store_sql.proofs.Words.{NotNull, Null, PrimaryKey, Refers, Row, Table, Text, TooDeep, Trees, Unique, Value}
-use Rattle.store_sql.proofs.Words.{Violates, agree, all_from, all_has, and_parts, are_typed, cases_Bool, clashes}
-use Rattle.store_sql.proofs.Words.{eqb-true, fits_i64, guards, id_in, index_reals, int_cmp, int_is, is_int, is_ne}
-use Rattle.store_sql.proofs.Words.{is_referred, is_taken, leb-true, left_by, list_any, nat_le, rowid}
-use Rattle.store_sql.proofs.Words.{some_has, table_reals, tied_itself, with_tree}
-use Rattle.std.specs.Prelude.{◌&&◌, ◌==◌, sum_by}
+use Rattle.store_sql.proofs.Words.{All, AllByRecursion, Applies, BadReference, Blob, Bool, Check, Datatype, Edit}
+use Rattle.store_sql.proofs.Words.{Enforced, ForeignKey, Has, Index, Int, IsOversized, IsTable, Keeps, List, Mismatch}
+use Rattle.store_sql.proofs.Words.{NoRowid, NotNull, Null, PrimaryKey, Refers, Row, Table, Text, TooDeep, Trees, Unique}
+use Rattle.store_sql.proofs.Words.{Value, Violates, [], agree, all_from, all_has, and_parts, are_typed, arith}
+use Rattle.store_sql.proofs.Words.{cases_Bool, clashes, drop, eqb-true, false, fits_i64, guards, id_in, index_reals}
+use Rattle.store_sql.proofs.Words.{inl, inr, int_cmp, int_is, is_int, is_ne, is_taken, joined, leb-true, left_by}
+use Rattle.store_sql.proofs.Words.{length, list_any, nat_le, nat_lt, negsuc, not, pos, references_fit, refl, rowid}
+use Rattle.store_sql.proofs.Words.{same_name, some_has, subst, sym, table_reals, tied_itself, true, whole, with_tree, ℕ}
+use Rattle.store_sql.proofs.Words.{ℤ, ◌&&◌, ◌+◌, ◌<◌, ◌==◌, ◌^◌, ◌∙◌, ◌∷◌, ◌≡◌, ◌≢◌, ◌≤◌, ◌⊎◌}
+use Rattle.std.proofs.Common.{rules}
+use Rattle.std.specs.Prelude.{sum_by}
 use Rattle.std.specs.Float.{NotNan}
 use Rattle.std.proofs.lemmas.Bool.{leb-false, not-false}
 use Rattle.std.proofs.Math.Dec.{T, eqb_refl}
@@ -26,7 +28,6 @@ use Rattle.sqlite_rules.proofs.EditLemmas.{turns}
 use Rattle.sqlite_rules.proofs.ListLemmas.{fails_has}
 use Rattle.sqlite_rules.proofs.RuleLemmas.{unique_kept}
 use Rattle.sqlite_rules.proofs.TableLemmas.{put_has}
-use Rattle.store_sql.specs.Schema.{whole}
 use Rattle.store_sql.proofs.Queries.{int_ne_test}
 use Rattle.store_sql.proofs.Stops.{IsHalted}
 
@@ -69,25 +70,7 @@ storable reals row none exact columns short = record {
 -- ---- the tables are apart
 
 apart : IsAscending (λ a b. a.tree ≡ b.tree → ⊥) whole.tables
-apart = (
-  ((λ e. cc), ((λ e. cc), ((λ e. cc), ((λ e. cc), ((λ e. cc), ((λ e. cc), tt)))))),
-  (
-    ((λ e. cc), ((λ e. cc), ((λ e. cc), ((λ e. cc), ((λ e. cc), tt))))),
-    (
-      ((λ e. cc), ((λ e. cc), ((λ e. cc), ((λ e. cc), tt)))),
-      (
-        ((λ e. cc), ((λ e. cc), ((λ e. cc), tt))),
-        (
-          ((λ e. cc), ((λ e. cc), tt)),
-          (
-            ((λ e. cc), tt),
-            (tt, tt),
-          ),
-        ),
-      ),
-    ),
-  ),
-)
+apart = search (rules, arith)
 
 -- ---- one row
 
@@ -115,14 +98,32 @@ pub the_one : {X : Type 0} (x y : X) → Has (y ∷ []) x → x ≡ y
 the_one x y (inl same) = same
 the_one x y (inr none) = absurd none
 
+-- the foreign keys of each table fit, whatever an edit adds and takes out
+pub fit : (adds removes : Bool) → AllByRecursion (λ t. references_fit whole t adds removes ≡ true) whole.tables
+unfolding same_name joined
+fit true true = (refl, (refl, (refl, (refl, (refl, (refl, (refl, tt)))))))
+fit true false = (refl, (refl, (refl, (refl, (refl, (refl, (refl, tt)))))))
+fit false true = (refl, (refl, (refl, (refl, (refl, (refl, (refl, tt)))))))
+fit false false = (refl, (refl, (refl, (refl, (refl, (refl, (refl, tt)))))))
+
+-- what is seen of a table and of a row that is put in
+pub record IsPut (table : Table) (new : Row) : Type 0 where
+  pub listed : Has whole.tables table
+  pub formed : ((are_typed table.key 0 table.columns (drop 1 new) && has_computed table new) ≡ true)
+      × (are_present table.key 0 table.columns new ≡ true) × (passes_checks table new ≡ true)
+      × (is_int (rowid new) ≡ true)
+  pub short : size new ≤ 10 ^ 9 → IsStorableRow (table_reals table) new
+  pub entries : size new ≤ 10 ^ 9
+      → AllByRecursion (λ i. i.table ≡ table.tree → IsStorable (index_reals (table_reals table) i.columns) (entry_of i.columns new))
+      whole.indexes
+
 module _ (db : Trees) (table : Table) (gone : List ℤ) (new : Row) where
   abbrev pub one : Edit
   one = record { table = table; gone = gone; news = new ∷ [] }
 
   -- a row of the table has the key of the new one
   abbrev pub HasClash : Type 0
-  HasClash =
-      (i : Index) × Has whole.indexes i × (guards i table ≡ true) × (other : Row) × Has (left_by db one) other
+  HasClash = (i : Index) × Has whole.indexes i × (guards i table ≡ true) × (other : Row) × Has (left_by db one) other
       × (agree i.order i.columns other i.columns new ≡ true)
 
   other_row : (row : Row) → differ (rowid row) (rowid new) ≡ true → is_int (rowid new) ≡ true
@@ -132,8 +133,7 @@ module _ (db : Trees) (table : Table) (gone : List ℤ) (new : Row) where
   other_row row differs int (inr left) = left
 
   clash : Has whole.tables table → IsTable (db table.tree) → is_taken (left_by db one) new ≡ false
-      → is_int (rowid new) ≡ true
-      → (after : Trees) → after table.tree ≡ edited db one
+      → is_int (rowid new) ≡ true → (after : Trees) → after table.tree ≡ edited db one
       → AllByRecursion (λ t. t.tree ≢ table.tree → after t.tree ≡ db t.tree) whole.tables
       → Keeps Unique whole db → (Keeps Unique whole after → ⊥) → HasClash
   clash listed ordered free int after rows others keeps broken =
@@ -168,26 +168,12 @@ module _ (db : Trees) (table : Table) (gone : List ℤ) (new : Row) where
   pub unclashed : AllByRecursion (λ i. guards i table ≡ true → ⊥) whole.indexes → HasClash → ⊥
   unclashed none (i, here, on, other, there, same) = all_has (λ j. guards j table ≡ true → ⊥) whole.indexes i none here on
 
-  -- what is seen of the table and of the row
-  pub record IsPut : Type 0 where
-    pub listed : Has whole.tables table
-    pub ordered : IsTable (db table.tree)
-    pub typed : (are_typed table.key 0 table.columns (drop 1 new) && has_computed table new) ≡ true
-    pub present : are_present table.key 0 table.columns new ≡ true
-    pub checked : passes_checks table new ≡ true
-    pub keyed : is_int (rowid new) ≡ true
-    pub referred : is_referred whole Enforced one ≡ true
-    pub unique : Keeps Unique whole db
-    pub short : size new ≤ 10 ^ 9 → IsStorableRow (table_reals table) new
-    pub entries : size new ≤ 10 ^ 9
-        → AllByRecursion (λ i. i.table ≡ table.tree → IsStorable (index_reals (table_reals table) i.columns) (entry_of i.columns new))
-        whole.indexes
-
   -- Such a row is kept out by its rowid, which is taken or out of range, by its key, by its size, or for want of a parent.
-  pub halted : {R : Type 0} → IsPut → (fits_i64 (id_in (rowid new)) ≡ false → R) → (is_taken (left_by db one) new ≡ true → R)
-      → (HasClash → R) → (10 ^ 9 < size new → R)
+  pub halted : {R : Type 0} → IsPut table new → IsTable (db table.tree) → Keeps Unique whole db
+      → (fits_i64 (id_in (rowid new)) ≡ false → R) → (is_taken (left_by db one) new ≡ true → R) → (HasClash → R)
+      → (10 ^ 9 < size new → R)
       → ((next : Trees) → Applies whole Enforced db one next → (Refers All whole next → ⊥) → R) → IsHalted whole db one → R
-  halted {R} p range taken clashes long orphan h = go h
+  halted {R} p ordered unique range taken clashes long orphan h = go h
     where
       within : size new ≤ 10 ^ 9 → (IsStorableRow (table_reals table) new → ⊥)
           ⊎ ((i : Index) × Has whole.indexes i × (i.table ≡ table.tree)
@@ -208,28 +194,31 @@ module _ (db : Trees) (table : Table) (gone : List ℤ) (new : Row) where
       broken : (Keeps Unique whole (with_tree db table.tree (edited db one)) → ⊥) → R
       broken unkept = elim (cases_Bool (is_taken (left_by db one) new)) [
         | inl is_taken ↦ taken is_taken
-        | inr free ↦ clashes (clash p.listed p.ordered free p.keyed (with_tree db table.tree (edited db one))
+        | inr free ↦ clashes (clash p.listed ordered free p.formed.3 (with_tree db table.tree (edited db one))
             (this_tree db table.tree (edited db one))
             (all_from (λ t. t.tree ≢ table.tree → with_tree db table.tree (edited db one) t.tree ≡ db t.tree) whole.tables
-            (λ t listed. other_tree db table.tree (edited db one) t.tree)) p.unique unkept)
+            (λ t listed. other_tree db table.tree (edited db one) t.tree)) unique unkept)
       ]
 
       go : IsHalted whole db one → R
-      go (inl (Violates Datatype, h)) = absurd (let wrong = rw p.typed at h in cc)
-      go (inl (Violates NotNull, h)) = absurd (let wrong = rw p.present at h in cc)
-      go (inl (Violates Check, h)) = absurd (let wrong = rw p.checked at h in cc)
+      go (inl (Violates Datatype, h)) = absurd (let wrong = rw p.formed.0 at h in cc)
+      go (inl (Violates NotNull, h)) = absurd (let wrong = rw p.formed.1 at h in cc)
+      go (inl (Violates Check, h)) = absurd (let wrong = rw p.formed.2 at h in cc)
       go (inl (Violates PrimaryKey, h)) = elim (cases_Bool (is_taken (left_by db one) new)) [
         | inl is_taken ↦ taken is_taken
         | inr free ↦ absurd (let wrong = rw free at h in cc)
       ]
       go (inl (Violates Unique, h)) = broken h
       go (inl (Violates ForeignKey, h)) = absurd h
-      go (inl (Mismatch, h)) = absurd (let wrong = rw p.keyed at h in cc)
+      go (inl (Mismatch, h)) = absurd (let wrong = rw p.formed.3 at h in cc)
       go (inl (NoRowid, h)) = elim (cases_Bool (fits_i64 (id_in (rowid new)))) [
         | inl fits ↦ absurd (let wrong = rw fits at h in cc)
         | inr out ↦ range out
       ]
-      go (inl (BadReference, h)) = absurd (let wrong : true ≡ false = sym p.referred ∙ h in cc)
+      go (inl (BadReference, h)) =
+          let fits = all_has (λ t. references_fit whole t true (nat_lt 0 (length gone)) ≡ true) whole.tables table
+          (fit true (nat_lt 0 (length gone))) p.listed in
+          absurd (let wrong : true ≡ false = sym fits ∙ h in cc)
       go (inl (TooDeep, h)) = absurd h
       go (inr (inl (row, here, big))) = too_long (subst (λ r. IsOversized whole table r) (the_one row new here) big)
       go (inr (inr (next, did, unreferred))) = orphan next did unreferred

@@ -1,64 +1,42 @@
 -- Why a run is refused, and that a deletion of runs is not.
-use Rattle.std.proofs.Common.{◌≡◌, inl, inr, ℕ, ℤ, ◌<◌, ◌^◌, List, [], drop, Bool, true, false, not, Ok, Err, Result}
-use Rattle.std.proofs.Common.{refl, sym, ap, subst, ◌∙◌, arith}
-use Rattle.store_sql.proofs.Words.{AllByRecursion, BadReference, Check, Datatype, Delete, ForeignKey, Has, Index, Keeps}
-use Rattle.store_sql.proofs.Words.{Mismatch, NoRowid, NotNull, PrimaryKey, Row, State, TooDeep, Trees, Unique, Violates}
-use Rattle.store_sql.proofs.Words.{accepts_program, all_has, cases_eq, clashes, column, guards, ids_of, lt-ltb, nat_lt}
-use Rattle.store_sql.proofs.Words.{references_fit, statement_of, with_tree, without_all}
-use Rattle.std.specs.Prelude.{◌&&◌, ◌==◌, length}
-use Rattle.sqlite_value.specs.Keys.{joined}
-use Rattle.sqlite_schema.specs.Names.{same_name}
-use Rattle.sqlite.specs.Listing.{understood}
+use Rattle.store_sql.proofs.Words.{AllByRecursion, Bool, Contents, Damaged, Delete, Device, Err, FailsBy, Fault, Has}
+use Rattle.store_sql.proofs.Words.{HasCause, HasCauseOr, INSERT_RUN, Index, Keeps, List, Means, NoMemory, Ok}
+use Rattle.store_sql.proofs.Words.{RefusedFor, Result, Row, RunRow, State, Trees, Unique, [], accepts_program, all_has}
+use Rattle.store_sql.proofs.Words.{ap, arith, cases_eq, clashes, column, drop, false, guards, ids_of, inl, inr, joined}
+use Rattle.store_sql.proofs.Words.{lt-ltb, not, refl, run_at, run_cells, statement_of, subst, sym, true, understood}
+use Rattle.store_sql.proofs.Words.{whole, with_tree, without_all, ℕ, ◌&&◌, ◌<◌, ◌==◌, ◌^◌, ◌∙◌, ◌≡◌}
 use Rattle.sqlite_rules.proofs.ListLemmas.{test_from}
 use Rattle.sqlite_rules.proofs.RuleLemmas.{keeps_at, keeps_from}
-use Rattle.store_sql.specs.Schema.{whole, run_at}
-use Rattle.store_sql.specs.Cells.{run_cells}
-use Rattle.store_sql.specs.Contents.{Contents, Means, run_places}
-use Rattle.store_sql.specs.Refusals.{HasCauseOr, RefusedFor, RefusesRun}
-use Rattle.store_sql.specs.declared.runs.RunRow.{RunRow}
-use Rattle.store_sql.proofs.RunTable as run
+use Rattle.store_sql.specs.Refusals.{RefusesRun}
 use Rattle.store_sql.proofs.RunTable.{puts, run_row}
-use Rattle.store_sql.specs.declared.sql.TheConstants.{INSERT_RUN}
-use Rattle.store_sql.specs.declared.table_fault.Fault.{Fault}
-use Rattle.store_sql.specs.Calls.{FailsBy}
-use Rattle.store_sql.proofs.FaultLemmas.{HasWriteCause, none_overflows}
-use Rattle.store_sql.specs.declared.table_fault.Fault.TheVariants.{Device, Damaged, NoMemory}
-use Rattle.store_sql.specs.Faults.{HasCause}
-use Rattle.store_sql.proofs.Inserts.{no_works}
-use Rattle.store_sql.proofs.InsertReasons.{insert_fails, refers_still, taken_number}
-use Rattle.store_sql.proofs.Reasons.{IsPut, one, other_tree, storable, unclashed}
-use Rattle.store_sql.proofs.Refused.{Stops, refused_for}
-use Rattle.store_sql.proofs.Stops.{IsHalted, delete_halts}
+use Rattle.store_sql.proofs.FaultLemmas.{HasWriteCause, none_overflows, Stops, refused_for}
+use Rattle.store_sql.proofs.Inserts.{no_works, insert_fails, refers_still, taken_number}
+use Rattle.store_sql.proofs.Reasons.{IsPut, other_tree, storable, unclashed}
+use Rattle.store_sql.proofs.Stops.{delete_halts}
+use Rattle.store_sql.proofs.NumberUpdates.{removal_halts}
+use Rattle.store_sql.proofs.RunTable as run
 
 -- ---- INSERT
 
-run_put : (r : RunRow) (s : State) (c : Contents) → Means s.now c → IsPut s.now.trees run_at [] (run_row r)
-unfolding same_name joined
-run_put r s c means = record {
+run_put : (r : RunRow) → IsPut run_at (run_row r)
+unfolding joined
+run_put r = record {
   listed = inr (inr (inr (inr (inl refl))));
-  ordered = means.kept.holds.runs.apart;
-  typed = refl;
-  present = refl;
-  checked = refl;
-  keyed = refl;
-  referred = refl;
-  unique = means.kept.sound.obeys.rules Unique;
+  formed = (refl, refl, refl, refl);
   short = λ fits. (storable _ (run_row r) refl (refl, (refl, (refl, tt))) (omega arith, omega arith) fits, omega arith);
   entries = λ fits. ((λ e. cc), ((λ e. cc), ((λ e. cc), ((λ e. cc), tt))));
 }
 
 pub run_fails : {X : Type 0} (x : RunRow) → x.lo < 2 ^ 63 → (old new : State) (r : Result X Fault)
     → FailsBy (HasWriteCause INSERT_RUN.now (run_cells x)) old new r → RefusedFor (RefusesRun x) old new r
-run_fails x below =
-    insert_fails puts x (RefusesRun x) (λ s c means. run_put x s c means)
+run_fails x below = insert_fails puts x (RefusesRun x) (λ s. run_put x)
     (λ s c means out. absurd (let wrong : true ≡ false = sym (lt-ltb x.lo (2 ^ 63) below) ∙ out in cc))
-    (λ s c means taken. taken_number run_cells run_places (λ y. y.lo) (s.now.trees 6) c.runs x.lo (drop 1 (run_row x))
+    (λ s c means taken. taken_number (λ y. y.lo) x.lo (drop 1 (run_row x))
     (λ y r is. ap (λ v. column v 0) is) means.kept.holds.runs taken)
     (λ s c means clash. absurd (unclashed s.now.trees run_at [] (run_row x)
     ((λ e. cc), ((λ e. cc), ((λ e. cc), ((λ e. cc), tt)))) clash))
     (λ s c long. absurd (omega (arith, long)))
-    (λ s c next means did broken. absurd (broken (refers_still s.now.trees next (one s.now.trees run_at [] (run_row x))
-    (means.kept.sound.obeys.rules ForeignKey) did (λ e. cc) (λ e. cc))))
+    (λ s c next means did broken. absurd (broken (refers_still means did (λ e. cc) (λ e. cc))))
 
 -- ---- DELETE of runs
 
@@ -79,47 +57,28 @@ kept_apart db tree rows none keeps = keeps_from Unique whole (with_tree db tree 
     unguarded true b = refl
     unguarded false b = refl
 
-run_fewer : (removes : Bool) → references_fit whole run_at false removes ≡ true
-unfolding same_name joined
-run_fewer true = refl
-run_fewer false = refl
-
 delete_typed : (ends : RunRow) → accepts_program whole [] run.delete_query (run_cells ends) ≡ true
 delete_typed ends = refl
 
 -- no deletion of runs is refused
 pub deletes_runs : (ends : RunRow) (s : State) (c : Contents) → Means s.now c
-    → Stops run.delete_sql (run_cells ends) (Delete 4 (record { lets = []; body = run.delete_query })) s → ⊥
+    → Stops run.delete_sql (run_cells ends) (Delete 4 run.delete_program) s → ⊥
 deletes_runs ends s c means stops =
     let db = s.now.trees in
     let kept = delete_halts s.now whole means.schema 4 run_at refl (run_cells ends)
-    (statement_of run.delete_sql (understood whole run.delete_sql)) (no_works 6) (record { lets = []; body = run.delete_query })
+    (statement_of run.delete_sql (understood whole run.delete_sql)) (no_works 6) run.delete_program
     (delete_typed ends) (λ h. elim h [ inl over ↦ over | inr fold ↦ none_overflows _ fold ]) stops.0 stops.1 in
-    go (ids_of kept.0) kept.2
-  where
-    go : (ids : List ℤ) → IsHalted whole s.now.trees (record { table = run_at; gone = ids; news = [] }) → ⊥
-    go ids (inl (Violates Datatype, h)) = let wrong : true ≡ false = h in cc
-    go ids (inl (Violates NotNull, h)) = let wrong : true ≡ false = h in cc
-    go ids (inl (Violates Check, h)) = let wrong : true ≡ false = h in cc
-    go ids (inl (Violates PrimaryKey, h)) = let wrong : true ≡ false = h in cc
-    go ids (inl (Violates Unique, h)) =
-        h (kept_apart s.now.trees 6 (without_all (s.now.trees 6) ids) (refl, (refl, (refl, (refl, tt)))) (means.kept.sound.obeys.rules Unique))
-    go ids (inl (Violates ForeignKey, h)) = h
-    go ids (inl (Mismatch, h)) = let wrong : true ≡ false = h in cc
-    go ids (inl (NoRowid, h)) = let wrong : true ≡ false = h in cc
-    go ids (inl (BadReference, h)) = let wrong : true ≡ false = sym (run_fewer (nat_lt 0 (length ids))) ∙ h in cc
-    go ids (inl (TooDeep, h)) = h
-    go ids (inr (inl (row, none, big))) = none
-    go ids (inr (inr (next, did, broken))) =
-        broken (refers_still s.now.trees next (record { table = run_at; gone = ids; news = [] })
-        (means.kept.sound.obeys.rules ForeignKey) did (λ e. cc) (λ e. cc))
+    let ids = ids_of kept.0 in
+    removal_halts db run_at ids (inr (inr (inr (inr (inl refl)))))
+    (kept_apart db 6 (without_all (db 6) ids) (refl, (refl, (refl, (refl, tt)))) (means.kept.sound.obeys.rules Unique))
+    (λ next did. refers_still means did (λ e. cc) (λ e. cc)) kept.2
 
 -- ---- the calls
 
 pub deletion_fails : {X : Type 0} (ends : RunRow) (old new : State) (r : Result X Fault)
     → FailsBy (HasWriteCause run.delete_sql (run_cells ends)) old new r → FailsBy HasCause old new r
 deletion_fails {X} ends old new r h = unrefused r
-    (refused_for run.delete_sql (run_cells ends) (Delete 4 (record { lets = []; body = run.delete_query })) run.delete_is.0
+    (refused_for run.delete_sql (run_cells ends) (Delete 4 run.delete_program) run.delete_is.0
     run.delete_is.2 (λ c. ⊥) (deletes_runs ends) old new r h)
   where
     cause : (f : Fault) → HasCauseOr ⊥ old new f → HasCause old new f

@@ -1,38 +1,27 @@
 -- The statements on the table of runs.
-use Rattle.std.proofs.Common.{◌≡◌, ℕ, pos, List, [], ◌∷◌, codes, map, Bool, true, not, Option, None, Ok, refl, sym, ap}
-use Rattle.std.proofs.Common.{ap₂, subst, ◌∙◌, inl, inr, take, IsSorted}
-use Rattle.std.specs.Prelude.{◌&&◌}
-use Rattle.std.proofs.Common.{Equal}
-use Rattle.store_sql.proofs.Words.{Applies, Binary, Compare, Database, Delete, Does, Enforced, Ge, Given, Has, Insert}
-use Rattle.store_sql.proofs.Words.{Int, IsAnswer, IsPermutation, IsPermutation-map, IsPermutation-refl, IsPlain, Key}
-use Rattle.store_sql.proofs.Words.{Le, Null, Output, Query, Row, Tally, Term, Trees, Values, and-true, ascending, col}
-use Rattle.store_sql.proofs.Words.{column, command_of, edit_of, filter, id_in, ids_of, is_int, is_true, lit, map-map}
-use Rattle.store_sql.proofs.Words.{nat_le, op2, overlay, rowid, statement_of, tied_itself, tied_same, value_cmp_total}
-use Rattle.sqlite.specs.Order.{value_cmp}
-use Rattle.sqlite.specs.Ops.{binary}
-use Rattle.sqlite_tied.specs.Compute.{everything}
-use Rattle.sqlite.specs.Listing.{understood}
-use Rattle.store_sql.proofs.Selects.{IsSelect, IsTreeOf, select}
-use Rattle.store_sql.proofs.FaultLemmas.{IsStatement, IsWhole, none_overflows}
-use Rattle.store_sql.proofs.Rows.{cast_null, cast_int}
-use Rattle.store_sql.specs.Schema.{whole, run_at}
-use Rattle.store_sql.specs.Cells.{run_cells}
-use Rattle.store_sql.specs.Contents.{Contents, Holds, Means, Lists, at_places, run_places}
+use Rattle.store_sql.proofs.Words.{Applies, Binary, Bool, Compare, Contents, Database, Delete, Does, Enforced, Equal}
+use Rattle.store_sql.proofs.Words.{Ge, Given, Has, Holds, INSERT_RUN, Insert, Int, IsAnswer, IsPermutation}
+use Rattle.store_sql.proofs.Words.{IsPermutation-map, IsPermutation-refl, IsSorted, Key, Le, List, Lists, Means, None}
+use Rattle.store_sql.proofs.Words.{Null, Ok, Option, Output, Program, Query, Row, RunRow, Tally, Term, Trees, Values}
+use Rattle.store_sql.proofs.Words.{[], and-true, ap, ap₂, ascending, at_places, binary, codes, col, column, edit_of}
+use Rattle.store_sql.proofs.Words.{everything, filter, id_in, ids_of, inl, inr, is_int, is_true, last_run, lit, map}
+use Rattle.store_sql.proofs.Words.{map-map, nat_cmp, nat_le, not, op2, overlay, pos, refl, rowid, run_at, run_cells}
+use Rattle.store_sql.proofs.Words.{run_places, statement_of, subst, sym, take, tied_itself, tied_same, true, understood}
+use Rattle.store_sql.proofs.Words.{value_cmp, value_cmp_total, whole, ℕ, ◌&&◌, ◌∙◌, ◌∷◌, ◌≡◌}
+use Rattle.store_sql.proofs.Selects.{IsTreeOf, DescendBy, falling, number_cmp, FindSorted, select_all}
+use Rattle.store_sql.proofs.FaultLemmas.{IsStatement, none_overflows}
+use Rattle.store_sql.proofs.Rows.{cast_null, cast_int, le_number, ge_number}
 use Rattle.store_sql.specs.Changes.{with_run}
-use Rattle.store_sql.specs.Runs.{begins, last_run, without_runs}
-use Rattle.store_sql.specs.declared.sql.TheConstants.{INSERT_RUN, EVERY_RUN, LAST_RUN, DELETE_RUNS}
-use Rattle.store_sql.specs.declared.runs.RunRow.{RunRow}
-use Rattle.store_sql.proofs.Apart.{run_apart}
-use Rattle.store_sql.proofs.CallLemmas.{Write, Find}
-use Rattle.store_sql.proofs.Edits.{keep_all, of_record, of_row, left_is, filter_table}
-use Rattle.store_sql.proofs.Elsewhere.{spares, in_run}
+use Rattle.store_sql.specs.Runs.{begins, without_runs}
+use Rattle.store_sql.specs.declared.sql.TheConstants.{EVERY_RUN, LAST_RUN, DELETE_RUNS}
+use Rattle.store_sql.proofs.Elsewhere.{run_apart, in_run}
+use Rattle.store_sql.proofs.CallLemmas.{IsSelect, Write, Find}
+use Rattle.store_sql.proofs.Edits.{of_record, of_row, left_is, filter_table}
 use Rattle.store_sql.proofs.Inserts.{no_works, IsInsert, insert}
-use Rattle.store_sql.proofs.Queries.{on_table, in_order, in_order, selected, chosen, lists_left, int_le_test, int_ge_test}
+use Rattle.store_sql.proofs.Queries.{on_table, in_order, selected, chosen, lists_left, int_le_test, int_ge_test}
 use Rattle.store_sql.proofs.Statements.{mode, deletes}
-use Rattle.store_sql.proofs.Rising.{AscendBy, DescendBy, falling}
 use Rattle.store_sql.proofs.LastRun.{falls, first_is_last, listed}
-use Rattle.store_sql.proofs.Unmapped.{unmapped}
-use Rattle.store_sql.proofs.Numbers.{le_number, ge_number}
+use Rattle.store_sql.proofs.FoundLemmas.{unmapped}
 
 pub tree : IsTreeOf Holds run_cells run_places 6 (λ c. c.runs)
 tree = record { stored = λ trees. refl; held = λ trees c h. h.runs; apart = run_apart }
@@ -55,10 +44,8 @@ puts = record {
   found = refl;
   is = λ x. insert_is;
   source = run_row;
-  sourced = λ x. refl;
-  typed = λ x. refl;
-  made = λ x rows. simp (cast_int, cast_null);
-  row_is = λ x rows. refl;
+  sourced = λ x. (refl, refl);
+  made = λ x rows. (simp (cast_int, cast_null), refl);
   held = λ x db after c h o put. in_run db after c h (x ∷ c.runs) o;
 }
 
@@ -75,9 +62,9 @@ every_is : IsSelect whole EVERY_RUN.now (on_table 6 [] columns ((col 1 0, ascend
 unfolding understood everything
 every_is = (refl, refl, (refl, refl), (refl, refl))
 
-pub every : Find EVERY_RUN.now ([]) run_cells (λ c. c.runs)
-every = select tree every_is (λ x. true) (λ v. true) (λ v. column v 0 ∷ column v 1 ∷ []) (λ x. refl) (λ x. refl)
-    (λ r. refl) (λ r. refl) refl (λ c. keep_all c.runs)
+pub every : FindSorted EVERY_RUN.now ([]) run_cells (λ c. c.runs) (λ r. r.lo) nat_cmp
+every = select_all tree every_is (λ v. column v 0 ∷ column v 1 ∷ []) (λ x. refl) (λ r. refl) refl (λ r. refl)
+    (λ x y. number_cmp x.lo y.lo)
 
 -- no two begin with the same serial
 begin_apart : (trees : Trees) (c : Contents) → Holds trees c → (x y : RunRow) → Has c.runs x → Has c.runs y
@@ -133,16 +120,14 @@ module _ (n : ℕ) (trees : Trees) (rows : List Row) (c : Contents) (h : Holds t
   }
 
   low_are : IsPermutation (map run_cells (filter (λ r. nat_le r.lo n) c.runs)) (map (λ (o : Output). o.1) answer.ordered)
-  low_are =
-      chosen run_cells run_cells (λ r. nat_le r.lo n) run_places
+  low_are = chosen run_cells run_cells (λ r. nat_le r.lo n) run_places
       (λ v. is_true (binary (Compare Le Binary) (column v 0) (Int (pos n))) && true) (λ v. column v 0 ∷ column v 1 ∷ [])
       (λ x. low_passes n x) (λ x. refl) (trees 6) (map (λ (o : Output). o.1) answer.ordered) c.runs h.runs
       (selected 6 low_test columns downwards trees (Int (pos n) ∷ [])
       (map (λ (o : Output). o.1) answer.ordered) refl low_answer)
 
   low_fall : DescendBy 0 (map (λ (o : Output). o.1) answer.ordered)
-  low_fall =
-      in_order 6 low_test columns downwards trees (Int (pos n) ∷ [])
+  low_fall = in_order 6 low_test columns downwards trees (Int (pos n) ∷ [])
       (map (λ (o : Output). o.1) answer.ordered) (λ v. column v 0 ∷ []) (λ r. refl) refl low_answer
 
   last_answers : IsPermutation (map run_cells (listed (last_run n c))) rows
@@ -162,10 +147,7 @@ pub last : (n : ℕ) → Find last_sql (Int (pos n) ∷ []) run_cells (λ c. lis
 last n = record {
   query = last_query;
   names = codes "lo" ∷ codes "hi" ∷ [];
-  is = last_is.0;
-  unlisted = last_is.1;
-  plain = last_is.2;
-  one = last_is.3;
+  is = last_is;
   typed = refl;
   sure = λ trees h. elim h [ inl over ↦ over | inr fold ↦ none_overflows _ fold ];
   apart = run_apart;
@@ -191,8 +173,10 @@ delete_sql = DELETE_RUNS.now
 abbrev pub delete_query : Query
 delete_query = on_table 6 tests (col 1 0 ∷ []) []
 
-pub delete_is : (command_of (understood whole delete_sql) ≡ Delete 4 (record { lets = []; body = delete_query }))
-    × IsPlain (understood whole delete_sql) × IsWhole delete_sql 2 (understood whole delete_sql)
+abbrev pub delete_program : Program
+delete_program = record { lets = []; body = delete_query }
+
+pub delete_is : IsStatement delete_sql (Delete 4 delete_program) 2
 unfolding understood everything
 delete_is = (refl, (refl, refl), (refl, refl))
 
@@ -222,32 +206,14 @@ left_runs ends c db after rows h answer did =
 
 delete_does : (ends : RunRow) (limit : Option ℕ) (db next : Database) (tally : Tally) (c : Contents) → Means db c
     → Does limit mode (run_cells ends) db (statement_of delete_sql (understood whole delete_sql)) None
-    (Delete 4 (record { lets = []; body = delete_query })) (Ok (tally, next))
-    → (next.schema ≡ whole) × Holds next.trees (without_runs ends c)
+    (Delete 4 delete_program) (Ok (tally, next)) → (next.schema ≡ whole) × Holds next.trees (without_runs ends c)
 delete_does ends limit db next tally c means h =
     let did = deletes limit db next tally whole means.schema 4 run_at refl (run_cells ends)
-    (statement_of delete_sql (understood whole delete_sql)) (record { lets = []; body = delete_query }) h
-    (no_works 6) in
+    (statement_of delete_sql (understood whole delete_sql)) delete_program h (no_works 6) in
     let left = left_runs ends c db.trees next.trees did.0 means.kept.holds (did.1.answer Null) did.2 in (
       did.3,
-      in_run db.trees next.trees c means.kept.holds (filter (λ r. not (begins ends r)) c.runs)
-          (spares (edit_of db.trees run_at (ids_of did.0) Given 0 []) db.trees next.trees did.2) left,
+      in_run db.trees next.trees c means.kept.holds (filter (λ r. not (begins ends r)) c.runs) did.2.tables left,
     )
 
 pub delete : (ends : RunRow) → Write delete_sql (run_cells ends) (without_runs ends)
-delete ends = record {
-  command = Delete 4 (record { lets = []; body = delete_query });
-  is = delete_is.0;
-  plain =
-      delete_is.1;
-  one = delete_is.2;
-  on_rows = tt;
-  does = delete_does ends;
-}
-
-pub every_rises : (trees : Trees) (rows : List Row) → IsAnswer every.query (overlay trees []) ([]) rows
-    → AscendBy 0 rows
-unfolding every select
-every_rises trees rows answer =
-    in_order 6 [] columns ((col 1 0, ascending Binary) ∷ []) trees ([]) rows (λ v. column v 0 ∷ [])
-    (λ r. refl) refl answer
+delete ends = record { command = Delete 4 delete_program; is = delete_is; on_rows = tt; does = delete_does ends }

@@ -1,13 +1,13 @@
 -- What the statements on one table do, whatever the table is.
-use Rattle.std.proofs.Common.{◌≡◌, ◌⊎◌, inl, inr, ℕ, ◌/◌, List, [], length, slice_get, false, Some, None, Option, Ok, Err, Result, sym, ap, subst, subst₂, append-nil, IsTrue, ◌∙◌}
-use Rattle.store_sql.proofs.Words.{Answers, Applies, AtPlace, Chosen, Command, Commit, Database, Delete, Does, Edited}
-use Rattle.store_sql.proofs.Words.{Enforced, Error, Executes, Given, Insert, IsDatabase, IsPlain, IsRolledBack}
-use Rattle.store_sql.proofs.Words.{IsUnchanged, IsWrite, MayCommit, Mode, OnRows, Program, Release, Row, Schema}
-use Rattle.store_sql.proofs.Words.{State, Survives, Table, Tally, Term, Trees, Update, Values, Written, cases_Bool}
-use Rattle.store_sql.proofs.Words.{command_of, edit_of, ids_of, one_step, shows_rows, stamped, statement_of, taken_by}
-use Rattle.store_sql.proofs.Words.{value_rows, works}
-use Rattle.sqlite.specs.Listing.{understood}
-use Rattle.sqlite.specs.State.{ExecutesIn, IsNotRun, CommitsBy, IsNewestNamed, names_in, begins_at}
+use Rattle.store_sql.proofs.Words.{Answers, Applies, AtPlace, Chosen, Command, Commit, CommitsBy, Database, Delete}
+use Rattle.store_sql.proofs.Words.{Does, Edited, Enforced, Err, Error, Executes, ExecutesIn, Given, Insert, IsDatabase}
+use Rattle.store_sql.proofs.Words.{IsNotRun, IsPlain, IsRolledBack, IsTrue, IsUnchanged, IsWrite, List, MayCommit, Mode}
+use Rattle.store_sql.proofs.Words.{None, Ok, OnRows, Option, Program, Release, Result, Row, Schema, Some, State}
+use Rattle.store_sql.proofs.Words.{Survives, Table, Tally, Term, Trees, Update, Values, Written, [], ap, append-nil}
+use Rattle.store_sql.proofs.Words.{cases_Bool, command_of, edit_of, false, ids_of, inl, inr, length, one_step}
+use Rattle.store_sql.proofs.Words.{shows_rows, slice_get, stamped, statement_of, subst, subst₂, sym, taken_by}
+use Rattle.store_sql.proofs.Words.{understood, value_rows, works, ℕ, ◌/◌, ◌∙◌, ◌≡◌, ◌⊎◌}
+use Rattle.sqlite.specs.State.{IsNewestNamed, names_in, begins_at}
 
 -- a part that gave a value did not stop on the way
 pub went : {B E R : Type 0} {b : B} {Stops : E → Type 0} → ((stop : E) × Stops stop × (Ok b ≡ Err stop)) ⊎ R → R
@@ -85,13 +85,9 @@ module _ (limit : Option ℕ) (db after : Database) (tally : Tally) (schema : Sc
       ∙ same_value counted.1 in
       let wrote = subst (λ rows. Edited schema Enforced db.trees (edit_of db.trees table′ [] Chosen 0 rows)
       (Ok written.0)) given.1.1 written.1 in
-      let all : after.trees ≡ written.0 = ap (λ (d : Database). d.trees) now ∙ trees in (
-        rw all (one_step schema Enforced db.trees written.0
-            (edit_of db.trees table′ [] Chosen 0
-            (value_rows (stamped table′ params) width (length terms / width) terms)) none wrote),
-        ap
-            (λ (d : Database). d.schema) now,
-      )
+      let all : after.trees ≡ written.0 = ap (λ (d : Database). d.trees) now ∙ trees in
+      let edit = edit_of db.trees table′ [] Chosen 0 (value_rows (stamped table′ params) width (length terms / width) terms)
+      in (rw all (one_step schema Enforced db.trees written.0 edit none wrote), ap (λ (d : Database). d.schema) now)
 
   -- UPDATE writes the rows that its query shows, each after the rowid that it had
   pub updates : (q : Program) → Does limit mode params db text None (Update at q) (Ok (tally, after))
@@ -110,18 +106,10 @@ module _ (limit : Option ℕ) (db after : Database) (tally : Tally) (schema : Sc
       let given = went done.1 in
       let written = went given.2 in
       let all : after.trees ≡ written.0 = ap (λ (d : Database). d.trees) now
-      ∙ ap (λ (it : Written). it.trees) (same_value written.2) in (
-        given.0,
-        given.1,
-        subst (Applies schema Enforced db.trees
-            (edit_of db.trees (uncounted table) (ids_of given.0) Given 1 given.0)) (sym all)
-            (one_step schema Enforced db.trees written.0
-            (edit_of db.trees (uncounted table) (ids_of given.0) Given 1 given.0)
-            (none (taken_by db.trees (edit_of db.trees (uncounted table) (ids_of given.0) Given 1 given.0))
-            (edit_of db.trees (uncounted table) (ids_of given.0) Given 1 given.0).news) written.1),
-        ap
-            (λ (d : Database). d.schema) now,
-      )
+      ∙ ap (λ (it : Written). it.trees) (same_value written.2) in
+      let edit = edit_of db.trees (uncounted table) (ids_of given.0) Given 1 given.0 in
+      let step = one_step schema Enforced db.trees written.0 edit (none (taken_by db.trees edit) edit.news) written.1 in
+      (given.0, given.1, subst (Applies schema Enforced db.trees edit) (sym all) step, ap (λ (d : Database). d.schema) now)
 
   -- DELETE takes out the rowids that its query shows
   pub deletes : (q : Program) → Does limit mode params db text None (Delete at q) (Ok (tally, after))
@@ -140,18 +128,10 @@ module _ (limit : Option ℕ) (db after : Database) (tally : Tally) (schema : Sc
       let given = went done.1 in
       let written = went given.2 in
       let all : after.trees ≡ written.0 = ap (λ (d : Database). d.trees) now
-      ∙ ap (λ (it : Written). it.trees) (same_value written.2) in (
-        given.0,
-        given.1,
-        subst (Applies schema Enforced db.trees
-            (edit_of db.trees (uncounted table) (ids_of given.0) Given 0 [])) (sym all)
-            (one_step schema Enforced db.trees written.0
-            (edit_of db.trees (uncounted table) (ids_of given.0) Given 0 [])
-            (none (taken_by db.trees (edit_of db.trees (uncounted table) (ids_of given.0) Given 0 []))
-            (edit_of db.trees (uncounted table) (ids_of given.0) Given 0 []).news) written.1),
-        ap
-            (λ (d : Database). d.schema) now,
-      )
+      ∙ ap (λ (it : Written). it.trees) (same_value written.2) in
+      let edit = edit_of db.trees (uncounted table) (ids_of given.0) Given 0 [] in
+      let step = one_step schema Enforced db.trees written.0 edit (none (taken_by db.trees edit) edit.news) written.1 in
+      (given.0, given.1, subst (Applies schema Enforced db.trees edit) (sym all) step, ap (λ (d : Database). d.schema) now)
 
 pub survives_as : (old new : State) (P Q : Trees → Type 0) → ((trees : Trees) → P trees → Q trees)
     → Survives old new P → Survives old new Q
@@ -161,6 +141,5 @@ survives_as old new P Q more s = record {
   counts = s.counts;
   limit = s.limit;
   closes = s.closes;
-  crash = λ clean db
-      left. elim (s.crash clean db left) [ inl was ↦ inl was | inr p ↦ inr (more db p) ];
+  crash = λ clean db left. elim (s.crash clean db left) [ inl was ↦ inl was | inr p ↦ inr (more db p) ];
 }

@@ -1,16 +1,13 @@
 -- What a statement that ends no transaction leaves of one, whatever the tables are.
-use Rattle.std.proofs.Common.{◌≡◌, inl, inr, ℕ, List, true, false, Option, Ok, Err, Result, refl, sym, subst, IsTrue, ◌∙◌}
-use Rattle.store_sql.proofs.Words.{Begin, Command, Commit, Compiled, CreateTable, Delete, Error, Executes, Insert}
-use Rattle.store_sql.proofs.Words.{InsertOr, IsUnchanged, KeepsCommit, Release, Returning, Rollback, RollbackTo, Row}
-use Rattle.store_sql.proofs.Words.{Runs, Select, State, Survives, Update, Writes, cases_Bool, shows_rows}
-use Rattle.store_sql.proofs.Words.{survives_then, unchanged_then}
+use Rattle.store_sql.proofs.Words.{Begin, Command, Commit, Compiled, CreateTable, Delete, Err, Error, Executes}
+use Rattle.store_sql.proofs.Words.{ExecutesIn, Fault, Insert, InsertOr, IsDone, IsTrue, IsUnchanged, KeepsCommit, List}
+use Rattle.store_sql.proofs.Words.{Never, Ok, OnlyReads, Option, Release, Result, Returning, Rollback, RollbackTo, Row}
+use Rattle.store_sql.proofs.Words.{Runs, Select, State, Stays, Survives, Update, Writes, cases_Bool, false, inl, inr}
+use Rattle.store_sql.proofs.Words.{refl, shows_rows, subst, survives_then, sym, true, unchanged_then, understood, ℕ}
+use Rattle.store_sql.proofs.Words.{◌∙◌, ◌≡◌}
 use Rattle.sqlite.specs.Command.TheVariants.{CreateIndex, CreateView, DropTable, DropIndex, DropView, Savepoint, Rows}
 use Rattle.sqlite.specs.Command.TheVariants.{Nothing}
-use Rattle.sqlite.specs.Listing.{understood}
-use Rattle.sqlite.specs.State.{ExecutesIn, Shows}
-use Rattle.store_sql.specs.declared.table_fault.Fault.{Fault}
-use Rattle.store_sql.specs.Done.{IsDone}
-use Rattle.store_sql.specs.Calls.{Never, OnlyReads, Stays}
+use Rattle.sqlite.specs.State.{Shows}
 use Rattle.store_sql.proofs.Commands.{closes}
 use Rattle.store_sql.proofs.Later.{inside_is, stops, stops_then as later_fails}
 use Rattle.store_sql.proofs.Statements.{stopped}

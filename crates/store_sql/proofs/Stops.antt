@@ -1,10 +1,12 @@
 -- What stops a statement on one table: a rule, a row that is too long, or a foreign key.
-use Rattle.std.proofs.Common.{◌≡◌, ◌⊎◌, inl, inr, ℕ, zero, suc, ◌/◌, List, [], ◌∷◌, length, slice_get, true, false, None, Some, Option, Ok, Err, Result, sym, ap, subst, ◌∙◌, length-append, arith}
 use Rattle.store_sql.proofs.Words.{All, Answers, Applies, AtPlace, Chosen, Database, Delete, Does, Edit, Edited}
-use Rattle.store_sql.proofs.Words.{Enforced, Error, Given, Has, Insert, IsOversized, OnRows, Program}
-use Rattle.store_sql.proofs.Words.{ProgramOverflows, Refers, Refusal, Row, Schema, Table, Task, Term, Trees, Update}
-use Rattle.store_sql.proofs.Words.{Updates, Values, Written, accepts_program, accepts_terms, edit_of, ids_of, lets_of}
-use Rattle.store_sql.proofs.Words.{one_step, stamped, taken_by, value_rows, works}
+use Rattle.store_sql.proofs.Words.{Enforced, Err, Error, Given, Has, Insert, IsOversized, List, None, Ok, OnRows}
+use Rattle.store_sql.proofs.Words.{Option, Program, ProgramOverflows, Refers, Refusal, Result, Row, Schema, Some, Table}
+use Rattle.store_sql.proofs.Words.{Task, Term, Trees, Update, Updates, Values, Written, [], accepts_program}
+use Rattle.store_sql.proofs.Words.{accepts_terms, ap, arith, edit_of, false, ids_of, inl, inr, length, lets_of}
+use Rattle.store_sql.proofs.Words.{one_step, slice_get, stamped, subst, suc, sym, taken_by, true, value_rows, works}
+use Rattle.store_sql.proofs.Words.{zero, ℕ, ◌/◌, ◌∙◌, ◌∷◌, ◌≡◌, ◌⊎◌}
+use Rattle.std.proofs.Common.{length-append}
 use Rattle.sqlite_rules.specs.Action.{Leads}
 use Rattle.sqlite_rules.specs.Edit.{IsRefused}
 use Rattle.sqlite.specs.Does.{Concludes}
@@ -13,8 +15,7 @@ use Rattle.store_sql.proofs.Statements.{mode, same_value, uncounted, went}
 
 -- a rule refuses the edit, or one of its rows is too long, or it leaves a row without its parent
 abbrev pub IsHalted : Schema → Trees → Edit → Type 0
-IsHalted schema db edit =
-    ((why : Refusal) × IsRefused schema Enforced db edit why)
+IsHalted schema db edit = ((why : Refusal) × IsRefused schema Enforced db edit why)
     ⊎ (((row : Row) × Has edit.news row × IsOversized schema edit.table row)
     ⊎ ((next : Trees) × Applies schema Enforced db edit next × (Refers All schema next → ⊥)))
 
@@ -131,8 +132,7 @@ module _ (db : Database) (schema : Schema) (has : db.schema ≡ schema) (at : �
         | inl (s, edited) ↦ (
           rs,
           answer,
-          edited_halts schema db.trees (change rs) s
-              (none (taken_by db.trees (change rs)) (change rs).news) edited,
+          edited_halts schema db.trees (change rs) s (none (taken_by db.trees (change rs)) (change rs).news) edited,
         )
         | inr (next, edited, gives) ↦ absurd (let e = gives in cc)
       ]
@@ -143,13 +143,11 @@ module _ (db : Database) (schema : Schema) (has : db.schema ≡ schema) (at : �
         × Applies schema Enforced db.trees (change rs) w.trees
     updated_all w h =
         let answered = went h in
-        let written = went answered.2 in (
-          answered.0,
-          answered.1,
-          subst (Applies schema Enforced db.trees (change answered.0)) (sym (ap (λ (it : Written). it.trees) (same_value written.2)))
-              (one_step schema Enforced db.trees written.0 (change answered.0)
-              (none (taken_by db.trees (change answered.0)) (change answered.0).news) written.1),
-        )
+        let written = went answered.2 in
+        let edit = change answered.0 in
+        let step = one_step schema Enforced db.trees written.0 edit (none (taken_by db.trees edit) edit.news) written.1 in
+        let same = sym (ap (λ (it : Written). it.trees) (same_value written.2)) in
+        (answered.0, answered.1, subst (Applies schema Enforced db.trees edit) same step)
 
   module _ (q : Program) (typed : accepts_program schema (lets_of q) q.body params ≡ true)
       (sure : ProgramOverflows db.trees params [] (lets_of q) q.body → ⊥) where
@@ -169,12 +167,10 @@ module _ (db : Database) (schema : Schema) (has : db.schema ≡ schema) (at : �
     deleted_all w h =
         let answered = went h in
         let written = went answered.2 in
-        let edit = removal q params typed sure answered.0 in (
-          answered.0,
-          answered.1,
-          subst (Applies schema Enforced db.trees edit) (sym (ap (λ (it : Written). it.trees) (same_value written.2)))
-              (one_step schema Enforced db.trees written.0 edit (none (taken_by db.trees edit) edit.news) written.1),
-        )
+        let edit = removal q params typed sure answered.0 in
+        let step = one_step schema Enforced db.trees written.0 edit (none (taken_by db.trees edit) edit.news) written.1 in
+        let same = sym (ap (λ (it : Written). it.trees) (same_value written.2)) in
+        (answered.0, answered.1, subst (Applies schema Enforced db.trees edit) same step)
 
     pub update_halts : (stop : Option Error) → Does None mode params db text None (Update at q) (Err stop)
         → IsKept q params typed sure (change q params typed sure)

@@ -1,19 +1,11 @@
-use Rattle.sqlite.specs.Held.{state}
-use Rattle.store_sql.proofs.CertReasons.{signature_fails}
-use Rattle.store_sql.proofs.CallLemmas.{write_changes, write_fails, write_stays, write_survives}
-use Rattle.store_sql.proofs.CertTable.{sign}
+use Rattle.store_sql.proofs.CertTable.{signature_fails, sign}
+use Rattle.store_sql.proofs.CallLemmas.{wrote}
 use Rattle.store_sql.proofs.certs.update_signature.Goals as goal
 
 pub returns : goal.returns
 returns g c =
-    let old = state g.S.Store c.args.conn.now in
-    let new = state g.S.Store c.execute.new.self in
-    let write = sign c.args.serial c.args.signature.now in
-    record {
-      changes = λ clean. write_changes write old new c.execute.result c.done.result c.done.ensures.is
-          (rw c.value.ensures.is at (c.execute.ensures.runs clean));
-      fault = λ clean. signature_fails c.args.serial c.args.signature.now c.value.ensures.low old new c.done.result (write_fails write old new c.execute.result c.done.result c.done.ensures.is (rw c.value.ensures.is at (c.execute.ensures.runs clean)));
-      stays = λ clean. write_stays write old new c.execute.result c.done.result c.done.ensures.is
-          (rw c.value.ensures.is at (c.execute.ensures.runs clean));
-      survives = write_survives write old new (rw c.value.ensures.is at c.execute.ensures.survives);
-    }
+    let ran = rw c.value.ensures.is at c.execute.ensures in
+    let w = wrote (sign c.args.serial c.args.signature.now)
+    (signature_fails c.args.serial c.args.signature.now c.value.ensures.low) c.execute.result c.done.result ran.runs
+    ran.survives c.done.ensures.is in
+    record { changes = w.changes; fault = w.fault; stays = w.stays; survives = w.survives }

@@ -1,5 +1,5 @@
-use Rattle.std.proofs.Common.{arith}
-use Rattle.store_sql.proofs.Reading.{misread_one}
+use Rattle.store_sql.proofs.Words.{arith}
+use Rattle.store_sql.proofs.FoundLemmas.{misread_one}
 use Rattle.store_sql.proofs.columns.read_all.Goals as goal
 
 pub returns-in-Err-read-clause-err : goal.returns-in-Err-read-clause-err

@@ -1,4 +1,4 @@
-use Rattle.std.proofs.Common.{◌≡◌, map, take}
+use Rattle.store_sql.proofs.Words.{map, take, ◌≡◌}
 use Rattle.store_sql.proofs.columns.read_all.Given as goal
 
 abbrev pub invariant-loop-row : goal.invariant-loop-row

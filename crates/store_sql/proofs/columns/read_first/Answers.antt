@@ -1,6 +1,5 @@
-use Rattle.std.proofs.Common.{arith}
-use Rattle.std.proofs.lemmas.Result.{err_from_is_err_and}
-use Rattle.store_sql.proofs.Reading.{misread_one}
+use Rattle.store_sql.proofs.Words.{arith, err_from_is_err_and}
+use Rattle.store_sql.proofs.FoundLemmas.{misread_one}
 use Rattle.store_sql.proofs.columns.read_first.Goals as goal
 
 pub returns-in_err-read-in-len1-up-clause-err : goal.returns-in_err-read-in-len1-up-clause-err

@@ -1,12 +1,6 @@
-use Rattle.std.proofs.Common.{[], subst}
-use Rattle.sqlite.specs.Held.{state}
-use Rattle.sqlite.specs.State.{Executes}
-use Rattle.store_sql.specs.Making.{before, made}
-use Rattle.store_sql.specs.Faults.{HasCause}
-use Rattle.store_sql.proofs.CreateFaults.{create_faults}
-use Rattle.store_sql.proofs.DoneLemmas.{creates_done, fault_done}
-use Rattle.store_sql.proofs.Makeable.{makeable}
-use Rattle.store_sql.proofs.Makes.{create_stays, creates, creates_left, makes}
+use Rattle.store_sql.proofs.Words.{Creates, Executes, HasCause, [], before, made, state, subst}
+use Rattle.store_sql.proofs.Makes.{create_faults, makeable, create_stays, creates, creates_left, makes}
+use Rattle.store_sql.proofs.FoundLemmas.{done_as, fault_done}
 use Rattle.store_sql.proofs.Statements.{survives_as}
 use Rattle.store_sql.proofs.creation.create.Goals as goal
 
@@ -17,7 +11,8 @@ returns g c =
     let new = state g.S.Store c.execute.new.self in
     let ran = subst (λ sql. Executes sql [] old new c.execute.result) c.create.ensures.text in
     record {
-      creates = λ clean. creates_done old new (before name) (made name) c.execute.result c.done.result c.done.ensures.is
+      creates = λ clean. done_as (Creates (before name) (made name) old new) (Creates (before name) (made name) old new)
+          (λ n x h. h) (λ e h. h) c.execute.result c.done.result c.done.ensures.is
           (creates (makes name) old new c.execute.result (ran (c.execute.ensures.runs clean)));
       fault = λ clean has. fault_done (HasCause old new) c.execute.result c.done.result c.done.ensures.is
           (create_faults (makeable name) old new has c.execute.result (ran (c.execute.ensures.runs clean)));

@@ -1,4 +1,4 @@
-use Rattle.sqlite.specs.Held.{state}
+use Rattle.store_sql.proofs.Words.{state}
 use Rattle.store_sql.proofs.Growth.{adds_ca}
 use Rattle.store_sql.proofs.creation.create_ca.Goals as goal
 

@@ -1,6 +1,4 @@
-use Rattle.std.proofs.Common.{◌≡◌, ◌<◌, drop, refl, subst, arith}
-use Rattle.std.proofs.lemmas.Result.{err_from_is_err_and}
-use Rattle.sqlite.specs.Held.{state}
+use Rattle.store_sql.proofs.Words.{arith, drop, err_from_is_err_and, refl, state, subst, ◌<◌, ◌≡◌}
 use Rattle.store_sql.specs.declared.creation.TableName.TheVariants.{Office}
 use Rattle.store_sql.specs.Making.{in_order}
 use Rattle.store_sql.proofs.Growth.{IsAt, completed, none_made, none_more, one_more, still_lives}
@@ -25,8 +23,7 @@ returns-in_err-create-clause-fault g c clean bare =
     let inside : c.loop-name.name-index < 7 = omega (arith, c.loop-name-test.true) in
     let told = err_from_is_err_and c.from_residual.result c.from_residual.ensures.1 in
     let cause = none_more in_order c.loop-name.name-index Office inside _ _ _ c.loop-name.invariant
-    c.create.ensures.survives
-    c.in_err-create.field-0.0 c.in_err-create.ensures.fault clean bare in
+    c.create.ensures.survives c.in_err-create.field-0.0 c.in_err-create.ensures.fault clean bare in
     rw (told.1, told.2) cause
 
 pub returns-clause-completes : goal.returns-clause-completes

@@ -1,5 +1,4 @@
-use Rattle.std.specs.Prelude.{drop}
-use Rattle.sqlite.specs.Held.{state}
+use Rattle.store_sql.proofs.Words.{drop, state}
 use Rattle.store_sql.proofs.Growth.{IsAt}
 use Rattle.store_sql.proofs.creation.create_tables.Given as goal
 

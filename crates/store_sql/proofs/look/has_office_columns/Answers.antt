@@ -1,5 +1,5 @@
-use Rattle.std.proofs.Common.{◌≡◌, length, sym, ◌∙◌}
-use Rattle.store_sql.proofs.ColumnNames.{same_names}
+use Rattle.store_sql.proofs.Words.{length, sym, ◌∙◌, ◌≡◌}
+use Rattle.store_sql.proofs.KindLemmas.{same_names}
 use Rattle.store_sql.proofs.look.has_office_columns.Goals as goal
 
 pub returns-then-len-eq10 : goal.returns-then-len-eq10

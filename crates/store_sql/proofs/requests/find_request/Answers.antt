@@ -1,20 +1,10 @@
-use Rattle.sqlite.specs.Held.{state}
-use Rattle.store_sql.proofs.CallLemmas.{find_one, find_one_fails, find_one_reads, find_survives}
-use Rattle.store_sql.proofs.RequestTable.{find}
+use Rattle.store_sql.proofs.CallLemmas.{found_one}
+use Rattle.store_sql.proofs.KeyTables.{find_request}
 use Rattle.store_sql.proofs.requests.find_request.Goals as goal
 
 pub returns : goal.returns
 returns g c =
-    let old = state g.S.Store c.args.conn.now in
-    let new = state g.S.Store c.query_all.new.self in
-    let query = find c.args.caller.now c.args.key.now in
     let q = c.query_all.ensures in
-    record {
-      finds = λ clean. find_one query old new c.query_all.result (q.ok clean) (q.err clean) c.found_first.result
-          c.found_first.ensures;
-      reads = λ clean. find_one_reads query old new c.query_all.result (q.ok clean) (q.err clean) c.found_first.result
-          c.found_first.ensures;
-      fault = λ clean. find_one_fails query old new c.query_all.result (q.ok clean) (q.err clean) c.found_first.result
-          c.found_first.ensures;
-      survives = find_survives query old new (q.survives);
-    }
+    let f = found_one (find_request c.args.caller.now c.args.key.now) c.query_all.result q.ok q.err q.survives
+    c.found_first.result c.found_first.ensures in
+    record { finds = f.finds; reads = f.reads; fault = f.fault; survives = f.survives }

@@ -1,19 +1,10 @@
-use Rattle.sqlite.specs.Held.{state}
-use Rattle.store_sql.proofs.KeyReasons.{request_fails}
-use Rattle.store_sql.proofs.CallLemmas.{write_changes, write_fails, write_stays, write_survives}
-use Rattle.store_sql.proofs.RequestTable.{put}
+use Rattle.store_sql.proofs.KeyTables.{request_fails, put_request}
+use Rattle.store_sql.proofs.CallLemmas.{wrote}
 use Rattle.store_sql.proofs.requests.insert_request.Goals as goal
 
 pub returns : goal.returns
 returns g c =
-    let old = state g.S.Store c.args.conn.now in
-    let new = state g.S.Store c.execute.new.self in
-    let write = put c.args.request.now in
-    record {
-      changes = λ clean. write_changes write old new c.execute.result c.done.result c.done.ensures.is
-          (rw c.values.ensures at (c.execute.ensures.runs clean));
-      fault = λ clean. request_fails c.args.request.now old new c.done.result (write_fails write old new c.execute.result c.done.result c.done.ensures.is (rw c.values.ensures at (c.execute.ensures.runs clean)));
-      stays = λ clean. write_stays write old new c.execute.result c.done.result c.done.ensures.is
-          (rw c.values.ensures at (c.execute.ensures.runs clean));
-      survives = write_survives write old new (rw c.values.ensures at c.execute.ensures.survives);
-    }
+    let ran = rw c.values.ensures at c.execute.ensures in
+    let w = wrote (put_request c.args.request.now) (request_fails c.args.request.now) c.execute.result c.done.result
+    ran.runs ran.survives c.done.ensures.is in
+    record { changes = w.changes; fault = w.fault; stays = w.stays; survives = w.survives }

@@ -1,25 +1,9 @@
-use Rattle.std.proofs.Common.{nat_cmp, List, ℕ}
-use Rattle.std.specs.Cmp.Lexicographic.{slice_cmp}
-use Rattle.sqlite.specs.Held.{state}
-use Rattle.store_sql.proofs.CallLemmas.{find_all, find_all_fails, find_all_reads, find_survives}
-use Rattle.store_sql.proofs.Rising.{find_sorted, text_cmp}
-use Rattle.store_sql.proofs.RevokedTable.{every, every_rises}
+use Rattle.store_sql.proofs.Selects.{found_sorted}
+use Rattle.store_sql.proofs.KeyTables.{every_revoked}
 use Rattle.store_sql.proofs.revoked.every_revoked.Goals as goal
 
 pub returns : goal.returns
 returns g c =
-    let old = state g.S.Store c.args.conn.now in
-    let new = state g.S.Store c.query_all.new.self in
-    let query = every in
     let q = c.query_all.ensures in
-    record {
-      finds = λ clean. find_all query old new c.query_all.result (q.ok clean) (q.err clean) c.found.result
-          c.found.ensures;
-      sorted = λ clean. find_sorted query 0 (λ (k : List ℕ). k) (slice_cmp nat_cmp) every_rises (λ x y. text_cmp x y)
-          old new c.query_all.result (q.ok clean) c.found.result c.found.ensures;
-      reads = λ clean. find_all_reads query old new c.query_all.result (q.ok clean) (q.err clean) c.found.result
-          c.found.ensures;
-      fault = λ clean. find_all_fails query old new c.query_all.result (q.ok clean) (q.err clean) c.found.result
-          c.found.ensures;
-      survives = find_survives query old new (q.survives);
-    }
+    let f = found_sorted every_revoked c.query_all.result q.ok q.err q.survives c.found.result c.found.ensures in
+    record { finds = f.finds; sorted = f.sorted; reads = f.reads; fault = f.fault; survives = f.survives }

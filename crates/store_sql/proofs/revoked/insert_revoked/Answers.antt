@@ -1,19 +1,10 @@
-use Rattle.sqlite.specs.Held.{state}
-use Rattle.store_sql.proofs.KeyReasons.{key_id_fails}
-use Rattle.store_sql.proofs.CallLemmas.{write_changes, write_fails, write_stays, write_survives}
-use Rattle.store_sql.proofs.RevokedTable.{put}
+use Rattle.store_sql.proofs.KeyTables.{key_id_fails, put_revoked}
+use Rattle.store_sql.proofs.CallLemmas.{wrote}
 use Rattle.store_sql.proofs.revoked.insert_revoked.Goals as goal
 
 pub returns : goal.returns
 returns g c =
-    let old = state g.S.Store c.args.conn.now in
-    let new = state g.S.Store c.execute.new.self in
-    let write = put c.args.key_id.now in
-    record {
-      changes = λ clean. write_changes write old new c.execute.result c.done.result c.done.ensures.is
-          (c.execute.ensures.runs clean);
-      fault = λ clean. key_id_fails c.args.key_id.now old new c.done.result (write_fails write old new c.execute.result c.done.result c.done.ensures.is (c.execute.ensures.runs clean));
-      stays = λ clean. write_stays write old new c.execute.result c.done.result c.done.ensures.is
-          (c.execute.ensures.runs clean);
-      survives = write_survives write old new (c.execute.ensures.survives);
-    }
+    let ran = c.execute.ensures in
+    let w = wrote (put_revoked c.args.key_id.now) (key_id_fails c.args.key_id.now) c.execute.result c.done.result
+    ran.runs ran.survives c.done.ensures.is in
+    record { changes = w.changes; fault = w.fault; stays = w.stays; survives = w.survives }

@@ -1,4 +1,4 @@
-use Rattle.sqlite.specs.Held.{state}
+use Rattle.store_sql.proofs.Words.{state}
 use Rattle.store_sql.proofs.Statements.{survives_as}
 use Rattle.store_sql.proofs.Ends.{rolls, rollback_never}
 use Rattle.store_sql.proofs.transaction.rollback.Goals as goal
