@@ -24,8 +24,14 @@ const NO_NONCE: [u8; 32] = [0; 32];
 
 const FIRST_SERIAL: u64 = 1;
 
-const MESSAGE: &str =
-    "department web\nkind user\nadmins ana\nprincipals alice,*@example.org\noptions force-command\nextensions permit-X11-forwarding,permit-agent-forwarding,permit-pty\nmaxlife 86400\nnamespaces file,git\n";
+const MESSAGE: &str = "department web\n\
+    kind user\n\
+    admins ana\n\
+    principals alice,*@example.org\n\
+    options force-command\n\
+    extensions permit-X11-forwarding,permit-agent-forwarding,permit-pty\n\
+    maxlife 86400\n\
+    namespaces file,git\n";
 
 /// An office in memory.
 pub type MemoryOffice = Store<MemStore>;
