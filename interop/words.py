@@ -80,8 +80,8 @@ HELP = {
     "check --help": OF_CHECK,
     "help check": OF_CHECK,
     "selftest -h": OF_SELFTEST,
-    "--version": "sshoffice 1.0.0 (rattle-kit-13f)\n",
-    "-V": "sshoffice 1.0.0 (rattle-kit-13f)\n",
+    "--version": "sshoffice 1.0.0 (rattle-kit-13b)\n",
+    "-V": "sshoffice 1.0.0 (rattle-kit-13b)\n",
 }
 
 # What is said first of words that are no job. After it comes MORE.

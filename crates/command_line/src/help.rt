@@ -4,7 +4,7 @@
 pub const OFFICE: &str = "An SSH certificate office";
 
 /// The crate's version, and the toolchain by which it is proved.
-pub const VERSION: &str = "1.0.0 (rattle-kit-13f)";
+pub const VERSION: &str = "1.0.0 (rattle-kit-13b)";
 
 /// What the program's help says at its end.
 pub const OFFICE_MORE: &str = "In this order:
