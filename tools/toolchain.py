@@ -11,6 +11,7 @@ import shutil
 import subprocess
 import sys
 import tempfile
+import threading
 
 TOP = os.path.dirname(os.path.dirname(os.path.realpath(__file__)))
 
@@ -37,7 +38,27 @@ def load():
         stop(f"this toolchain's rt has no {', '.join(missing)}: these scripts were written for rattle-kit-13b and 13f")
     # Its first call sets a signal's handler, which only the main thread may do.
     module.rtlib.guarded()
+    read_once(module.rtlib.Crate)
     return module
+
+
+def read_once(kind):
+    """Has the stamp of a crate read the files of each crate below once. The toolchain's own reads them once for each way
+    that leads down to that crate, and of these there are thousands."""
+    stamp, known = kind.stamp, threading.local()
+
+    def stamped(crate):
+        if not hasattr(known, "stamps"):
+            known.stamps = {}
+            try:
+                return stamp(crate)
+            finally:
+                del known.stamps
+        if crate.name not in known.stamps:
+            known.stamps[crate.name] = stamp(crate)
+        return known.stamps[crate.name]
+
+    kind.stamp = stamped
 
 
 def checked(rt, crate, texts, flags, kept):
@@ -68,3 +89,8 @@ def standing_on(crates, names):
     """The crates of these names and each that stands on one of them, lowest first."""
     chosen = {*names}
     return [crate for crate in crates.values() if chosen & {crate.name, *(it.name for it in crate.below())}]
+
+
+if __name__ == "__main__":
+    # The command `rt` itself, with these words, in the folder of a crate.
+    sys.exit(load().main(sys.argv[1:]))
