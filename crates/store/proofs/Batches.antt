@@ -1,5 +1,6 @@
 -- The certificates between two serials are a batch.
-use Rattle.std.proofs.Common.{◌≡◌, ℕ, zero, suc, ◌+◌, ◌-◌, ◌<◌, ◌≤◌, List, [], ◌∷◌, length, filter, take, drop, true, false, leb, refl, sym, ap, ◌∙◌, arith, inl, inr}
+use Rattle.std.proofs.Common.{◌≡◌, ℕ, zero, suc, ◌+◌, ◌-◌, ◌<◌, ◌≤◌, List, [], ◌∷◌, length, filter, take, drop, true}
+use Rattle.std.proofs.Common.{false, leb, refl, sym, ap, ◌∙◌, arith, inl, inr}
 use Rattle.std.specs.Prelude.{◌&&◌}
 use Rattle.std.proofs.lemmas.Bool.{and_parts, cases_lt, le-leb, lt-leb, leb-true}
 use Rattle.std.proofs.lemmas.List.{take_all, length-drop}
@@ -18,7 +19,8 @@ use Rattle.store.proofs.Lawful.{lawful_after}
 use Rattle.store_reads.proofs.OfHistory.{of_history}
 
 -- none has a serial up to one below the first
-none_below : (first lo hi : ℕ) (cs : List Certificate) → hi < first → AreCounted first cs → filter (is_within lo hi) cs ≡ []
+none_below : (first lo hi : ℕ) (cs : List Certificate) → hi < first → AreCounted first cs
+    → filter (is_within lo hi) cs ≡ []
 none_below first lo hi [] below counted = refl
 none_below first lo hi (c ∷ cs) below counted =
     let past : leb c.fields.serial hi ≡ false = lt-leb _ _ (omega (arith, below, counted.0)) in

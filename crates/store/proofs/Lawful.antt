@@ -31,7 +31,7 @@ use Rattle.store.specs.Meaning.{IsHistory}
 use Rattle.store.proofs.Ascending.{entries_put, names_put, texts_put}
 use Rattle.krl.proofs.Items.{all_more}
 use Rattle.lines.proofs.KeyLineLaws.{key_size}
-use Rattle.store.proofs.LawfulStates.{IsIssued, issued_lawful, named_lawful, newest_lawful}
+use Rattle.store.proofs.LawfulStates.{IsIssued, issued_lawful, named_lawful, newest_lawful, of_either}
 use Rattle.store.proofs.MadeCertificates.{has_serial, made_by_issue, not_false, renewed_lawful, with_one_lawful}
 
 -- ---- certificates with a signature
@@ -51,80 +51,20 @@ signed_counted first (c ∷ cs) (suc place) s up = (up.0, signed_counted (suc fi
 
 -- ---- what an accepted message leaves
 
-department_kept : (s : State) (d : Department) → IsLawful s → is_department d ≡ true → IsLawful (with_department s d)
-department_kept s d lawful is = record {
-  opening = lawful.opening;
-  cas = lawful.cas;
-  departments = entries_put d s.departments is lawful.departments;
-  names = names_put d s.departments lawful.departments lawful.names;
-  certificates = lawful.certificates;
-  serials = lawful.serials;
-  key_ids = lawful.key_ids;
-}
-
--- the same departments, certificates, CAs and key ids
-same_rows : (s t : State) → IsLawful s → t.opening ≡ s.opening → t.cas ≡ s.cas → t.departments ≡ s.departments
-    → t.certificates ≡ s.certificates → t.revoked_key_ids ≡ s.revoked_key_ids → IsLawful t
-same_rows s t lawful o a d c k = record {
-  opening = subst IsOpening (sym o) lawful.opening;
-  cas = rw a lawful.cas;
-  departments = rw d lawful.departments;
-  names = rw d lawful.names;
-  certificates = rw c lawful.certificates;
-  serials = rw (o, c) lawful.serials;
-  key_ids = rw k lawful.key_ids;
-}
-
-key_id_kept : (s : State) (key_id : List ℕ) → IsLawful s → IsLawful (with_key_id s key_id)
-key_id_kept s key_id lawful = record {
-  opening = lawful.opening;
-  cas = lawful.cas;
-  departments = lawful.departments;
-  names = lawful.names;
-  certificates = lawful.certificates;
-  serials = lawful.serials;
-  key_ids = texts_put key_id s.revoked_key_ids lawful.key_ids;
-}
-
-ca_kept : (s : State) (ca : Ca) → IsLawful s → length ca.key ≡ 32 → IsLawful (with_ca s ca)
-ca_kept s ca lawful size = record {
-  opening = lawful.opening;
-  cas = all_more (λ ca. length ca.key ≡ 32) s.cas ca lawful.cas size;
-  departments = lawful.departments;
-  names = lawful.names;
-  certificates = lawful.certificates;
-  serials = lawful.serials;
-  key_ids = lawful.key_ids;
-}
-
-signature_kept : (s : State) (serial : ℕ) (signature : Signature) → IsLawful s → length signature.bytes ≡ 64
-    → IsLawful (with_signature s serial signature)
-signature_kept s serial signature lawful size = record {
-  opening = lawful.opening;
-  cas = lawful.cas;
-  departments = lawful.departments;
-  names = lawful.names;
-  certificates = signed_all s.certificates (serial - s.opening.first) signature size lawful.certificates;
-  serials = signed_counted s.opening.first s.certificates (serial - s.opening.first) signature lawful.serials;
-  key_ids = lawful.key_ids;
-}
-
-republished_kept : (s : State) (moment : ℕ) → IsLawful s → IsLawful (republished s moment)
-republished_kept s moment lawful = same_rows s (republished s moment) lawful refl refl refl refl refl
-
-either : (b : Bool) (s t : State) → IsLawful s → IsLawful t → IsLawful (cond b s t)
-either true s t p q = p
-either false s t p q = q
-
 signature_size : (d : Delivery) → is_delivery d ≡ true → length d.signature.bytes ≡ 64
 signature_size d e =
     let signature : is_signature d.signature ≡ true = (and_parts _ _ (and_parts _ _ e).1).1 in
     eqb-true _ _ (and_parts _ _ signature).0
 
-pub keeps_lawful : (s : State) (caller : List ℕ) (m : Message) (moment : ℕ) (nonce : List ℕ) → is_message m ≡ true
+-- what the message leaves as it was is lawful still
+keeps_lawful : (s : State) (caller : List ℕ) (m : Message) (moment : ℕ) (nonce : List ℕ) → is_message m ≡ true
     → first_holding (refusals s caller m moment) ≡ None → length nonce ≡ 32 → IsLawful s
     → IsLawful (after s m moment nonce)
-keeps_lawful s caller (message.Department d) moment nonce is allowed size lawful = department_kept s d lawful is
+keeps_lawful s caller (message.Department d) moment nonce is allowed size lawful =
+    assumption (
+      entries_put d s.departments is lawful.departments,
+      names_put d s.departments lawful.departments lawful.names,
+    )
 keeps_lawful s caller (message.Issue i) moment nonce is allowed size lawful =
     let tests = none_holds (refusals s caller (message.Issue i) moment) allowed in
     let made : IsCertificate (issued s i nonce) =
@@ -137,21 +77,21 @@ keeps_lawful s caller (message.Renew r) moment nonce is allowed size lawful =
     renewed_lawful s r nonce (certificate_of s r.serial) (department_of_serial s r.serial) lawful
     (has_serial s lawful tests.1.1.1.1.1.1.1.0) is size (issued_lawful s r.serial lawful) tests.1.0 refl
 keeps_lawful s caller (message.Deliver d) moment nonce is allowed size lawful =
-    signature_kept s d.serial d.signature lawful (signature_size d is)
+    let place = d.serial - s.opening.first in
+    assumption (
+      signed_all s.certificates place d.signature (signature_size d is) lawful.certificates,
+      signed_counted s.opening.first s.certificates place d.signature lawful.serials,
+    )
 keeps_lawful s caller (message.RevokeSerial serial) moment nonce is allowed size lawful =
-    let t = republished (with_range s (record { lo = serial; hi = serial })) moment in
-    either (s.revoked serial) s t lawful (same_rows s t lawful refl refl refl refl refl)
+    of_either IsLawful (s.revoked serial) s _ lawful (assumption)
 keeps_lawful s caller (message.RevokeRange r) moment nonce is allowed size lawful =
-    let t = republished (with_range s r) moment in
-    either (is_range_revoked s r) s t lawful (same_rows s t lawful refl refl refl refl refl)
+    of_either IsLawful (is_range_revoked s r) s _ lawful (assumption)
 keeps_lawful s caller (message.RevokeKeyId key_id) moment nonce is allowed size lawful =
-    let t = with_key_id s key_id in
-    either (is_key_id_revoked s key_id) s (republished t moment) lawful
-    (republished_kept t moment (key_id_kept s key_id lawful))
+    let ids = texts_put key_id s.revoked_key_ids lawful.key_ids in
+    of_either IsLawful (is_key_id_revoked s key_id) s _ lawful (assumption)
 keeps_lawful s caller (message.Rollover k) moment nonce is allowed size lawful =
-    let t = with_ca s (ca_from_now s k.key) in
-    let kept : IsLawful t = ca_kept s (ca_from_now s k.key) lawful (key_size k is) in
-    either (has_any s.revoked_key_ids) (republished t moment) t (republished_kept t moment kept) kept
+    let cas = all_more (λ ca. length ca.key ≡ 32) s.cas (ca_from_now s k.key) lawful.cas (key_size k is) in
+    of_either IsLawful (has_any s.revoked_key_ids) _ _ (assumption) (assumption)
 
 -- ---- after a history
 

@@ -1,5 +1,6 @@
 -- What a lawful state has: a lawful certificate and department wherever it has one, and a CA of 32 bytes.
-use Rattle.std.proofs.Common.{◌≡◌, ℕ, zero, suc, ◌-◌, List, [], ◌∷◌, length, true, false, cond, Option, Some, None}
+use Rattle.std.proofs.Common.{◌≡◌, ℕ, zero, suc, ◌-◌, List, [], ◌∷◌, length, Bool, true, false, cond, Option, Some}
+use Rattle.std.proofs.Common.{None}
 use Rattle.std.specs.Prelude.{IfSome, slice_get, nat_lt}
 use Rattle.std.specs.List.{AllByRecursion}
 use Rattle.std.specs.Ordering.{eq_by_cmp, nat_cmp}
@@ -16,6 +17,11 @@ use Rattle.office.specs.Machine.{State, certificate_of, department_named, newest
 use Rattle.store_rows.specs.Certificates.{IsSigned}
 use Rattle.store_rows.specs.Lawful.{IsLawful}
 use Rattle.store.proofs.Ascending.{IsEntry}
+
+-- whichever of two states it is
+pub of_either : (P : State → Type 0) (b : Bool) (s t : State) → P s → P t → P (cond b s t)
+of_either P true s t p q = p
+of_either P false s t p q = q
 
 pub all_get : {X : Type 0} (P : X → Type 0) (xs : List X) (k : ℕ) → AllByRecursion P xs → IfSome (slice_get xs k) P
 all_get P [] k all = tt

@@ -4,7 +4,6 @@ pub mod Answering
 pub mod Ascending
 pub mod Bare
 pub mod Batches
-pub mod Histories
 pub mod Lawful
 pub mod LawfulStates
 pub mod Limits

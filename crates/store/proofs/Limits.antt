@@ -36,7 +36,7 @@ use Rattle.office.specs.State.{State}
 use Rattle.store_rows.specs.Lawful.{IsLawful}
 use Rattle.store.proofs.ShortRows.{counters_fit, key_id_short}
 use Rattle.store.proofs.NewRows.{ca_free, request_new, serial_new}
-use Rattle.store.proofs.Additions.{IsStep, new_ca, own_department, step_of, unused}
+use Rattle.store.proofs.Additions.{IsStep, new_ca, own_department, step_of}
 use Rattle.store.proofs.LoneRuns.{alone_there}
 
 module _ (p : Past) (a : Arrival) (d : Decision) (serving : List Ca) (history : IsHistory p.0 p.1)
@@ -54,7 +54,7 @@ module _ (p : Past) (a : Arrival) (d : Decision) (serving : List Ca) (history : 
   lawful : IsLawful s
   lawful = lawful_after p.0 p.1 history
 
-  step : IsStep a d s
+  step : IsStep a d p
   step = step_of p a d serving is
 
   certificate_limited : (cert : Certificate) → d.change ≡ change.Certificate cert → RefusesCert (cert_row cert) rows
@@ -108,6 +108,6 @@ module _ (p : Past) (a : Arrival) (d : Decision) (serving : List Ca) (history : 
   -- the rows are kept out by their size, or for want of room
   pub limited : IsLawfulChange d.change → RefusesDecision d a serving rows → IsTooMuch d a rows
   limited ok (inl (inl counters)) = absurd (counters_fit (counters_of d) s (kept_at p) lawful counters)
-  limited ok (inl (inr (inl used))) = absurd (request_new a (kept_at p) (unused p a d serving is) used)
+  limited ok (inl (inr (inl used))) = absurd (request_new a (kept_at p) step.unused used)
   limited ok (inl (inr (inr more))) = inl more
   limited ok (inr why) = inr (change_limited d.change (counters_of d).next refl ok why)

@@ -69,16 +69,12 @@ renewal_order None c r e = absurd cc
 
 pub with_one_lawful : (s : State) (c : Certificate) → IsLawful s → IsCertificate c → c.signature ≡ None
     → c.fields.serial ≡ next_serial s → IsLawful (with_certificate s c)
-with_one_lawful s c lawful is unsigned serial = record {
-  opening = lawful.opening;
-  cas = lawful.cas;
-  departments = lawful.departments;
-  names = lawful.names;
-  certificates = all_more IsIssued s.certificates c lawful.certificates
-      (is, subst (λ o. IfSome o (λ (x : Signature). length x.bytes ≡ 64)) (sym unsigned) tt);
-  serials = counted_push s.opening.first s.certificates c lawful.serials serial;
-  key_ids = lawful.key_ids;
-}
+with_one_lawful s c lawful is unsigned serial =
+    assumption (
+      counted_push s.opening.first s.certificates c lawful.serials serial,
+      all_more IsIssued s.certificates c lawful.certificates
+          (is, subst (λ o. IfSome o (λ (x : Signature). length x.bytes ≡ 64)) (sym unsigned) tt),
+    )
 
 pub renewed_lawful : (s : State) (r : Renewal) (nonce : List ℕ) (o : Option Certificate) (d : Option Department)
     → IsLawful s → HasSerial (counters s) → is_renewal r ≡ true → length nonce ≡ 32 → IfSome o IsIssued

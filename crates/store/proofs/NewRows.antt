@@ -21,6 +21,7 @@ use Rattle.office.specs.declared.ca.Ca.{Ca}
 use Rattle.office.specs.History.{has_key}
 use Rattle.store_sql.specs.Refusals.{HasOne}
 use Rattle.store_rows.specs.Certificates.{AreCounted}
+use Rattle.store.proofs.Ascending.{IsEntry}
 
 -- ---- the request
 
@@ -50,7 +51,7 @@ serial_new first next (x ∷ cs) up is (d, inr here, same) =
 
 -- a department that is found has a row
 pub named_row : (name : List ℕ) (es : List (List ℕ × Department)) (d : Department)
-    → AllByRecursion (λ e. e.0 ≡ e.1.name) es → find (slice_cmp nat_cmp) name es ≡ Some d
+    → AllByRecursion IsEntry es → find (slice_cmp nat_cmp) name es ≡ Some d
     → HasOne (λ r. r.name ≡ name) (map (λ e. department_row e.1) es)
 named_row name [] d all e = absurd cc
 named_row name (e ∷ es) d all found =
@@ -61,7 +62,7 @@ named_row name (e ∷ es) d all found =
         → HasOne (λ r. r.name ≡ name) (map (λ e. department_row e.1) (e ∷ es))
     go true is rest =
         let same : name ≡ e.0 = (bytes_eq-Decides name e.0).0 (sym (is_eq-slice_cmp name e.0) ∙ is) in
-        (department_row e.1, inl refl, sym (same ∙ all.0))
+        (department_row e.1, inl refl, sym (same ∙ all.0.1))
     go false is rest = let there = rest (rw is at found) in (there.0, inr there.1, there.2)
 
 -- ---- a CA

@@ -34,8 +34,9 @@ ordered_rise low (ca ∷ cas) e (suc i) (suc j) d up there =
     ordered_rise ca.since cas (and_parts (nat_le low ca.since) (are_ordered ca.since cas) e).1 i j d (omega (arith, up))
     (omega (arith, there))
 
-pub rise_ordered : (low : ℕ) (cas : List Ca) → ((d : ℕ) → 0 < length (numbers cas) → low ≤ slice_index_or (numbers cas) 0 d)
-    → IsNonDecreasing (numbers cas) → are_ordered low cas ≡ true
+pub rise_ordered : (low : ℕ) (cas : List Ca)
+    → ((d : ℕ) → 0 < length (numbers cas) → low ≤ slice_index_or (numbers cas) 0 d) → IsNonDecreasing (numbers cas)
+    → are_ordered low cas ≡ true
 rise_ordered low [] first up = refl
 rise_ordered low (ca ∷ cas) first up =
     and_from (nat_le low ca.since) (are_ordered ca.since cas) (le-leb low ca.since (first 0 (omega arith)))

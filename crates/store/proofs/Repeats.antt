@@ -21,11 +21,11 @@ module _ (a : Arrival) (kept : List Kept) where
   repeat_unknown is = no_repeat a kept (unknown_found is)
 
   -- the same bytes: it is a repeat
-  pub repeat_found : (k : Kept) → AreApart kept → find (is_for a.caller a.key) kept ≡ Some k → bytes_eq k.bytes a.bytes ≡ true
-      → reply_kept kept a ≡ Some k.reply
+  pub repeat_found : (k : Kept) → AreApart kept → find (is_for a.caller a.key) kept ≡ Some k
+      → bytes_eq k.bytes a.bytes ≡ true → reply_kept kept a ≡ Some k.reply
   repeat_found k apart is same = reply_by_kept a kept apart ∙ ap (reply_of a) is ∙ rw same refl
 
   -- other bytes: it is none
-  pub repeat_other : (k : Kept) → AreApart kept → find (is_for a.caller a.key) kept ≡ Some k → bytes_eq k.bytes a.bytes ≡ false
-      → reply_kept kept a ≡ None
+  pub repeat_other : (k : Kept) → AreApart kept → find (is_for a.caller a.key) kept ≡ Some k
+      → bytes_eq k.bytes a.bytes ≡ false → reply_kept kept a ≡ None
   repeat_other k apart is differs = reply_by_kept a kept apart ∙ ap (reply_of a) is ∙ rw differs refl

@@ -3,7 +3,7 @@ use Rattle.std.proofs.Common.{◌≡◌, inl, inr, ℕ, true, false, IsTrue, Opt
 use Rattle.std.specs.Prelude.{List, is_some}
 use Rattle.sqlite.specs.Tree.{Trees}
 use Rattle.sqlite.specs.State.{State, HasCleanDisk, Survives}
-use Rattle.store_sql.specs.Contents.{Contents, Kept, Means}
+use Rattle.store_sql.specs.Contents.{Contents, Kept}
 use Rattle.store_sql.specs.Calls.{Fails, Never}
 use Rattle.store_sql.specs.Faults.{HasFailed}
 use Rattle.office.specs.declared.opening.Opening.{Opening}
@@ -27,7 +27,8 @@ open_before old new (inl same) still = same.0.was_open
 open_before old new (inr back) still = back.was_open still
 
 -- nothing changed, or a transaction was undone that was not there
-pub rests_still : (old new : State) (c : Contents) → Fails old new → IsTrue new.is_open → Rests (Has c) old → Rests (Has c) new
+pub rests_still : (old new : State) (c : Contents) → Fails old new → IsTrue new.is_open → Rests (Has c) old
+    → Rests (Has c) new
 rests_still old new c (inl same) still r = record {
   autocommit = same.0.mode ∙ r.autocommit;
   now = subst (Has c) (sym same.0.now_is) r.now;
@@ -39,22 +40,23 @@ rests_still old new c (inr back) still r = record {
   committed = subst (Has c) (sym (back.undone still).1) r.committed;
 }
 
--- a call that was asked of an open connection, and leaves tables with contents as they are
-pub tells_still : (old new : State) → Survives old new Never → HasCleanDisk new → (IsTrue new.is_open → IsTrue old.is_open)
-    → ((c : Contents) → Means old.now c → Fails old new)
-    → (o : Opening) (l : List Arrival) → Tells old o l → Tells new o l
-tells_still old new survives clean was fails o l tells = record {
+-- a call that leaves tables with contents as they are
+pub tells_still : (old new : State) → Survives old new Never → HasCleanDisk new → Fails old new → (o : Opening)
+    (l : List Arrival) → Tells old o l → Tells new o l
+tells_still old new survives clean fails o l tells = record {
   history = tells.history;
   unlimited = survives.limit ∙ tells.unlimited;
-  rows = λ still.
-      let r = tells.rows (was still) in rests_still old new (office_contents o l) (fails (office_contents o l) r.now) still r;
-  left = λ trees may. elim (survives.crash clean trees may) [ inl before ↦ tells.left trees before | inr none ↦ absurd none ];
+  rows = λ still. rests_still old new (office_contents o l) fails still (tells.rows (open_before old new fails still));
+  left = λ trees may. elim (survives.crash clean trees may) [
+    | inl before ↦ tells.left trees before
+    | inr none ↦ absurd none
+  ];
 }
 
 -- what is open leaves what is committed
 pub left_committed : (s : State) (o : Opening) (l : List Arrival)
-    → ((trees : Trees) → s.may_leave trees → trees ≡ s.committed.trees) → Rests (Has (office_contents o l)) s → (trees : Trees)
-    → s.may_leave trees → IsLeft o l trees
+    → ((trees : Trees) → s.may_leave trees → trees ≡ s.committed.trees) → Rests (Has (office_contents o l)) s
+    → (trees : Trees) → s.may_leave trees → IsLeft o l trees
 left_committed s o l settled rests trees may =
     inl (subst (λ (t : Trees). Kept t (office_contents o l)) (sym (settled trees may)) rests.committed.kept)
 
