@@ -3,7 +3,6 @@ use Rattle.std.proofs.Common.{◌≡◌, ℕ, ◌+◌, ◌<◌, ◌≤◌, List,
 use Rattle.std.proofs.Common.{subst, ◌∙◌, arith}
 use Rattle.std.specs.Prelude.{IsOkAnd, ◌^◌}
 use Rattle.values.specs.declared.limits.TheConstants.{LATEST_MOMENT}
-use Rattle.values.specs.declared.refusal.Refusal.{Refusal}
 use Rattle.sqlite.specs.Effect.{Database}
 use Rattle.sqlite.specs.State.{State as Connection, Survives}
 use Rattle.sqlite.proofs.StateLemmas.{survives_weaker}
@@ -20,7 +19,7 @@ use Rattle.office.specs.declared.view.View.{View}
 use Rattle.office.specs.Decided.{Agrees, Decided, HasRoom, stepped_by, written}
 use Rattle.office.specs.Machine.{Stepped, after, first_holding, refusals, reply_to}
 use Rattle.office.specs.State.{State, next_serial}
-use Rattle.office.specs.History.{First, change, due, judged, kept_row, reply_kept, state}
+use Rattle.office.specs.History.{change, due, judged, kept_row, state}
 use Rattle.office.specs.Shows.{Shows}
 use Rattle.office.proofs.Growth.{holds_in_range, opening_stays}
 use Rattle.office.proofs.Ranges.{revoked_is_issued}

@@ -61,8 +61,8 @@ IsEntry e = (is_department e.1 ≡ true) × (e.0 ≡ e.1.name)
 abbrev pub AreInOrder : List ℕ × Department → List ℕ × Department → Type 0
 AreInOrder a b = cmp a.1.name b.1.name ≡ Less
 
-pub entries_put : (d : Department) (es : List (List ℕ × Department)) → is_department d ≡ true → AllByRecursion IsEntry es
-    → AllByRecursion IsEntry (put cmp d.name d es)
+pub entries_put : (d : Department) (es : List (List ℕ × Department)) → is_department d ≡ true
+    → AllByRecursion IsEntry es → AllByRecursion IsEntry (put cmp d.name d es)
 entries_put d [] lawful all = ((lawful, refl), tt)
 entries_put d (e ∷ es) lawful all =
     all_step IsEntry (cmp d.name e.0) (d.name, d) e (e.0, d) es (put cmp d.name d es) (lawful, refl)

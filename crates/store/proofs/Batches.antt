@@ -43,7 +43,8 @@ first_ones first lo hi (c ∷ cs) low counted = elim (cases_lt hi first) [
       let low_test : leb lo c.fields.serial ≡ true = le-leb _ _ (omega (arith, low, counted.0)) in
       let high_test : leb c.fields.serial hi ≡ true = le-leb _ _ (omega (arith, over, counted.0)) in
       let more : suc hi - first ≡ suc (suc hi - suc first) = omega (arith, over) in
-      rw (low_test, high_test, more) (ap (λ (xs : List Certificate). c ∷ xs) (first_ones (suc first) lo hi cs (omega (arith, low)) counted.1))
+      rw (low_test, high_test, more) (ap (λ (xs : List Certificate). c ∷ xs)
+      (first_ones (suc first) lo hi cs (omega (arith, low)) counted.1))
 ]
 
 -- those from the serial at a place on, up to a serial
@@ -72,7 +73,7 @@ batch_at first place cs counted few = elim (cases_lt (first + place) 92233720368
             let count : suc (numbered first (place + 999)) - (first + place) ≡ 1000 = omega (arith, high) in
             ap (λ (n : ℕ). take n (drop place cs)) count
         | inr over ↦
-            take_all (suc (numbered first (place + 999)) - (first + place)) (drop place cs) (omega (arith, over, rest, few, low))
+            take_all _ (drop place cs) (omega (arith, over, rest, few, low))
             ∙ sym (take_all 1000 (drop place cs) (omega (arith, over, rest, few, low)))
       ])
   | inr past ↦
@@ -80,15 +81,15 @@ batch_at first place cs counted few = elim (cases_lt (first + place) 92233720368
       let all = from_place first (9223372036854775807 - first) (numbered first (place + 999)) cs counted in
       let none : drop (9223372036854775807 - first) cs ≡ [] = drop_of_length-le cs (omega (arith, few)) in
       let gone : drop place cs ≡ [] = drop_of_length-le cs (omega (arith, past, few)) in
-      rw lo (all ∙ ap (λ (xs : List Certificate). take (suc (numbered first (place + 999)) - (first + (9223372036854775807 - first))) xs) none
-      ∙ take_all (suc (numbered first (place + 999)) - (first + (9223372036854775807 - first))) [] (omega arith)
-      ∙ sym (take_all 1000 [] (omega arith))
-      ∙ ap (λ (xs : List Certificate). take 1000 xs) (sym gone))
+      let count = suc (numbered first (place + 999)) - (first + (9223372036854775807 - first)) in
+      rw lo (all ∙ ap (take count) none ∙ take_all count [] (omega arith) ∙ sym (take_all 1000 [] (omega arith))
+      ∙ ap (take 1000) (sym gone))
 ]
 
 -- so it is in an office after a history
 pub batch_is : (o : Opening) (l : List Arrival) → IsHistory o l → (place : ℕ)
-    → filter (is_within (numbered (state o l).opening.first place) (numbered (state o l).opening.first (place + 999))) (state o l).certificates
+    → (let first = (state o l).opening.first in
+    filter (is_within (numbered first place) (numbered first (place + 999))) (state o l).certificates)
     ≡ batch_of (state o l) place
 batch_is o l history place =
     let s = state o l in

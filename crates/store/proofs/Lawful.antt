@@ -1,27 +1,24 @@
 -- The state of an office is lawful after every history.
-use Rattle.std.proofs.Common.{◌≡◌, ℕ, zero, suc, ◌-◌, List, [], ◌∷◌, length, Bool, true, false, cond, None, Result, Ok}
+use Rattle.std.proofs.Common.{◌≡◌, ℕ, zero, suc, ◌-◌, List, [], ◌∷◌, length, true, None, Result, Ok}
 use Rattle.std.proofs.Common.{Err, refl, sym, subst}
 use Rattle.std.specs.List.{AllByRecursion, fold}
 use Rattle.std.proofs.lemmas.Bool.{and_parts, eqb-true}
 use Rattle.std.proofs.lemmas.List.Sums.{fold_push}
 use Rattle.values.specs.declared.refusal.Refusal.{Refusal}
 use Rattle.lines.specs.declared.signature.Signature.{Signature}
-use Rattle.message.specs.declared.department.Department.{Department}
 use Rattle.message.specs.declared.delivery.Delivery.{Delivery}
 use Rattle.message.specs.declared.kinds.Message.{Message}
 use Rattle.message.specs.declared.kinds.Message.TheVariants as message
-use Rattle.message.specs.Values.{is_delivery, is_department, is_message, is_signature}
+use Rattle.message.specs.Values.{is_delivery, is_message, is_signature}
 use Rattle.office.specs.declared.opening.Opening.{Opening}
 use Rattle.office.specs.declared.arrival.Arrival.{Arrival}
-use Rattle.office.specs.declared.ca.Ca.{Ca}
 use Rattle.office.specs.declared.certificate.Certificate.{Certificate}
 use Rattle.office.specs.Openings.{IsOpening}
 use Rattle.office.specs.Permissions.{is_permitted_by}
 use Rattle.office.specs.Certificates.{IsCertificate}
 use Rattle.office.specs.Machine.{State, after, ca_from_now, certificate_of, department_named, department_of_serial}
 use Rattle.office.specs.Machine.{first_holding, has_any, is_key_id_revoked, is_range_revoked, issued, newest_key}
-use Rattle.office.specs.Machine.{opened, refusals, republished, signed_at, with_ca, with_department, with_key_id}
-use Rattle.office.specs.Machine.{with_range, with_signature}
+use Rattle.office.specs.Machine.{opened, refusals, signed_at}
 use Rattle.office.specs.History.{First, add_accepted, change, judged, kept_by, state, state_after, with_arrival}
 use Rattle.office.proofs.Histories.{message_lawful}
 use Rattle.office.proofs.Judged.{judged_is_first, none_holds}

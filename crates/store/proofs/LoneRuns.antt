@@ -1,5 +1,5 @@
 -- Of rows that are the maximal runs of a set, one begins at a serial at most.
-use Rattle.std.proofs.Common.{◌≡◌, inl, inr, ℕ, suc, ◌+◌, ◌<◌, ◌≤◌, List, [], ◌∷◌, length, map, Bool, true, false, refl}
+use Rattle.std.proofs.Common.{◌≡◌, inl, inr, ℕ, suc, ◌+◌, ◌<◌, ◌≤◌, List, [], ◌∷◌, length, map, Bool, true, refl}
 use Rattle.std.proofs.Common.{sym, ap, ◌∙◌, arith}
 use Rattle.std.specs.Prelude.{◌==◌, filter}
 use Rattle.std.specs.List.Sorted.{IsPermutation}
@@ -19,21 +19,18 @@ begins n r = r.lo == n
 abbrev how_many : ℕ → List RunRow → ℕ
 how_many n rs = length (filter (begins n) rs)
 
-none_begin : (n from : ℕ) (rs : List Run) → n < from → AreRunsFrom from rs → how_many n (map run_row rs) ≡ 0
-none_begin n from [] low are = refl
-none_begin n from (r ∷ rs) low are =
-    let other : (r.lo == n) ≡ false = grind (arith, nat_tests) in
-    rw other (none_begin n (r.hi + 2) rs (omega (arith, low, are.0, are.1)) are.3)
-
--- at most one of maximal runs begins at a serial
-one_begins : (n from : ℕ) (rs : List Run) → AreRunsFrom from rs → how_many n (map run_row rs) ≤ 1
-one_begins n from [] are = omega arith
-one_begins n from (r ∷ rs) are = elim (cases_Bool (r.lo == n)) [
-  | inl same ↦
-      let rest = none_begin n (r.hi + 2) rs (omega (arith, eqb-true r.lo n same, are.1)) are.3 in
-      rw same (omega (arith, rest))
-  | inr other ↦ rw other (one_begins n (r.hi + 2) rs are.3)
-]
+-- at most one of maximal runs begins at a serial, and none below them all
+few_begin : (n from : ℕ) (rs : List Run) → AreRunsFrom from rs
+    → (how_many n (map run_row rs) ≤ 1) × (n < from → how_many n (map run_row rs) ≡ 0)
+few_begin n from [] are = (omega arith, λ _. refl)
+few_begin n from (r ∷ rs) are =
+    let rest = few_begin n (r.hi + 2) rs are.3 in
+    elim (cases_Bool (r.lo == n)) [
+      | inl same ↦
+          (let here = eqb-true r.lo n same in
+          rw same (omega (arith, rest.1 (omega (arith, here, are.1))), λ low. absurd (omega (arith, low, here, are.0))))
+      | inr other ↦ rw other (rest.0, λ low. rest.1 (omega (arith, low, are.0, are.1)))
+    ]
 
 some_begin : (n : ℕ) (rs : List RunRow) → HasOne (λ k. k.lo ≡ n) rs → 1 ≤ how_many n rs
 some_begin n [] (k, here, same) = absurd here
@@ -49,7 +46,7 @@ some_begin n (r ∷ rs) (k, inr here, same) = elim (cases_Bool (r.lo == n)) [
 pub alone_there : (x : RunRow) (xs : List RunRow) (rs : List Run) → AreRuns rs → IsPermutation (x ∷ xs) (map run_row rs)
     → HasOne (λ k. k.lo ≡ x.lo) xs → ⊥
 alone_there x xs rs are same other =
-    let most = one_begins x.lo 0 rs are in
+    let most = (few_begin x.lo 0 rs are).0 in
     let count = length_permutation _ _ (IsPermutation-filter (begins x.lo) (x ∷ xs) (map run_row rs) same) in
     let own : (x.lo == x.lo) ≡ true = grind (arith, nat_tests) in
     let mine : how_many x.lo (x ∷ xs) ≡ suc (how_many x.lo xs) = rw own refl in

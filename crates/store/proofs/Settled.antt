@@ -1,11 +1,8 @@
 -- What is answered inside a transaction, part by part.
-use Rattle.std.proofs.Common.{◌≡◌, ℕ, List, [], ◌∷◌, ◌++◌, length, Bool, true, false, Some, None, Ok, Err, Result}
+use Rattle.std.proofs.Common.{◌≡◌, ℕ, List, [], ◌∷◌, ◌++◌, length, Bool, Some, None, Ok, Err, Result}
 use Rattle.std.proofs.Common.{IsTrue, refl, sym, ap₂, subst, arith}
-use Rattle.std.specs.Prelude.{IsErrAnd, nat_lt}
-use Rattle.std.specs.List.{list_any}
-use Rattle.values.specs.declared.limits.TheConstants.{LATEST_MOMENT}
+use Rattle.std.specs.Prelude.{IsErrAnd}
 use Rattle.values.specs.declared.refusal.Refusal.{Refusal}
-use Rattle.values.specs.declared.refusal.Refusal.TheVariants.{BadMessage, BadMoment, KeyReused}
 use Rattle.sqlite.specs.Effect.{Database}
 use Rattle.sqlite.specs.State.{State as Connection, HasCleanDisk, IsUnchanged, Survives}
 use Rattle.sqlite.proofs.StateLemmas.{survives_weaker}
@@ -31,7 +28,7 @@ use Rattle.office.specs.Decided.{Decided}
 use Rattle.office.specs.Messages.{message_with_text}
 use Rattle.office.specs.State.{State}
 use Rattle.office.specs.Machine.{step}
-use Rattle.office.specs.History.{due, has_key, judged, reply_kept}
+use Rattle.office.specs.History.{due, judged, reply_kept}
 use Rattle.office.specs.Shows.{Shows}
 use Rattle.office.proofs.Steps.{shows_office, shows_refused, shows_repeated}
 use Rattle.office.proofs.Texts.{bad_is}
@@ -113,19 +110,7 @@ pub bad_line : (bytes : List ℕ) (f : MessageFault) (n : ℕ) → f ≡ BadLine
 bad_line bytes f n is read =
     bad_is bytes n (subst (λ (g : MessageFault). Gives {X = Message} (Err g) (message_at bytes)) is read)
 
-pub bad_message : (s : State) (kept : List Kept) (a : Arrival) → message_with_text a.bytes ≡ None
-    → judged s kept a ≡ Err BadMessage
-bad_message s kept a is = rw is refl
-
-pub bad_moment : (s : State) (kept : List Kept) (a : Arrival) (m : Message) → message_with_text a.bytes ≡ Some m
-    → nat_lt LATEST_MOMENT a.moment ≡ true → judged s kept a ≡ Err BadMoment
-bad_moment s kept a m is late = rw (is, late) refl
-
-pub key_reused : (s : State) (kept : List Kept) (a : Arrival) (m : Message) → message_with_text a.bytes ≡ Some m
-    → nat_lt LATEST_MOMENT a.moment ≡ false → list_any (has_key a) kept ≡ true → judged s kept a ≡ Err KeyReused
-key_reused s kept a m is in_time known = rw (is, in_time, known) refl
-
-pub step_refused : (p : Past) (a : Arrival) (m : Message) (r : Refusal) → IsNew a m p
+step_refused : (p : Past) (a : Arrival) (m : Message) (r : Refusal) → IsNew a m p
     → step (state_at p) a.caller m a.moment a.nonce ≡ Err r → judged (state_at p) (kept_at p) a ≡ Err r
 step_refused p a m r is refused =
     let message = is.message in

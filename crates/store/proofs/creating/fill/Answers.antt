@@ -29,8 +29,8 @@ returns g c =
           (makes (with_ca ca) mid new r (rest.changes clean));
       fails = λ clean. fails_then Has Has (RefusesCa ca) (RefusesFirst office ca) (with_office office)
           (Leaves (with_office office) old) old mid new r
-          (leads (with_office office) old mid (one.changes (still clean))) (λ d means why. inr why) started (still clean)
-          rest.survives.counts (rest.fault clean);
+          (leads (with_office office) old mid (one.changes (still clean))) (λ d means why. inr why) started
+          (still clean) rest.survives.counts (rest.fault clean);
       stays = λ clean. stays_then {X = Unit {0}} old mid new tt r (one.stays (still clean)) (rest.stays clean);
       survives = waits_then Has Has (with_office office) old mid new
           (λ clean. leads (with_office office) old mid (one.changes clean)) (waits (with_office office) old mid started)

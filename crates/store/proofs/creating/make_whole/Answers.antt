@@ -4,7 +4,7 @@ use Rattle.sqlite.specs.Effect.{Database}
 use Rattle.sqlite.specs.Held.{state}
 use Rattle.sqlite.specs.State.{HasCleanDisk}
 use Rattle.store_sql.specs.Schema.{no_schema}
-use Rattle.store_sql.specs.Contents.{Contents, no_contents}
+use Rattle.store_sql.specs.Contents.{no_contents}
 use Rattle.store_sql.specs.Calls.{IsBare}
 use Rattle.store_sql.specs.Changes.{with_ca, with_office}
 use Rattle.store_rows.specs.Transactions.{Waits}
@@ -35,8 +35,8 @@ returns g c =
       ends = λ clean. ends Bare (λ _ _. Unit {0}) after old first last new r q (begins (early clean))
           (part.makes (late clean)) (end.concludes clean);
       cause = λ clean rests. IfErr-weaker q _ _ (λ f stops. stops tt (λ _. rests)) (stops_for Bare (λ _ _. Unit {0})
-          after (λ _. RefusesFirst c.args.office.now c.args.ca.now no_contents) (Waits Bare first) old first last new started
-          part.survives (early clean) (late clean) end.survives.counts r q (begins (early clean))
+          after (λ _. RefusesFirst c.args.office.now c.args.ca.now no_contents) (Waits Bare first) old first last new
+          started part.survives (early clean) (late clean) end.survives.counts r q (begins (early clean))
           (part.makes (late clean)) (part.fails (late clean)) (end.concludes clean) (end.cause clean));
       before = λ clean. concludes_before old first last new r q (begins (early clean)) (part.stays (late clean))
           (end.concludes clean);

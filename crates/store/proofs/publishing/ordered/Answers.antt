@@ -7,7 +7,7 @@ pub returns-then-are_ordered : goal.returns-then-are_ordered
 returns-then-are_ordered c =
     let is : are_ordered 0 c.args.cas.items ≡ true =
     sym (c.are_ordered.ensures ∙ ap (are_ordered 0) c.as_slice.ensures.value) ∙ c.if-are_ordered.true in
-    (refl, ordered_rise 0 c.args.cas.items is)
+    (refl, ordered_rise c.args.cas.items is)
 
 pub returns-else-are_ordered : goal.returns-else-are_ordered
 returns-else-are_ordered c up =

@@ -1,12 +1,13 @@
-use Rattle.std.proofs.Common.{◌≡◌, ℕ, List, Some, None, subst, ◌∙◌}
+use Rattle.std.proofs.Common.{◌≡◌, ℕ, List, true, false, Some, None, refl, subst, ◌∙◌}
+use Rattle.std.specs.Prelude.{nat_lt}
 use Rattle.std.proofs.lemmas.Bool.{le-ltb, lt-ltb}
+use Rattle.values.specs.declared.limits.TheConstants.{LATEST_MOMENT}
 use Rattle.sqlite.specs.Held.{state}
 use Rattle.office.specs.Messages.{message_with_text}
 use Rattle.office.proofs.Texts.{read_is}
 use Rattle.store.specs.Meaning.{IsHistory}
-use Rattle.store.specs.Arriving.{IsAsked, IsNew, Past, kept_at, state_at}
-use Rattle.store.proofs.Settled.{bad_line, bad_message, bad_moment, key_reused, settles_refused, settling}
-use Rattle.store.proofs.Settled.{settling_weaker}
+use Rattle.store.specs.Arriving.{IsAsked, IsNew, Past}
+use Rattle.store.proofs.Settled.{bad_line, settles_refused, settling, settling_weaker}
 use Rattle.store.proofs.settling.judge.Goals as goal
 
 pub returns-in-Err-BadLine-clause-settles : goal.returns-in-Err-BadLine-clause-settles
@@ -17,7 +18,7 @@ returns-in-Err-BadLine-clause-settles g c clean is_open =
     (bad_line c.as_slice.result.now c.in-Err-BadLine.field-0 c.in-Err-BadLine.field-0-0 c.in-Err-BadLine.field-0-is
     c.in-Err-BadLine.ensures.exact) in
     settles_refused a c.args.is_known (state g.S.Store c.args.conn.now) _ c.requires is_open
-    (λ p asked. bad_message (state_at p) (kept_at p) a is)
+    (λ p asked. rw is refl)
 
 pub returns-then-arrival-gt-LATEST_MOMENT-clause-settles : goal.returns-then-arrival-gt-LATEST_MOMENT-clause-settles
 returns-then-arrival-gt-LATEST_MOMENT-clause-settles g c clean is_open =
@@ -26,8 +27,9 @@ returns-then-arrival-gt-LATEST_MOMENT-clause-settles g c clean is_open =
     let is : message_with_text a.bytes ≡ Some m =
     subst (λ (b : List ℕ). message_with_text b ≡ Some m) c.as_slice.ensures
     (read_is c.as_slice.result.now m c.in-Ok.ensures.exact c.in-Ok.ensures.found.0 c.in-Ok.ensures.found.1) in
+    let late : nat_lt LATEST_MOMENT a.moment ≡ true = lt-ltb _ _ c.if-arrival-gt-LATEST_MOMENT.true in
     settles_refused a c.args.is_known (state g.S.Store c.args.conn.now) _ c.requires is_open
-    (λ p asked. bad_moment (state_at p) (kept_at p) a m is (lt-ltb _ _ c.if-arrival-gt-LATEST_MOMENT.true))
+    (λ p asked. rw (is, late) refl)
 
 pub returns-then-is_known-clause-settles : goal.returns-then-is_known-clause-settles
 returns-then-is_known-clause-settles g c clean is_open =
@@ -36,9 +38,9 @@ returns-then-is_known-clause-settles g c clean is_open =
     let is : message_with_text a.bytes ≡ Some m =
     subst (λ (b : List ℕ). message_with_text b ≡ Some m) c.as_slice.ensures
     (read_is c.as_slice.result.now m c.in-Ok.ensures.exact c.in-Ok.ensures.found.0 c.in-Ok.ensures.found.1) in
+    let in_time : nat_lt LATEST_MOMENT a.moment ≡ false = le-ltb _ _ c.if-arrival-gt-LATEST_MOMENT.false in
     settles_refused a c.args.is_known (state g.S.Store c.args.conn.now) _ c.requires is_open
-    (λ p asked. key_reused (state_at p) (kept_at p) a m is (le-ltb _ _ c.if-arrival-gt-LATEST_MOMENT.false)
-    (asked.known ∙ c.if-is_known.true))
+    (λ p asked. rw (is, in_time, asked.known ∙ c.if-is_known.true) refl)
 
 pub returns : goal.returns
 returns g c =

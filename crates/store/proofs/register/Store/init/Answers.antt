@@ -52,8 +52,8 @@ pub returns-in-Err-clause-only : goal.returns-in-Err-clause-only
 returns-in-Err-clause-only g c clean blank =
     let old = state g.S.Store c.args.conn in
     let new = state g.S.Store c.create.new.conn in
-    rw c.fault_of.ensures (excused_unless old new (RefusesOpening c.args.opening.now) c.in-Err.fault c.requires.unlimited
-    (opening_fits c.args.opening.now c.requires.lawful) (c.in-Err.ensures.cause clean blank))
+    rw c.fault_of.ensures (excused_unless old new (RefusesOpening c.args.opening.now) c.in-Err.fault
+    c.requires.unlimited (opening_fits c.args.opening.now c.requires.lawful) (c.in-Err.ensures.cause clean blank))
 
 pub returns-in-Ok-clause-stays_open : goal.returns-in-Ok-clause-stays_open
 returns-in-Ok-clause-stays_open g c clean = (c.in-Ok.ensures.ends clean).1

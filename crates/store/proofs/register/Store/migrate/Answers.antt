@@ -22,8 +22,8 @@ returns-in-Err-clause-back g c clean o l before = (c.in-Err.ensures.carries clea
 
 pub returns-in-Err-clause-only : goal.returns-in-Err-clause-only
 returns-in-Err-clause-only g c clean is_open o l history before =
-    excused_by_disk (state g.S.Store c.args.conn) (state g.S.Store c.migrate.new.conn) (former_contents o l) c.in-Err.fault
-    c.requires.unlimited (first_ca_fits o l history) ((c.in-Err.ensures.carries clean o l before).1 is_open)
+    excused_by_disk (state g.S.Store c.args.conn) (state g.S.Store c.migrate.new.conn) (former_contents o l)
+    c.in-Err.fault c.requires.unlimited (first_ca_fits o l history) ((c.in-Err.ensures.carries clean o l before).1 is_open)
 
 pub returns-in-Ok-clause-stays_open : goal.returns-in-Ok-clause-stays_open
 returns-in-Ok-clause-stays_open g c clean = (c.in-Ok.ensures.migrates clean).1

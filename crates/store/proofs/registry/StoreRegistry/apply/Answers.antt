@@ -8,14 +8,4 @@ returns g c =
     let t = applied c.args.arrival (state g.S.Store c.args.self.now.conn) (state g.S.Store c.take.new.conn)
     c.take.result c.told.result c.told.ensures q.ends q.cause q.before q.survives
     (g.met.S.Store.settled c.take.new.conn.store) in
-    record {
-      honest = t.honest;
-      was_open = t.was_open;
-      stays_open = t.stays_open;
-      due = t.due;
-      next = t.next;
-      fault = t.fault;
-      before = t.before;
-      cause = t.cause;
-      only = t.only;
-    }
+    assumption t

@@ -8,13 +8,4 @@ returns g c =
     let q = c.read_cas.ensures in
     let t = answered c.told.ensures (of_state q.survives c.read_cas.result (λ s kept cas. cas.items ≡ s.cas)
     q.shows q.reads) in
-    record {
-      honest = t.honest;
-      was_open = t.was_open;
-      stays_open = t.stays_open;
-      row = t.row;
-      same = t.same;
-      before = t.before;
-      cause = t.cause;
-      only = t.only;
-    }
+    assumption t

@@ -9,13 +9,4 @@ returns g c =
     let q = c.read_issued.ensures in
     let t = answered c.told.ensures (of_office q.survives c.read_issued.result
     (λ s kept issued. issued ≡ issued_of s c.args.serial) q.shows q.reads) in
-    record {
-      honest = t.honest;
-      was_open = t.was_open;
-      stays_open = t.stays_open;
-      row = t.row;
-      same = t.same;
-      before = t.before;
-      cause = t.cause;
-      only = t.only;
-    }
+    assumption t

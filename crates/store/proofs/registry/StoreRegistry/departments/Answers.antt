@@ -9,13 +9,4 @@ returns g c =
     let q = c.read_departments.ensures in
     let t = answered c.told.ensures (of_state q.survives c.read_departments.result
     (λ s kept rows. rows.items ≡ departments_of s) q.shows q.reads) in
-    record {
-      honest = t.honest;
-      was_open = t.was_open;
-      stays_open = t.stays_open;
-      row = t.row;
-      same = t.same;
-      before = t.before;
-      cause = t.cause;
-      only = t.only;
-    }
+    assumption t

@@ -8,13 +8,4 @@ returns g c =
     let q = c.read_revoked.ensures in
     let t = answered c.told.ensures (of_office q.survives c.read_revoked.result (λ s kept revoked. AreRevoked revoked s)
     q.shows q.reads) in
-    record {
-      honest = t.honest;
-      was_open = t.was_open;
-      stays_open = t.stays_open;
-      row = t.row;
-      same = t.same;
-      before = t.before;
-      cause = t.cause;
-      only = t.only;
-    }
+    assumption t
