@@ -18,7 +18,7 @@ use Rattle.store_rows.proofs.Before.{fails_before}
 use Rattle.store.specs.Meaning.{DiskFailed, HasFailed, Tells}
 use Rattle.store.specs.Showing.{ShowsOffice}
 use Rattle.store.proofs.Reading.{At, Reads}
-use Rattle.store.proofs.Telling.{disk_failed, open_before, tells_still}
+use Rattle.store.proofs.Telling.{disk_failed, tells_still}
 
 -- what is promised of a call that shows this
 pub record Answered {X : Type 0} (Shown : State → List Kept → X → Type 0) (old new : Connection)
@@ -63,7 +63,7 @@ answered {X} {Shown} {old} {new} {r} {q} is read = subst (λ z. Answered Shown o
     go : (r : Result X Fault) → Reads Shown old new r → Answered Shown old new (told r)
     go (Ok x) read = record {
       honest = λ clean. omega (arith, read.survives.clean);
-      was_open = λ clean. open_before old new (inl (read.reads clean));
+      was_open = λ clean. (fails_before old new (inl (read.reads clean))).was_open;
       stays_open = λ clean. (read.reads clean).0.is_open;
       row = λ clean o l tells. (read.shows clean o l tells.history (tells.rows (read.reads clean).0.was_open).now).0;
       same = λ clean. tells_still old new read.survives clean (inl (read.reads clean));
@@ -73,7 +73,7 @@ answered {X} {Shown} {old} {new} {r} {q} is read = subst (λ z. Answered Shown o
     }
     go (Err f) read = record {
       honest = λ clean. omega (arith, read.survives.clean);
-      was_open = λ clean. open_before old new (read.reads clean).0;
+      was_open = λ clean. (fails_before old new (read.reads clean).0).was_open;
       stays_open = λ clean. tt;
       row = λ clean. tt;
       same = λ clean. tells_still old new read.survives clean (read.reads clean).0;

@@ -24,7 +24,7 @@ use Rattle.office.specs.Parts.{numbers}
 use Rattle.store.specs.Parts.{AreOrdered}
 use Rattle.store.specs.Showing.{ShowsOffice}
 use Rattle.office.proofs.Histories.{IsKept, holds_after}
-use Rattle.store.proofs.LawfulStates.{of_either}
+use Rattle.store.proofs.Lawful.{of_either}
 
 -- none serves from an earlier serial than the one before it, nor from one that isn't handed out next or was before
 pub record AreServing (s : State) : Type 0 where

@@ -1,15 +1,33 @@
 -- What is answered inside a transaction, part by part.
-use Rattle.std.proofs.Common.{◌≡◌, ℕ, List, [], ◌∷◌, ◌++◌, length, Bool, Some, None, Ok, Err, Result}
-use Rattle.std.proofs.Common.{IsTrue, refl, sym, ap₂, subst, arith}
-use Rattle.std.specs.Prelude.{IsErrAnd}
+use Rattle.std.proofs.Common.{◌≡◌, List, true, false, Some, None, refl, ap, ◌∙◌, ℕ, [], ◌∷◌, ◌++◌, length, Bool, Ok}
+use Rattle.std.proofs.Common.{Err, Result, IsTrue, sym, ap₂, subst, arith}
+use Rattle.std.specs.Prelude.{find, is_some, IsErrAnd}
+use Rattle.std.specs.List.{list_any}
+use Rattle.std.specs.Str.{bytes_eq}
 use Rattle.values.specs.declared.refusal.Refusal.{Refusal}
 use Rattle.sqlite.specs.Effect.{Database}
 use Rattle.sqlite.specs.State.{State as Connection, HasCleanDisk, IsUnchanged, Survives}
 use Rattle.sqlite.proofs.StateLemmas.{survives_weaker}
+use Rattle.krl.proofs.Items.{all_more}
 use Rattle.message.specs.declared.kinds.Message.{Message}
 use Rattle.message.specs.Reading.{Gives, message_at}
 use Rattle.message.specs.declared.message_fault.MessageFault.{MessageFault}
 use Rattle.message.specs.declared.message_fault.MessageFault.TheVariants.{BadLine}
+use Rattle.office.specs.declared.arrival.Arrival.{Arrival}
+use Rattle.office.specs.declared.arrival.Kept.{Kept}
+use Rattle.office.specs.History.{has_key, reply_kept, due, judged}
+use Rattle.office.specs.declared.arrival.Outcome.{Outcome}
+use Rattle.office.specs.declared.view.Stop.{Stop}
+use Rattle.office.specs.declared.view.Stop.TheVariants.{Refused}
+use Rattle.office.specs.Decided.{Decided}
+use Rattle.office.specs.Messages.{message_with_text}
+use Rattle.office.specs.State.{State}
+use Rattle.office.specs.Machine.{step}
+use Rattle.office.specs.Shows.{Shows}
+use Rattle.office.proofs.Steps.{shows_office, shows_refused, shows_repeated}
+use Rattle.office.proofs.Texts.{bad_is}
+use Rattle.office.specs.declared.arrival.Outcome.TheVariants as outcome
+use Rattle.office.specs.declared.view.Stop.TheVariants as stop
 use Rattle.store_sql.specs.Contents.{Contents, Means}
 use Rattle.store_sql.specs.Calls.{Fails, Never, Stays}
 use Rattle.store_sql.specs.Faults.{HasCause}
@@ -17,27 +35,13 @@ use Rattle.store_sql.specs.declared.table_fault.Fault.{Fault}
 use Rattle.store_sql.specs.declared.table_fault.Fault.TheVariants.{Damaged, NoMemory}
 use Rattle.store_sql.proofs.Later.{stops}
 use Rattle.store_sql.proofs.Staying.{reads_stay, stays_then}
-use Rattle.office.specs.declared.arrival.Arrival.{Arrival}
-use Rattle.office.specs.declared.arrival.Kept.{Kept}
-use Rattle.office.specs.declared.arrival.Outcome.{Outcome}
-use Rattle.office.specs.declared.arrival.Outcome.TheVariants as outcome
-use Rattle.office.specs.declared.view.Stop.{Stop}
-use Rattle.office.specs.declared.view.Stop.TheVariants as stop
-use Rattle.office.specs.declared.view.Stop.TheVariants.{Refused}
-use Rattle.office.specs.Decided.{Decided}
-use Rattle.office.specs.Messages.{message_with_text}
-use Rattle.office.specs.State.{State}
-use Rattle.office.specs.Machine.{step}
-use Rattle.office.specs.History.{due, judged, reply_kept}
-use Rattle.office.specs.Shows.{Shows}
-use Rattle.office.proofs.Steps.{shows_office, shows_refused, shows_repeated}
-use Rattle.office.proofs.Texts.{bad_is}
-use Rattle.krl.proofs.Items.{all_more}
 use Rattle.store_rows.specs.Lawful.{IsLawful}
 use Rattle.store_rows.specs.Rows.{contents_of, office_contents}
 use Rattle.store_rows.specs.Transactions.{Answers, Waits}
 use Rattle.store_rows.proofs.Causes.{cause_of, fails_then, fails_weaker}
 use Rattle.store_rows.proofs.Steps.{Leads, answers_then, goes_still, waits_then}
+use Rattle.store_reads.specs.Histories.{AreApart, is_for}
+use Rattle.store_reads.proofs.Keeping.{known_by_kept, no_repeat, reply_by_kept, reply_of}
 use Rattle.store.specs.Meaning.{IsHistory}
 use Rattle.store.specs.Arriving.{ExceedsTables, FailsAt, IsAfter, IsAnswered, IsAsked, IsNew, Past, Settles}
 use Rattle.store.specs.Arriving.{contents_with, kept_at, state_at, stopped}
@@ -62,6 +66,29 @@ goes_on a p s kept size h shows = record {
 pub rows_with : (a : Arrival) (p : Past) (s : State) (kept : List Kept) → Shows s kept p.0 (p.1 ++ a ∷ [])
     → contents_of s kept ≡ contents_with a p
 rows_with a p s kept shows = ap₂ (λ (t : State) (ks : List Kept). contents_of t ks) shows.is_state shows.is_kept
+
+-- ---- the kept request of its caller and its key
+
+module _ (a : Arrival) (kept : List Kept) where
+  pub unknown_found : find (is_for a.caller a.key) kept ≡ None → list_any (has_key a) kept ≡ false
+  unknown_found is = known_by_kept a kept ∙ ap is_some is
+
+  pub known_found : (k : Kept) → find (is_for a.caller a.key) kept ≡ Some k → list_any (has_key a) kept ≡ true
+  known_found k is = known_by_kept a kept ∙ ap is_some is
+
+  -- no request: it is no repeat
+  pub repeat_unknown : find (is_for a.caller a.key) kept ≡ None → reply_kept kept a ≡ None
+  repeat_unknown is = no_repeat a kept (unknown_found is)
+
+  -- the same bytes: it is a repeat
+  pub repeat_found : (k : Kept) → AreApart kept → find (is_for a.caller a.key) kept ≡ Some k
+      → bytes_eq k.bytes a.bytes ≡ true → reply_kept kept a ≡ Some k.reply
+  repeat_found k apart is same = reply_by_kept a kept apart ∙ ap (reply_of a) is ∙ rw same refl
+
+  -- other bytes: it is none
+  pub repeat_other : (k : Kept) → AreApart kept → find (is_for a.caller a.key) kept ≡ Some k
+      → bytes_eq k.bytes a.bytes ≡ false → reply_kept kept a ≡ None
+  repeat_other k apart is differs = reply_by_kept a kept apart ∙ ap (reply_of a) is ∙ rw differs refl
 
 -- ---- answers that change nothing
 

@@ -1,15 +1,17 @@
 -- What a call leaves of what the tables tell.
-use Rattle.std.proofs.Common.{◌≡◌, inl, inr, ℕ, true, false, IsTrue, Option, None, Result, Ok, Err, sym, ap, subst, ◌∙◌}
+use Rattle.std.proofs.Common.{◌≡◌, inl, inr, ℕ, true, false, Option, None, Result, Ok, Err, sym, ap, subst, ◌∙◌}
 use Rattle.std.specs.Prelude.{List, is_some}
 use Rattle.sqlite.specs.Tree.{Trees}
 use Rattle.sqlite.specs.State.{State, HasCleanDisk, Survives}
-use Rattle.store_sql.specs.Contents.{Contents, Kept}
+use Rattle.store_sql.specs.Contents.{Kept}
 use Rattle.store_sql.specs.Calls.{Fails, Never}
 use Rattle.store_sql.specs.Faults.{HasFailed}
 use Rattle.office.specs.declared.opening.Opening.{Opening}
 use Rattle.office.specs.declared.arrival.Arrival.{Arrival}
 use Rattle.store_rows.specs.Transactions.{Has, IsAsBefore, Rests}
 use Rattle.store_rows.proofs.Before.{fails_before}
+use Rattle.store_rows.proofs.Steps.{ends_unbegun}
+use Rattle.store_sql.specs.declared.table_fault.Fault.TheVariants.{NoMemory}
 use Rattle.office.specs.declared.store_fault.StoreFault.{StoreFault}
 use Rattle.store_rows.specs.Rows.{office_contents}
 use Rattle.store.specs.Meaning.{DiskFailed, IsLeft, LooksOn, Tells}
@@ -21,32 +23,15 @@ disk_failed old new unlimited (inr (inl shut)) = inr shut
 disk_failed old new unlimited (inr (inr limited)) =
     let wrong : true ≡ false = sym limited ∙ ap (λ (limit : Option ℕ). is_some limit) unlimited in cc
 
--- what a failure leaves open was open
-pub open_before : (old new : State) → Fails old new → IsTrue new.is_open → IsTrue old.is_open
-open_before old new (inl same) still = same.0.was_open
-open_before old new (inr back) still = back.was_open still
-
--- nothing changed, or a transaction was undone that was not there
-pub rests_still : (old new : State) (c : Contents) → Fails old new → IsTrue new.is_open → Rests (Has c) old
-    → Rests (Has c) new
-rests_still old new c (inl same) still r = record {
-  autocommit = same.0.mode ∙ r.autocommit;
-  now = subst (Has c) (sym same.0.now_is) r.now;
-  committed = subst (Has c) (sym same.0.committed_is) r.committed;
-}
-rests_still old new c (inr back) still r = record {
-  autocommit = back.autocommit;
-  now = subst (Has c) (sym (back.undone still).0) r.committed;
-  committed = subst (Has c) (sym (back.undone still).1) r.committed;
-}
-
 -- a call that leaves tables with contents as they are
 pub tells_still : (old new : State) → Survives old new Never → HasCleanDisk new → Fails old new → (o : Opening)
     (l : List Arrival) → Tells old o l → Tells new o l
 tells_still old new survives clean fails o l tells = record {
   history = tells.history;
   unlimited = survives.limit ∙ tells.unlimited;
-  rows = λ still. rests_still old new (office_contents o l) fails still (tells.rows (open_before old new fails still));
+  rows = λ still.
+      let e = ends_unbegun Has (λ _ (_ : Unit {0}). Unit {0}) (λ c. c) old new NoMemory NoMemory fails still in
+      e.1 (office_contents o l) (tells.rows e.0);
   left = λ trees may. elim (survives.crash clean trees may) [
     | inl before ↦ tells.left trees before
     | inr none ↦ absurd none

@@ -1,18 +1,29 @@
 use Rattle.std.proofs.lemmas.Result.{err_from_is_err_and}
 use Rattle.std.proofs.Common.{arith, refl}
+use Rattle.sqlite.specs.State.{State, Survives, HasCleanDisk}
+use Rattle.sqlite.proofs.StateLemmas.{survives_weaker}
 use Rattle.sqlite.specs.Held.{state}
-use Rattle.sqlite.specs.State.{HasCleanDisk}
 use Rattle.store_sql.specs.Schema.{no_schema}
 use Rattle.store_sql.specs.Contents.{no_contents}
-use Rattle.store_sql.specs.Calls.{IsBare, Waits as WaitsAt}
+use Rattle.store_sql.specs.Calls.{IsBare, Steps, Waits as WaitsAt}
 use Rattle.store_sql.specs.Changes.{with_ca, with_office}
 use Rattle.store_sql.proofs.Staying.{stays_then}
-use Rattle.store_rows.specs.Transactions.{Has}
+use Rattle.store_rows.specs.Transactions.{Has, Waits}
+use Rattle.store_rows.proofs.Steps.{Leads, goes, answers_then, waits_then}
 use Rattle.store_rows.proofs.Causes.{cause_of, fails_then}
-use Rattle.store_rows.proofs.Steps.{answers_then, waits_then}
 use Rattle.store.specs.Creating.{RefusesFirst}
-use Rattle.store.proofs.Bare.{bare_leads, bare_waits}
 use Rattle.store.proofs.creating.make.Goals as goal
+
+-- a database without tables, in which those of the office are made
+bare_leads : (a b : State) → (IsBare no_schema a.now → Steps a b no_contents)
+    → Leads (λ (_ : Unit {0}). IsBare no_schema) Has (λ _. no_contents) a b
+bare_leads a b made x bare = let s = goes a b no_contents (made bare) in (no_contents, s, s.means)
+
+bare_waits : (a b : State) → Survives a b (WaitsAt no_schema a)
+    → Survives a b (Waits (λ (_ : Unit {0}). IsBare no_schema) a)
+bare_waits a b one =
+    survives_weaker a b (WaitsAt no_schema a) (Waits (λ (_ : Unit {0}). IsBare no_schema) a)
+    (λ clean trees h x bare. h bare.0) one
 
 pub returns : goal.returns
 returns g c =

@@ -7,8 +7,8 @@ use Rattle.store_reads.specs.Histories.{is_for}
 use Rattle.store_reads.proofs.OfHistory.{apart_after}
 use Rattle.store.specs.Meaning.{IsHistory}
 use Rattle.store.specs.Arriving.{IsAsked, IsFound, Past, kept_at}
-use Rattle.store.proofs.Repeats.{known_found, repeat_found, repeat_other, repeat_unknown, unknown_found}
-use Rattle.store.proofs.Settled.{repeated_still, settles_still, settling, settling_weaker}
+use Rattle.store.proofs.Settled.{known_found, repeat_found, repeat_other, repeat_unknown, repeated_still}
+use Rattle.store.proofs.Settled.{settles_still, settling, settling_weaker, unknown_found}
 use Rattle.store.proofs.settling.settle_beside.Goals as goal
 
 pub returns-in_default : goal.returns-in_default
