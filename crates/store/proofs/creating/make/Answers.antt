@@ -1,4 +1,3 @@
-use Rattle.std.proofs.lemmas.Result.{err_from_is_err_and}
 use Rattle.std.proofs.Common.{arith, refl}
 use Rattle.sqlite.specs.State.{State, Survives, HasCleanDisk}
 use Rattle.sqlite.proofs.StateLemmas.{survives_weaker}
@@ -10,7 +9,7 @@ use Rattle.store_sql.specs.Changes.{with_ca, with_office}
 use Rattle.store_sql.proofs.Staying.{stays_then}
 use Rattle.store_rows.specs.Transactions.{Has, Waits}
 use Rattle.store_rows.proofs.Steps.{Leads, goes, answers_then, waits_then}
-use Rattle.store_rows.proofs.Causes.{cause_of, fails_then}
+use Rattle.store_rows.proofs.Causes.{fails_then}
 use Rattle.store.specs.Creating.{RefusesFirst}
 use Rattle.store.proofs.creating.make.Goals as goal
 
@@ -52,9 +51,3 @@ returns g c =
 
 pub returns-in_err-create_tables-clause-survives : goal.returns-in_err-create_tables-clause-survives
 returns-in_err-create_tables-clause-survives g c = bare_waits _ _ c.create_tables.ensures.survives
-
-pub returns-in_err-create_tables-clause-fails : goal.returns-in_err-create_tables-clause-fails
-returns-in_err-create_tables-clause-fails g c clean =
-    let p = err_from_is_err_and c.from_residual.result c.from_residual.ensures.1 in
-    rw (p.1, p.2) (λ x bare. cause_of _ (state g.S.Store c.args.conn.now) (state g.S.Store c.create_tables.new.conn) _
-    (c.in_err-create_tables.ensures.fault clean bare))

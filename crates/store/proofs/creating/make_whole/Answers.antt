@@ -1,5 +1,5 @@
 use Rattle.std.proofs.Common.{arith}
-use Rattle.std.proofs.lemmas.Result.{IfErr-weaker, err_from_is_err_and}
+use Rattle.std.proofs.lemmas.Result.{IfErr-weaker}
 use Rattle.sqlite.specs.Effect.{Database}
 use Rattle.sqlite.specs.Held.{state}
 use Rattle.sqlite.specs.State.{HasCleanDisk}
@@ -8,8 +8,8 @@ use Rattle.store_sql.specs.Contents.{no_contents}
 use Rattle.store_sql.specs.Calls.{IsBare}
 use Rattle.store_sql.specs.Changes.{with_ca, with_office}
 use Rattle.store_rows.specs.Transactions.{Waits}
-use Rattle.store_rows.proofs.Before.{concludes_before, fails_before}
-use Rattle.store_rows.proofs.Causes.{cause_of, stops_for}
+use Rattle.store_rows.proofs.Before.{concludes_before}
+use Rattle.store_rows.proofs.Causes.{stops_for}
 use Rattle.store_rows.proofs.Steps.{ends, left}
 use Rattle.store.specs.Creating.{RefusesFirst}
 use Rattle.store.proofs.creating.make_whole.Goals as goal
@@ -43,14 +43,3 @@ returns g c =
       survives = left Bare (λ _ _. Unit {0}) after old first last new r begins part.makes started part.survives
           end.survives;
     }
-
-pub returns-in_err-begin-clause-cause : goal.returns-in_err-begin-clause-cause
-returns-in_err-begin-clause-cause g c clean =
-    let p = err_from_is_err_and c.from_residual.result c.from_residual.ensures.1 in
-    rw (p.1, p.2) (λ rests. cause_of _ (state g.S.Store c.args.conn.now) (state g.S.Store c.begin.new.conn) _
-    (c.in_err-begin.ensures.fault clean rests.autocommit))
-
-pub returns-in_err-begin-clause-before : goal.returns-in_err-begin-clause-before
-returns-in_err-begin-clause-before g c clean =
-    let p = err_from_is_err_and c.from_residual.result c.from_residual.ensures.1 in
-    rw p.1 (fails_before _ _ (c.in_err-begin.ensures.begins clean))

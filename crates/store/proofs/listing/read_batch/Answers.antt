@@ -28,5 +28,5 @@ returns g c =
 
 pub returns-in_err-office-clause-shows : goal.returns-in_err-office-clause-shows
 returns-in_err-office-clause-shows g c clean =
-    shows_failed (λ s kept rows. rows.items ≡ batch_of s c.args.place) _ _ c.from_residual.result _ c.from_residual.ensures.1
-    (c.in_err-office.ensures.shows clean)
+    shows_failed (λ s kept rows. rows.items ≡ batch_of s c.args.place) _ _ c.from_residual.result _
+    c.from_residual.ensures.1 (c.in_err-office.ensures.shows clean)

@@ -11,12 +11,12 @@ pub returns-clause-shows : goal.returns-clause-shows
 returns-clause-shows g c clean =
     let ids = c.in_ok-key_ids.key_ids in
     let P = λ (s : State) (kept : List Kept) (ids : Vec (List ℕ) Global). ids.items ≡ s.revoked_key_ids in
-    shows_of P (λ s kept (r : Revocations). (r.serials ≡ c.args.serials) × (r.key_ids.items ≡ s.revoked_key_ids)) _ _ ids
-    (record { serials = c.args.serials; key_ids = ids }) (λ o l history same. (refl, same))
+    shows_of P (λ s kept (r : Revocations). (r.serials ≡ c.args.serials) × (r.key_ids.items ≡ s.revoked_key_ids)) _ _
+    ids (record { serials = c.args.serials; key_ids = ids }) (λ o l history same. (refl, same))
     (shows_office P _ _ (Ok ids) (c.in_ok-key_ids.ensures.shows clean))
 
 pub returns-in_err-key_ids-clause-shows : goal.returns-in_err-key_ids-clause-shows
 returns-in_err-key_ids-clause-shows g c clean =
     shows_failed
-    (λ s kept (r : Revocations). (r.serials ≡ c.args.serials) × (r.key_ids.items ≡ s.revoked_key_ids)) _ _ c.from_residual.result _ c.from_residual.ensures.1
-    (c.in_err-key_ids.ensures.shows clean)
+    (λ s kept (r : Revocations). (r.serials ≡ c.args.serials) × (r.key_ids.items ≡ s.revoked_key_ids)) _ _
+    c.from_residual.result _ c.from_residual.ensures.1 (c.in_err-key_ids.ensures.shows clean)

@@ -18,5 +18,5 @@ returns g c =
 
 pub returns-in_err-found-clause-shows : goal.returns-in_err-found-clause-shows
 returns-in_err-found-clause-shows g c clean =
-    shows_failed (λ s kept issued. issued ≡ issued_of s c.args.serial) _ _ c.from_residual.result _ c.from_residual.ensures.1
-    (c.in_err-found.ensures.shows clean)
+    shows_failed (λ s kept issued. issued ≡ issued_of s c.args.serial) _ _ c.from_residual.result _
+    c.from_residual.ensures.1 (c.in_err-found.ensures.shows clean)

@@ -8,7 +8,7 @@ use Rattle.store_rows.proofs.Causes.{fails_weaker}
 use Rattle.store_writes.specs.Due.{IsDue}
 use Rattle.store_writes.specs.Refused.{RefusesDecision}
 use Rattle.store.specs.Arriving.{IsAccepted, IsAfter, ExceedsTables, Settles, kept_at, state_at}
-use Rattle.store.proofs.Accepted.{is_due, settles_unwritten, settles_written, waits_written}
+use Rattle.store.proofs.Accepted.{is_due, settles_written, waits_written}
 use Rattle.store.proofs.Limits.{limited}
 use Rattle.store.proofs.settling.accept.Goals as goal
 
@@ -25,12 +25,6 @@ returns-clause-settles g c clean =
 pub returns-clause-survives : goal.returns-clause-survives
 returns-clause-survives g c =
     waits_written c.args.arrival.now c.args.decision.now c.args.cas.now _ _ c.write.ensures.survives
-
-pub returns-in_err-write-clause-settles : goal.returns-in_err-write-clause-settles
-returns-in_err-write-clause-settles g c clean =
-    let p = err_from_is_err_and c.from_residual-in_err-write.result c.from_residual-in_err-write.ensures.1 in
-    rw p.1 (settles_unwritten c.args.arrival.now c.args.decision.now c.args.cas.now (state g.S.Store c.args.conn.now)
-    (state g.S.Store c.write.new.conn) c.in_err-write.field-0.0 (c.in_err-write.ensures.makes clean))
 
 pub returns-in_err-write-clause-fails : goal.returns-in_err-write-clause-fails
 returns-in_err-write-clause-fails g c clean =

@@ -4,7 +4,7 @@ use Rattle.office.specs.Decided.{Decided}
 use Rattle.store.specs.Meaning.{IsHistory}
 use Rattle.store.specs.Arriving.{IsAccepted, IsWeighed, Past, state_at}
 use Rattle.store.proofs.Accepted.{decided_accepted}
-use Rattle.store.proofs.Settled.{settling, settling_weaker, stopped_fails, stopped_settles}
+use Rattle.store.proofs.Settled.{settling, settling_weaker, stopped_settles}
 use Rattle.store.proofs.settling.weigh.Goals as goal
 
 pub returns-else-decision-gt-LAST_VERSION : goal.returns-else-decision-gt-LAST_VERSION
@@ -34,8 +34,3 @@ returns-in-Err-clause-settles g c clean is_open =
     c.stopped.ensures c.requires.nonce is_open (λ p is. is.new)
     (λ p is. subst (λ (x : List ℕ). Decided (Err c.in-Err.stop) (state_at p) x m a.moment a.nonce) c.as_slice.ensures
     (c.in-Err.ensures.decided (state_at p) (c.view-view.ensures.agrees (state_at p) m is.rows)))
-
-pub returns-in-Err-clause-fails : goal.returns-in-Err-clause-fails
-returns-in-Err-clause-fails g c clean =
-    stopped_fails c.args.arrival.now (IsWeighed c.args.arrival.now c.args.message.now c.args.rows.now)
-    (state g.S.Store c.args.conn.now) c.in-Err.stop c.stopped.result c.stopped.ensures

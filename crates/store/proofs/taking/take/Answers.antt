@@ -2,11 +2,10 @@ use Rattle.std.proofs.Common.{arith}
 use Rattle.sqlite.specs.Held.{state}
 use Rattle.sqlite.specs.State.{HasCleanDisk}
 use Rattle.store_rows.specs.Transactions.{Waits}
-use Rattle.store_rows.proofs.Before.{concludes_before, fails_before}
+use Rattle.store_rows.proofs.Before.{concludes_before}
 use Rattle.store_rows.proofs.Causes.{stops_for}
 use Rattle.store_rows.proofs.Steps.{ends, left}
 use Rattle.store.specs.Arriving.{IsAfter, IsAnswered, IsAny, ExceedsTables, contents_with}
-use Rattle.store.proofs.Taken.{statement_caused}
 use Rattle.store.proofs.taking.take.Goals as goal
 
 pub returns-in-Ok : goal.returns-in-Ok
@@ -37,11 +36,3 @@ returns-in-Ok g c =
       survives = left (IsAfter IsAny) (IsAnswered a) (contents_with a) old first last new r begins part.settles started
           part.survives end.survives;
     }
-
-pub returns-in-Err-clause-cause : goal.returns-in-Err-clause-cause
-returns-in-Err-clause-cause g c clean =
-    statement_caused c.args.arrival.now (state g.S.Store c.args.conn.now) (state g.S.Store c.begin.new.conn)
-    c.in-Err.fault c.of_statement.result c.of_statement.ensures (c.in-Err.ensures.fault clean)
-
-pub returns-in-Err-clause-before : goal.returns-in-Err-clause-before
-returns-in-Err-clause-before g c clean = fails_before _ _ (c.in-Err.ensures.begins clean)
