@@ -8,7 +8,6 @@ use Rattle.sqlite.specs.State.{State as Connection, Survives}
 use Rattle.sqlite.proofs.StateLemmas.{survives_weaker}
 use Rattle.message.specs.declared.kinds.Message.{Message}
 use Rattle.store_sql.specs.Contents.{Contents}
-use Rattle.store_sql.specs.declared.table_fault.Fault.{Fault}
 use Rattle.office.specs.declared.arrival.Arrival.{Arrival}
 use Rattle.office.specs.declared.arrival.Kept.{Kept}
 use Rattle.office.specs.declared.arrival.Outcome.TheVariants as outcome
@@ -123,12 +122,6 @@ settles_written a d cas old new size makes = λ p after.
       record { due = s.0; history = goes_on a p x kept size after.history s.1 },
       subst (λ (c : Contents). Goes old new c) (rows_with a p x kept s.1) q.1,
     )
-
-pub settles_unwritten : (a : Arrival) (d : Decision) (cas : List Ca) (old new : Connection) (f : Fault)
-    → Makes {X = Unit {0}} (IsDue d cas) (contents_after d a) old new (Err f)
-    → Settles a (IsAccepted a d cas) old new (Err f)
-settles_unwritten a d cas old new f makes = λ p after.
-    makes (state_at p, kept_at p) (is_due p a d cas old.now after)
 
 -- a crash in the midst of what is written commits nothing
 pub waits_written : (a : Arrival) (d : Decision) (cas : List Ca) (old new : Connection)

@@ -12,13 +12,13 @@ use Rattle.store_sql.specs.Contents.{Contents, HasOffices}
 use Rattle.store_sql.specs.declared.offices.OfficeRow.{OfficeRow}
 use Rattle.office.specs.declared.store_fault.StoreFault.{StoreFault}
 use Rattle.office.specs.declared.store_fault.StoreFault.TheVariants.{Device, NoMemory}
-use Rattle.sqlite.specs.State.{State, IsUnchanged}
+use Rattle.sqlite.specs.State.{State}
 use Rattle.store_sql.specs.Refusals.{HasCauseOr}
 use Rattle.store_sql.specs.declared.table_fault.Fault.{Fault}
 use Rattle.store_sql.specs.declared.table_fault.Fault.TheVariants as table_fault
 use Rattle.store_rows.specs.Faults.{fault_of}
 use Rattle.store_migration.specs.Migrating.{HasStopped, IsExcused, RefusesFirstCa}
-use Rattle.store.specs.Meaning.{DiskFailed, Looks, LooksOn, opened_by}
+use Rattle.store.specs.Meaning.{DiskFailed, Looks, opened_by}
 use Rattle.store.proofs.Telling.{disk_failed}
 
 -- the table of the office is seen
@@ -78,8 +78,3 @@ pub excused_by_disk : (old new : State) (c : Contents) (e : StoreFault) → old.
 excused_by_disk old new c Device unlimited never (inl failed) = disk_failed old new unlimited failed
 excused_by_disk old new c Device unlimited never (inr why) = absurd (never why)
 excused_by_disk old new c _ unlimited never h = h
-
--- rows that were read changed nothing, whatever they say
-pub looked_still : (old new : State) (r : Result (Unit {0}) StoreFault) → IsUnchanged old new → LooksOn old new r
-looked_still old new (Ok x) same = same
-looked_still old new (Err e) same = λ _. inl same

@@ -15,7 +15,7 @@ use Rattle.office.specs.Machine.{State, ca_from_now, has_any, is_key_id_revoked,
 use Rattle.office.specs.Machine.{renewed, with_ca, with_one_more, with_signature}
 use Rattle.office.specs.History.{state}
 use Rattle.office.proofs.Growth.{length-signed_at}
-use Rattle.std.specs.Prelude.{IfOk, Result, Ok, Err, Vec}
+use Rattle.std.specs.Prelude.{Result, Ok, Err, Vec}
 use Rattle.std.specs.declared.alloc.Global.{Global}
 use Rattle.sqlite.specs.State.{State as Connection}
 use Rattle.store_sql.specs.declared.table_fault.Fault.{Fault}
@@ -78,11 +78,6 @@ serving_after o l =
     holds_after AreServing keeps_serving o l (record { ascending = grind arith; served = grind arith })
 
 -- ---- CAs that are read
-
-pub ordered_is : (cas : Vec Ca Global) (r : Result (Vec Ca Global) Fault) → AreOrdered cas r
-    → IfOk r (λ v. IsNonDecreasing (numbers v.items))
-ordered_is cas (Ok v) is = subst (λ (w : Vec Ca Global). IsNonDecreasing (numbers w.items)) (sym is.0) is.1
-ordered_is cas (Err f) is = tt
 
 -- an office's CAs are in order
 pub shows_ordered : (old new : Connection) (cas : Vec Ca Global) (r : Result (Vec Ca Global) Fault) → AreOrdered cas r

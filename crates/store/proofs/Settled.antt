@@ -159,14 +159,6 @@ stopped_settles a m Known c s r is size is_open new decided = subst (λ q. Settl
         (λ p h known. refused_still a p x h (new p known).new (step_refused p a m x (new p known) (decided p known)))
     go stop.NoMemory decided = settles_not a Known c NoMemory
 
-pub stopped_fails : (a : Arrival) (Known : Past → Type 0) (c : Connection) (s : Stop) (r : Result Outcome Fault)
-    → r ≡ stopped s → FailsAt a Known c c r
-stopped_fails a Known c s r is = subst (λ q. FailsAt a Known c c q) (sym is) (go s)
-  where
-    go : (s : Stop) → FailsAt a Known c c (stopped s)
-    go (Refused x) = tt
-    go stop.NoMemory = λ p after. tt
-
 -- ---- all that is said of a part
 
 -- what a part does with an arrival of which this is known, if this is so of the connection

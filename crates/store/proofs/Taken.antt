@@ -1,11 +1,10 @@
 -- What an arrival leaves of what the tables tell.
-use Rattle.std.proofs.Common.{◌≡◌, inl, inr, Bool, false, List, [], ◌∷◌, ◌++◌, true, Ok, Err, Result, IsTrue, refl, sym}
+use Rattle.std.proofs.Common.{◌≡◌, inl, inr, List, [], ◌∷◌, ◌++◌, Ok, Err, Result, IsTrue, sym}
 use Rattle.std.proofs.Common.{subst, ◌∙◌, arith}
 use Rattle.std.specs.Prelude.{IfErr, IfOk, OnErr, OnOk}
 use Rattle.sqlite.specs.Tree.{Trees}
 use Rattle.sqlite.specs.State.{State as Connection, HasCleanDisk, Survives}
 use Rattle.store_sql.specs.Faults as table
-use Rattle.store_sql.specs.Refusals.{HasCauseOr}
 use Rattle.store_sql.specs.declared.table_fault.Fault.{Fault}
 use Rattle.store_sql.specs.declared.table_fault.Fault.TheVariants.{Damaged, Device, NoMemory}
 use Rattle.office.specs.declared.opening.Opening.{Opening}
@@ -17,28 +16,8 @@ use Rattle.office.specs.History.{due}
 use Rattle.store_rows.specs.Transactions.{Ends, IsAsBefore, KeepsOnErr, Leaves, Rests}
 use Rattle.store_rows.specs.Faults.{fault_of, told}
 use Rattle.store.specs.Meaning.{Tells}
-use Rattle.store.specs.Arriving.{IsAfter, IsAnswered, IsAny, IsCaused, IsStopped, ExceedsTables, contents_with}
-use Rattle.store.specs.Arriving.{of_statement}
+use Rattle.store.specs.Arriving.{IsAfter, IsAnswered, IsAny, IsCaused, IsStopped, contents_with}
 use Rattle.store.proofs.Telling.{disk_failed, left_committed}
-
--- ---- why it fails
-
--- a statement of an open connection fails for its cause, and one of a shut connection because that is shut
-pub statement_caused : (a : Arrival) (old new : Connection) (f g : Fault) → g ≡ of_statement f
-    → (old.in_transaction ≡ false → table.HasCause old new f) → IsCaused a old new g
-statement_caused a old new f g is cause = subst (λ h. IsCaused a old new h) (sym is) (λ p resting.
-    go (ExceedsTables a p) f cause (λ is_open. (resting is_open).autocommit) old.is_open refl)
-  where
-    go : (R : Type 0) (f : Fault) → (old.in_transaction ≡ false → table.HasCause old new f)
-        → (IsTrue old.is_open → old.in_transaction ≡ false) → (b : Bool) → old.is_open ≡ b
-        → HasCauseOr R old new (of_statement f)
-    go R NoMemory cause outside b is = tt
-    go R Device cause outside false is = inl (inr (inl is))
-    go R Device cause outside true is = inl (cause (outside is))
-    go R Damaged cause outside false is = inl (inr (inl is))
-    go R Damaged cause outside true is = absurd (cause (outside is))
-
--- ---- the whole
 
 -- what is promised of a call that takes an arrival
 pub record Applied (a : Arrival) (old new : Connection) (q : Result Outcome StoreFault) : Type 0 where

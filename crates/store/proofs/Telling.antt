@@ -1,5 +1,5 @@
 -- What a call leaves of what the tables tell.
-use Rattle.std.proofs.Common.{◌≡◌, inl, inr, ℕ, true, false, Option, None, Result, Ok, Err, sym, ap, subst, ◌∙◌}
+use Rattle.std.proofs.Common.{◌≡◌, inl, inr, ℕ, true, false, Option, None, sym, ap, subst, ◌∙◌}
 use Rattle.std.specs.Prelude.{List, is_some}
 use Rattle.sqlite.specs.Tree.{Trees}
 use Rattle.sqlite.specs.State.{State, HasCleanDisk, Survives}
@@ -8,13 +8,11 @@ use Rattle.store_sql.specs.Calls.{Fails, Never}
 use Rattle.store_sql.specs.Faults.{HasFailed}
 use Rattle.office.specs.declared.opening.Opening.{Opening}
 use Rattle.office.specs.declared.arrival.Arrival.{Arrival}
-use Rattle.store_rows.specs.Transactions.{Has, IsAsBefore, Rests}
-use Rattle.store_rows.proofs.Before.{fails_before}
+use Rattle.store_rows.specs.Transactions.{Has, Rests}
 use Rattle.store_rows.proofs.Steps.{ends_unbegun}
 use Rattle.store_sql.specs.declared.table_fault.Fault.TheVariants.{NoMemory}
-use Rattle.office.specs.declared.store_fault.StoreFault.{StoreFault}
 use Rattle.store_rows.specs.Rows.{office_contents}
-use Rattle.store.specs.Meaning.{DiskFailed, IsLeft, LooksOn, Tells}
+use Rattle.store.specs.Meaning.{DiskFailed, IsLeft, Tells}
 
 -- where no query has a limit on its steps, only a disk fails
 pub disk_failed : (old new : State) → old.step_limit ≡ None → HasFailed old new → DiskFailed old new
@@ -44,12 +42,3 @@ pub left_committed : (s : State) (o : Opening) (l : List Arrival)
     → (trees : Trees) → s.may_leave trees → IsLeft o l trees
 left_committed s o l settled rests trees may =
     inl (subst (λ (t : Trees). Kept t (office_contents o l)) (sym (settled trees may)) rests.committed.kept)
-
--- a look leaves the database as it was
-pub looks_before : (old new : State) (r : Result (Unit {0}) StoreFault) → LooksOn old new r → IsAsBefore old new
-looks_before old new (Ok x) same = fails_before old new (inl same)
-looks_before old new (Err e) fails = record {
-  was_open = λ still. (fails_before old new (fails still)).was_open still;
-  rest = λ still. (fails_before old new (fails still)).rest still;
-  same = λ still. (fails_before old new (fails still)).same still;
-}

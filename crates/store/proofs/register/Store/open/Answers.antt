@@ -8,13 +8,6 @@ use Rattle.store.proofs.OfficeRows.{looks_weaker, not_missed}
 use Rattle.store.proofs.Telling.{disk_failed}
 use Rattle.store.proofs.register.Store.open.Goals as goal
 
-pub returns-in-Err-clause-refused : goal.returns-in-Err-clause-refused
-returns-in-Err-clause-refused g c clean rows has =
-    let old = state g.S.Store c.args.conn in
-    let new = state g.S.Store c.look.new.conn in
-    looks_weaker rows (HasFailed old new) (DiskFailed old new) (Err c.in-Err.fault)
-    (disk_failed old new c.requires.unlimited) (c.in-Err.ensures.looks clean rows has)
-
 pub returns-in-Err-clause-only : goal.returns-in-Err-clause-only
 returns-in-Err-clause-only g c clean still o l tells =
     let old = state g.S.Store c.args.conn in
