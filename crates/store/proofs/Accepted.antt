@@ -1,14 +1,13 @@
 -- An arrival that is accepted now.
-use Rattle.std.proofs.Common.{◌≡◌, ℕ, ◌+◌, ◌<◌, ◌≤◌, List, [], ◌∷◌, ◌++◌, length, None, Result, Ok, Err, refl, sym, ap, subst, ◌∙◌, arith}
+use Rattle.std.proofs.Common.{◌≡◌, ℕ, ◌+◌, ◌<◌, ◌≤◌, List, [], ◌∷◌, ◌++◌, length, Result, Ok, Err, refl, sym, ap}
+use Rattle.std.proofs.Common.{subst, ◌∙◌, arith}
 use Rattle.std.specs.Prelude.{IsOkAnd, ◌^◌}
 use Rattle.values.specs.declared.limits.TheConstants.{LATEST_MOMENT}
-use Rattle.values.specs.declared.refusal.Refusal.{Refusal}
 use Rattle.sqlite.specs.Effect.{Database}
 use Rattle.sqlite.specs.State.{State as Connection, Survives}
 use Rattle.sqlite.proofs.StateLemmas.{survives_weaker}
 use Rattle.message.specs.declared.kinds.Message.{Message}
 use Rattle.store_sql.specs.Contents.{Contents}
-use Rattle.store_sql.specs.declared.table_fault.Fault.{Fault}
 use Rattle.office.specs.declared.arrival.Arrival.{Arrival}
 use Rattle.office.specs.declared.arrival.Kept.{Kept}
 use Rattle.office.specs.declared.arrival.Outcome.TheVariants as outcome
@@ -19,7 +18,7 @@ use Rattle.office.specs.declared.view.View.{View}
 use Rattle.office.specs.Decided.{Agrees, Decided, HasRoom, stepped_by, written}
 use Rattle.office.specs.Machine.{Stepped, after, first_holding, refusals, reply_to}
 use Rattle.office.specs.State.{State, next_serial}
-use Rattle.office.specs.History.{First, change, due, judged, kept_row, reply_kept, state}
+use Rattle.office.specs.History.{change, due, judged, kept_row, state}
 use Rattle.office.specs.Shows.{Shows}
 use Rattle.office.proofs.Growth.{holds_in_range, opening_stays}
 use Rattle.office.proofs.Ranges.{revoked_is_issued}
@@ -57,33 +56,28 @@ decided_accepted p a m d v is decided room agrees small =
 
 -- ---- what is written
 
-shows_written : (p : Past) (a : Arrival) (d : Decision) (j : Result First Refusal) → IsHistory p.0 p.1
-    → reply_kept (kept_at p) a ≡ None → judged (state_at p) (kept_at p) a ≡ j
-    → IsOkAnd j (λ f. (f.arrival ≡ a) × (f.reply ≡ d.reply) × (written d (state_at p) ≡ change (state_at p) f))
-    → d.version < 9223372036854775807
-    → (outcome.Accepted d.reply ≡ due p.0 p.1 a)
-    × Shows (written d (state_at p)) (kept_at p ++ kept_of a d.reply ∷ []) p.0 (p.1 ++ a ∷ [])
-shows_written p a d (Err x) h new e found small = absurd found
-shows_written p a d (Ok f) h new e found small =
-    let s = state_at p in
-    let kept = kept_at p in
-    let l = p.1 ++ a ∷ [] in
-    let version : d.version ≡ (change s f).version = ap (λ (t : State). t.version) found.2 in
-    let r = shows_accepted s kept p.0 p.1 a f new e (omega (arith, small, version)) (shown_at p h) in
-    let row : kept_row f ≡ kept_of a d.reply =
-    ap (λ (x : Arrival). kept_of x f.reply) found.0 ∙ ap (λ (x : List ℕ). kept_of a x) found.1 in
-    let rows : kept ++ kept_row f ∷ [] ≡ kept ++ kept_of a d.reply ∷ [] = ap (λ (k : Kept). kept ++ k ∷ []) row in
-    let after : change s f ≡ written d s = sym found.2 in (
-      ap (λ (x : List ℕ). outcome.Accepted x) (sym found.1) ∙ r.0,
-      subst (λ (t : State). Shows t (kept ++ kept_of a d.reply ∷ []) p.0 l) after
-          (subst (λ (ks : List Kept). Shows (change s f) ks p.0 l) rows r.1),
-    )
+pub ok_from_is_ok_and : {T E : Type 0} {Q : T → Type 0} (r : Result T E) → IsOkAnd r Q → (x : T) × (r ≡ Ok x) × Q x
+ok_from_is_ok_and (Ok x) h = (x, refl, h)
+ok_from_is_ok_and (Err y) h = absurd h
 
 -- the outcome is due, and the office with the arrival shows what is written
 pub accepted : (p : Past) (a : Arrival) (d : Decision) (cas : List Ca) → IsHistory p.0 p.1 → IsAccepted a d cas p
     → (outcome.Accepted d.reply ≡ due p.0 p.1 a)
     × Shows (written d (state_at p)) (kept_at p ++ kept_of a d.reply ∷ []) p.0 (p.1 ++ a ∷ [])
-accepted p a d cas h is = shows_written p a d (judged (state_at p) (kept_at p) a) h is.new refl is.judged is.version
+accepted p a d cas h is =
+    let s = state_at p in
+    let kept = kept_at p in
+    let l = p.1 ++ a ∷ [] in
+    let found = ok_from_is_ok_and (judged s kept a) is.judged in
+    let f = found.0 in
+    let version : d.version ≡ (change s f).version = ap (λ (t : State). t.version) found.2.2 in
+    let r = shows_accepted s kept p.0 p.1 a f is.new found.1 (omega (arith, is.version, version)) (shown_at p h) in
+    let row : kept_row f ≡ kept_of a d.reply =
+    ap (λ (x : Arrival). kept_of x f.reply) found.2.0 ∙ ap (kept_of a) found.2.1 in (
+      ap (λ (x : List ℕ). outcome.Accepted x) (sym found.2.1) ∙ r.0,
+      subst (λ (t : State). Shows t (kept ++ kept_of a d.reply ∷ []) p.0 l) (sym found.2.2)
+          (subst (λ (k : Kept). Shows (change s f) (kept ++ k ∷ []) p.0 l) row r.1),
+    )
 
 small : LATEST_MOMENT < 2 ^ 63
 small = omega arith
@@ -129,14 +123,9 @@ settles_written a d cas old new size makes = λ p after.
       subst (λ (c : Contents). Goes old new c) (rows_with a p x kept s.1) q.1,
     )
 
-pub settles_unwritten : (a : Arrival) (d : Decision) (cas : List Ca) (old new : Connection) (f : Fault)
-    → Makes {X = Unit {0}} (IsDue d cas) (contents_after d a) old new (Err f) → Settles a (IsAccepted a d cas) old new (Err f)
-settles_unwritten a d cas old new f makes = λ p after.
-    makes (state_at p, kept_at p) (is_due p a d cas old.now after)
-
 -- a crash in the midst of what is written commits nothing
-pub waits_written : (a : Arrival) (d : Decision) (cas : List Ca) (old new : Connection) → Survives old new (Waits (IsDue d cas) old)
-    → Survives old new (Waits (IsAfter (IsAccepted a d cas)) old)
+pub waits_written : (a : Arrival) (d : Decision) (cas : List Ca) (old new : Connection)
+    → Survives old new (Waits (IsDue d cas) old) → Survives old new (Waits (IsAfter (IsAccepted a d cas)) old)
 waits_written a d cas old new one =
     survives_weaker old new (Waits (IsDue d cas) old) (Waits (IsAfter (IsAccepted a d cas)) old)
     (λ clean trees h p after. h (state_at p, kept_at p) (is_due p a d cas old.now after)) one

@@ -9,6 +9,7 @@ use Rattle.std.proofs.lemmas.Cmp.{nat_list_cmp_total}
 use Rattle.std.proofs.lemmas.Map.Text.{is_eq-slice_cmp}
 use Rattle.std.proofs.lemmas.Slice.Eq.{bytes_eq-Decides}
 use Rattle.sqlite.specs.Tree.{IsAscending}
+use Rattle.sqlite_trees.proofs.ListLemmas.{all_weaker}
 use Rattle.message.specs.declared.department.Department.{Department}
 use Rattle.message.specs.Values.{is_department}
 use Rattle.office.specs.Machine.{put_text}
@@ -24,6 +25,32 @@ tied xs ys e =
 turned : (xs ys : List ℕ) → cmp xs ys ≡ Greater → cmp ys xs ≡ Less
 turned xs ys e = nat_list_cmp_total.antisymm ys xs ∙ ap ordering_reverse e
 
+-- ---- one more in its place
+
+-- whatever its place is, what holds of all holds of all
+all_step : {A : Type 0} (P : A → Type 0) (o : Ordering) (new e same : A) (es rest : List A) → P new
+    → (o ≡ Equal → P same) → AllByRecursion P (e ∷ es) → AllByRecursion P rest
+    → AllByRecursion P (by_order o (new ∷ e ∷ es) (same ∷ es) (e ∷ rest))
+all_step P Less new e same es rest is tie all later = (is, all)
+all_step P Equal new e same es rest is tie all later = (tie refl, all.1)
+all_step P Greater new e same es rest is tie all later = (all.0, later)
+
+-- and what ascends ascends
+up_step : {A : Type 0} (R : A → A → Type 0) (o : Ordering) (new e same : A) (es rest : List A)
+    → (o ≡ Less → AllByRecursion (R new) (e ∷ es)) → (o ≡ Equal → AllByRecursion (R same) es)
+    → (o ≡ Greater → AllByRecursion (R e) rest) → IsAscending R (e ∷ es) → IsAscending R rest
+    → IsAscending R (by_order o (new ∷ e ∷ es) (same ∷ es) (e ∷ rest))
+up_step R Less new e same es rest less tie more up later = (less refl, up)
+up_step R Equal new e same es rest less tie more up later = (tie refl, up.1)
+up_step R Greater new e same es rest less tie more up later = (more refl, later)
+
+-- what comes before a text comes before all that come after it
+before_all : {A : Type 0} (key : A → List ℕ) (xs ys : List ℕ) (es : List A) → cmp xs ys ≡ Less
+    → AllByRecursion (λ e. cmp ys (key e) ≡ Less) es → AllByRecursion (λ e. cmp xs (key e) ≡ Less) es
+before_all key xs ys es lt all =
+    all_weaker (λ e. cmp ys (key e) ≡ Less) (λ e. cmp xs (key e) ≡ Less)
+    (λ e after. nat_list_cmp_total.trans xs ys (key e) lt after) es all
+
 -- ---- departments by name
 
 -- a lawful department under its name
@@ -34,79 +61,40 @@ IsEntry e = (is_department e.1 ≡ true) × (e.0 ≡ e.1.name)
 abbrev pub AreInOrder : List ℕ × Department → List ℕ × Department → Type 0
 AreInOrder a b = cmp a.1.name b.1.name ≡ Less
 
--- each name comes after this one
-abbrev ComeAfter : List ℕ → List (List ℕ × Department) → Type 0
-ComeAfter name es = AllByRecursion (λ e. cmp name e.1.name ≡ Less) es
-
-come_after : (xs ys : List ℕ) (es : List (List ℕ × Department)) → cmp xs ys ≡ Less → ComeAfter ys es → ComeAfter xs es
-come_after xs ys [] lt all = tt
-come_after xs ys (e ∷ es) lt all = (nat_list_cmp_total.trans xs ys e.1.name lt all.0, come_after xs ys es lt all.1)
-
-pub entries_put : (d : Department) (es : List (List ℕ × Department)) → is_department d ≡ true → AllByRecursion IsEntry es
-    → AllByRecursion IsEntry (put cmp d.name d es)
+pub entries_put : (d : Department) (es : List (List ℕ × Department)) → is_department d ≡ true
+    → AllByRecursion IsEntry es → AllByRecursion IsEntry (put cmp d.name d es)
 entries_put d [] lawful all = ((lawful, refl), tt)
-entries_put d (e ∷ es) lawful all = by_case (cmp d.name e.0) (entries_put d es lawful all.1) refl
-  where
-    by_case : (o : Ordering) → AllByRecursion IsEntry (put cmp d.name d es) → cmp d.name e.0 ≡ o
-        → AllByRecursion IsEntry (by_order o ((d.name, d) ∷ e ∷ es) ((e.0, d) ∷ es) (e ∷ put cmp d.name d es))
-    by_case Less rest is = ((lawful, refl), all)
-    by_case Equal rest is = ((lawful, sym (tied d.name e.0 is)), all.1)
-    by_case Greater rest is = (all.0, rest)
+entries_put d (e ∷ es) lawful all =
+    all_step IsEntry (cmp d.name e.0) (d.name, d) e (e.0, d) es (put cmp d.name d es) (lawful, refl)
+    (λ is. (lawful, sym (tied d.name e.0 is))) all (entries_put d es lawful all.1)
 
-under_put : (n : List ℕ) (d : Department) (es : List (List ℕ × Department)) → cmp n d.name ≡ Less → ComeAfter n es
-    → ComeAfter n (put cmp d.name d es)
+under_put : (n : List ℕ) (d : Department) (es : List (List ℕ × Department)) → cmp n d.name ≡ Less
+    → AllByRecursion (λ e. cmp n e.1.name ≡ Less) es → AllByRecursion (λ e. cmp n e.1.name ≡ Less) (put cmp d.name d es)
 under_put n d [] lt all = (lt, tt)
-under_put n d (e ∷ es) lt all = by_case (cmp d.name e.0) (under_put n d es lt all.1)
-  where
-    by_case : (o : Ordering) → ComeAfter n (put cmp d.name d es)
-        → ComeAfter n (by_order o ((d.name, d) ∷ e ∷ es) ((e.0, d) ∷ es) (e ∷ put cmp d.name d es))
-    by_case Less rest = (lt, all)
-    by_case Equal rest = (lt, all.1)
-    by_case Greater rest = (all.0, rest)
+under_put n d (e ∷ es) lt all =
+    all_step (λ e. cmp n e.1.name ≡ Less) (cmp d.name e.0) (d.name, d) e (e.0, d) es (put cmp d.name d es) lt
+    (λ _. lt) all (under_put n d es lt all.1)
 
 pub names_put : (d : Department) (es : List (List ℕ × Department)) → AllByRecursion IsEntry es
     → IsAscending AreInOrder es → IsAscending AreInOrder (put cmp d.name d es)
 names_put d [] named up = (tt, tt)
-names_put d (e ∷ es) named up = by_case (cmp d.name e.0) (names_put d es named.1 up.1) refl
-  where
-    by_case : (o : Ordering) → IsAscending AreInOrder (put cmp d.name d es) → cmp d.name e.0 ≡ o
-        → IsAscending AreInOrder (by_order o ((d.name, d) ∷ e ∷ es) ((e.0, d) ∷ es) (e ∷ put cmp d.name d es))
-    by_case Less rest is =
-        let first : cmp d.name e.1.name ≡ Less = subst (λ n. cmp d.name n ≡ Less) named.0.1 is in
-        ((first, come_after d.name e.1.name es first up.0), up)
-    by_case Equal rest is =
-        let same : e.1.name ≡ d.name = sym (tied d.name e.0 is ∙ named.0.1) in
-        (subst (λ n. ComeAfter n es) same up.0, up.1)
-    by_case Greater rest is =
-        let first : cmp e.1.name d.name ≡ Less = subst (λ n. cmp n d.name ≡ Less) named.0.1 (turned d.name e.0 is) in
-        (under_put e.1.name d es first up.0, rest)
+names_put d (e ∷ es) named up =
+    up_step AreInOrder (cmp d.name e.0) (d.name, d) e (e.0, d) es (put cmp d.name d es)
+    (λ is. let lt = rw named.0.1 at is in (lt, before_all (λ e. e.1.name) d.name e.1.name es lt up.0))
+    (λ is. subst (λ n. AllByRecursion (λ e. cmp n e.1.name ≡ Less) es) (sym (tied d.name e.0 is ∙ named.0.1)) up.0)
+    (λ is. under_put e.1.name d es (rw named.0.1 at (turned d.name e.0 is)) up.0) up (names_put d es named.1 up.1)
 
 -- ---- key ids
 
--- each text comes after this one
-abbrev Follow : List ℕ → List (List ℕ) → Type 0
-Follow t ts = AllByRecursion (λ u. cmp t u ≡ Less) ts
-
-follow : (xs ys : List ℕ) (ts : List (List ℕ)) → cmp xs ys ≡ Less → Follow ys ts → Follow xs ts
-follow xs ys [] lt all = tt
-follow xs ys (t ∷ ts) lt all = (nat_list_cmp_total.trans xs ys t lt all.0, follow xs ys ts lt all.1)
-
-follow_put : (n t : List ℕ) (ts : List (List ℕ)) → cmp n t ≡ Less → Follow n ts → Follow n (put_text t ts)
+follow_put : (n t : List ℕ) (ts : List (List ℕ)) → cmp n t ≡ Less → AllByRecursion (λ u. cmp n u ≡ Less) ts
+    → AllByRecursion (λ u. cmp n u ≡ Less) (put_text t ts)
 follow_put n t [] lt all = (lt, tt)
-follow_put n t (u ∷ us) lt all = by_case (cmp t u) (follow_put n t us lt all.1)
-  where
-    by_case : (o : Ordering) → Follow n (put_text t us) → Follow n (by_order o (t ∷ u ∷ us) (u ∷ us) (u ∷ put_text t us))
-    by_case Less rest = (lt, all)
-    by_case Equal rest = all
-    by_case Greater rest = (all.0, rest)
+follow_put n t (u ∷ us) lt all =
+    all_step (λ u. cmp n u ≡ Less) (cmp t u) t u u us (put_text t us) lt (λ _. all.0) all (follow_put n t us lt all.1)
 
 pub texts_put : (t : List ℕ) (ts : List (List ℕ)) → IsAscending (λ a b. cmp a b ≡ Less) ts
     → IsAscending (λ a b. cmp a b ≡ Less) (put_text t ts)
 texts_put t [] up = (tt, tt)
-texts_put t (u ∷ us) up = by_case (cmp t u) (texts_put t us up.1) refl
-  where
-    by_case : (o : Ordering) → IsAscending (λ a b. cmp a b ≡ Less) (put_text t us) → cmp t u ≡ o
-        → IsAscending (λ a b. cmp a b ≡ Less) (by_order o (t ∷ u ∷ us) (u ∷ us) (u ∷ put_text t us))
-    by_case Less rest is = ((is, follow t u us is up.0), up)
-    by_case Equal rest is = up
-    by_case Greater rest is = (follow_put u t us (turned t u is) up.0, rest)
+texts_put t (u ∷ us) up =
+    up_step (λ a b. cmp a b ≡ Less) (cmp t u) t u u us (put_text t us) (λ is. (is, before_all (λ v. v) t u us is up.0))
+    (λ _. up.0) (λ is. follow_put u t us (turned t u is) up.0) up (texts_put t us up.1)

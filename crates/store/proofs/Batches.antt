@@ -1,5 +1,6 @@
 -- The certificates between two serials are a batch.
-use Rattle.std.proofs.Common.{◌≡◌, ℕ, zero, suc, ◌+◌, ◌-◌, ◌<◌, ◌≤◌, List, [], ◌∷◌, length, filter, take, drop, true, false, leb, refl, sym, ap, ◌∙◌, arith, inl, inr}
+use Rattle.std.proofs.Common.{◌≡◌, ℕ, zero, suc, ◌+◌, ◌-◌, ◌<◌, ◌≤◌, List, [], ◌∷◌, length, filter, take, drop, true}
+use Rattle.std.proofs.Common.{false, leb, refl, sym, ap, ◌∙◌, arith, inl, inr}
 use Rattle.std.specs.Prelude.{◌&&◌}
 use Rattle.std.proofs.lemmas.Bool.{and_parts, cases_lt, le-leb, lt-leb, leb-true}
 use Rattle.std.proofs.lemmas.List.{take_all, length-drop}
@@ -18,7 +19,8 @@ use Rattle.store.proofs.Lawful.{lawful_after}
 use Rattle.store_reads.proofs.OfHistory.{of_history}
 
 -- none has a serial up to one below the first
-none_below : (first lo hi : ℕ) (cs : List Certificate) → hi < first → AreCounted first cs → filter (is_within lo hi) cs ≡ []
+none_below : (first lo hi : ℕ) (cs : List Certificate) → hi < first → AreCounted first cs
+    → filter (is_within lo hi) cs ≡ []
 none_below first lo hi [] below counted = refl
 none_below first lo hi (c ∷ cs) below counted =
     let past : leb c.fields.serial hi ≡ false = lt-leb _ _ (omega (arith, below, counted.0)) in
@@ -41,7 +43,8 @@ first_ones first lo hi (c ∷ cs) low counted = elim (cases_lt hi first) [
       let low_test : leb lo c.fields.serial ≡ true = le-leb _ _ (omega (arith, low, counted.0)) in
       let high_test : leb c.fields.serial hi ≡ true = le-leb _ _ (omega (arith, over, counted.0)) in
       let more : suc hi - first ≡ suc (suc hi - suc first) = omega (arith, over) in
-      rw (low_test, high_test, more) (ap (λ (xs : List Certificate). c ∷ xs) (first_ones (suc first) lo hi cs (omega (arith, low)) counted.1))
+      rw (low_test, high_test, more) (ap (λ (xs : List Certificate). c ∷ xs)
+      (first_ones (suc first) lo hi cs (omega (arith, low)) counted.1))
 ]
 
 -- those from the serial at a place on, up to a serial
@@ -70,7 +73,7 @@ batch_at first place cs counted few = elim (cases_lt (first + place) 92233720368
             let count : suc (numbered first (place + 999)) - (first + place) ≡ 1000 = omega (arith, high) in
             ap (λ (n : ℕ). take n (drop place cs)) count
         | inr over ↦
-            take_all (suc (numbered first (place + 999)) - (first + place)) (drop place cs) (omega (arith, over, rest, few, low))
+            take_all _ (drop place cs) (omega (arith, over, rest, few, low))
             ∙ sym (take_all 1000 (drop place cs) (omega (arith, over, rest, few, low)))
       ])
   | inr past ↦
@@ -78,15 +81,15 @@ batch_at first place cs counted few = elim (cases_lt (first + place) 92233720368
       let all = from_place first (9223372036854775807 - first) (numbered first (place + 999)) cs counted in
       let none : drop (9223372036854775807 - first) cs ≡ [] = drop_of_length-le cs (omega (arith, few)) in
       let gone : drop place cs ≡ [] = drop_of_length-le cs (omega (arith, past, few)) in
-      rw lo (all ∙ ap (λ (xs : List Certificate). take (suc (numbered first (place + 999)) - (first + (9223372036854775807 - first))) xs) none
-      ∙ take_all (suc (numbered first (place + 999)) - (first + (9223372036854775807 - first))) [] (omega arith)
-      ∙ sym (take_all 1000 [] (omega arith))
-      ∙ ap (λ (xs : List Certificate). take 1000 xs) (sym gone))
+      let count = suc (numbered first (place + 999)) - (first + (9223372036854775807 - first)) in
+      rw lo (all ∙ ap (take count) none ∙ take_all count [] (omega arith) ∙ sym (take_all 1000 [] (omega arith))
+      ∙ ap (take 1000) (sym gone))
 ]
 
 -- so it is in an office after a history
 pub batch_is : (o : Opening) (l : List Arrival) → IsHistory o l → (place : ℕ)
-    → filter (is_within (numbered (state o l).opening.first place) (numbered (state o l).opening.first (place + 999))) (state o l).certificates
+    → (let first = (state o l).opening.first in
+    filter (is_within (numbered first place) (numbered first (place + 999))) (state o l).certificates)
     ≡ batch_of (state o l) place
 batch_is o l history place =
     let s = state o l in

@@ -1,38 +1,167 @@
 -- The state of an office is lawful after every history.
-use Rattle.std.proofs.Common.{◌≡◌, ℕ, zero, suc, ◌-◌, List, [], ◌∷◌, length, Bool, true, false, cond, None, Result, Ok}
-use Rattle.std.proofs.Common.{Err, refl, sym, subst}
+use Rattle.std.proofs.Common.{◌≡◌, ℕ, zero, suc, ◌-◌, List, [], ◌∷◌, length, Bool, true, false, cond, Option, Some}
+use Rattle.std.proofs.Common.{None, ◌+◌, ◌++◌, not, refl, sym, subst, arith, Result, Ok, Err}
+use Rattle.std.specs.Prelude.{IfSome, slice_get, nat_lt}
 use Rattle.std.specs.List.{AllByRecursion, fold}
-use Rattle.std.proofs.lemmas.Bool.{and_parts, eqb-true}
+use Rattle.std.specs.Ordering.{eq_by_cmp, nat_cmp}
+use Rattle.std.specs.Cmp.Lexicographic.{slice_cmp}
+use Rattle.std.specs.FinMap.Entries.{find}
+use Rattle.std.proofs.lemmas.Bool.{and_parts, ltb-false, ltb-true, eqb-true}
 use Rattle.std.proofs.lemmas.List.Sums.{fold_push}
 use Rattle.values.specs.declared.refusal.Refusal.{Refusal}
 use Rattle.lines.specs.declared.signature.Signature.{Signature}
+use Rattle.lines.proofs.KeyLineLaws.{key_size}
+use Rattle.krl.proofs.Items.{all_more}
 use Rattle.message.specs.declared.department.Department.{Department}
+use Rattle.message.specs.Values.{is_department, is_issue, is_renewal, is_delivery, is_message, is_signature}
+use Rattle.message.specs.declared.issue.Issue.{Issue}
+use Rattle.message.specs.declared.renewal.Renewal.{Renewal}
 use Rattle.message.specs.declared.delivery.Delivery.{Delivery}
 use Rattle.message.specs.declared.kinds.Message.{Message}
 use Rattle.message.specs.declared.kinds.Message.TheVariants as message
-use Rattle.message.specs.Values.{is_delivery, is_department, is_message, is_signature}
 use Rattle.office.specs.declared.opening.Opening.{Opening}
-use Rattle.office.specs.declared.arrival.Arrival.{Arrival}
 use Rattle.office.specs.declared.ca.Ca.{Ca}
 use Rattle.office.specs.declared.certificate.Certificate.{Certificate}
-use Rattle.office.specs.Openings.{IsOpening}
-use Rattle.office.specs.Permissions.{is_permitted_by}
-use Rattle.office.specs.Certificates.{IsCertificate}
-use Rattle.office.specs.Machine.{State, after, ca_from_now, certificate_of, department_named, department_of_serial}
-use Rattle.office.specs.Machine.{first_holding, has_any, is_key_id_revoked, is_range_revoked, issued, newest_key}
-use Rattle.office.specs.Machine.{opened, refusals, republished, signed_at, with_ca, with_department, with_key_id}
-use Rattle.office.specs.Machine.{with_range, with_signature}
+use Rattle.office.specs.Certificates.{IsCertificate, certificate_for, kind_or_user, renewed_certificate}
+use Rattle.office.specs.State.{key_or}
+use Rattle.office.specs.Machine.{State, certificate_of, department_named, newest_key, next_serial, renewed}
+use Rattle.office.specs.Machine.{with_certificate, with_one_more, after, ca_from_now, department_of_serial}
+use Rattle.office.specs.Machine.{first_holding, has_any, is_key_id_revoked, is_range_revoked, issued, opened, refusals}
+use Rattle.office.specs.Machine.{signed_at}
+use Rattle.office.specs.declared.view.View.{View}
+use Rattle.office.specs.Views.{HasSerial}
+use Rattle.office.specs.Permissions.{are_listed, is_permitted_by, is_renewal_permitted_by, is_life_permitted}
+use Rattle.office.specs.Permissions.{meet_rules}
+use Rattle.office.specs.Refusals.{is_one_that}
+use Rattle.office.proofs.Issuable.{issuable_certificate, renewable_certificate}
+use Rattle.office.specs.declared.arrival.Arrival.{Arrival}
 use Rattle.office.specs.History.{First, add_accepted, change, judged, kept_by, state, state_after, with_arrival}
 use Rattle.office.proofs.Histories.{message_lawful}
 use Rattle.office.proofs.Judged.{judged_is_first, none_holds}
-use Rattle.store_rows.specs.Certificates.{AreCounted}
+use Rattle.store_rows.specs.Certificates.{IsSigned, AreCounted}
 use Rattle.store_rows.specs.Lawful.{IsLawful}
+use Rattle.store.proofs.Ascending.{IsEntry, entries_put, names_put, texts_put}
 use Rattle.store.specs.Meaning.{IsHistory}
-use Rattle.store.proofs.Ascending.{entries_put, names_put, texts_put}
-use Rattle.krl.proofs.Items.{all_more}
-use Rattle.lines.proofs.KeyLineLaws.{key_size}
-use Rattle.store.proofs.LawfulStates.{IsIssued, issued_lawful, named_lawful, newest_lawful}
-use Rattle.store.proofs.MadeCertificates.{has_serial, made_by_issue, not_false, renewed_lawful, with_one_lawful}
+
+-- ---- what a lawful state has
+
+-- whichever of two states it is
+pub of_either : (P : State → Type 0) (b : Bool) (s t : State) → P s → P t → P (cond b s t)
+of_either P true s t p q = p
+of_either P false s t p q = q
+
+all_get : {X : Type 0} (P : X → Type 0) (xs : List X) (k : ℕ) → AllByRecursion P xs → IfSome (slice_get xs k) P
+all_get P [] k all = tt
+all_get P (x ∷ xs) zero all = all.0
+all_get P (x ∷ xs) (suc k) all = all_get P xs k all.1
+
+abbrev IsIssued : Certificate → Type 0
+IsIssued c = IsCertificate c × IsSigned c
+
+-- the certificate of a serial
+issued_lawful : (s : State) (serial : ℕ) → IsLawful s → IfSome (certificate_of s serial) IsIssued
+issued_lawful s serial lawful =
+    elim (nat_lt serial s.opening.first)
+    as (λ b. IfSome (cond b None (slice_get s.certificates (serial - s.opening.first))) IsIssued) [
+      | true ↦ tt
+      | false ↦ all_get IsIssued s.certificates (serial - s.opening.first) lawful.certificates
+    ]
+
+find_lawful : (name : List ℕ) (es : List (List ℕ × Department)) → AllByRecursion IsEntry es
+    → IfSome (find (slice_cmp nat_cmp) name es) (λ d. is_department d ≡ true)
+find_lawful name [] all = tt
+find_lawful name (e ∷ es) all =
+    elim (eq_by_cmp (slice_cmp nat_cmp) name e.0)
+    as (λ b. IfSome (cond b (Some e.1) (find (slice_cmp nat_cmp) name es)) (λ d. is_department d ≡ true)) [
+      | true ↦ all.0.0
+      | false ↦ find_lawful name es all.1
+    ]
+
+-- the department of a name
+named_lawful : (s : State) (name : List ℕ) → IsLawful s
+    → IfSome (department_named s name) (λ d. is_department d ≡ true)
+named_lawful s name lawful = find_lawful name s.departments lawful.departments
+
+newest_size : (o : Opening) (ca : Option Ca) → length o.ca ≡ 32 → IfSome ca (λ ca. length ca.key ≡ 32)
+    → length (key_or o.ca ca) ≡ 32
+newest_size o (Some ca) size one = one
+newest_size o None size one = size
+
+-- the key of the newest CA
+newest_lawful : (s : State) → IsLawful s → length (newest_key s.opening s.cas) ≡ 32
+newest_lawful s lawful =
+    newest_size s.opening (slice_get s.cas (length s.cas - 1)) lawful.opening.ca
+    (all_get (λ ca. length ca.key ≡ 32) s.cas (length s.cas - 1) lawful.cas)
+
+-- ---- a certificate that is made
+
+counted_push : (first : ℕ) (cs : List Certificate) (c : Certificate) → AreCounted first cs
+    → c.fields.serial ≡ first + length cs → AreCounted first (cs ++ c ∷ [])
+counted_push first [] c up is = (omega (arith, is), tt)
+counted_push first (x ∷ cs) c up is = (up.0, counted_push (suc first) cs c up.1 (omega (arith, is)))
+
+not_false : (b : Bool) → not b ≡ false → b ≡ true
+not_false true e = refl
+not_false false e = absurd cc
+
+-- a view of the state's counters, which asks nothing else
+abbrev counters : State → View
+counters s = record {
+  opening = record { ref_ptr = (0, 0); now = s.opening };
+  next = next_serial s;
+  version = s.version;
+  date = s.date;
+  cas = record { ref_ptr = (0, 0); now = s.cas };
+  department = None;
+  certificate = None;
+  is_revoked = false;
+  is_key_id_revoked = false;
+  has_revoked_key_ids = false;
+}
+
+has_serial : (s : State) → IsLawful s → nat_lt s.opening.last (next_serial s) ≡ false → HasSerial (counters s)
+has_serial s lawful left = record { opening = lawful.opening; next = omega arith; left = ltb-false _ _ left }
+
+made_by_issue : (s : State) (i : Issue) (ca nonce : List ℕ) (d : Option Department) → HasSerial (counters s)
+    → IfSome d (λ d. is_department d ≡ true) → is_issue i ≡ true → is_permitted_by d i ≡ true → length ca ≡ 32
+    → length nonce ≡ 32 → IsCertificate (certificate_for i (next_serial s) (kind_or_user d) ca nonce)
+made_by_issue s i ca nonce (Some d) left department issue permitted ca_size nonce_size =
+    issuable_certificate (counters s) d i ca nonce
+    (record { serial = left; department = department; issue = issue; permitted = permitted }) ca_size nonce_size
+made_by_issue s i ca nonce None left department issue permitted ca_size nonce_size = absurd cc
+
+renewal_order : (d : Option Department) (c : Certificate) (r : Renewal) → is_renewal_permitted_by d c r ≡ true
+    → nat_lt r.after r.before ≡ true
+renewal_order (Some d) c r e =
+    let life : is_life_permitted d r.after r.before ≡ true =
+    (and_parts (are_listed d.extensions c.fields.extensions) _
+    (and_parts (are_listed d.options c.fields.options) _ (and_parts (meet_rules d c.fields.principals) _ e).1).1).1 in
+    (and_parts _ _ life).0
+renewal_order None c r e = absurd cc
+
+with_one_lawful : (s : State) (c : Certificate) → IsLawful s → IsCertificate c → c.signature ≡ None
+    → c.fields.serial ≡ next_serial s → IsLawful (with_certificate s c)
+with_one_lawful s c lawful is unsigned serial =
+    assumption (
+      counted_push s.opening.first s.certificates c lawful.serials serial,
+      all_more IsIssued s.certificates c lawful.certificates
+          (is, subst (λ o. IfSome o (λ (x : Signature). length x.bytes ≡ 64)) (sym unsigned) tt),
+    )
+
+renewed_lawful : (s : State) (r : Renewal) (nonce : List ℕ) (o : Option Certificate) (d : Option Department)
+    → IsLawful s → HasSerial (counters s) → is_renewal r ≡ true → length nonce ≡ 32 → IfSome o IsIssued
+    → is_one_that (λ c. not (is_renewal_permitted_by d c r)) o ≡ false → certificate_of s r.serial ≡ o
+    → IsLawful (with_one_more s (renewed s r nonce))
+renewed_lawful s r nonce None d lawful left renewal size is permitted e = rw e lawful
+renewed_lawful s r nonce (Some c) d lawful left renewal size is permitted e =
+    let order : nat_lt r.after r.before ≡ true =
+    renewal_order d c r (not_false (is_renewal_permitted_by d c r) permitted) in
+    let ca = newest_key s.opening s.cas in
+    let made : IsCertificate (renewed_certificate c r (next_serial s) ca nonce) =
+    renewable_certificate (counters s) c r ca nonce
+    (record { serial = left; certificate = is.0; renewal = renewal; order = ltb-true _ _ order })
+    (newest_lawful s lawful) size in
+    rw e (with_one_lawful s (renewed_certificate c r (next_serial s) ca nonce) lawful made refl refl)
 
 -- ---- certificates with a signature
 
@@ -51,80 +180,20 @@ signed_counted first (c ∷ cs) (suc place) s up = (up.0, signed_counted (suc fi
 
 -- ---- what an accepted message leaves
 
-department_kept : (s : State) (d : Department) → IsLawful s → is_department d ≡ true → IsLawful (with_department s d)
-department_kept s d lawful is = record {
-  opening = lawful.opening;
-  cas = lawful.cas;
-  departments = entries_put d s.departments is lawful.departments;
-  names = names_put d s.departments lawful.departments lawful.names;
-  certificates = lawful.certificates;
-  serials = lawful.serials;
-  key_ids = lawful.key_ids;
-}
-
--- the same departments, certificates, CAs and key ids
-same_rows : (s t : State) → IsLawful s → t.opening ≡ s.opening → t.cas ≡ s.cas → t.departments ≡ s.departments
-    → t.certificates ≡ s.certificates → t.revoked_key_ids ≡ s.revoked_key_ids → IsLawful t
-same_rows s t lawful o a d c k = record {
-  opening = subst IsOpening (sym o) lawful.opening;
-  cas = rw a lawful.cas;
-  departments = rw d lawful.departments;
-  names = rw d lawful.names;
-  certificates = rw c lawful.certificates;
-  serials = rw (o, c) lawful.serials;
-  key_ids = rw k lawful.key_ids;
-}
-
-key_id_kept : (s : State) (key_id : List ℕ) → IsLawful s → IsLawful (with_key_id s key_id)
-key_id_kept s key_id lawful = record {
-  opening = lawful.opening;
-  cas = lawful.cas;
-  departments = lawful.departments;
-  names = lawful.names;
-  certificates = lawful.certificates;
-  serials = lawful.serials;
-  key_ids = texts_put key_id s.revoked_key_ids lawful.key_ids;
-}
-
-ca_kept : (s : State) (ca : Ca) → IsLawful s → length ca.key ≡ 32 → IsLawful (with_ca s ca)
-ca_kept s ca lawful size = record {
-  opening = lawful.opening;
-  cas = all_more (λ ca. length ca.key ≡ 32) s.cas ca lawful.cas size;
-  departments = lawful.departments;
-  names = lawful.names;
-  certificates = lawful.certificates;
-  serials = lawful.serials;
-  key_ids = lawful.key_ids;
-}
-
-signature_kept : (s : State) (serial : ℕ) (signature : Signature) → IsLawful s → length signature.bytes ≡ 64
-    → IsLawful (with_signature s serial signature)
-signature_kept s serial signature lawful size = record {
-  opening = lawful.opening;
-  cas = lawful.cas;
-  departments = lawful.departments;
-  names = lawful.names;
-  certificates = signed_all s.certificates (serial - s.opening.first) signature size lawful.certificates;
-  serials = signed_counted s.opening.first s.certificates (serial - s.opening.first) signature lawful.serials;
-  key_ids = lawful.key_ids;
-}
-
-republished_kept : (s : State) (moment : ℕ) → IsLawful s → IsLawful (republished s moment)
-republished_kept s moment lawful = same_rows s (republished s moment) lawful refl refl refl refl refl
-
-either : (b : Bool) (s t : State) → IsLawful s → IsLawful t → IsLawful (cond b s t)
-either true s t p q = p
-either false s t p q = q
-
 signature_size : (d : Delivery) → is_delivery d ≡ true → length d.signature.bytes ≡ 64
 signature_size d e =
     let signature : is_signature d.signature ≡ true = (and_parts _ _ (and_parts _ _ e).1).1 in
     eqb-true _ _ (and_parts _ _ signature).0
 
-pub keeps_lawful : (s : State) (caller : List ℕ) (m : Message) (moment : ℕ) (nonce : List ℕ) → is_message m ≡ true
+-- what the message leaves as it was is lawful still
+keeps_lawful : (s : State) (caller : List ℕ) (m : Message) (moment : ℕ) (nonce : List ℕ) → is_message m ≡ true
     → first_holding (refusals s caller m moment) ≡ None → length nonce ≡ 32 → IsLawful s
     → IsLawful (after s m moment nonce)
-keeps_lawful s caller (message.Department d) moment nonce is allowed size lawful = department_kept s d lawful is
+keeps_lawful s caller (message.Department d) moment nonce is allowed size lawful =
+    assumption (
+      entries_put d s.departments is lawful.departments,
+      names_put d s.departments lawful.departments lawful.names,
+    )
 keeps_lawful s caller (message.Issue i) moment nonce is allowed size lawful =
     let tests = none_holds (refusals s caller (message.Issue i) moment) allowed in
     let made : IsCertificate (issued s i nonce) =
@@ -137,21 +206,21 @@ keeps_lawful s caller (message.Renew r) moment nonce is allowed size lawful =
     renewed_lawful s r nonce (certificate_of s r.serial) (department_of_serial s r.serial) lawful
     (has_serial s lawful tests.1.1.1.1.1.1.1.0) is size (issued_lawful s r.serial lawful) tests.1.0 refl
 keeps_lawful s caller (message.Deliver d) moment nonce is allowed size lawful =
-    signature_kept s d.serial d.signature lawful (signature_size d is)
+    let place = d.serial - s.opening.first in
+    assumption (
+      signed_all s.certificates place d.signature (signature_size d is) lawful.certificates,
+      signed_counted s.opening.first s.certificates place d.signature lawful.serials,
+    )
 keeps_lawful s caller (message.RevokeSerial serial) moment nonce is allowed size lawful =
-    let t = republished (with_range s (record { lo = serial; hi = serial })) moment in
-    either (s.revoked serial) s t lawful (same_rows s t lawful refl refl refl refl refl)
+    of_either IsLawful (s.revoked serial) s _ lawful (assumption)
 keeps_lawful s caller (message.RevokeRange r) moment nonce is allowed size lawful =
-    let t = republished (with_range s r) moment in
-    either (is_range_revoked s r) s t lawful (same_rows s t lawful refl refl refl refl refl)
+    of_either IsLawful (is_range_revoked s r) s _ lawful (assumption)
 keeps_lawful s caller (message.RevokeKeyId key_id) moment nonce is allowed size lawful =
-    let t = with_key_id s key_id in
-    either (is_key_id_revoked s key_id) s (republished t moment) lawful
-    (republished_kept t moment (key_id_kept s key_id lawful))
+    let ids = texts_put key_id s.revoked_key_ids lawful.key_ids in
+    of_either IsLawful (is_key_id_revoked s key_id) s _ lawful (assumption)
 keeps_lawful s caller (message.Rollover k) moment nonce is allowed size lawful =
-    let t = with_ca s (ca_from_now s k.key) in
-    let kept : IsLawful t = ca_kept s (ca_from_now s k.key) lawful (key_size k is) in
-    either (has_any s.revoked_key_ids) (republished t moment) t (republished_kept t moment kept) kept
+    let cas = all_more (λ ca. length ca.key ≡ 32) s.cas (ca_from_now s k.key) lawful.cas (key_size k is) in
+    of_either IsLawful (has_any s.revoked_key_ids) _ _ (assumption) (assumption)
 
 -- ---- after a history
 
@@ -173,17 +242,6 @@ along : (o : Opening) (fs : List First) (l : List Arrival) → AllByRecursion (�
 along o fs [] sizes lawful = lawful
 along o fs (a ∷ l) sizes lawful = along o (with_arrival o fs a) l sizes.1 (first_keeps o fs a _ refl sizes.0 lawful)
 
-opened_lawful : (o : Opening) → IsOpening o → IsLawful (opened o)
-opened_lawful o is = record {
-  opening = is;
-  cas = (is.ca, tt);
-  departments = tt;
-  names = tt;
-  certificates = tt;
-  serials = tt;
-  key_ids = tt;
-}
-
 -- a history leaves a lawful state
 pub lawful_after : (o : Opening) (l : List Arrival) → IsHistory o l → IsLawful (state o l)
-lawful_after o l history = along o [] l history.nonces (opened_lawful o history.office.opening)
+lawful_after o l history = along o [] l history.nonces (let is = history.office.opening in assumption (is, is.ca, tt))

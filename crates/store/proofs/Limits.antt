@@ -1,22 +1,39 @@
 -- Why the rows of an accepted arrival are kept out: one is too long, or there is no room for one more.
-use Rattle.std.proofs.Common.{◌≡◌, inl, inr, ℕ, ◌+◌, ◌<◌, ◌≤◌, List, [], ◌∷◌, ◌++◌, length, true, not, refl, sym, ap}
-use Rattle.std.proofs.Common.{subst, ◌∙◌, arith}
-use Rattle.std.specs.Prelude.{◌^◌, filter}
+use Rattle.std.proofs.Common.{◌≡◌, inl, inr, ℕ, suc, ◌+◌, ◌<◌, ◌≤◌, List, [], ◌∷◌, length, map, Bool, true, refl, sym}
+use Rattle.std.proofs.Common.{ap, ◌∙◌, arith, ◌++◌, not, subst}
+use Rattle.std.specs.Prelude.{◌==◌, filter, ◌^◌}
+use Rattle.std.specs.List.Sorted.{IsPermutation}
+use Rattle.std.proofs.lemmas.Bool.Decides.{nat_tests}
+use Rattle.std.proofs.lemmas.List.Sorted.{length_permutation}
+use Rattle.std.proofs.lemmas.Bool.{cases_Bool, eqb-true}
+use Rattle.sqlite_trees.proofs.ListLemmas.{IsPermutation-filter}
+use Rattle.lines.proofs.Blobs.{length-key_blob}
+use Rattle.krl.specs.declared.run.Run.{Run}
+use Rattle.krl.specs.Sets.{AreRuns, AreRunsFrom}
 use Rattle.krl.proofs.Counting.{runs_in_runs}
 use Rattle.message.specs.Values.{is_range}
 use Rattle.message.specs.declared.serial_range.SerialRange.{SerialRange}
 use Rattle.office.specs.declared.opening.Opening.{Opening}
 use Rattle.office.specs.declared.view.Change.{Change}
-use Rattle.office.specs.declared.view.Change.TheVariants as change
 use Rattle.office.specs.Decided.{HasRoom, IsLawfulChange, changed}
 use Rattle.office.proofs.Growth.{holds_in_range, opening_stays}
 use Rattle.office.proofs.Histories.{message_lawful}
+use Rattle.office.proofs.Sizes.{last_of}
+use Rattle.office.specs.declared.arrival.Arrival.{Arrival}
+use Rattle.office.specs.declared.certificate.Certificate.{Certificate}
+use Rattle.office.specs.declared.ca.Ca.{Ca}
+use Rattle.office.specs.declared.view.Decision.{Decision}
+use Rattle.office.specs.Machine.{after, next_serial, with_range}
+use Rattle.office.specs.State.{State}
+use Rattle.office.specs.declared.view.Change.TheVariants as change
+use Rattle.store_sql.specs.declared.runs.RunRow.{RunRow}
+use Rattle.store_sql.specs.Refusals.{HasOne, RefusesCa, RefusesCert, IsTooLong}
 use Rattle.store_sql.specs.Cells.{cert_cells}
 use Rattle.store_sql.specs.Changes.{with_counters, with_request}
-use Rattle.store_sql.specs.Runs as runs
 use Rattle.store_sql.specs.Contents.{Contents}
-use Rattle.store_sql.specs.Refusals.{RefusesCa, RefusesCert, IsTooLong}
-use Rattle.store_rows.specs.Rows.{office_contents, revoked_runs, cert_row, request_row}
+use Rattle.store_sql.specs.Runs as runs
+use Rattle.store_rows.specs.Rows.{run_row, office_contents, revoked_runs, cert_row, request_row}
+use Rattle.store_rows.specs.Lawful.{IsLawful}
 use Rattle.store_writes.specs.Changing.{ca_from}
 use Rattle.store_writes.specs.Due.{counters_of, kept_of}
 use Rattle.store_writes.specs.Ranges.{joined_run}
@@ -24,20 +41,53 @@ use Rattle.store_writes.specs.Refused.{RefusesChange, RefusesDecision, RefusesRa
 use Rattle.store_writes.proofs.Joined.{rows_joined}
 use Rattle.store.specs.Arriving.{IsTooMuch, IsTooMuchToChange, IsAccepted, Past, kept_at, state_at}
 use Rattle.store.specs.Meaning.{IsHistory}
-use Rattle.office.proofs.Sizes.{last_of}
 use Rattle.store.proofs.Lawful.{lawful_after}
-use Rattle.lines.proofs.Blobs.{length-key_blob}
-use Rattle.office.specs.declared.arrival.Arrival.{Arrival}
-use Rattle.office.specs.declared.certificate.Certificate.{Certificate}
-use Rattle.office.specs.declared.ca.Ca.{Ca}
-use Rattle.office.specs.declared.view.Decision.{Decision}
-use Rattle.office.specs.Machine.{after, next_serial, with_range}
-use Rattle.office.specs.State.{State}
-use Rattle.store_rows.specs.Lawful.{IsLawful}
 use Rattle.store.proofs.ShortRows.{counters_fit, key_id_short}
-use Rattle.store.proofs.NewRows.{ca_free, request_new, serial_new}
-use Rattle.store.proofs.Additions.{IsStep, new_ca, own_department, step_of, unused}
-use Rattle.store.proofs.LoneRuns.{alone_there}
+use Rattle.store.proofs.Additions.{IsStep, ca_free, new_ca, own_department, request_new, serial_new, step_of}
+
+-- ---- runs
+
+abbrev begins : ℕ → RunRow → Bool
+begins n r = r.lo == n
+
+abbrev how_many : ℕ → List RunRow → ℕ
+how_many n rs = length (filter (begins n) rs)
+
+-- at most one of maximal runs begins at a serial, and none below them all
+few_begin : (n from : ℕ) (rs : List Run) → AreRunsFrom from rs
+    → (how_many n (map run_row rs) ≤ 1) × (n < from → how_many n (map run_row rs) ≡ 0)
+few_begin n from [] are = (omega arith, λ _. refl)
+few_begin n from (r ∷ rs) are =
+    let rest = few_begin n (r.hi + 2) rs are.3 in
+    elim (cases_Bool (r.lo == n)) [
+      | inl same ↦
+          (let here = eqb-true r.lo n same in
+          rw same (omega (arith, rest.1 (omega (arith, here, are.1))), λ low. absurd (omega (arith, low, here, are.0))))
+      | inr other ↦ rw other (rest.0, λ low. rest.1 (omega (arith, low, are.0, are.1)))
+    ]
+
+some_begin : (n : ℕ) (rs : List RunRow) → HasOne (λ k. k.lo ≡ n) rs → 1 ≤ how_many n rs
+some_begin n [] (k, here, same) = absurd here
+some_begin n (r ∷ rs) (k, inl is, same) =
+    let lo : r.lo ≡ n = ap (λ x. x.lo) (sym is) ∙ same in
+    let hit : (r.lo == n) ≡ true = grind (arith, nat_tests) in rw hit (omega arith)
+some_begin n (r ∷ rs) (k, inr here, same) = elim (cases_Bool (r.lo == n)) [
+  | inl first ↦ rw first (omega arith)
+  | inr other ↦ rw other (some_begin n rs (k, here, same))
+]
+
+-- of rows that are maximal runs in some order no other begins where the first does
+alone_there : (x : RunRow) (xs : List RunRow) (rs : List Run) → AreRuns rs → IsPermutation (x ∷ xs) (map run_row rs)
+    → HasOne (λ k. k.lo ≡ x.lo) xs → ⊥
+alone_there x xs rs are same other =
+    let most = (few_begin x.lo 0 rs are).0 in
+    let count = length_permutation _ _ (IsPermutation-filter (begins x.lo) (x ∷ xs) (map run_row rs) same) in
+    let own : (x.lo == x.lo) ≡ true = grind (arith, nat_tests) in
+    let mine : how_many x.lo (x ∷ xs) ≡ suc (how_many x.lo xs) = rw own refl in
+    let more = some_begin x.lo xs other in
+    omega (arith, most, count, mine, more)
+
+-- ---- an accepted arrival
 
 module _ (p : Past) (a : Arrival) (d : Decision) (serving : List Ca) (history : IsHistory p.0 p.1)
     (is : IsAccepted a d serving p) where
@@ -54,7 +104,7 @@ module _ (p : Past) (a : Arrival) (d : Decision) (serving : List Ca) (history : 
   lawful : IsLawful s
   lawful = lawful_after p.0 p.1 history
 
-  step : IsStep a d s
+  step : IsStep a d p
   step = step_of p a d serving is
 
   certificate_limited : (cert : Certificate) → d.change ≡ change.Certificate cert → RefusesCert (cert_row cert) rows
@@ -96,18 +146,16 @@ module _ (p : Past) (a : Arrival) (d : Decision) (serving : List Ca) (history : 
 
   change_limited : (ch : Change) (since : ℕ) → d.change ≡ ch → IsLawfulChange ch
       → RefusesChange (length serving + 1) since ch recorded → IsTooMuchToChange ch rows
-  change_limited change.Nothing since e ok why = why
-  change_limited (change.Department x) since e ok why = why
   change_limited (change.Certificate x) since e ok why = certificate_limited x e why
-  change_limited (change.Signature serial x) since e ok why = why
   change_limited (change.Range r) since e ok why = range_free r e ok why
   change_limited (change.KeyId k) since e ok (inl long) = absurd (key_id_short k ok long)
   change_limited (change.KeyId k) since e ok (inr full) = full
   change_limited (change.Ca x) since e ok why = ca_limited since x e why
+  change_limited _ since e ok why = why
 
   -- the rows are kept out by their size, or for want of room
   pub limited : IsLawfulChange d.change → RefusesDecision d a serving rows → IsTooMuch d a rows
   limited ok (inl (inl counters)) = absurd (counters_fit (counters_of d) s (kept_at p) lawful counters)
-  limited ok (inl (inr (inl used))) = absurd (request_new a (kept_at p) (unused p a d serving is) used)
+  limited ok (inl (inr (inl used))) = absurd (request_new a (kept_at p) step.unused used)
   limited ok (inl (inr (inr more))) = inl more
   limited ok (inr why) = inr (change_limited d.change (counters_of d).next refl ok why)

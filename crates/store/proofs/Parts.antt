@@ -15,27 +15,25 @@ use Rattle.office.specs.Listing.{AreRevocations}
 
 -- ---- CAs in order
 
-none_below : (low : ℕ) (cas : List Ca) → are_ordered low cas ≡ true → (j d : ℕ) → j < length (numbers cas)
-    → low ≤ slice_index_or (numbers cas) j d
-none_below low [] e j d there = absurd (omega (arith, there))
-none_below low (ca ∷ cas) e zero d there = leb-true _ _ (and_parts (nat_le low ca.since) _ e).0
-none_below low (ca ∷ cas) e (suc j) d there =
+rises : (low : ℕ) (cas : List Ca) → are_ordered low cas ≡ true → IsNonDecreasing (low ∷ numbers cas)
+rises low cas e zero zero d up there = omega arith
+rises low cas e (suc i) zero d up there = absurd (omega (arith, up))
+rises low [] e zero (suc j) d up there = absurd (omega (arith, there))
+rises low [] e (suc i) (suc j) d up there = absurd (omega (arith, there))
+rises low (ca ∷ cas) e zero (suc j) d up there =
     let parts = and_parts (nat_le low ca.since) (are_ordered ca.since cas) e in
-    let rest = none_below ca.since cas parts.1 j d (omega (arith, there)) in
+    let rest = rises ca.since cas parts.1 zero j d (omega arith) (omega (arith, there)) in
     omega (arith, rest, leb-true _ _ parts.0)
-
-pub ordered_rise : (low : ℕ) (cas : List Ca) → are_ordered low cas ≡ true → IsNonDecreasing (numbers cas)
-ordered_rise low [] e i j d up there = absurd (omega (arith, there))
-ordered_rise low (ca ∷ cas) e zero zero d up there = omega arith
-ordered_rise low (ca ∷ cas) e zero (suc j) d up there =
-    none_below ca.since cas (and_parts (nat_le low ca.since) (are_ordered ca.since cas) e).1 j d (omega (arith, there))
-ordered_rise low (ca ∷ cas) e (suc i) zero d up there = absurd (omega (arith, up))
-ordered_rise low (ca ∷ cas) e (suc i) (suc j) d up there =
-    ordered_rise ca.since cas (and_parts (nat_le low ca.since) (are_ordered ca.since cas) e).1 i j d (omega (arith, up))
+rises low (ca ∷ cas) e (suc i) (suc j) d up there =
+    rises ca.since cas (and_parts (nat_le low ca.since) (are_ordered ca.since cas) e).1 i j d (omega (arith, up))
     (omega (arith, there))
 
-pub rise_ordered : (low : ℕ) (cas : List Ca) → ((d : ℕ) → 0 < length (numbers cas) → low ≤ slice_index_or (numbers cas) 0 d)
-    → IsNonDecreasing (numbers cas) → are_ordered low cas ≡ true
+pub ordered_rise : (cas : List Ca) → are_ordered 0 cas ≡ true → IsNonDecreasing (numbers cas)
+ordered_rise cas e i j d up there = rises 0 cas e (suc i) (suc j) d (omega (arith, up)) (omega (arith, there))
+
+pub rise_ordered : (low : ℕ) (cas : List Ca)
+    → ((d : ℕ) → 0 < length (numbers cas) → low ≤ slice_index_or (numbers cas) 0 d) → IsNonDecreasing (numbers cas)
+    → are_ordered low cas ≡ true
 rise_ordered low [] first up = refl
 rise_ordered low (ca ∷ cas) first up =
     and_from (nat_le low ca.since) (are_ordered ca.since cas) (le-leb low ca.since (first 0 (omega arith)))

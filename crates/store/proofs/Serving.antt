@@ -1,6 +1,7 @@
 -- The CAs of an office serve from serials on that don't descend.
-use Rattle.std.proofs.Common.{◌≡◌, ℕ, ◌-◌, ◌≤◌, List, [], ◌∷◌, ◌++◌, length, Bool, true, false, cond, Option, Some, None, refl, sym, ap, subst, ◌∙◌, arith, length-append}
-use Rattle.std.specs.Prelude.{All, slice_index_or}
+use Rattle.std.proofs.Common.{◌≡◌, ℕ, ◌-◌, ◌≤◌, List, [], ◌∷◌, ◌++◌, length, Option, Some, None, refl, sym, ap, subst}
+use Rattle.std.proofs.Common.{◌∙◌, arith, length-append}
+use Rattle.std.specs.Prelude.{All}
 use Rattle.std.specs.List.Sorted.{IsNonDecreasing}
 use Rattle.std.proofs.lemmas.List.{map-append}
 use Rattle.std.proofs.lemmas.List.Elements.{All-push}
@@ -10,10 +11,11 @@ use Rattle.office.specs.declared.opening.Opening.{Opening}
 use Rattle.office.specs.declared.arrival.Arrival.{Arrival}
 use Rattle.office.specs.declared.ca.Ca.{Ca}
 use Rattle.office.specs.declared.certificate.Certificate.{Certificate}
-use Rattle.office.specs.Machine.{State, ca_from_now, has_any, is_key_id_revoked, is_range_revoked, issued, next_serial, opened, renewed, republished, with_ca, with_department, with_key_id, with_one_more, with_range, with_signature}
+use Rattle.office.specs.Machine.{State, ca_from_now, has_any, is_key_id_revoked, is_range_revoked, issued, next_serial}
+use Rattle.office.specs.Machine.{renewed, with_ca, with_one_more, with_signature}
 use Rattle.office.specs.History.{state}
 use Rattle.office.proofs.Growth.{length-signed_at}
-use Rattle.std.specs.Prelude.{IfOk, Result, Ok, Err, Vec}
+use Rattle.std.specs.Prelude.{Result, Ok, Err, Vec}
 use Rattle.std.specs.declared.alloc.Global.{Global}
 use Rattle.sqlite.specs.State.{State as Connection}
 use Rattle.store_sql.specs.declared.table_fault.Fault.{Fault}
@@ -22,19 +24,17 @@ use Rattle.office.specs.Parts.{numbers}
 use Rattle.store.specs.Parts.{AreOrdered}
 use Rattle.store.specs.Showing.{ShowsOffice}
 use Rattle.office.proofs.Histories.{IsKept, holds_after}
+use Rattle.store.proofs.Lawful.{of_either}
 
 -- none serves from an earlier serial than the one before it, nor from one that isn't handed out next or was before
 pub record AreServing (s : State) : Type 0 where
   pub ascending : IsNonDecreasing (numbers s.cas)
   pub served : All (λ n. n ≤ next_serial s) (numbers s.cas)
 
-later : (n a b : ℕ) → a ≤ b → n ≤ a → n ≤ b
-later n a b up le = omega (arith, up, le)
-
 serving_still : (s t : State) → t.cas ≡ s.cas → next_serial s ≤ next_serial t → AreServing s → AreServing t
 serving_still s t same more h = record {
   ascending = rw same h.ascending;
-  served = rw same (λ i d there. later (slice_index_or (numbers s.cas) i d) (next_serial s) (next_serial t) more (h.served i d there));
+  served = rw same (λ i d there. let low = h.served i d there in omega (arith, low, more));
 }
 
 one_more_serving : (s : State) (c : Option Certificate) → AreServing s → AreServing (with_one_more s c)
@@ -42,15 +42,12 @@ one_more_serving s None h = h
 one_more_serving s (Some c) h =
     serving_still s (with_one_more s (Some c)) refl (omega (arith, length-append s.certificates (c ∷ []))) h
 
-either : (s t : State) (b : Bool) → AreServing s → AreServing t → AreServing (cond b s t)
-either s t true p q = p
-either s t false p q = q
-
 -- one more from now on
 ca_serving : (s : State) (key : List ℕ) → AreServing s → AreServing (with_ca s (ca_from_now s key))
 ca_serving s key h =
     let ca = ca_from_now s key in
-    let longer : numbers (s.cas ++ ca ∷ []) ≡ numbers s.cas ++ ca.since ∷ [] = map-append (λ (x : Ca). x.since) s.cas (ca ∷ []) in
+    let longer : numbers (s.cas ++ ca ∷ []) ≡ numbers s.cas ++ ca.since ∷ [] =
+    map-append (λ (x : Ca). x.since) s.cas (ca ∷ []) in
     let last : ca.since ≤ next_serial s = omega arith in
     record {
       ascending = rw longer (IsNonDecreasingBy-push (λ (n : ℕ). n) (numbers s.cas) ca.since h.ascending
@@ -59,38 +56,28 @@ ca_serving s key h =
     }
 
 keeps_serving : IsKept AreServing
-keeps_serving s caller (message.Department d) moment nonce lawful allowed h = serving_still s (with_department s d) refl (omega arith) h
-keeps_serving s caller (message.Issue i) moment nonce lawful allowed h = one_more_serving s (Some (issued s i nonce)) h
+keeps_serving s caller (message.Department d) moment nonce lawful allowed h = serving_still s _ refl (omega arith) h
+keeps_serving s caller (message.Issue i) moment nonce lawful allowed h =
+    one_more_serving s (Some (issued s i nonce)) h
 keeps_serving s caller (message.Renew r) moment nonce lawful allowed h = one_more_serving s (renewed s r nonce) h
 keeps_serving s caller (message.Deliver d) moment nonce lawful allowed h =
     serving_still s (with_signature s d.serial d.signature) refl
     (omega (arith, length-signed_at s.certificates (d.serial - s.opening.first) d.signature)) h
 keeps_serving s caller (message.RevokeSerial serial) moment nonce lawful allowed h =
-    let t = republished (with_range s (record { lo = serial; hi = serial })) moment in
-    either s t (s.revoked serial) h (serving_still s t refl (omega arith) h)
+    of_either AreServing (s.revoked serial) s _ h (assumption)
 keeps_serving s caller (message.RevokeRange r) moment nonce lawful allowed h =
-    let t = republished (with_range s r) moment in
-    either s t (is_range_revoked s r) h (serving_still s t refl (omega arith) h)
+    of_either AreServing (is_range_revoked s r) s _ h (assumption)
 keeps_serving s caller (message.RevokeKeyId key_id) moment nonce lawful allowed h =
-    let t = republished (with_key_id s key_id) moment in
-    either s t (is_key_id_revoked s key_id) h (serving_still s t refl (omega arith) h)
+    of_either AreServing (is_key_id_revoked s key_id) s _ h (assumption)
 keeps_serving s caller (message.Rollover k) moment nonce lawful allowed h =
-    let t = with_ca s (ca_from_now s k.key) in
-    let kept : AreServing t = ca_serving s k.key h in
-    either (republished t moment) t (has_any s.revoked_key_ids) (serving_still t (republished t moment) refl (omega arith) kept) kept
-
-opened_serving : (o : Opening) → AreServing (opened o)
-opened_serving o = record { ascending = grind arith; served = grind arith }
+    let kept = ca_serving s k.key h in
+    of_either AreServing (has_any s.revoked_key_ids) _ _ (assumption) kept
 
 pub serving_after : (o : Opening) (l : List Arrival) → AreServing (state o l)
-serving_after o l = holds_after AreServing keeps_serving o l (opened_serving o)
+serving_after o l =
+    holds_after AreServing keeps_serving o l (record { ascending = grind arith; served = grind arith })
 
 -- ---- CAs that are read
-
-pub ordered_is : (cas : Vec Ca Global) (r : Result (Vec Ca Global) Fault) → AreOrdered cas r
-    → IfOk r (λ v. IsNonDecreasing (numbers v.items))
-ordered_is cas (Ok v) is = subst (λ (w : Vec Ca Global). IsNonDecreasing (numbers w.items)) (sym is.0) is.1
-ordered_is cas (Err f) is = tt
 
 -- an office's CAs are in order
 pub shows_ordered : (old new : Connection) (cas : Vec Ca Global) (r : Result (Vec Ca Global) Fault) → AreOrdered cas r

@@ -1,47 +1,52 @@
 -- What is answered inside a transaction, part by part.
-use Rattle.std.proofs.Common.{◌≡◌, ℕ, List, [], ◌∷◌, ◌++◌, length, true, false, Some, None, Ok, Err, Result, IsTrue, refl, sym, ap₂, subst}
-use Rattle.std.specs.Prelude.{◌≤◌, nat_lt}
+use Rattle.std.proofs.Common.{◌≡◌, List, true, false, Some, None, refl, ap, ◌∙◌, ℕ, [], ◌∷◌, ◌++◌, length, Bool, Ok}
+use Rattle.std.proofs.Common.{Err, Result, IsTrue, sym, ap₂, subst, arith}
+use Rattle.std.specs.Prelude.{find, is_some, IsErrAnd}
 use Rattle.std.specs.List.{list_any}
-use Rattle.values.specs.declared.limits.TheConstants.{LATEST_MOMENT}
+use Rattle.std.specs.Str.{bytes_eq}
 use Rattle.values.specs.declared.refusal.Refusal.{Refusal}
-use Rattle.values.specs.declared.refusal.Refusal.TheVariants.{BadMessage, BadMoment, KeyReused}
-use Rattle.sqlite.specs.Tree.{Trees}
 use Rattle.sqlite.specs.Effect.{Database}
-use Rattle.sqlite.specs.State.{State as Connection, HasCleanDisk, Survives}
+use Rattle.sqlite.specs.State.{State as Connection, HasCleanDisk, IsUnchanged, Survives}
 use Rattle.sqlite.proofs.StateLemmas.{survives_weaker}
+use Rattle.krl.proofs.Items.{all_more}
 use Rattle.message.specs.declared.kinds.Message.{Message}
 use Rattle.message.specs.Reading.{Gives, message_at}
 use Rattle.message.specs.declared.message_fault.MessageFault.{MessageFault}
 use Rattle.message.specs.declared.message_fault.MessageFault.TheVariants.{BadLine}
-use Rattle.store_sql.specs.Contents.{Contents, Means}
-use Rattle.store_sql.specs.Calls as table
-use Rattle.store_sql.proofs.Later.{stops}
-use Rattle.store_sql.specs.declared.table_fault.Fault.{Fault}
-use Rattle.store_sql.specs.declared.table_fault.Fault.TheVariants.{NoMemory}
 use Rattle.office.specs.declared.arrival.Arrival.{Arrival}
 use Rattle.office.specs.declared.arrival.Kept.{Kept}
+use Rattle.office.specs.History.{has_key, reply_kept, due, judged}
 use Rattle.office.specs.declared.arrival.Outcome.{Outcome}
-use Rattle.office.specs.declared.arrival.Outcome.TheVariants as outcome
 use Rattle.office.specs.declared.view.Stop.{Stop}
-use Rattle.office.specs.declared.view.Stop.TheVariants as stop
 use Rattle.office.specs.declared.view.Stop.TheVariants.{Refused}
 use Rattle.office.specs.Decided.{Decided}
 use Rattle.office.specs.Messages.{message_with_text}
 use Rattle.office.specs.State.{State}
 use Rattle.office.specs.Machine.{step}
-use Rattle.office.specs.History.{due, has_key, judged, reply_kept}
 use Rattle.office.specs.Shows.{Shows}
 use Rattle.office.proofs.Steps.{shows_office, shows_refused, shows_repeated}
+use Rattle.office.proofs.Texts.{bad_is}
+use Rattle.office.specs.declared.arrival.Outcome.TheVariants as outcome
+use Rattle.office.specs.declared.view.Stop.TheVariants as stop
+use Rattle.store_sql.specs.Contents.{Contents, Means}
+use Rattle.store_sql.specs.Calls.{Fails, Never, Stays}
+use Rattle.store_sql.specs.Faults.{HasCause}
+use Rattle.store_sql.specs.declared.table_fault.Fault.{Fault}
+use Rattle.store_sql.specs.declared.table_fault.Fault.TheVariants.{Damaged, NoMemory}
+use Rattle.store_sql.proofs.Later.{stops}
+use Rattle.store_sql.proofs.Staying.{reads_stay, stays_then}
+use Rattle.store_rows.specs.Lawful.{IsLawful}
 use Rattle.store_rows.specs.Rows.{contents_of, office_contents}
 use Rattle.store_rows.specs.Transactions.{Answers, Waits}
 use Rattle.store_rows.proofs.Causes.{cause_of, fails_then, fails_weaker}
 use Rattle.store_rows.proofs.Steps.{Leads, answers_then, goes_still, waits_then}
+use Rattle.store_reads.specs.Histories.{AreApart, is_for}
+use Rattle.store_reads.proofs.Keeping.{known_by_kept, no_repeat, reply_by_kept, reply_of}
 use Rattle.store.specs.Meaning.{IsHistory}
-use Rattle.store.specs.Showing.{ShowsOffice}
-use Rattle.store.specs.Arriving.{FailsAt, IsAfter, IsAnswered, IsNew, Past, ExceedsTables, Settles, contents_with, kept_at, state_at, stopped}
-use Rattle.krl.proofs.Items.{all_more}
-use Rattle.store.proofs.Reading.{still_means}
-use Rattle.office.proofs.Texts.{bad_is}
+use Rattle.store.specs.Arriving.{ExceedsTables, FailsAt, IsAfter, IsAnswered, IsAsked, IsNew, Past, Settles}
+use Rattle.store.specs.Arriving.{contents_with, kept_at, state_at, stopped}
+use Rattle.store.proofs.Lawful.{lawful_after}
+use Rattle.store.proofs.Reading.{Reads, still_means}
 
 -- ---- one arrival more
 
@@ -62,6 +67,29 @@ pub rows_with : (a : Arrival) (p : Past) (s : State) (kept : List Kept) → Show
     → contents_of s kept ≡ contents_with a p
 rows_with a p s kept shows = ap₂ (λ (t : State) (ks : List Kept). contents_of t ks) shows.is_state shows.is_kept
 
+-- ---- the kept request of its caller and its key
+
+module _ (a : Arrival) (kept : List Kept) where
+  pub unknown_found : find (is_for a.caller a.key) kept ≡ None → list_any (has_key a) kept ≡ false
+  unknown_found is = known_by_kept a kept ∙ ap is_some is
+
+  pub known_found : (k : Kept) → find (is_for a.caller a.key) kept ≡ Some k → list_any (has_key a) kept ≡ true
+  known_found k is = known_by_kept a kept ∙ ap is_some is
+
+  -- no request: it is no repeat
+  pub repeat_unknown : find (is_for a.caller a.key) kept ≡ None → reply_kept kept a ≡ None
+  repeat_unknown is = no_repeat a kept (unknown_found is)
+
+  -- the same bytes: it is a repeat
+  pub repeat_found : (k : Kept) → AreApart kept → find (is_for a.caller a.key) kept ≡ Some k
+      → bytes_eq k.bytes a.bytes ≡ true → reply_kept kept a ≡ Some k.reply
+  repeat_found k apart is same = reply_by_kept a kept apart ∙ ap (reply_of a) is ∙ rw same refl
+
+  -- other bytes: it is none
+  pub repeat_other : (k : Kept) → AreApart kept → find (is_for a.caller a.key) kept ≡ Some k
+      → bytes_eq k.bytes a.bytes ≡ false → reply_kept kept a ≡ None
+  repeat_other k apart is differs = reply_by_kept a kept apart ∙ ap (reply_of a) is ∙ rw differs refl
+
 -- ---- answers that change nothing
 
 -- the outcome is due, and leaves the office as it was
@@ -69,7 +97,8 @@ abbrev pub IsStill : Arrival → Outcome → Past → Type 0
 IsStill a outcome p = (outcome ≡ due p.0 p.1 a) × Shows (state_at p) (kept_at p) p.0 (p.1 ++ a ∷ [])
 
 pub settles_still : (a : Arrival) (Known : Past → Type 0) (c : Connection) (outcome : Outcome) → length a.nonce ≡ 32
-    → IsTrue c.is_open → ((p : Past) → IsHistory p.0 p.1 → Known p → IsStill a outcome p) → Settles a Known c c (Ok outcome)
+    → IsTrue c.is_open → ((p : Past) → IsHistory p.0 p.1 → Known p → IsStill a outcome p)
+    → Settles a Known c c (Ok outcome)
 settles_still a Known c outcome size is_open same = λ p after.
     let s = same p after.history after.known in
     let rows : office_contents p.0 p.1 ≡ contents_with a p = rows_with a p (state_at p) (kept_at p) s.1 in (
@@ -92,27 +121,23 @@ pub repeated_still : (a : Arrival) (p : Past) (r : List ℕ) → IsHistory p.0 p
 repeated_still a p r h known = shows_repeated (state_at p) (kept_at p) p.0 p.1 a r known (shown_at p h)
 
 -- a refusal that is judged is due
-pub refused_still : (a : Arrival) (p : Past) (r : Refusal) → IsHistory p.0 p.1 → reply_kept (kept_at p) a ≡ None
+refused_still : (a : Arrival) (p : Past) (r : Refusal) → IsHistory p.0 p.1 → reply_kept (kept_at p) a ≡ None
     → judged (state_at p) (kept_at p) a ≡ Err r → IsStill a (outcome.Refused r) p
 refused_still a p r h new is = shows_refused (state_at p) (kept_at p) p.0 p.1 a r new is (shown_at p h)
 
-pub bad_line : (bytes : List ℕ) (f : MessageFault) (n : ℕ) → f ≡ BadLine n → Gives {X = Message} (Err f) (message_at bytes)
-    → message_with_text bytes ≡ None
+pub settles_refused : (a : Arrival) (is_known : Bool) (c : Connection) (r : Refusal) → length a.nonce ≡ 32
+    → IsTrue c.is_open → ((p : Past) → IsAsked a is_known p → judged (state_at p) (kept_at p) a ≡ Err r)
+    → Settles a (IsAsked a is_known) c c (Ok (outcome.Refused r))
+settles_refused a is_known c r size is_open is =
+    settles_still a (IsAsked a is_known) c (outcome.Refused r) size is_open
+    (λ p h asked. refused_still a p r h asked.new (is p asked))
+
+pub bad_line : (bytes : List ℕ) (f : MessageFault) (n : ℕ) → f ≡ BadLine n
+    → Gives {X = Message} (Err f) (message_at bytes) → message_with_text bytes ≡ None
 bad_line bytes f n is read =
     bad_is bytes n (subst (λ (g : MessageFault). Gives {X = Message} (Err g) (message_at bytes)) is read)
 
-pub bad_message : (s : State) (kept : List Kept) (a : Arrival) → message_with_text a.bytes ≡ None → judged s kept a ≡ Err BadMessage
-bad_message s kept a is = rw is refl
-
-pub bad_moment : (s : State) (kept : List Kept) (a : Arrival) (m : Message) → message_with_text a.bytes ≡ Some m
-    → nat_lt LATEST_MOMENT a.moment ≡ true → judged s kept a ≡ Err BadMoment
-bad_moment s kept a m is late = rw (is, late) refl
-
-pub key_reused : (s : State) (kept : List Kept) (a : Arrival) (m : Message) → message_with_text a.bytes ≡ Some m
-    → nat_lt LATEST_MOMENT a.moment ≡ false → list_any (has_key a) kept ≡ true → judged s kept a ≡ Err KeyReused
-key_reused s kept a m is in_time known = rw (is, in_time, known) refl
-
-pub step_refused : (p : Past) (a : Arrival) (m : Message) (r : Refusal) → IsNew a m p
+step_refused : (p : Past) (a : Arrival) (m : Message) (r : Refusal) → IsNew a m p
     → step (state_at p) a.caller m a.moment a.nonce ≡ Err r → judged (state_at p) (kept_at p) a ≡ Err r
 step_refused p a m r is refused =
     let message = is.message in
@@ -121,8 +146,9 @@ step_refused p a m r is refused =
     rw (message, in_time, unknown, refused) refl
 
 -- a message that isn't accepted now changes nothing
-pub stopped_settles : (a : Arrival) (m : Message) (Known : Past → Type 0) (c : Connection) (s : Stop) (r : Result Outcome Fault)
-    → r ≡ stopped s → length a.nonce ≡ 32 → IsTrue c.is_open → ((p : Past) → Known p → IsNew a m p)
+pub stopped_settles : (a : Arrival) (m : Message) (Known : Past → Type 0) (c : Connection) (s : Stop)
+    (r : Result Outcome Fault) → r ≡ stopped s → length a.nonce ≡ 32 → IsTrue c.is_open
+    → ((p : Past) → Known p → IsNew a m p)
     → ((p : Past) → Known p → Decided (Err s) (state_at p) a.caller m a.moment a.nonce) → Settles a Known c c r
 stopped_settles a m Known c s r is size is_open new decided = subst (λ q. Settles a Known c c q) (sym is) (go s decided)
   where
@@ -133,104 +159,110 @@ stopped_settles a m Known c s r is size is_open new decided = subst (λ q. Settl
         (λ p h known. refused_still a p x h (new p known).new (step_refused p a m x (new p known) (decided p known)))
     go stop.NoMemory decided = settles_not a Known c NoMemory
 
-pub stopped_fails : (a : Arrival) (Known : Past → Type 0) (c : Connection) (s : Stop) (r : Result Outcome Fault) → r ≡ stopped s
-    → FailsAt a Known c c r
-stopped_fails a Known c s r is = subst (λ q. FailsAt a Known c c q) (sym is) (go s)
+-- ---- all that is said of a part
+
+-- what a part does with an arrival of which this is known, if this is so of the connection
+pub record Settling (Asked : Type 0) (a : Arrival) (Known : Past → Type 0) (old new : Connection)
+    (r : Result Outcome Fault) : Type 0 where
+  pub settles : HasCleanDisk new → Asked → Settles a Known old new r
+  pub fails : HasCleanDisk new → FailsAt a Known old new r
+  pub stays : HasCleanDisk new → Stays old new r
+  pub survives : Survives old new (Waits (IsAfter Known) old)
+
+pub settling : {Asked : Type 0} {Known : Past → Type 0} {old new : Connection}
+    → Survives old new (Waits (IsAfter Known) old) → (a : Arrival) (r : Result Outcome Fault)
+    → (HasCleanDisk new → Asked → Settles a Known old new r) → (HasCleanDisk new → FailsAt a Known old new r)
+    → (HasCleanDisk new → Stays old new r) → Settling Asked a Known old new r
+settling survives a r settles fails stays =
+    record { settles = settles; fails = fails; stays = stays; survives = survives }
+
+-- what is known says less
+pub settling_weaker : {Asked : Type 0} {a : Arrival} {Known Later : Past → Type 0} {old new : Connection}
+    {r : Result Outcome Fault} → ((p : Past) → IsHistory p.0 p.1 → Known p → Later p)
+    → Settling Asked a Later old new r → Settling Asked a Known old new r
+settling_weaker {Asked} {a} {Known} {Later} {old} {new} {r} less part = record {
+  settles = λ clean asked. go r (part.settles clean asked);
+  fails = λ clean. fails_weaker (IsAfter Known) (IsAfter Later) (ExceedsTables a) (ExceedsTables a) (λ p. p) old new r
+      more (λ p after why. why) (part.fails clean);
+  stays = part.stays;
+  survives = survives_weaker old new (Waits (IsAfter Later) old) (Waits (IsAfter Known) old)
+      (λ clean trees h p after. h p (more p after)) part.survives;
+}
   where
-    go : (s : Stop) → FailsAt a Known c c (stopped s)
-    go (Refused x) = tt
-    go stop.NoMemory = λ p after. tt
+    more : {db : Database} (p : Past) → IsAfter Known p db → IsAfter Later p db
+    more p after = record {
+      history = after.history;
+      means = after.means;
+      known = less p after.history after.known;
+    }
 
--- ---- what is known says less
+    go : (r : Result Outcome Fault) → Settles a Later old new r → Settles a Known old new r
+    go (Ok x) settles = λ p after. settles p (more p after)
+    go (Err f) settles = λ p after. settles p (more p after)
 
-pub settles_weaker : (a : Arrival) (Known Later : Past → Type 0) (old new : Connection) (r : Result Outcome Fault)
-    → ((p : Past) → IsHistory p.0 p.1 → Known p → Later p) → Settles a Later old new r → Settles a Known old new r
-settles_weaker a Known Later old new (Ok x) less settles = λ p after.
-    settles p (record { history = after.history; means = after.means; known = less p after.history after.known })
-settles_weaker a Known Later old new (Err f) less settles = λ p after inside.
-    settles p (record { history = after.history; means = after.means; known = less p after.history after.known }) inside
-
-pub fails_less : (a : Arrival) (Known Later : Past → Type 0) (old new : Connection) (r : Result Outcome Fault)
-    → ((p : Past) → IsHistory p.0 p.1 → Known p → Later p) → FailsAt a Later old new r → FailsAt a Known old new r
-fails_less a Known Later old new r less fails =
-    fails_weaker (IsAfter Known) (IsAfter Later) (ExceedsTables a) (ExceedsTables a) (λ p. p) old new r
-    (λ p after. record { history = after.history; means = after.means; known = less p after.history after.known })
-    (λ p after why. why) fails
-
-pub waits_weaker : (Known Later : Past → Type 0) (a b : Connection) → ((p : Past) → IsHistory p.0 p.1 → Known p → Later p)
-    → Survives a b (Waits (IsAfter Later) a) → Survives a b (Waits (IsAfter Known) a)
-waits_weaker Known Later a b less one =
-    survives_weaker a b (Waits (IsAfter Later) a) (Waits (IsAfter Known) a)
-    (λ clean trees h p after. h p (record { history = after.history; means = after.means; known = less p after.history after.known }))
-    one
+waits_never : (Known : Past → Type 0) (a b : Connection) → Survives a b Never → Survives a b (Waits (IsAfter Known) a)
+waits_never Known a b one = survives_weaker a b Never (Waits (IsAfter Known) a) (λ clean trees h. absurd h) one
 
 -- ---- a reading call, and then the rest
 
-module _ {X : Type 0} (First : State → List Kept → X → Type 0) (Known Later : Past → Type 0) (x : X)
-    (both : (p : Past) → IsHistory p.0 p.1 → Known p → First (state_at p) (kept_at p) x → Later p) (a b : Connection) where
-  later : (p : Past) → IsAfter Known p a.now → ShowsOffice First a b (Ok x) → IsAfter Later p b.now
-  later p after first =
-      let q = first p.0 p.1 after.history after.means in
-      record {
-        history = after.history;
-        means = still_means a b p.0 p.1 q.1 after.means;
-        known = both p after.history after.known q.0;
-      }
-
+module _ {X : Type 0} {First : State → List Kept → X → Type 0} {a b : Connection} {x : X} (one : Reads First a b (Ok x))
+    {Known Later : Past → Type 0}
+    (both : (p : Past) → IsHistory p.0 p.1 → Known p → First (state_at p) (kept_at p) x → Later p) where
   -- the connection is open then
   abbrev IsOpenAfter : Past → Database → Type 0
   IsOpenAfter p db = IsAfter Later p db × IsTrue b.is_open
 
-  leads_open : ShowsOffice First a b (Ok x) → Leads (IsAfter Known) IsOpenAfter (λ p. p) a b
-  leads_open first = λ p after.
-      let q = first p.0 p.1 after.history after.means in (
+  leads_open : HasCleanDisk b → Leads (IsAfter Known) IsOpenAfter (λ p. p) a b
+  leads_open clean = λ p after.
+      let q = one.shows clean p.0 p.1 after.history after.means in (
         office_contents p.0 p.1,
         goes_still a b (office_contents p.0 p.1) q.1 after.means,
-        (later p after first, q.1.0.is_open),
+        (
+          record {
+            history = after.history;
+            means = still_means a b p.0 p.1 q.1 after.means;
+            known = both p after.history after.known q.0;
+          },
+          q.1.0.is_open,
+        ),
       )
 
-  leads_later : ShowsOffice First a b (Ok x) → Leads (IsAfter Known) (IsAfter Later) (λ p. p) a b
-  leads_later first = λ p after.
-      let q = first p.0 p.1 after.history after.means in
-      (office_contents p.0 p.1, goes_still a b (office_contents p.0 p.1) q.1 after.means, later p after first)
+  leads_later : HasCleanDisk b → Leads (IsAfter Known) (IsAfter Later) (λ p. p) a b
+  leads_later clean = λ p after. let m = leads_open clean p after in (m.0, m.1, m.2.0)
 
-  opened : (arrival : Arrival) (c : Connection) (r : Result Outcome Fault)
-      → (IsTrue b.is_open → Settles arrival Later b c r)
-      → Answers IsOpenAfter (IsAnswered arrival) (contents_with arrival) b c r
-  opened arrival c (Ok v) rest = λ p after. rest after.1 p after.0
-  opened arrival c (Err f) rest = λ p after. rest after.1 p after.0
+  pub read_then : {arrival : Arrival} {c : Connection} {r : Result Outcome Fault}
+      → Settling (IsTrue b.is_open) arrival Later b c r → Settling (Unit {0}) arrival Known a c r
+  read_then {arrival} {c} {r} rest =
+      let still : HasCleanDisk c → HasCleanDisk b = λ clean. omega (arith, rest.survives.clean) in
+      record {
+        settles = λ clean _. answers_then (IsAfter Known) (IsAnswered arrival) (contents_with arrival) IsOpenAfter
+            (IsAnswered arrival) (contents_with arrival) (λ p. p) a b c r (leads_open (still clean))
+            (opened r (rest.settles clean)) (λ p v due. due) (λ p. refl);
+        fails = λ clean. fails_then (IsAfter Known) (IsAfter Later) (ExceedsTables arrival) (ExceedsTables arrival)
+            (λ p. p) Never a b c r (leads_later (still clean)) (λ p after why. why) one.survives (still clean)
+            rest.survives.counts (rest.fails clean);
+        stays = λ clean. stays_then a b c x r (reads_stay a b (Ok x) (one.reads (still clean))) (rest.stays clean);
+        survives = waits_then (IsAfter Known) (IsAfter Later) (λ p. p) a b c leads_later
+            (waits_never Known a b one.survives) rest.survives;
+      }
+    where
+      opened : (r : Result Outcome Fault) → (IsTrue b.is_open → Settles arrival Later b c r)
+          → Answers IsOpenAfter (IsAnswered arrival) (contents_with arrival) b c r
+      opened (Ok v) rest = λ p after. rest after.1 p after.0
+      opened (Err f) rest = λ p after. rest after.1 p after.0
 
-  pub settles_then : (arrival : Arrival) (c : Connection) (r : Result Outcome Fault) → ShowsOffice First a b (Ok x)
-      → (IsTrue b.is_open → Settles arrival Later b c r) → Settles arrival Known a c r
-  settles_then arrival c r first rest =
-      answers_then (IsAfter Known) (IsAnswered arrival) (contents_with arrival) IsOpenAfter (IsAnswered arrival)
-      (contents_with arrival) (λ p. p) a b c r (leads_open first) (opened arrival c r rest) (λ p v due. due) (λ p. refl)
-
-  pub fails_after : (arrival : Arrival) (c : Connection) (P : Trees → Type 0) (r : Result Outcome Fault)
-      → ShowsOffice First a b (Ok x) → Survives a b P → HasCleanDisk b → b.faults ≤ c.faults → FailsAt arrival Later b c r
-      → FailsAt arrival Known a c r
-  fails_after arrival c P r first one clean le rest =
-      fails_then (IsAfter Known) (IsAfter Later) (ExceedsTables arrival) (ExceedsTables arrival) (λ p. p) P a b c r
-      (leads_later first) (λ p after why. why) one clean le rest
-
-  pub waits_read : (c : Connection) → (HasCleanDisk b → ShowsOffice First a b (Ok x))
-      → Survives a b (Waits (IsAfter Known) a) → Survives b c (Waits (IsAfter Later) b) → Survives a c (Waits (IsAfter Known) a)
-  waits_read c first one rest =
-      waits_then (IsAfter Known) (IsAfter Later) (λ p. p) a b c (λ clean. leads_later (first clean)) one rest
-
--- ---- a reading call that fails
-
-module _ {X : Type 0} (First : State → List Kept → X → Type 0) (Known : Past → Type 0) (a b : Connection) (f : Fault) where
-  pub settles_failed : (arrival : Arrival) → ShowsOffice First a b (Err f) → Settles arrival Known a b (Err f)
-  settles_failed arrival first = λ p after inside. stops a b (first p.0 p.1 after.history after.means).0
-
-  pub fails_read : (arrival : Arrival) → ShowsOffice First a b (Err f) → FailsAt arrival Known a b (Err f)
-  fails_read arrival first = λ p after.
-      cause_of (ExceedsTables arrival p) a b f (first p.0 p.1 after.history after.means).1
-
--- ---- crashes
-
-pub waits_never : (Known : Past → Type 0) (a b : Connection) → Survives a b table.Never
-    → Survives a b (Waits (IsAfter Known) a)
-waits_never Known a b one =
-    survives_weaker a b table.Never (Waits (IsAfter Known) a) (λ clean trees h. absurd h) one
+-- a reading call that fails
+pub read_failed : {a b : Connection} → Survives a b Never → (arrival : Arrival) (Known : Past → Type 0) (f : Fault)
+    (r : Result Outcome Fault) → IsErrAnd r (λ e. e ≡ f)
+    → (HasCleanDisk b → (s : State) (kept : List Kept) → IsLawful s → Means a.now (contents_of s kept)
+    → Fails a b × HasCause a b f) → (HasCleanDisk b → Fails a b × (f ≡ Damaged → IsUnchanged a b))
+    → Settling (Unit {0}) arrival Known a b r
+read_failed one arrival Known f (Ok v) is shows reads = absurd is
+read_failed {a} {b} one arrival Known f (Err e) is shows reads = record {
+  settles = λ clean _ p after inside. stops a b (reads clean).0;
+  fails = λ clean p after.
+      let q = shows clean (state_at p) (kept_at p) (lawful_after p.0 p.1 after.history) after.means in
+      cause_of (ExceedsTables arrival p) a b e (subst (λ (g : Fault). HasCause a b g) (sym is) q.1);
+  stays = λ clean inside. stops a b (reads clean).0;
+  survives = waits_never Known a b one;
+}

@@ -14,6 +14,7 @@ use Rattle.store.specs.Meaning.{IsHistory}
 use Rattle.store.proofs.Lawful.{lawful_after}
 use Rattle.std.specs.List.{list_all}
 use Rattle.std.proofs.lemmas.Bool.{and_parts, leb-true}
+use Rattle.lines.specs.Keys.{key_blob}
 use Rattle.lines.proofs.Blobs.{length-key_blob}
 use Rattle.office.specs.declared.arrival.Arrival.{Arrival}
 use Rattle.office.specs.declared.arrival.Kept.{Kept}
@@ -34,49 +35,44 @@ name_short t is =
     leb-true (length t) 32 (and_parts (nat_le 1 (length t)) (nat_le (length t) 32)
     (and_parts (has_size 1 32 t) (list_all is_name_byte t) is).0).1
 
+-- the key blob of a lawful opening, and its names
+short : (o : Opening) → IsOpening o
+    → (length (key_blob o.ca) ≤ 51) × (length o.root ≤ 32) × (length o.station ≤ 32)
+short o is = (omega (arith, length-key_blob o.ca, is.ca), name_short o.root is.root, name_short o.station is.station)
+
 -- the row of an office stays short
 pub counters_fit : (k : Counters) (s : State) (kept : List Kept) → IsLawful s → RefusesCounters k (contents_of s kept)
     → ⊥
 counters_fit k s kept lawful (o, inl same, (id, long)) =
     let long_row : IsTooLong (office_cells (counted k (office_row s))) =
     subst (λ (r : OfficeRow). IsTooLong (office_cells (counted k r))) same long in
-    let blob = length-key_blob s.opening.ca in
-    let root = name_short s.opening.root lawful.opening.root in
-    let station = name_short s.opening.station lawful.opening.station in
-    omega (arith, long_row, blob, lawful.opening.ca, root, station)
+    omega (arith, long_row, short s.opening lawful.opening)
 counters_fit k s kept lawful (o, inr none, rest) = none
 
 -- so does what an office begins with
 pub opening_fits : (o : Opening) → IsOpening o → RefusesOpening o → ⊥
 opening_fits o is (inl (inl (p, none, same))) = none
-opening_fits o is (inl (inr long)) =
-    let blob = length-key_blob o.ca in
-    let root = name_short o.root is.root in
-    let station = name_short o.station is.station in
-    omega (arith, long, blob, is.ca, root, station)
+opening_fits o is (inl (inr long)) = omega (arith, long, short o is)
 opening_fits o is (inr (inl (c, none, same))) = none
-opening_fits o is (inr (inr long)) = let blob = length-key_blob o.ca in omega (arith, long, blob, is.ca)
+opening_fits o is (inr (inr long)) = omega (arith, long, short o is)
 
 -- in a file of schema 1 CA 1 is refused nothing
 pub first_ca_fits : (o : Opening) (l : List Arrival) → IsHistory o l → RefusesFirstCa (former_contents o l) → ⊥
 first_ca_fits o l history (ca, is, why) =
     let s = state_at (o, l) in
     let row = renumbered 1 (office_row s) in
-    let lawful = lawful_after o l history in
-    let blob = length-key_blob s.opening.ca in
-    let root = name_short s.opening.root lawful.opening.root in
-    let station = name_short s.opening.station lawful.opening.station in
+    let fits = short s.opening (lawful_after o l history).opening in
     let same : ca ≡ first_ca row = cc in
     elim why [
       | inl (inl (d, none, taken)) ↦ none
       | inl (inr long) ↦
           (let long_row : IsTooLong (ca_cells (first_ca row)) =
           subst (λ (c : CaRow). IsTooLong (ca_cells c)) same long in
-          omega (arith, long_row, blob, lawful.opening.ca))
+          omega (arith, long_row, fits))
       | inr (r, inl here, (id, long)) ↦
           (let long_row : IsTooLong (office_cells (renumbered 2 row)) =
           subst (λ (r : OfficeRow). IsTooLong (office_cells (renumbered 2 r))) here long in
-          omega (arith, long_row, blob, lawful.opening.ca, root, station))
+          omega (arith, long_row, fits))
       | inr (r, inr none, rest) ↦ none
     ]
 

@@ -1,18 +1,18 @@
 -- What a call leaves of what the tables tell.
-use Rattle.std.proofs.Common.{◌≡◌, inl, inr, ℕ, true, false, IsTrue, Option, None, Result, Ok, Err, sym, ap, subst, ◌∙◌}
+use Rattle.std.proofs.Common.{◌≡◌, inl, inr, ℕ, true, false, Option, None, sym, ap, subst, ◌∙◌}
 use Rattle.std.specs.Prelude.{List, is_some}
 use Rattle.sqlite.specs.Tree.{Trees}
 use Rattle.sqlite.specs.State.{State, HasCleanDisk, Survives}
-use Rattle.store_sql.specs.Contents.{Contents, Kept, Means}
+use Rattle.store_sql.specs.Contents.{Kept}
 use Rattle.store_sql.specs.Calls.{Fails, Never}
 use Rattle.store_sql.specs.Faults.{HasFailed}
 use Rattle.office.specs.declared.opening.Opening.{Opening}
 use Rattle.office.specs.declared.arrival.Arrival.{Arrival}
-use Rattle.store_rows.specs.Transactions.{Has, IsAsBefore, Rests}
-use Rattle.store_rows.proofs.Before.{fails_before}
-use Rattle.office.specs.declared.store_fault.StoreFault.{StoreFault}
+use Rattle.store_rows.specs.Transactions.{Has, Rests}
+use Rattle.store_rows.proofs.Steps.{ends_unbegun}
+use Rattle.store_sql.specs.declared.table_fault.Fault.TheVariants.{NoMemory}
 use Rattle.store_rows.specs.Rows.{office_contents}
-use Rattle.store.specs.Meaning.{DiskFailed, IsLeft, LooksOn, Tells}
+use Rattle.store.specs.Meaning.{DiskFailed, IsLeft, Tells}
 
 -- where no query has a limit on its steps, only a disk fails
 pub disk_failed : (old new : State) → old.step_limit ≡ None → HasFailed old new → DiskFailed old new
@@ -21,48 +21,24 @@ disk_failed old new unlimited (inr (inl shut)) = inr shut
 disk_failed old new unlimited (inr (inr limited)) =
     let wrong : true ≡ false = sym limited ∙ ap (λ (limit : Option ℕ). is_some limit) unlimited in cc
 
--- what a failure leaves open was open
-pub open_before : (old new : State) → Fails old new → IsTrue new.is_open → IsTrue old.is_open
-open_before old new (inl same) still = same.0.was_open
-open_before old new (inr back) still = back.was_open still
-
--- nothing changed, or a transaction was undone that was not there
-pub rests_still : (old new : State) (c : Contents) → Fails old new → IsTrue new.is_open → Rests (Has c) old → Rests (Has c) new
-rests_still old new c (inl same) still r = record {
-  autocommit = same.0.mode ∙ r.autocommit;
-  now = subst (Has c) (sym same.0.now_is) r.now;
-  committed = subst (Has c) (sym same.0.committed_is) r.committed;
-}
-rests_still old new c (inr back) still r = record {
-  autocommit = back.autocommit;
-  now = subst (Has c) (sym (back.undone still).0) r.committed;
-  committed = subst (Has c) (sym (back.undone still).1) r.committed;
-}
-
--- a call that was asked of an open connection, and leaves tables with contents as they are
-pub tells_still : (old new : State) → Survives old new Never → HasCleanDisk new → (IsTrue new.is_open → IsTrue old.is_open)
-    → ((c : Contents) → Means old.now c → Fails old new)
-    → (o : Opening) (l : List Arrival) → Tells old o l → Tells new o l
-tells_still old new survives clean was fails o l tells = record {
+-- a call that leaves tables with contents as they are
+pub tells_still : (old new : State) → Survives old new Never → HasCleanDisk new → Fails old new → (o : Opening)
+    (l : List Arrival) → Tells old o l → Tells new o l
+tells_still old new survives clean fails o l tells = record {
   history = tells.history;
   unlimited = survives.limit ∙ tells.unlimited;
   rows = λ still.
-      let r = tells.rows (was still) in rests_still old new (office_contents o l) (fails (office_contents o l) r.now) still r;
-  left = λ trees may. elim (survives.crash clean trees may) [ inl before ↦ tells.left trees before | inr none ↦ absurd none ];
+      let e = ends_unbegun Has (λ _ (_ : Unit {0}). Unit {0}) (λ c. c) old new NoMemory NoMemory fails still in
+      e.1 (office_contents o l) (tells.rows e.0);
+  left = λ trees may. elim (survives.crash clean trees may) [
+    | inl before ↦ tells.left trees before
+    | inr none ↦ absurd none
+  ];
 }
 
 -- what is open leaves what is committed
 pub left_committed : (s : State) (o : Opening) (l : List Arrival)
-    → ((trees : Trees) → s.may_leave trees → trees ≡ s.committed.trees) → Rests (Has (office_contents o l)) s → (trees : Trees)
-    → s.may_leave trees → IsLeft o l trees
+    → ((trees : Trees) → s.may_leave trees → trees ≡ s.committed.trees) → Rests (Has (office_contents o l)) s
+    → (trees : Trees) → s.may_leave trees → IsLeft o l trees
 left_committed s o l settled rests trees may =
     inl (subst (λ (t : Trees). Kept t (office_contents o l)) (sym (settled trees may)) rests.committed.kept)
-
--- a look leaves the database as it was
-pub looks_before : (old new : State) (r : Result (Unit {0}) StoreFault) → LooksOn old new r → IsAsBefore old new
-looks_before old new (Ok x) same = fails_before old new (inl same)
-looks_before old new (Err e) fails = record {
-  was_open = λ still. (fails_before old new (fails still)).was_open still;
-  rest = λ still. (fails_before old new (fails still)).rest still;
-  same = λ still. (fails_before old new (fails still)).same still;
-}

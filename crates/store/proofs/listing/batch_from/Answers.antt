@@ -1,9 +1,6 @@
-use Rattle.std.proofs.Common.{◌≡◌, ◌+◌, filter, arith}
-use Rattle.std.specs.Prelude.{Vec}
-use Rattle.std.specs.declared.alloc.Global.{Global}
+use Rattle.std.proofs.Common.{◌≡◌, ◌+◌, arith}
 use Rattle.sqlite.specs.Held.{state}
-use Rattle.office.specs.declared.certificate.Certificate.{Certificate}
-use Rattle.store_rows.specs.Certificates.{is_within}
+use Rattle.store_rows.specs.Showing.{AreWithin}
 use Rattle.store.specs.Batches.{numbered}
 use Rattle.store.proofs.Reading.{shows_office}
 use Rattle.store.proofs.listing.batch_from.Goals as goal
@@ -16,6 +13,6 @@ returns-clause-shows g c clean =
     omega (arith, c.column_number.ensures, c.saturating_add-lo.ensures) in
     let hi : c.column_number-2.result ≡ numbered first (place + 999) =
     omega (arith, c.column_number-2.ensures, c.saturating_add-lo.ensures, c.saturating_add-hi.ensures) in
-    shows_office (λ s kept (rows : Vec Certificate Global). rows.items ≡ filter (is_within (numbered first place) (numbered first (place + 999))) s.certificates)
-    (state g.S.Store c.args.conn.now) (state g.S.Store c.read_certificates.new.conn) c.read_certificates.result
+    shows_office (AreWithin (numbered first place) (numbered first (place + 999))) (state g.S.Store c.args.conn.now)
+    (state g.S.Store c.read_certificates.new.conn) c.read_certificates.result
     (rw (lo, hi) at c.read_certificates.ensures.shows clean)

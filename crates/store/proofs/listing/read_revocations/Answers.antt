@@ -1,44 +1,32 @@
-use Rattle.std.proofs.lemmas.Result.{err_from_is_err_and}
-use Rattle.std.proofs.Common.{◌≡◌, ℕ, List, Ok, Err, ap, ◌∙◌, arith}
-use Rattle.sqlite.specs.Held.{state}
-use Rattle.sqlite.specs.State.{HasCleanDisk}
-use Rattle.store_sql.proofs.Staying.{never_then, reads_then}
-use Rattle.store_sql.specs.Calls.{Never}
+use Rattle.std.proofs.Common.{◌≡◌, ℕ, List, Ok, ap, ◌∙◌}
 use Rattle.krl.specs.declared.run.Run.{Run}
 use Rattle.krl.specs.Sets.{contains}
 use Rattle.office.specs.Listing.{AreRevocations}
-use Rattle.store.proofs.Histories.{shows_serials}
-use Rattle.store.proofs.Reading.{shows_then}
+use Rattle.store_reads.specs.Histories.{IsOfHistory}
+use Rattle.store_reads.specs.RunRows.{AreRevokedRuns}
+use Rattle.store_reads.proofs.Showing.{shows_weaker}
+use Rattle.store.proofs.Reading.{and_then, of_office, of_past, shows_failed}
 use Rattle.store.proofs.listing.read_revocations.Goals as goal
 
-pub returns-clause-shows : goal.returns-clause-shows
-returns-clause-shows g c clean =
-    let old = state g.S.Store c.args.conn.now in
-    let mid = state g.S.Store c.revoked_runs.new.conn in
-    let new = state g.S.Store c.with_key_ids.new.conn in
-    let still : HasCleanDisk mid = omega (arith, c.with_key_ids.ensures.survives.clean) in
-    shows_then (λ s kept runs. (n : ℕ) → contains runs n ≡ s.revoked n)
-    (λ s kept r. (r.serials ≡ c.in_ok-serials.serials) × (r.key_ids.items ≡ s.revoked_key_ids))
-    (λ s kept r. AreRevocations r s) old mid new c.in_ok-serials.serials c.with_key_ids.result Never
-    c.revoked_runs.ensures.survives
-    (λ o l r history first rest. record { serials = λ n. ap (λ (rs : List Run). contains rs n) rest.0 ∙ first n; key_ids = rest.1 })
-    (shows_serials old mid (Ok c.in_ok-serials.serials) (c.in_ok-serials.ensures.shows still))
-    (c.with_key_ids.ensures.shows clean)
-
-pub returns-clause-reads : goal.returns-clause-reads
-returns-clause-reads g c clean =
-    let mid = state g.S.Store c.revoked_runs.new.conn in
-    let still : HasCleanDisk mid = omega (arith, c.with_key_ids.ensures.survives.clean) in
-    reads_then (state g.S.Store c.args.conn.now) mid (state g.S.Store c.with_key_ids.new.conn) c.in_ok-serials.serials c.with_key_ids.result
-    (c.in_ok-serials.ensures.reads still) (λ _. c.with_key_ids.ensures.reads clean)
-
-pub returns-clause-survives : goal.returns-clause-survives
-returns-clause-survives g c =
-    never_then (state g.S.Store c.args.conn.now) (state g.S.Store c.revoked_runs.new.conn) (state g.S.Store c.with_key_ids.new.conn)
-    c.revoked_runs.ensures.survives c.with_key_ids.ensures.survives
+pub returns : goal.returns
+returns g c =
+    let runs = c.in_ok-serials.serials in
+    let one = c.in_ok-serials.ensures in
+    let rest = c.with_key_ids.ensures in
+    let w = and_then (of_past c.revoked_runs.ensures.survives (Ok runs)
+    (λ s kept runs. (n : ℕ) → contains runs n ≡ s.revoked n)
+    (λ clean. shows_weaker (λ s kept runs. AreRevokedRuns runs s kept)
+    (λ s kept runs. IsOfHistory s kept → (n : ℕ) → contains runs n ≡ s.revoked n) _ _ (Ok runs)
+    (λ s kept runs lawful are. are.serials) (one.shows clean)) one.reads) (λ s kept r. AreRevocations r s)
+    (of_office rest.survives c.with_key_ids.result
+    (λ s kept r. (r.serials ≡ runs) × (r.key_ids.items ≡ s.revoked_key_ids)) rest.shows rest.reads)
+    (λ o l r history first rest. record {
+      serials = λ n. ap (λ (rs : List Run). contains rs n) rest.0 ∙ first n;
+      key_ids = rest.1;
+    }) in
+    record { shows = w.shows; reads = w.reads; survives = w.survives }
 
 pub returns-in_err-serials-clause-shows : goal.returns-in_err-serials-clause-shows
 returns-in_err-serials-clause-shows g c clean =
-    let p = err_from_is_err_and c.from_residual.result c.from_residual.ensures.1 in
-    rw (p.1, p.2) (shows_serials (state g.S.Store c.args.conn.now) (state g.S.Store c.revoked_runs.new.conn) (Err c.in_err-serials.field-0.0)
-    (c.in_err-serials.ensures.shows clean))
+    shows_failed (λ s kept r. AreRevocations r s) _ _ c.from_residual.result _ c.from_residual.ensures.1
+    (c.in_err-serials.ensures.shows clean)

@@ -1,9 +1,5 @@
-use Rattle.std.proofs.Common.{inl}
 use Rattle.sqlite.specs.Held.{state}
-use Rattle.store_sql.specs.Faults.{HasFailed}
-use Rattle.store.proofs.OfficeRows.{looked, looked_still, unseen}
-use Rattle.store.proofs.Telling.{open_before, tells_still}
-use Rattle.store_sql.proofs.Staying.{reads_none}
+use Rattle.store.proofs.OfficeRows.{looked, unseen}
 use Rattle.store.proofs.looking.look.Goals as goal
 
 pub returns-then-not-has_office-clause-looks : goal.returns-then-not-has_office-clause-looks
@@ -13,29 +9,5 @@ returns-then-not-has_office-clause-looks g c clean rows has =
 
 pub returns-in-Ok-clause-looks : goal.returns-in-Ok-clause-looks
 returns-in-Ok-clause-looks g c clean rows has =
-    let old = state g.S.Store c.args.conn.now in
-    let new = state g.S.Store c.every_office.new.conn in
-    looked rows (HasFailed old new) c.in-Ok.rows.items c.opened_by.result (c.in-Ok.ensures.finds clean rows has).1
+    looked rows _ c.in-Ok.rows.items c.opened_by.result (c.in-Ok.ensures.finds clean rows has).1
     (rw c.as_slice.ensures.value at c.opened_by.ensures)
-
-pub returns-in-Ok-clause-same : goal.returns-in-Ok-clause-same
-returns-in-Ok-clause-same g c clean =
-    tells_still (state g.S.Store c.args.conn.now) (state g.S.Store c.every_office.new.conn) c.every_office.ensures.survives clean
-    (λ _. (c.in-Ok.ensures.reads clean).0.was_open) (λ con means. inl (c.in-Ok.ensures.reads clean))
-
-pub returns-in-Err-clause-same : goal.returns-in-Err-clause-same
-returns-in-Err-clause-same g c clean =
-    tells_still (state g.S.Store c.args.conn.now) (state g.S.Store c.every_office.new.conn) c.every_office.ensures.survives clean
-    (open_before (state g.S.Store c.args.conn.now) (state g.S.Store c.every_office.new.conn) (c.in-Err.ensures.reads clean).0)
-    (λ con means. (c.in-Err.ensures.reads clean).0)
-
-pub returns-in-Ok-clause-still : goal.returns-in-Ok-clause-still
-returns-in-Ok-clause-still g c clean = looked_still (state g.S.Store c.args.conn.now) (state g.S.Store c.every_office.new.conn)
-    c.opened_by.result (c.in-Ok.ensures.reads clean)
-
-pub returns-in-Err-clause-still : goal.returns-in-Err-clause-still
-returns-in-Err-clause-still g c clean still = (c.in-Err.ensures.reads clean).0
-
-pub returns-then-not-has_office-clause-still : goal.returns-then-not-has_office-clause-still
-returns-then-not-has_office-clause-still g c clean still =
-    inl (reads_none {X = Unit {0}} (state g.S.Store c.args.conn.now) tt still)

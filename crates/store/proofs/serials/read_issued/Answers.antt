@@ -1,32 +1,22 @@
-use Rattle.std.proofs.lemmas.Result.{err_from_is_err_and}
-use Rattle.std.proofs.Common.{◌≡◌, Ok, Err, ap, ◌∙◌}
-use Rattle.sqlite.specs.Held.{state}
-use Rattle.store_rows.proofs.Sorting.{asked}
+use Rattle.std.proofs.Common.{◌≡◌, Ok, ap, ◌∙◌}
 use Rattle.std.specs.Option.{option_map}
-use Rattle.office.specs.declared.certificate.Certificate.{Certificate}
-use Rattle.std.specs.Prelude.{Option}
 use Rattle.office.specs.State.{certificate_of}
 use Rattle.office.specs.Publication.{issued_of, issued_row}
-use Rattle.store.proofs.Histories.{shows_of_history}
-use Rattle.store.proofs.Reading.{shows_made}
+use Rattle.store.proofs.Reading.{and_made, of_past, shows_failed}
 use Rattle.store.proofs.serials.read_issued.Goals as goal
 
-pub returns-clause-shows : goal.returns-clause-shows
-returns-clause-shows g c clean =
-    let old = state g.S.Store c.args.conn.now in
-    let new = state g.S.Store c.find_certificate.new.conn in
-    shows_made (λ s kept found. found ≡ certificate_of s c.args.serial) (λ issued. issued ≡ option_map issued_row c.in_ok-found.found)
-    (λ s kept issued. issued ≡ issued_of s c.args.serial) old new c.in_ok-found.found c.issued_in.result c.made.result c.made.ensures
-    (c.issued_in.ensures)
-    (λ o l issued history same is. is ∙ ap (λ (x : Option Certificate). option_map issued_row x) same)
-    (shows_of_history (λ s kept found. found ≡ certificate_of s c.args.serial) old new (Ok c.in_ok-found.found) (c.in_ok-found.ensures.shows clean))
-
-pub returns-clause-reads : goal.returns-clause-reads
-returns-clause-reads g c clean =
-    asked (state g.S.Store c.args.conn.now) (state g.S.Store c.find_certificate.new.conn) (c.in_ok-found.ensures.reads clean) c.made.result
+pub returns : goal.returns
+returns g c =
+    let found = c.in_ok-found.found in
+    let one = c.in_ok-found.ensures in
+    let w = and_made (of_past c.find_certificate.ensures.survives (Ok found)
+    (λ s kept found. found ≡ certificate_of s c.args.serial) one.shows one.reads)
+    (λ s kept issued. issued ≡ issued_of s c.args.serial) (λ issued. issued ≡ option_map issued_row found)
+    c.issued_in.result c.made.result c.made.ensures c.issued_in.ensures
+    (λ o l issued history same is. is ∙ ap (option_map issued_row) same) in
+    record { shows = w.shows; reads = w.reads; survives = w.survives }
 
 pub returns-in_err-found-clause-shows : goal.returns-in_err-found-clause-shows
 returns-in_err-found-clause-shows g c clean =
-    let p = err_from_is_err_and c.from_residual.result c.from_residual.ensures.1 in
-    rw (p.1, p.2) (shows_of_history (λ s kept found. found ≡ certificate_of s c.args.serial) (state g.S.Store c.args.conn.now) (state g.S.Store c.find_certificate.new.conn) (Err c.in_err-found.field-0.0)
-    (c.in_err-found.ensures.shows clean))
+    shows_failed (λ s kept issued. issued ≡ issued_of s c.args.serial) _ _ c.from_residual.result _
+    c.from_residual.ensures.1 (c.in_err-found.ensures.shows clean)

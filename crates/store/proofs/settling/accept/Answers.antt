@@ -8,7 +8,7 @@ use Rattle.store_rows.proofs.Causes.{fails_weaker}
 use Rattle.store_writes.specs.Due.{IsDue}
 use Rattle.store_writes.specs.Refused.{RefusesDecision}
 use Rattle.store.specs.Arriving.{IsAccepted, IsAfter, ExceedsTables, Settles, kept_at, state_at}
-use Rattle.store.proofs.Accepted.{is_due, settles_unwritten, settles_written, waits_written}
+use Rattle.store.proofs.Accepted.{is_due, settles_written, waits_written}
 use Rattle.store.proofs.Limits.{limited}
 use Rattle.store.proofs.settling.accept.Goals as goal
 
@@ -24,14 +24,7 @@ returns-clause-settles g c clean =
 
 pub returns-clause-survives : goal.returns-clause-survives
 returns-clause-survives g c =
-    waits_written c.args.arrival.now c.args.decision.now c.args.cas.now (state g.S.Store c.args.conn.now)
-    (state g.S.Store c.write.new.conn) c.write.ensures.survives
-
-pub returns-in_err-write-clause-settles : goal.returns-in_err-write-clause-settles
-returns-in_err-write-clause-settles g c clean =
-    let p = err_from_is_err_and c.from_residual-in_err-write.result c.from_residual-in_err-write.ensures.1 in
-    rw p.1 (settles_unwritten c.args.arrival.now c.args.decision.now c.args.cas.now (state g.S.Store c.args.conn.now)
-    (state g.S.Store c.write.new.conn) c.in_err-write.field-0.0 (c.in_err-write.ensures.makes clean))
+    waits_written c.args.arrival.now c.args.decision.now c.args.cas.now _ _ c.write.ensures.survives
 
 pub returns-in_err-write-clause-fails : goal.returns-in_err-write-clause-fails
 returns-in_err-write-clause-fails g c clean =
@@ -41,11 +34,12 @@ returns-in_err-write-clause-fails g c clean =
     let cas = c.args.cas.now in
     let old = state g.S.Store c.args.conn.now in
     let new = state g.S.Store c.write.new.conn in
-    rw (p.1, p.2) (fails_weaker {X = Outcome} (IsAfter (IsAccepted a d cas)) (IsDue d cas) (λ x. RefusesDecision d a cas (contents_of x.0 x.1)) (ExceedsTables a)
-    (λ p. (state_at p, kept_at p)) old new (Err c.in_err-write.field-0.0) (λ p after. is_due p a d cas old.now after)
-    (λ p after why. (d, cas, after.known, limited p a d cas after.history after.known c.requires.lawful why)) (c.in_err-write.ensures.fault clean))
+    rw (p.1, p.2) (fails_weaker {X = Outcome} (IsAfter (IsAccepted a d cas)) (IsDue d cas)
+    (λ x. RefusesDecision d a cas (contents_of x.0 x.1)) (ExceedsTables a) (λ p. (state_at p, kept_at p)) old new
+    (Err c.in_err-write.field-0.0) (λ p after. is_due p a d cas old.now after)
+    (λ p after why. (d, cas, after.known, limited p a d cas after.history after.known c.requires.lawful why))
+    (c.in_err-write.ensures.fault clean))
 
 pub returns-in_err-write-clause-survives : goal.returns-in_err-write-clause-survives
 returns-in_err-write-clause-survives g c =
-    waits_written c.args.arrival.now c.args.decision.now c.args.cas.now (state g.S.Store c.args.conn.now)
-    (state g.S.Store c.write.new.conn) c.write.ensures.survives
+    waits_written c.args.arrival.now c.args.decision.now c.args.cas.now _ _ c.write.ensures.survives

@@ -4,69 +4,33 @@ use Rattle.office.specs.Decided.{Decided}
 use Rattle.store.specs.Meaning.{IsHistory}
 use Rattle.store.specs.Arriving.{IsAccepted, IsWeighed, Past, state_at}
 use Rattle.store.proofs.Accepted.{decided_accepted}
-use Rattle.store.proofs.Settled.{fails_less, settles_weaker, stopped_fails, stopped_settles, waits_weaker}
+use Rattle.store.proofs.Settled.{settling, settling_weaker, stopped_settles}
 use Rattle.store.proofs.settling.weigh.Goals as goal
 
-pub returns-else-decision-gt-LAST_VERSION-clause-settles : goal.returns-else-decision-gt-LAST_VERSION-clause-settles
-returns-else-decision-gt-LAST_VERSION-clause-settles g c clean is_open =
+pub returns-else-decision-gt-LAST_VERSION : goal.returns-else-decision-gt-LAST_VERSION
+returns-else-decision-gt-LAST_VERSION g c =
     let a = c.args.arrival.now in
     let m = c.args.message.now in
-    let rows = c.args.rows.now in
+    let d = c.in-Ok.decision in
     let v = c.view-view.result in
-    let less : (p : Past) → IsHistory p.0 p.1 → IsWeighed a m rows p → IsAccepted a c.in-Ok.decision v.cas.now p =
+    let q = c.accept.ensures in
+    let less : (p : Past) → IsHistory p.0 p.1 → IsWeighed a m c.args.rows.now p → IsAccepted a d v.cas.now p =
     λ p history is.
     let agrees = c.view-view.ensures.agrees (state_at p) m is.rows in
-    decided_accepted p a m c.in-Ok.decision v is.new
-    (subst (λ (x : List ℕ). Decided (Ok c.in-Ok.decision) (state_at p) x m a.moment a.nonce) c.as_slice.ensures
+    decided_accepted p a m d v is.new
+    (subst (λ (x : List ℕ). Decided (Ok d) (state_at p) x m a.moment a.nonce) c.as_slice.ensures
     (c.in-Ok.ensures.decided (state_at p) agrees))
     (c.in-Ok.ensures.room (state_at p) agrees) agrees (omega (arith, c.if-decision-gt-LAST_VERSION.false)) in
-    settles_weaker a (IsWeighed a m rows) (IsAccepted a c.in-Ok.decision v.cas.now) (state g.S.Store c.args.conn.now)
-    (state g.S.Store c.accept.new.conn) c.accept.result less (c.accept.ensures.settles clean)
-
-pub returns-else-decision-gt-LAST_VERSION-clause-fails : goal.returns-else-decision-gt-LAST_VERSION-clause-fails
-returns-else-decision-gt-LAST_VERSION-clause-fails g c clean =
-    let a = c.args.arrival.now in
-    let m = c.args.message.now in
-    let rows = c.args.rows.now in
-    let v = c.view-view.result in
-    let less : (p : Past) → IsHistory p.0 p.1 → IsWeighed a m rows p → IsAccepted a c.in-Ok.decision v.cas.now p =
-    λ p history is.
-    let agrees = c.view-view.ensures.agrees (state_at p) m is.rows in
-    decided_accepted p a m c.in-Ok.decision v is.new
-    (subst (λ (x : List ℕ). Decided (Ok c.in-Ok.decision) (state_at p) x m a.moment a.nonce) c.as_slice.ensures
-    (c.in-Ok.ensures.decided (state_at p) agrees))
-    (c.in-Ok.ensures.room (state_at p) agrees) agrees (omega (arith, c.if-decision-gt-LAST_VERSION.false)) in
-    fails_less a (IsWeighed a m rows) (IsAccepted a c.in-Ok.decision v.cas.now) (state g.S.Store c.args.conn.now)
-    (state g.S.Store c.accept.new.conn) c.accept.result less (c.accept.ensures.fails clean)
-
-pub returns-else-decision-gt-LAST_VERSION-clause-survives : goal.returns-else-decision-gt-LAST_VERSION-clause-survives
-returns-else-decision-gt-LAST_VERSION-clause-survives g c =
-    let a = c.args.arrival.now in
-    let m = c.args.message.now in
-    let rows = c.args.rows.now in
-    let v = c.view-view.result in
-    let less : (p : Past) → IsHistory p.0 p.1 → IsWeighed a m rows p → IsAccepted a c.in-Ok.decision v.cas.now p =
-    λ p history is.
-    let agrees = c.view-view.ensures.agrees (state_at p) m is.rows in
-    decided_accepted p a m c.in-Ok.decision v is.new
-    (subst (λ (x : List ℕ). Decided (Ok c.in-Ok.decision) (state_at p) x m a.moment a.nonce) c.as_slice.ensures
-    (c.in-Ok.ensures.decided (state_at p) agrees))
-    (c.in-Ok.ensures.room (state_at p) agrees) agrees (omega (arith, c.if-decision-gt-LAST_VERSION.false)) in
-    waits_weaker (IsWeighed a m rows) (IsAccepted a c.in-Ok.decision v.cas.now) (state g.S.Store c.args.conn.now)
-    (state g.S.Store c.accept.new.conn) less c.accept.ensures.survives
+    let w = settling_weaker less
+    (settling q.survives a c.accept.result (λ clean (_ : Unit {0}). q.settles clean) q.fails q.stays) in
+    record { settles = λ clean _. w.settles clean tt; fails = w.fails; stays = w.stays; survives = w.survives }
 
 pub returns-in-Err-clause-settles : goal.returns-in-Err-clause-settles
 returns-in-Err-clause-settles g c clean is_open =
     let a = c.args.arrival.now in
     let m = c.args.message.now in
     let rows = c.args.rows.now in
-    stopped_settles a m (IsWeighed a m rows) (state g.S.Store c.args.conn.now) c.in-Err.stop c.stopped.result c.stopped.ensures
-    c.requires.nonce is_open (λ p is. is.new)
-    (λ p is.
-    subst (λ (x : List ℕ). Decided (Err c.in-Err.stop) (state_at p) x m a.moment a.nonce) c.as_slice.ensures
+    stopped_settles a m (IsWeighed a m rows) (state g.S.Store c.args.conn.now) c.in-Err.stop c.stopped.result
+    c.stopped.ensures c.requires.nonce is_open (λ p is. is.new)
+    (λ p is. subst (λ (x : List ℕ). Decided (Err c.in-Err.stop) (state_at p) x m a.moment a.nonce) c.as_slice.ensures
     (c.in-Err.ensures.decided (state_at p) (c.view-view.ensures.agrees (state_at p) m is.rows)))
-
-pub returns-in-Err-clause-fails : goal.returns-in-Err-clause-fails
-returns-in-Err-clause-fails g c clean =
-    stopped_fails c.args.arrival.now (IsWeighed c.args.arrival.now c.args.message.now c.args.rows.now) (state g.S.Store c.args.conn.now)
-    c.in-Err.stop c.stopped.result c.stopped.ensures

@@ -4,16 +4,10 @@ use Rattle.std.proofs.lemmas.Bool.{both_ways}
 use Rattle.sqlite.specs.Schema.{Schema}
 use Rattle.store_sql.specs.Look.{is_office_name}
 use Rattle.sqlite.specs.Held.{state}
-use Rattle.store_sql.specs.Schema.{no_schema}
-use Rattle.store_sql.specs.Calls.{IsBare}
-use Rattle.store_rows.specs.Rows.{office_contents}
-use Rattle.store_rows.specs.Transactions.{Leaves}
-use Rattle.store_reads.proofs.Showing.{survives_still}
 use Rattle.store.specs.Creating.{RefusesOpening}
 use Rattle.store.proofs.ShortRows.{opening_fits}
 use Rattle.store.proofs.OfficeRows.{excused_unless}
 use Rattle.store.proofs.Telling.{left_committed}
-use Rattle.store_rows.proofs.Before.{same_before}
 use Rattle.store.proofs.register.Store.init.Goals as goal
 
 pub returns-in-Ok-clause-made : goal.returns-in-Ok-clause-made
@@ -28,20 +22,6 @@ returns-in-Ok-clause-made g c clean blank =
           (λ trees may. g.met.S.Store.settled c.create.new.conn.store trees ends.1 may) rests;
     }
 
-pub returns-in-Err-clause-blank : goal.returns-in-Err-clause-blank
-returns-in-Err-clause-blank g c clean blank still = (c.in-Err.ensures.ends clean still).1 tt blank
-
-pub returns-in-Ok-clause-crash : goal.returns-in-Ok-clause-crash
-returns-in-Ok-clause-crash g c = c.in-Ok.ensures.survives
-
-pub returns-in-Err-clause-crash_back : goal.returns-in-Err-clause-crash_back
-returns-in-Err-clause-crash_back g c = c.in-Err.ensures.survives
-
-pub returns-then-has_any_table-clause-crash_back : goal.returns-then-has_any_table-clause-crash_back
-returns-then-has_any_table-clause-crash_back g c =
-    let old = state g.S.Store c.args.conn in
-    survives_still old (Leaves (λ _. IsBare no_schema) (λ (_ : Unit {0}). office_contents c.args.opening.now []) old)
-
 pub returns-then-has_any_table-clause-only : goal.returns-then-has_any_table-clause-only
 returns-then-has_any_table-clause-only g c clean blank =
     let none : list_any is_office_name (state g.S.Store c.args.conn).now.schema.tables ≡ false =
@@ -52,14 +32,5 @@ pub returns-in-Err-clause-only : goal.returns-in-Err-clause-only
 returns-in-Err-clause-only g c clean blank =
     let old = state g.S.Store c.args.conn in
     let new = state g.S.Store c.create.new.conn in
-    rw c.fault_of.ensures (excused_unless old new (RefusesOpening c.args.opening.now) c.in-Err.fault c.requires.unlimited
-    (opening_fits c.args.opening.now c.requires.lawful) (c.in-Err.ensures.cause clean blank))
-
-pub returns-in-Ok-clause-stays_open : goal.returns-in-Ok-clause-stays_open
-returns-in-Ok-clause-stays_open g c clean = (c.in-Ok.ensures.ends clean).1
-
-pub returns-then-has_any_table-clause-before : goal.returns-then-has_any_table-clause-before
-returns-then-has_any_table-clause-before g c clean = same_before (state g.S.Store c.args.conn)
-
-pub returns-in-Err-clause-before : goal.returns-in-Err-clause-before
-returns-in-Err-clause-before g c clean = c.in-Err.ensures.before clean
+    rw c.fault_of.ensures (excused_unless old new (RefusesOpening c.args.opening.now) c.in-Err.fault
+    c.requires.unlimited (opening_fits c.args.opening.now c.requires.lawful) (c.in-Err.ensures.cause clean blank))

@@ -17,31 +17,8 @@ returns-in-Ok-clause-carried g c clean o l history before =
           (λ trees may. g.met.S.Store.settled c.migrate.new.conn.store trees carries.0 may) carries.1;
     }
 
-pub returns-in-Err-clause-back : goal.returns-in-Err-clause-back
-returns-in-Err-clause-back g c clean o l before = (c.in-Err.ensures.carries clean o l before).0
-
 pub returns-in-Err-clause-only : goal.returns-in-Err-clause-only
 returns-in-Err-clause-only g c clean is_open o l history before =
-    excused_by_disk (state g.S.Store c.args.conn) (state g.S.Store c.migrate.new.conn) (former_contents o l) c.in-Err.fault
-    c.requires.unlimited (first_ca_fits o l history) ((c.in-Err.ensures.carries clean o l before).1 is_open)
-
-pub returns-in-Ok-clause-stays_open : goal.returns-in-Ok-clause-stays_open
-returns-in-Ok-clause-stays_open g c clean = (c.in-Ok.ensures.migrates clean).1
-
-pub returns-in-Err-clause-before : goal.returns-in-Err-clause-before
-returns-in-Err-clause-before g c clean = c.in-Err.ensures.before clean
-
-pub returns-in-Ok-clause-moved : goal.returns-in-Ok-clause-moved
-returns-in-Ok-clause-moved g c clean con rests = (c.in-Ok.ensures.migrates clean).2 con rests
-
-pub returns-in-Ok-clause-judged : goal.returns-in-Ok-clause-judged
-returns-in-Ok-clause-judged g c clean con rests = c.in-Ok.ensures.judges clean con rests
-
-pub returns-in-Err-clause-judged_back : goal.returns-in-Err-clause-judged_back
-returns-in-Err-clause-judged_back g c clean con rests = c.in-Err.ensures.judges clean con rests
-
-pub returns-in-Ok-clause-crash : goal.returns-in-Ok-clause-crash
-returns-in-Ok-clause-crash g c = c.in-Ok.ensures.survives
-
-pub returns-in-Err-clause-crash_back : goal.returns-in-Err-clause-crash_back
-returns-in-Err-clause-crash_back g c = c.in-Err.ensures.survives
+    excused_by_disk (state g.S.Store c.args.conn) (state g.S.Store c.migrate.new.conn) (former_contents o l)
+    c.in-Err.fault c.requires.unlimited (first_ca_fits o l history)
+    ((c.in-Err.ensures.carries clean o l before).1 is_open)

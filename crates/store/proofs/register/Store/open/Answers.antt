@@ -1,4 +1,4 @@
-use Rattle.std.proofs.Common.{refl, Err, Ok}
+use Rattle.std.proofs.Common.{refl, Err}
 use Rattle.sqlite.specs.Held.{state}
 use Rattle.store_sql.specs.Faults.{HasFailed}
 use Rattle.store_sql.proofs.FirstTable.{means_offices}
@@ -6,15 +6,7 @@ use Rattle.store_rows.specs.Rows.{office_contents}
 use Rattle.store.specs.Meaning.{DiskFailed}
 use Rattle.store.proofs.OfficeRows.{looks_weaker, not_missed}
 use Rattle.store.proofs.Telling.{disk_failed}
-use Rattle.store.proofs.Telling.{looks_before}
 use Rattle.store.proofs.register.Store.open.Goals as goal
-
-pub returns-in-Err-clause-refused : goal.returns-in-Err-clause-refused
-returns-in-Err-clause-refused g c clean rows has =
-    let old = state g.S.Store c.args.conn in
-    let new = state g.S.Store c.look.new.conn in
-    looks_weaker rows (HasFailed old new) (DiskFailed old new) (Err c.in-Err.fault) (disk_failed old new c.requires.unlimited)
-    (c.in-Err.ensures.looks clean rows has)
 
 pub returns-in-Err-clause-only : goal.returns-in-Err-clause-only
 returns-in-Err-clause-only g c clean still o l tells =
@@ -25,14 +17,3 @@ returns-in-Err-clause-only g c clean still o l tells =
     (looks_weaker con.offices (HasFailed old new) (DiskFailed old new) (Err c.in-Err.fault)
     (disk_failed old new c.requires.unlimited)
     (c.in-Err.ensures.looks clean con.offices (means_offices old.now con (tells.rows still).now)))
-
-pub returns-in-Ok-clause-stays_open : goal.returns-in-Ok-clause-stays_open
-returns-in-Ok-clause-stays_open g c clean = (c.in-Ok.ensures.still clean).0.is_open
-
-pub returns-in-Ok-clause-untouched : goal.returns-in-Ok-clause-untouched
-returns-in-Ok-clause-untouched g c clean =
-    looks_before (state g.S.Store c.args.conn) (state g.S.Store c.look.new.conn) (Ok tt) (c.in-Ok.ensures.still clean)
-
-pub returns-in-Err-clause-before : goal.returns-in-Err-clause-before
-returns-in-Err-clause-before g c clean =
-    looks_before (state g.S.Store c.args.conn) (state g.S.Store c.look.new.conn) (Err c.in-Err.fault) (c.in-Err.ensures.still clean)

@@ -1,53 +1,12 @@
 use Rattle.std.specs.Prelude.{◌≡◌}
-use Rattle.sqlite.specs.Held.{state}
 use Rattle.office.specs.State.{body_of}
-use Rattle.store.proofs.Answering.{cause_told, only_told, open_told, row_told, same_told, stays_told}
-use Rattle.store_rows.proofs.Before.{reads_before}
+use Rattle.store.proofs.Answering.{answered}
+use Rattle.store.proofs.Reading.{of_office}
 use Rattle.store.proofs.registry.StoreRegistry.body.Goals as goal
 
-pub returns-clause-row : goal.returns-clause-row
-returns-clause-row g c clean =
-    let old = state g.S.Store c.args.self.now.conn in
-    let new = state g.S.Store c.read_body_of.new.conn in
-    row_told (λ s kept body. body ≡ body_of s c.args.serial) old new c.read_body_of.result c.told.result c.told.ensures c.read_body_of.ensures.reads
-    c.read_body_of.ensures.shows clean
-
-pub returns-clause-same : goal.returns-clause-same
-returns-clause-same g c clean =
-    let old = state g.S.Store c.args.self.now.conn in
-    let new = state g.S.Store c.read_body_of.new.conn in
-    same_told (λ s kept body. body ≡ body_of s c.args.serial) old new c.read_body_of.result c.told.result c.told.ensures c.read_body_of.ensures.reads
-    c.read_body_of.ensures.shows c.read_body_of.ensures.survives clean
-
-pub returns-clause-cause : goal.returns-clause-cause
-returns-clause-cause g c =
-    let old = state g.S.Store c.args.self.now.conn in
-    let new = state g.S.Store c.read_body_of.new.conn in
-    cause_told (λ s kept body. body ≡ body_of s c.args.serial) old new c.read_body_of.result c.told.result c.told.ensures c.read_body_of.ensures.reads
-    c.read_body_of.ensures.shows
-
-pub returns-clause-only : goal.returns-clause-only
-returns-clause-only g c clean =
-    let old = state g.S.Store c.args.self.now.conn in
-    let new = state g.S.Store c.read_body_of.new.conn in
-    only_told (λ s kept body. body ≡ body_of s c.args.serial) old new c.read_body_of.result c.told.result c.told.ensures c.read_body_of.ensures.reads
-    c.read_body_of.ensures.shows clean
-
-pub returns-clause-was_open : goal.returns-clause-was_open
-returns-clause-was_open g c clean =
-    let old = state g.S.Store c.args.self.now.conn in
-    let new = state g.S.Store c.read_body_of.new.conn in
-    open_told (λ s kept body. body ≡ body_of s c.args.serial) old new c.read_body_of.result c.told.result c.told.ensures
-    c.read_body_of.ensures.reads c.read_body_of.ensures.shows clean
-
-pub returns-clause-stays_open : goal.returns-clause-stays_open
-returns-clause-stays_open g c clean =
-    let old = state g.S.Store c.args.self.now.conn in
-    let new = state g.S.Store c.read_body_of.new.conn in
-    stays_told (λ s kept body. body ≡ body_of s c.args.serial) old new c.read_body_of.result c.told.result c.told.ensures
-    c.read_body_of.ensures.reads c.read_body_of.ensures.shows clean
-
-pub returns-clause-before : goal.returns-clause-before
-returns-clause-before g c clean still =
-    reads_before (state g.S.Store c.args.self.now.conn) (state g.S.Store c.read_body_of.new.conn) c.read_body_of.result
-    (c.read_body_of.ensures.reads clean)
+pub returns : goal.returns
+returns g c =
+    let q = c.read_body_of.ensures in
+    let t = answered c.told.ensures (of_office q.survives c.read_body_of.result
+    (λ s kept body. body ≡ body_of s c.args.serial) q.shows q.reads) in
+    assumption t

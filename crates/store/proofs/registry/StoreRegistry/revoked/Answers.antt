@@ -1,52 +1,11 @@
-use Rattle.sqlite.specs.Held.{state}
 use Rattle.office.specs.Publication.{AreRevoked}
-use Rattle.store.proofs.Answering.{cause_told, only_told, open_told, row_told, same_told, stays_told}
-use Rattle.store_rows.proofs.Before.{reads_before}
+use Rattle.store.proofs.Answering.{answered}
+use Rattle.store.proofs.Reading.{of_office}
 use Rattle.store.proofs.registry.StoreRegistry.revoked.Goals as goal
 
-pub returns-clause-row : goal.returns-clause-row
-returns-clause-row g c clean =
-    let old = state g.S.Store c.args.self.now.conn in
-    let new = state g.S.Store c.read_revoked.new.conn in
-    row_told (λ s kept revoked. AreRevoked revoked s) old new c.read_revoked.result c.told.result c.told.ensures c.read_revoked.ensures.reads
-    c.read_revoked.ensures.shows clean
-
-pub returns-clause-same : goal.returns-clause-same
-returns-clause-same g c clean =
-    let old = state g.S.Store c.args.self.now.conn in
-    let new = state g.S.Store c.read_revoked.new.conn in
-    same_told (λ s kept revoked. AreRevoked revoked s) old new c.read_revoked.result c.told.result c.told.ensures c.read_revoked.ensures.reads
-    c.read_revoked.ensures.shows c.read_revoked.ensures.survives clean
-
-pub returns-clause-cause : goal.returns-clause-cause
-returns-clause-cause g c =
-    let old = state g.S.Store c.args.self.now.conn in
-    let new = state g.S.Store c.read_revoked.new.conn in
-    cause_told (λ s kept revoked. AreRevoked revoked s) old new c.read_revoked.result c.told.result c.told.ensures c.read_revoked.ensures.reads
-    c.read_revoked.ensures.shows
-
-pub returns-clause-only : goal.returns-clause-only
-returns-clause-only g c clean =
-    let old = state g.S.Store c.args.self.now.conn in
-    let new = state g.S.Store c.read_revoked.new.conn in
-    only_told (λ s kept revoked. AreRevoked revoked s) old new c.read_revoked.result c.told.result c.told.ensures c.read_revoked.ensures.reads
-    c.read_revoked.ensures.shows clean
-
-pub returns-clause-was_open : goal.returns-clause-was_open
-returns-clause-was_open g c clean =
-    let old = state g.S.Store c.args.self.now.conn in
-    let new = state g.S.Store c.read_revoked.new.conn in
-    open_told (λ s kept revoked. AreRevoked revoked s) old new c.read_revoked.result c.told.result c.told.ensures
-    c.read_revoked.ensures.reads c.read_revoked.ensures.shows clean
-
-pub returns-clause-stays_open : goal.returns-clause-stays_open
-returns-clause-stays_open g c clean =
-    let old = state g.S.Store c.args.self.now.conn in
-    let new = state g.S.Store c.read_revoked.new.conn in
-    stays_told (λ s kept revoked. AreRevoked revoked s) old new c.read_revoked.result c.told.result c.told.ensures
-    c.read_revoked.ensures.reads c.read_revoked.ensures.shows clean
-
-pub returns-clause-before : goal.returns-clause-before
-returns-clause-before g c clean still =
-    reads_before (state g.S.Store c.args.self.now.conn) (state g.S.Store c.read_revoked.new.conn) c.read_revoked.result
-    (c.read_revoked.ensures.reads clean)
+pub returns : goal.returns
+returns g c =
+    let q = c.read_revoked.ensures in
+    let t = answered c.told.ensures (of_office q.survives c.read_revoked.result (λ s kept revoked. AreRevoked revoked s)
+    q.shows q.reads) in
+    assumption t
