@@ -46,7 +46,8 @@ pub record HoldsAfter (Q : State → Type 0) (s : State) (moment : ℕ) : Type 0
   pub signature : (serial : ℕ) (signature : Signature) → Q (with_signature s serial signature)
   pub range : (r : SerialRange) → IsHandedOut s r → Q (republished (with_range s r) moment)
   pub key_id : (key_id : List ℕ) → Q (republished (with_key_id s key_id) moment)
-  pub ca : (key : List ℕ) → is_ca s.cas key ≡ false → has_any s.revoked_key_ids ≡ false → Q (with_ca s (ca_from_now s key))
+  pub ca : (key : List ℕ) → is_ca s.cas key ≡ false → has_any s.revoked_key_ids ≡ false
+      → Q (with_ca s (ca_from_now s key))
   pub ca_published : (key : List ℕ) → is_ca s.cas key ≡ false → has_any s.revoked_key_ids ≡ true
       → Q (republished (with_ca s (ca_from_now s key)) moment)
 
@@ -59,8 +60,8 @@ module _ (Q : State → Type 0) (s : State) (moment : ℕ) (q : Q s) (h : HoldsA
   same_or true t p = q
   same_or false t p = p
 
-  made : (r : Renewal) (nonce : List ℕ) (o : Option Certificate) → next_serial s ≤ s.opening.last
-      → Q (with_one_more s (option_map (λ c. renewed_certificate c r (next_serial s) (newest_key s.opening s.cas) nonce) o))
+  made : (r : Renewal) (nonce : List ℕ) (o : Option Certificate) → next_serial s ≤ s.opening.last → Q (with_one_more s
+      (option_map (λ c. renewed_certificate c r (next_serial s) (newest_key s.opening s.cas) nonce) o))
   made r nonce None left = q
   made r nonce (Some c) left =
       h.certificate (renewed_certificate c r (next_serial s) (newest_key s.opening s.cas) nonce)

@@ -45,8 +45,8 @@ module _ (v : View) (s : State) (m : Message) (caller : List ℕ) (moment : ℕ)
       (rw (version, date) state) replied (a.next ∙ next))
 
   -- the same where a certificate is made, as the machine makes it
-  pub made_decided : (made c : Certificate) (reply body : List ℕ) (x : Decision)
-      → x ≡ record { reply = reply; next = v.next + 1; version = v.version; date = v.date; change = change.Certificate made }
+  pub made_decided : (made c : Certificate) (reply body : List ℕ) (x : Decision) → let ch = change.Certificate made in
+      x ≡ record { reply = reply; next = v.next + 1; version = v.version; date = v.date; change = ch }
       → made ≡ c → after s m moment nonce ≡ with_certificate s c
       → reply_to s m moment nonce ≡ issue_reply (next_serial s) c.body
       → reply ≡ issue_reply v.next body → body ≡ made.body → Decided (Ok x) s caller m moment nonce

@@ -1,5 +1,6 @@
 -- What each first acceptance keeps holds after every history, of the first acceptances and the state.
-use Rattle.std.proofs.Common.{◌≡◌, ◌≤◌, ℕ, List, [], ◌∷◌, ◌++◌, true, None, Some, Result, Ok, Err, refl, sym, ap, subst, ◌∙◌}
+use Rattle.std.proofs.Common.{◌≡◌, ◌≤◌, ℕ, List, [], ◌∷◌, ◌++◌, true, None, Some, Result, Ok, Err}
+use Rattle.std.proofs.Common.{refl, sym, ap, subst, ◌∙◌}
 use Rattle.std.specs.List.{fold}
 use Rattle.std.proofs.lemmas.Bool.{and_parts, ltb-false}
 use Rattle.std.proofs.lemmas.List.Sums.{fold_push, fold-append}
@@ -45,8 +46,8 @@ abbrev pub IsKeptBy : (List First → State → Type 0) → Type 0
 IsKeptBy P = (fs : List First) (s : State) (f : First) → IsAccepted s f → P fs s → P (fs ++ f ∷ []) (change s f)
 
 module _ (P : List First → State → Type 0) (keeps : IsKeptBy P) (o : Opening) where
-  kept_by_one : (fs : List First) (a : Arrival) (r : Result First Refusal) → judged (state_after o fs) (kept_by fs) a ≡ r
-      → P fs (state_after o fs) → P (add_accepted fs r) (state_after o (add_accepted fs r))
+  kept_by_one : (fs : List First) (a : Arrival) (r : Result First Refusal)
+      → judged (state_after o fs) (kept_by fs) a ≡ r → P fs (state_after o fs) → P (add_accepted fs r) (state_after o (add_accepted fs r))
   kept_by_one fs a (Err x) e p = p
   kept_by_one fs a (Ok f) e p =
       let s = state_after o fs in

@@ -1,6 +1,6 @@
 -- No reply is long.
-use Rattle.std.proofs.Common.{◌≡◌, ℕ, ◌+◌, ◌*◌, ◌<◌, ◌≤◌, ◌^◌, List, [], ◌∷◌, length, true, false, cond, leb}
-use Rattle.std.proofs.Common.{All, IfSome, Option, Some, None, Result, Ok, Err, refl, ap, ◌∙◌, arith, lit<, length-append}
+use Rattle.std.proofs.Common.{◌≡◌, ℕ, ◌+◌, ◌*◌, ◌<◌, ◌≤◌, ◌^◌, List, [], ◌∷◌, length, true, false, cond, leb, All}
+use Rattle.std.proofs.Common.{IfSome, Option, Some, None, Result, Ok, Err, refl, ap, ◌∙◌, arith, lit<, length-append}
 use Rattle.std.specs.Fmt.{decimal}
 use Rattle.std.specs.List.{AllByRecursion, find}
 use Rattle.std.specs.Option.{option_map}
@@ -99,10 +99,12 @@ module _ (s : State) (room : HasRoom s) (caller : List ℕ) (moment : ℕ) (nonc
   -- an allowed message's reply
   allowed_reply-le : (m : Message) → is_message m ≡ true → first_holding (refusals s caller m moment) ≡ None
       → length (reply_to s m moment nonce) ≤ 99
-  allowed_reply-le (message.Department d) lawful allowed = department_reply-le d.name (and_parts (is_name d.name) _ lawful).0
+  allowed_reply-le (message.Department d) lawful allowed =
+      department_reply-le d.name (and_parts (is_name d.name) _ lawful).0
   allowed_reply-le (message.Issue i) lawful allowed = issue_reply-le (next_serial s) _ (omega arith)
   allowed_reply-le (message.Renew r) lawful allowed = made_reply-le s (renewed s r nonce) (omega arith)
-  allowed_reply-le (message.Deliver d) lawful allowed = delivery_reply-le d.serial (and_parts (is_serial d.serial) _ lawful).0
+  allowed_reply-le (message.Deliver d) lawful allowed =
+      delivery_reply-le d.serial (and_parts (is_serial d.serial) _ lawful).0
   allowed_reply-le (message.Rollover k) lawful allowed =
       let tests = none_holds (refusals s caller (message.Rollover k) moment) allowed in
       let few : length s.cas < 8 = leb-false _ _ tests.1.1.0 in
@@ -124,7 +126,8 @@ record IsShort (fs : List First) (s : State) : Type 0 where
 
 short_kept : IsKeptBy IsShort
 short_kept fs s f is before =
-    let grown = after_grows s f.arrival.caller f.message f.arrival.moment f.arrival.nonce is.lawful is.allowed in record {
+    let a = f.arrival in
+    let grown = after_grows s a.caller f.message a.moment a.nonce is.lawful is.allowed in record {
       last = rw grown.opening before.last;
       serials = by_change IsInRange in_range_each fs s f is before.serials;
       replies = λ now.
@@ -132,7 +135,7 @@ short_kept fs s f is before =
           let room : HasRoom s = record { last = before.last; serials = before.serials; version = version } in
           rw (map-append kept_row fs (f ∷ []))
           (All-push (λ k. length k.reply ≤ 99) (kept_by fs) (kept_row f) (before.replies version) (rw is.reply
-          (allowed_reply-le s room f.arrival.caller f.arrival.moment f.arrival.nonce f.message is.lawful is.allowed)));
+          (allowed_reply-le s room a.caller a.moment a.nonce f.message is.lawful is.allowed)));
     }
 
 found_short : (kept : List Kept) (a : Arrival) → AllByRecursion (λ k. length k.reply ≤ 99) kept
@@ -159,10 +162,11 @@ due_short o l a is =
     let kept = kept_by (first_accepted o l) in
     let room : HasRoom (state o l) = record { last = all.last; serials = all.serials; version = is.version } in
     repeated_fits (reply_kept kept a) (outcome_of (judged (state o l) kept a))
-    (found_short kept a (recursion_from_All (λ k. length k.reply ≤ 99) kept (all.replies is.version))) (judged_short room _ refl)
+    (found_short kept a (recursion_from_All (λ k. length k.reply ≤ 99) kept (all.replies is.version)))
+    (judged_short room _ refl)
   where
-    judged_short : HasRoom (state o l) → (r : Result First Refusal) → judged (state o l) (kept_by (first_accepted o l)) a ≡ r
-        → ReplyFits 99 (outcome_of r)
+    judged_short : HasRoom (state o l) → (r : Result First Refusal)
+        → judged (state o l) (kept_by (first_accepted o l)) a ≡ r → ReplyFits 99 (outcome_of r)
     judged_short room (Err r) e = tt
     judged_short room (Ok f) e =
         let first = judged_is_first (state o l) (kept_by (first_accepted o l)) a f e in

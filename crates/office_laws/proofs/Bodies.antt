@@ -1,13 +1,13 @@
 -- Bodies stay, and name the CA that signs them.
-use Rattle.std.proofs.Common.{◌≡◌, ℕ, zero, suc, ◌+◌, ◌-◌, ◌<◌, ◌≤◌, List, [], ◌∷◌, ◌++◌, ◌⊎◌, length, map, fold}
-use Rattle.std.proofs.Common.{cond, leb, ltb, Bool, true, false, Option, Some, None, refl, sym, ap, subst, ◌∙◌, inl, inr, arith}
+use Rattle.std.proofs.Common.{◌≡◌, ℕ, zero, suc, ◌+◌, ◌-◌, ◌<◌, List, [], ◌∷◌, ◌++◌, ◌⊎◌, length, map, fold}
+use Rattle.std.proofs.Common.{cond, ltb, Bool, true, false, Option, Some, None}
+use Rattle.std.proofs.Common.{refl, sym, ap, subst, ◌∙◌, inl, inr, arith}
 use Rattle.std.specs.Prelude.{slice_get, option_map}
 use Rattle.std.proofs.lemmas.Bool.{le-leb, lt-leb}
 use Rattle.std.proofs.lemmas.List.{map-append, length-map}
 use Rattle.std.proofs.lemmas.List.Sums.{fold_push}
 use Rattle.std.proofs.lemmas.Option.{slice_get-map, slice_get_within}
 use Rattle.lines.specs.declared.signature.Signature.{Signature}
-use Rattle.cert.specs.Bodies.{body_text}
 use Rattle.office.specs.declared.opening.Opening.{Opening}
 use Rattle.office.specs.declared.arrival.Arrival.{Arrival}
 use Rattle.office.specs.declared.ca.Ca.{Ca}
@@ -35,7 +35,8 @@ at_push : {X : Type 0} (xs : List X) (y : X) (n : ℕ) (x : X) → slice_get (xs
 at_push [] y zero x e = inr (refl, cc)
 at_push [] y (suc n) x e = absurd cc
 at_push (z ∷ xs) y zero x e = inl e
-at_push (z ∷ xs) y (suc n) x e = elim (at_push xs y n x e) [ inl there ↦ inl there | inr last ↦ inr (ap suc last.0, last.1) ]
+at_push (z ∷ xs) y (suc n) x e =
+    elim (at_push xs y n x e) [ inl there ↦ inl there | inr last ↦ inr (ap suc last.0, last.1) ]
 
 -- what a signature leaves of certificates
 pub map-signed_at : {X : Type 0} (f : Certificate → X)
@@ -93,8 +94,8 @@ newest_is_signer s are =
     let rest = are.first.1 in
     let last : suc (length rest) - 1 ≡ length rest = omega arith in
     subst (λ (cas : List Ca). Rise s.opening.first cas (next_serial s)
-    → key_or s.opening.ca (slice_get cas (length cas - 1)) ≡ fold (key_at (next_serial s)) s.opening.ca cas) (sym are.first.2)
-    (λ rise. ap (λ k. key_or s.opening.ca (slice_get (ca ∷ rest) k)) last
+    → key_or s.opening.ca (slice_get cas (length cas - 1)) ≡ fold (key_at (next_serial s)) s.opening.ca cas)
+    (sym are.first.2) (λ rise. ap (λ k. key_or s.opening.ca (slice_get (ca ∷ rest) k)) last
     ∙ sym (newest_signs (next_serial s) s.opening.first s.opening.ca s.opening.ca ca rest rise)) are.rise
 
 -- a CA that comes later doesn't sign
@@ -146,7 +147,8 @@ signed_each s moment in_time are =
       range = λ r is. record { cas = kept.range r is; bodies = are.bodies };
       key_id = λ key_id. record { cas = kept.key_id key_id; bodies = are.bodies };
       ca = λ key new none. record { cas = kept.ca key new none; bodies = under_more_cas s key are.bodies };
-      ca_published = λ key new some. record { cas = kept.ca_published key new some; bodies = under_more_cas s key are.bodies };
+      ca_published = λ key new some.
+          record { cas = kept.ca_published key new some; bodies = under_more_cas s key are.bodies };
     }
 
 pub body_names_signer : (o : Opening) (l : List Arrival) (serial : ℕ) (c : Certificate)

@@ -1,5 +1,5 @@
 -- Serials count up.
-use Rattle.std.proofs.Common.{◌≡◌, ℕ, suc, ◌+◌, ◌-◌, List, [], ◌∷◌, ◌++◌, length, map, Bool, true, false, cond}
+use Rattle.std.proofs.Common.{◌≡◌, ℕ, ◌-◌, List, [], ◌∷◌, ◌++◌, length, map, Bool, true, false, cond}
 use Rattle.std.proofs.Common.{Option, Some, None, refl, sym, ap, subst, ◌∙◌, length-append, add-one}
 use Rattle.std.specs.Prelude.{is_none, filter}
 use Rattle.std.specs.Option.{option_map}
@@ -99,5 +99,6 @@ pub serials_counted : (o : Opening) (l : List Arrival) → CountsUp o l
 serials_counted o l = record {
   replies = after_all (λ fs s. issue_replies fs ≡ map reply_of s.certificates) replies_kept o l refl;
   serials = subst (λ (x : Opening). map (λ c. c.fields.serial) (state o l).certificates
-      ≡ counted_from x.first (length (state o l).certificates)) (opening_stays o l) (always AreCounted counted_each o l refl);
+      ≡ counted_from x.first (length (state o l).certificates)) (opening_stays o l)
+      (always AreCounted counted_each o l refl);
 }

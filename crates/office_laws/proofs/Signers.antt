@@ -1,5 +1,5 @@
 -- The signer of a serial is the CA that the published list has it under.
-use Rattle.std.proofs.Common.{◌≡◌, ◌≢◌, ℕ, zero, suc, List, [], ◌∷◌, map, Bool, true, false, cond}
+use Rattle.std.proofs.Common.{◌≡◌, ◌≢◌, ℕ, zero, suc, List, [], ◌∷◌, map, Bool, true, false}
 use Rattle.std.proofs.Common.{◌&&◌, leb, ltb, Some, refl, sym, ap, subst, ◌∙◌, inl, inr, add-one}
 use Rattle.std.specs.Prelude.{slice_get, slice_index, drop}
 use Rattle.std.specs.List.{fold, list_all, AllByRecursion}

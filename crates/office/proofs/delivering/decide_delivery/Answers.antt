@@ -11,4 +11,5 @@ returns-clause-decided c s agrees moment nonce =
     unpublished_decided c.args.view.now s (message.Deliver d) c.args.caller.now moment nonce agrees
     (sym (c.refusal_of_delivery.ensures s agrees) ∙ c.in_default.is) (change.Signature d.serial d.signature)
     c.in_ok-to_delivery.field-0 c.unpublished.result c.unpublished.ensures refl c.in_ok-to_delivery.ensures
-    (ap (λ (n : ℕ). s.opening.first + n) (sym (length-signed_at s.certificates (d.serial - s.opening.first) d.signature)))
+    (ap (λ (n : ℕ). s.opening.first + n)
+    (sym (length-signed_at s.certificates (d.serial - s.opening.first) d.signature)))
