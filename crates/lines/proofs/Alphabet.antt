@@ -163,8 +163,8 @@ word_found word fits is_word =
     let read : (i : ℕ) → i < length word → (eqb (slice_index word i) 61 ≡ false)
     × (eqb (slice_index values (slice_index word i)) 255 ≡ false) = λ i lt.
     (not_padding (slice_index word i) (fits i) (letter i lt), has_value (slice_index word i) (fits i) (letter i lt)) in
-    let last = last_four word (slice_index word 64) (slice_index word 65) (slice_index word 66) (slice_index word 67) len
-    (four_left word len)
+    let last = last_four word (slice_index word 64) (slice_index word 65) (slice_index word 66) (slice_index word 67)
+    len (four_left word len)
     (read 64 (omega arith), (read 65 (omega arith), (read 66 (omega arith), (read 67 (omega arith), tt)))) in
     let q : ℕ = groups_before_last (length word) in
     let lone : lone_error values 61 word ≡ None = rw len refl in
