@@ -1,63 +1,75 @@
 -- The path of each place finds its route.
-use Rattle.std.proofs.Common.{◌≡◌, ℕ, ◌-◌, List, [], ◌∷◌, ◌++◌, length, Some}
-use Rattle.std.proofs.Common.{refl, sym, ap, ◌∙◌, subst, arith, codes, decimal}
-use Rattle.matchit.specs.Rows.{RowsOf}
+use Rattle.std.proofs.Common.{◌≡◌, ℕ, ◌<◌, List, [], ◌∷◌, ◌++◌, length, get_or, true, false, IsTrue, nat_le, Bool, Some}
+use Rattle.std.proofs.Common.{refl, sym, ap, ◌∙◌, subst, arith, codes, decimal, ◌==◌}
+use Rattle.std.specs.Char.{is_ascii_digit}
+use Rattle.std.specs.List.{list_all}
+use Rattle.std.proofs.lemmas.Bool.{and_parts, leb-true}
+use Rattle.std.proofs.lemmas.Bool.Decides.{nat_tests}
+use Rattle.std.proofs.lemmas.Fmt.{decimal_nonempty, digits_decimal}
+use Rattle.std.proofs.lemmas.List.Elements.{recursion_from_All}
+use Rattle.std.proofs.lemmas.List.Sums.{AllPass-from_list_all}
 use Rattle.matchit.specs.Router.{RouteOf}
-use Rattle.matchit.specs.Seek.{first, seek}
+use Rattle.matchit.specs.Seek.{first}
 use Rattle.matchit.proofs.OnLiterals.{matchit_on_literals}
+use Rattle.values.specs.Names.{is_name, is_name_byte, has_size}
+use Rattle.values.specs.Serials.{is_serial}
+use Rattle.values.proofs.DecimalLemmas.{own}
+use Rattle.values.proofs.Lacking.{lacks_from}
+use Rattle.values.proofs.SerialLemmas.{serial_small}
 use Rattle.http_requests.specs.declared.resource.Resource.TheVariants as a
 use Rattle.http_requests.specs.declared.router.RouteKind.{RouteKind}
 use Rattle.http_requests.specs.declared.router.RouteKind.TheVariants.{Message, Certificate, Body, Fixed}
 use Rattle.http_requests.specs.Paths.{Path, message, resource, IsPath, path_text}
 use Rattle.http_requests.specs.Routing.{routing, row_of}
-use Rattle.http_requests.proofs.Seeking.{steps, lits, by_param, step_to_slash, step_to_end, seek_past, cuts_slash, cuts_none}
-use Rattle.http_requests.proofs.Parts.{IsPart, byte_misses, part_of_name, part_of_serial, slash_param, end_param, seek_whole}
+use Rattle.http_requests.proofs.Seeking.{IsPart, lits, at_end, cuts_none, cuts_slash, to_slash, to_end}
 
--- the path of a message finds the route of messages
+-- ---- parameters
+
+-- bytes of a kind that no slash is of
+part_from : (test : ℕ → Bool) (c : List ℕ) → test 47 ≡ false → ((b : ℕ) → test b ≡ true → b < 256) → 0 < length c
+    → list_all test c ≡ true → IsPart c
+part_from test c off small some all = record {
+  some = some;
+  clear = recursion_from_All (λ b. (b == 47) ≡ false) c (lacks_from test 47 c off all);
+  byte = small (get_or c 0 0) (AllPass-from_list_all test c all 0 0 some);
+}
+
+pub part_of_name : (name : List ℕ) → IsTrue (is_name name) → IsPart name
+part_of_name name is =
+    let parts = and_parts (has_size 1 32 name) _ is in
+    let some = leb-true 1 (length name) (and_parts (nat_le 1 (length name)) _ parts.0).0 in
+    part_from is_name_byte name refl (λ b h. grind (arith, nat_tests)) some parts.1
+
+pub part_of_serial : (n : ℕ) → is_serial n ≡ true → IsPart (decimal n)
+part_of_serial n is =
+    let small = serial_small n is in
+    part_from is_ascii_digit (decimal n) refl (λ b h. grind (arith, nat_tests)) (decimal_nonempty n small)
+    (digits_decimal own n small)
+
+-- a byte is no parameter
+byte_misses : (x : ℕ) → x < 256 → (256 == x) ≡ false
+byte_misses x h = grind (arith, nat_tests)
+
+-- ---- paths
+
 message_found : (c k : List ℕ) → IsPart c → IsPart k
     → first routing (codes "/v1/callers/" ++ (c ++ (codes "/requests/" ++ k))) ≡ Some (row_of Message)
 message_found c k caller key =
     lits (codes "/v1/callers/") routing (c ++ (codes "/requests/" ++ k)) (row_of Message)
-    (slash_param _ (row_of Message) (row_of Message) c (codes "requests/" ++ k) caller
-    (lits (codes "/requests/") _ k (row_of Message) (end_param (row_of Message) k key)))
+    (to_slash _ c (codes "requests/" ++ k) (row_of Message) caller (λ x h. rw (byte_misses x h) (refl {a = []}))
+    (rw (cuts_slash c caller.some) (refl {a = 47 ∷ []})) (lits (codes "/requests/") _ k (row_of Message)
+    (to_end _ k (row_of Message) key (λ x h. rw (byte_misses x h) (refl {a = []})) refl refl)))
 
--- the rows after the front of a certificate's path
-abbrev pub certificates : RowsOf (RouteOf RouteKind)
-certificates = steps (codes "/v1/certs/") routing
-
--- the path of a certificate finds the route of certificates
 certificate_found : (c : List ℕ) → IsPart c → first routing (codes "/v1/certs/" ++ c) ≡ Some (row_of Certificate)
-certificate_found c part = lits (codes "/v1/certs/") routing c (row_of Certificate) (by c part)
-  where
-    by : (c : List ℕ) → IsPart c → seek 0 certificates c ≡ Some (row_of Certificate)
-    by [] part = absurd (omega (arith, part.some))
-    by (x ∷ p) part =
-        let c = x ∷ p in
-        let after : RowsOf (RouteOf RouteKind) = (codes "/body", row_of Body) ∷ ([], row_of Certificate) ∷ [] in
-        let miss = byte_misses x (part.byte x p refl) in
-        let none = cuts_none c part.clear in
-        let e : length c - 1 ≡ length p = omega arith in
-        by_param certificates x p (row_of Certificate) (length c, after) (rw miss (refl {a = []}))
-        (step_to_end after c part.clear (rw none (refl {a = []})))
-        (ap (λ n. seek n after p) e ∙ seek_whole after p)
+certificate_found c part = lits (codes "/v1/certs/") routing c (row_of Certificate)
+    (to_end _ c (row_of Certificate) part (λ x h. rw (byte_misses x h) (refl {a = []}))
+    (rw (cuts_none c part.clear) (refl {a = []})) refl)
 
--- the path of a body finds the route of bodies
 body_found : (c : List ℕ) → IsPart c → first routing (codes "/v1/certs/" ++ (c ++ codes "/body")) ≡ Some (row_of Body)
-body_found c part = lits (codes "/v1/certs/") routing (c ++ codes "/body") (row_of Body) (by c part)
-  where
-    by : (c : List ℕ) → IsPart c → seek 0 certificates (c ++ codes "/body") ≡ Some (row_of Body)
-    by [] part = absurd (omega (arith, part.some))
-    by (x ∷ p) part =
-        let c = x ∷ p in
-        let after : RowsOf (RouteOf RouteKind) = (codes "/body", row_of Body) ∷ ([], row_of Certificate) ∷ [] in
-        let only : RowsOf (RouteOf RouteKind) = (codes "/body", row_of Body) ∷ [] in
-        let miss = byte_misses x (part.byte x p refl) in
-        let hit = cuts_slash c part.some in
-        let e : length c - 1 ≡ length p = omega arith in
-        by_param certificates x (p ++ codes "/body") (row_of Body) (length c, only) (rw miss (refl {a = []}))
-        (step_to_slash after c (codes "body") part.clear (rw hit (refl {a = 47 ∷ []})))
-        (ap (λ n. seek n only (p ++ codes "/body")) e ∙ seek_past only p (codes "/body")
-        ∙ lits (codes "/body") only [] (row_of Body) (seek_whole (([], row_of Body) ∷ []) []))
+body_found c part = lits (codes "/v1/certs/") routing (c ++ codes "/body") (row_of Body)
+    (to_slash _ c (codes "body") (row_of Body) part (λ x h. rw (byte_misses x h) (refl {a = []}))
+    (rw (cuts_slash c part.some) (refl {a = 47 ∷ []}))
+    (lits (codes "/body") _ [] (row_of Body) (at_end (([], row_of Body) ∷ []))))
 
 -- the route of a path
 abbrev pub kind_at : Path → RouteKind
@@ -74,7 +86,7 @@ routed (resource (a.Certificate n)) is = certificate_found (decimal n) (part_of_
 routed (resource (a.Body n)) is = body_found (decimal n) (part_of_serial n is)
 routed (resource r) is = refl
 
--- the route that was found is the route of the path's text
+-- paths of one text lead to one route
 pub same_route : (path : List ℕ) (r : RouteOf RouteKind) (p : Path)
     → IsPath p → first routing path ≡ Some r → path ≡ path_text p → r.value ≡ kind_at p
 same_route path r p is found e =
@@ -82,22 +94,26 @@ same_route path r p is found e =
     let row : r ≡ row_of (kind_at p) = cc in
     ap (λ r. r.value) row
 
--- the path is one of this route
-abbrev pub IsAt : RouteKind → Path → Type 0
-IsAt Message p = (caller : List ℕ) × (key : List ℕ) × (p ≡ message caller key)
-IsAt Certificate p = (n : ℕ) × (p ≡ resource (a.Certificate n))
-IsAt Body p = (n : ℕ) × (p ≡ resource (a.Body n))
-IsAt (Fixed r) p = p ≡ resource r
+-- ---- the path of a route
 
--- each path is one of its own route
-at_kind : (p : Path) → IsAt (kind_at p) p
-at_kind (message caller key) = (caller, key, refl)
-at_kind (resource (a.Certificate n)) = (n, refl)
-at_kind (resource (a.Body n)) = (n, refl)
-at_kind (resource r) = refl
+-- the text is that of a path of this route
+abbrev pub IsOf : RouteKind → List ℕ → Type 0
+IsOf Message text = (caller key : List ℕ) × IsPath (message caller key) × (text ≡ path_text (message caller key))
+IsOf Certificate text =
+    (n : ℕ) × IsPath (resource (a.Certificate n)) × (text ≡ path_text (resource (a.Certificate n)))
+IsOf Body text = (n : ℕ) × IsPath (resource (a.Body n)) × (text ≡ path_text (resource (a.Body n)))
+IsOf (Fixed r) text = text ≡ path_text (resource r)
 
--- a path is one of the route that it has
-pub at_route : (kind : RouteKind) (p : Path) → kind ≡ kind_at p → IsAt kind p
-at_route kind p e =
-    let P : RouteKind → Type 0 = λ kind. IsAt kind p in
-    subst P (sym e) (at_kind p)
+of_kind : (p : Path) → IsPath p → IsOf (kind_at p) (path_text p)
+of_kind (message caller key) is = (caller, key, is, refl)
+of_kind (resource (a.Certificate n)) is = (n, is, refl)
+of_kind (resource (a.Body n)) is = (n, is, refl)
+of_kind (resource r) is = refl
+
+-- a path's text that finds this route is that of one of its paths
+pub found_of : (kind : RouteKind) (path : List ℕ) (r : RouteOf RouteKind) (p : Path) → first routing path ≡ Some r
+    → r.value ≡ kind → IsPath p → path ≡ path_text p → IsOf kind path
+found_of kind path r p found of is e =
+    let P : RouteKind → Type 0 = λ kind. IsOf kind path in
+    let Q : List ℕ → Type 0 = IsOf (kind_at p) in
+    subst P (sym (same_route path r p is found e) ∙ of) (subst Q (sym e) (of_kind p is))

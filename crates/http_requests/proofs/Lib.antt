@@ -1,13 +1,8 @@
 pub mod Heads
-pub mod Phrases
-pub mod Refusals
 pub mod Seeking
-pub mod Parts
 pub mod Finding
 pub mod Cutting
 pub mod Matching
 pub mod OneAsk
-pub mod LawfulAsk
-pub mod Later
-pub mod Wanted
+pub mod Asking
 pub mod Reading

@@ -1,92 +1,88 @@
 -- What a found route says of the path.
-use Rattle.std.proofs.Common.{◌≡◌, ◌⊎◌, inl, inr, ℕ, zero, suc, ◌-◌, List, [], ◌∷◌, ◌++◌, length, drop, take}
-use Rattle.std.proofs.Common.{Option, Some, None, Bool, true, false, cond, refl, sym, ap, ◌∙◌, subst, arith, ◌==◌}
-use Rattle.std.specs.Prelude.{⊤, ltb, ◌&&◌}
-use Rattle.std.specs.List.{list_all}
-use Rattle.std.proofs.lemmas.Bool.Decides.{nat_tests}
-use Rattle.std.proofs.lemmas.List.{take-append-drop}
+use Rattle.std.proofs.Common.{◌≡◌, ◌⊎◌, inl, inr, ℕ, zero, suc, ◌-◌, List, [], ◌∷◌, length, drop}
+use Rattle.std.proofs.Common.{Option, Some, None, Bool, true, false, cond, refl, ap, ◌∙◌, subst, ◌==◌}
+use Rattle.std.specs.Prelude.{⊤, ltb}
+use Rattle.std.specs.List.{list_all, AllByRecursion}
+use Rattle.std.proofs.lemmas.Bool.{and_parts, eqb-true}
 use Rattle.matchit.specs.Rows.{RowsOf, param_token, catch_all_token}
 use Rattle.matchit.specs.Router.{RouteOf}
 use Rattle.matchit.specs.Seek.{own, step, or_else, seek, first, param_step, has_slash}
 use Rattle.matchit.specs.Seek.{with_suffix, same_text, segment, longest_suffix}
 use Rattle.http_requests.specs.declared.resource.Resource.{Resource}
 use Rattle.http_requests.specs.declared.router.RouteKind.{RouteKind}
-use Rattle.http_requests.specs.declared.router.RouteKind.TheVariants.{Message, Certificate, Body, Fixed}
+use Rattle.http_requests.specs.declared.router.RouteKind.TheVariants.{Fixed}
 use Rattle.http_requests.specs.Paths.{resource, IsPath, path_text}
-use Rattle.http_requests.specs.Routing.{kinds, pattern_of, rows_of, routing}
+use Rattle.http_requests.specs.Routing.{routing}
 
--- the rows have this one
-abbrev pub Has : {K : Type 0} → List ℕ → K → RowsOf K → Type 0
-Has t k [] = ⊥
-Has t k ((u, j) ∷ rest) = ((u ≡ t) × (j ≡ k)) ⊎ Has t k rest
+-- so it is of each row, what is left of its pattern and its key
+abbrev AllRows : {K : Type 0} → (List ℕ → K → Type 0) → RowsOf K → Type 0
+AllRows P rs = AllByRecursion (λ row. P row.0 row.1) rs
 
--- the path is that of the pattern, with something for each parameter
-abbrev pub Matches : List ℕ → List ℕ → Type 0
-Matches [] path = path ≡ []
-Matches (x ∷ t) path =
-    ((rest : List ℕ) × (path ≡ x ∷ rest) × Matches t rest)
-    ⊎ (((x ≡ param_token) × (part : List ℕ) × (rest : List ℕ) × (path ≡ part ++ rest) × Matches t rest)
-    ⊎ (x ≡ catch_all_token))
+-- bytes alone, and no parameter
+abbrev are_bytes : List ℕ → Bool
+are_bytes t = list_all (λ b. ltb b 256) t
 
--- the row that ends here is there
-own_has : {K : Type 0} (k : K) (rs : RowsOf K) → own rs ≡ Some k → Has [] k rs
-own_has k [] e = cc
-own_has k (([], j) ∷ rest) e = inl (refl, cc)
-own_has k ((x ∷ t, j) ∷ rest) e = inr (own_has k rest e)
+-- of the row that ends here
+own_is : {K : Type 0} (P : List ℕ → K → Type 0) (rs : RowsOf K) (k : K) → AllRows P rs → own rs ≡ Some k → P [] k
+own_is P [] k all e = absurd cc
+own_is P (([], j) ∷ rest) k all e = let same : j ≡ k = cc in subst (P []) same all.0
+own_is P ((x ∷ t, j) ∷ rest) k all e = own_is P rest k all.1 e
 
--- a row after a byte is there with the byte before it
-step_has : {K : Type 0} (b : ℕ) (t : List ℕ) (k : K) (rs : RowsOf K) → Has t k (step b rs) → Has (b ∷ t) k rs
-step_has b t k [] h = h
-step_has b t k (([], j) ∷ rest) h = inr (step_has b t k rest h)
-step_has b t k ((x ∷ u, j) ∷ rest) h = by (step_has b t k rest) (x == b) refl h
+-- of the rows after a byte
+step_all : {K : Type 0} (P : List ℕ → K → Type 0) (b : ℕ) (rs : RowsOf K) → AllRows P rs
+    → AllRows (λ t. P (b ∷ t)) (step b rs)
+step_all P b [] all = tt
+step_all P b (([], j) ∷ rest) all = step_all P b rest all.1
+step_all P b ((x ∷ t, j) ∷ rest) all = by (x == b) refl (step_all P b rest all.1)
   where
-    by : (Has t k (step b rest) → Has (b ∷ t) k rest) → (v : Bool) → (x == b) ≡ v
-        → Has t k (cond v ((u, j) ∷ step b rest) (step b rest)) → Has (b ∷ t) k ((x ∷ u, j) ∷ rest)
-    by again true e (inl (p, q)) =
-        let same : x ≡ b = grind (arith, nat_tests) in
-        inl (cc, q)
-    by again true e (inr more) = inr (again more)
-    by again false e more = inr (again more)
+    by : (v : Bool) → (x == b) ≡ v → AllRows (λ t. P (b ∷ t)) (step b rest)
+        → AllRows (λ t. P (b ∷ t)) (cond v ((t, j) ∷ step b rest) (step b rest))
+    by true e later = (subst (λ y. P (y ∷ t) j) (eqb-true x b e) all.0, later)
+    by false e later = later
 
--- a row with this suffix is there
-with_suffix_has : {K : Type 0} (s t : List ℕ) (k : K) (rs : RowsOf K) → Has t k (with_suffix s rs) → Has t k rs
-with_suffix_has s t k [] h = h
-with_suffix_has s t k ((u, j) ∷ rest) h = by (with_suffix_has s t k rest) (same_text (segment u) s) h
-  where
-    by : (Has t k (with_suffix s rest) → Has t k rest) → (v : Bool)
-        → Has t k (cond v ((u, j) ∷ with_suffix s rest) (with_suffix s rest)) → Has t k ((u, j) ∷ rest)
-    by again true (inl here) = inl here
-    by again true (inr more) = inr (again more)
-    by again false more = inr (again more)
+-- of the rows with a suffix
+suffix_all : {K : Type 0} (P : List ℕ → K → Type 0) (s : List ℕ) (rs : RowsOf K) → AllRows P rs
+    → AllRows P (with_suffix s rs)
+suffix_all P s [] all = tt
+suffix_all P s ((t, j) ∷ rest) all =
+    elim (same_text (segment t) s) as (λ v. AllRows P (cond v ((t, j) ∷ with_suffix s rest) (with_suffix s rest))) [
+      | true ↦ (all.0, suffix_all P s rest all.1)
+      | false ↦ suffix_all P s rest all.1
+    ]
 
--- a row after a parameter is there
-param_has : {K : Type 0} (t : List ℕ) (k : K) (rs : RowsOf K) (path : List ℕ)
-    → Has t k (param_step rs path).1 → Has t k rs
+-- of the rows after a parameter
+param_all : {K : Type 0} (P : List ℕ → K → Type 0) (rs : RowsOf K) (path : List ℕ) → AllRows P rs
+    → AllRows P (param_step rs path).1
 unfolding param_step
-param_has {K = K} t k rs path h = by (ltb 0 (length (longest_suffix (segment path) rs))) (has_slash path) h
+param_all {K = K} P rs path all = by (ltb 0 (length (longest_suffix (segment path) rs))) (has_slash path)
   where
-    by : (v w : Bool) → Has t k (cond {A = ℕ × RowsOf K} v (
+    by : (v w : Bool) → AllRows P (cond {A = ℕ × RowsOf K} v (
       length (segment path) - length (longest_suffix (segment path) rs),
       with_suffix (longest_suffix (segment path) rs) rs,
-    ) (cond {A = ℕ × RowsOf K} w (0, []) (length path, rs))).1 → Has t k rs
-    by true w h = with_suffix_has (longest_suffix (segment path) rs) t k rs h
-    by false true h = absurd h
-    by false false h = h
+    ) (cond {A = ℕ × RowsOf K} w (0, []) (length path, rs))).1
+    by true w = suffix_all P (longest_suffix (segment path) rs) rs all
+    by false true = tt
+    by false false = all
 
 -- one of two answers is given
 or_else_some : {K : Type 0} (k : K) (a b : Option K) → or_else a b ≡ Some k → (a ≡ Some k) ⊎ (b ≡ Some k)
 or_else_some k None b e = inr e
 or_else_some k (Some j) b e = inl e
 
--- what is found is a row whose pattern the path matches
-sound : {K : Type 0} (skip : ℕ) (rs : RowsOf K) (path : List ℕ) (k : K) → seek skip rs path ≡ Some k
-    → (t : List ℕ) × Has t k rs × Matches t (drop skip path)
+-- what is found is a row, and if its pattern is bytes alone, these are the path
+abbrev Found : {K : Type 0} → (List ℕ → K → Type 0) → K → List ℕ → Type 0
+Found P k path = (t : List ℕ) × P t k × (are_bytes t ≡ true → path ≡ t)
+
+sound : {K : Type 0} (P : List ℕ → K → Type 0) (skip : ℕ) (rs : RowsOf K) (path : List ℕ) (k : K) → AllRows P rs
+    → seek skip rs path ≡ Some k → Found P k (drop skip path)
 unfolding seek
-sound zero rs [] k e = ([], own_has k rs e, refl)
-sound (suc skip) rs [] k e = ([], own_has k rs e, refl)
-sound (suc skip) rs (b ∷ path) k e = sound skip rs path k e
-sound {K = K} zero rs (b ∷ path) k e =
-    literal (sound 0 (step b rs) path k) (sound n after path k) (or_else_some k _ _ e)
+sound P zero rs [] k all e = ([], own_is P rs k all e, λ _. refl)
+sound P (suc skip) rs [] k all e = ([], own_is P rs k all e, λ _. refl)
+sound P (suc skip) rs (b ∷ path) k all e = sound P skip rs path k all e
+sound {K = K} P zero rs (b ∷ path) k all e =
+    by (sound (λ t. P (b ∷ t)) 0 (step b rs) path k (step_all P b rs all))
+    (sound (λ t. P (param_token ∷ t)) n after path k (param_all _ _ (b ∷ path) (step_all P param_token rs all)))
+    (or_else_some k _ _ e)
   where
     after : RowsOf K
     after = (param_step (step param_token rs) (b ∷ path)).1
@@ -94,79 +90,36 @@ sound {K = K} zero rs (b ∷ path) k e =
     n : ℕ
     n = (param_step (step param_token rs) (b ∷ path)).0 - 1
 
-    Found : ℕ → RowsOf K → Type 0
-    Found skip rows = seek skip rows path ≡ Some k → (t : List ℕ) × Has t k rows × Matches t (drop skip path)
-
-    wild : Found n after → (seek n after path ≡ Some k) ⊎ (own (step catch_all_token rs) ≡ Some k)
-        → (t : List ℕ) × Has t k rs × Matches t (b ∷ path)
-    wild again (inl f) =
-        let there = again f in
-        let has = param_has there.0 k (step param_token rs) (b ∷ path) there.1 in
-        let whole = ap (λ r. b ∷ r) (sym (take-append-drop n path)) in (
-          param_token ∷ there.0,
-          step_has param_token there.0 k rs has,
-          inr (inl (refl, b ∷ take n path, drop n path, whole, there.2)),
-        )
-    wild again (inr f) = (catch_all_token ∷ [], step_has catch_all_token [] k rs (own_has k _ f), inr (inr refl))
-
-    literal : Found 0 (step b rs) → Found n after
+    by : (seek 0 (step b rs) path ≡ Some k → Found (λ t. P (b ∷ t)) k path)
+        → (seek n after path ≡ Some k → Found (λ t. P (param_token ∷ t)) k (drop n path))
         → (seek 0 (step b rs) path ≡ Some k) ⊎ (or_else (seek n after path) (own (step catch_all_token rs)) ≡ Some k)
-        → (t : List ℕ) × Has t k rs × Matches t (b ∷ path)
-    literal again wilds (inl f) =
-        let there = again f in
-        (b ∷ there.0, step_has b there.0 k rs there.1, inl (path, refl, there.2))
-    literal again wilds (inr f) = wild wilds (or_else_some k _ _ f)
+        → Found P k (b ∷ path)
+    by literal wild (inl f) =
+        let there = literal f in
+        (b ∷ there.0, there.1, λ bytes. ap (λ r. b ∷ r) (there.2 (and_parts (ltb b 256) _ bytes).1))
+    by literal wild (inr f) = elim (or_else_some k _ _ f) [
+      | inl g ↦ let there = wild g in (param_token ∷ there.0, there.1, λ bytes. absurd cc)
+      | inr g ↦ (
+        catch_all_token ∷ [],
+        own_is (λ t. P (catch_all_token ∷ t)) _ k (step_all P catch_all_token rs all) g,
+        λ bytes. absurd cc,
+      )
+    ]
 
--- bytes alone, and no parameter
-abbrev pub are_bytes : List ℕ → Bool
-are_bytes t = list_all (λ b. ltb b 256) t
+-- the row of a fixed route has the route's path, which is bytes alone
+abbrev IsRow : List ℕ → RouteKind → Type 0
+IsRow t (Fixed r) = IsPath (resource r) × (are_bytes t ≡ true) × (t ≡ path_text (resource r))
+IsRow t _ = ⊤
 
--- a pattern of bytes alone is matched by itself alone
-matches_itself : (t path : List ℕ) → are_bytes t ≡ true → Matches t path → path ≡ t
-matches_itself [] path bytes m = m
-matches_itself (x ∷ t) path bytes m = by (matches_itself t) (ltb x 256) (are_bytes t) refl refl bytes m
-  where
-    by : ((rest : List ℕ) → are_bytes t ≡ true → Matches t rest → rest ≡ t) → (v w : Bool)
-        → ltb x 256 ≡ v → are_bytes t ≡ w → (v && w) ≡ true → Matches (x ∷ t) path → path ≡ x ∷ t
-    by again true w e f bytes (inl (rest, is, m)) = is ∙ ap (λ r. x ∷ r) (again rest (f ∙ bytes) m)
-    by again true w e f bytes (inr (inl m)) =
-        let token = m.0 in
-        absurd (grind (arith, nat_tests))
-    by again true w e f bytes (inr (inr token)) = absurd (grind (arith, nat_tests))
-    by again false w e f bytes m = cc
-
--- a fixed route has a path of its own, and that path is bytes alone
-abbrev pub IsKind : RouteKind → Type 0
-IsKind Message = ⊤
-IsKind Certificate = ⊤
-IsKind Body = ⊤
-IsKind (Fixed r) = IsPath (resource r) × (are_bytes (path_text (resource r)) ≡ true)
-
-abbrev pub AreKinds : List RouteKind → Type 0
-AreKinds [] = ⊤
-AreKinds (kind ∷ rest) = IsKind kind × AreKinds rest
-
-are_kinds : AreKinds kinds
-are_kinds = (tt, ((tt, refl), (tt, (tt, ((tt, refl), ((tt, refl), ((tt, refl), ((tt, refl), tt))))))))
-
--- a row of such routes has a route's pattern
-row_kind : (some : List RouteKind) → AreKinds some → (t : List ℕ) (r : RouteOf RouteKind) → Has t r (rows_of some)
-    → (t ≡ pattern_of r.value) × IsKind r.value
-row_kind [] are t r h = absurd h
-row_kind (kind ∷ rest) are t r (inl (p, q)) =
-    let e : kind ≡ r.value = ap (λ r. r.value) q in
-    let P : RouteKind → Type 0 = IsKind in
-    (sym p ∙ ap pattern_of e, subst P e are.0)
-row_kind (kind ∷ rest) are t r (inr more) = row_kind rest are.1 t r more
+are_rows : AllRows (λ t r. IsRow t r.value) routing
+are_rows =
+    (tt, ((tt, refl, refl), (tt, (tt,
+    ((tt, refl, refl), ((tt, refl, refl), ((tt, refl, refl), ((tt, refl, refl), tt))))))))
 
 -- a path that finds a fixed route is that route's path
 pub fixed_path : (path : List ℕ) (r : RouteOf RouteKind) (what : Resource) → first routing path ≡ Some r
     → r.value ≡ Fixed what → IsPath (resource what) × (path ≡ path_text (resource what))
 fixed_path path r what found e =
-    let there = sound 0 routing path r found in
-    let row = row_kind kinds are_kinds there.0 r there.1 in
-    let P : List ℕ → Type 0 = λ t. Matches t path in
-    let matches = subst P (row.0 ∙ ap pattern_of e) there.2 in
-    let Q : RouteKind → Type 0 = IsKind in
-    let is = subst Q e row.1 in
-    (is.0, matches_itself (path_text (resource what)) path is.1 matches)
+    let there = sound (λ t r. IsRow t r.value) 0 routing path r are_rows found in
+    let is = subst (IsRow there.0) e there.1 in
+    (is.0, there.2 is.1 ∙ is.2)

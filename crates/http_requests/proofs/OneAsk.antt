@@ -1,17 +1,19 @@
 -- Texts tell paths apart, and so requests ask one thing.
-use Rattle.std.proofs.Common.{◌≡◌, true, inl, inr, ℕ, List, length, drop, take}
-use Rattle.std.proofs.Common.{refl, sym, ap, ◌∙◌, subst, arith, codes, decimal}
+use Rattle.std.proofs.Common.{◌≡◌, true, inl, inr, ℕ, List, length, drop}
+use Rattle.std.proofs.Common.{refl, sym, ap, ◌∙◌, subst, codes, decimal}
 use Rattle.std.proofs.lemmas.List.{append_cancel_right}
 use Rattle.std.proofs.lemmas.Fmt.{decimal_injective}
 use Rattle.httparse.specs.Grammar.{RequestHead}
 use Rattle.httparse.proofs.GrammarLemmas.{request_unique}
+use Rattle.http_requests.specs.declared.resource.Resource.{Resource}
 use Rattle.http_requests.specs.declared.resource.Resource.TheVariants.{Certificate, Body}
+use Rattle.http_requests.specs.declared.router.RouteKind.TheVariants.{Fixed}
 use Rattle.values.specs.Serials.{is_serial}
-use Rattle.values.proofs.SerialLemmas.{serial_bounds}
+use Rattle.values.proofs.SerialLemmas.{serial_small}
 use Rattle.http_requests.specs.Paths.{Path, message, resource, IsPath, path_text}
 use Rattle.http_requests.specs.Routing.{row_of}
 use Rattle.http_requests.specs.Asks.{Ask, HeadAsks, Asks, asked_at}
-use Rattle.http_requests.proofs.Finding.{routed, same_route, kind_at, IsAt, at_route}
+use Rattle.http_requests.proofs.Finding.{routed, same_route, kind_at}
 use Rattle.http_requests.proofs.Cutting.{message_cut}
 
 -- two messages whose paths have one text are of one caller and one key
@@ -21,40 +23,38 @@ same_message c k d l is also e =
     let text = path_text (message c k) in
     let one = message_cut text (drop 12 text) c k is refl refl in
     let two = message_cut text (drop 12 text) d l also e refl in
-    let sizes : length c ≡ length d = let both = sym one.slash ∙ two.slash in cc in
-    let callers : c ≡ d = sym one.front ∙ ap (λ n. take n (drop 12 text)) sizes ∙ two.front in
-    let tails = sym one.back ∙ ap (λ n. drop n (drop 12 text)) sizes ∙ two.back in
+    let callers : c ≡ d = sym (one.front (length c) one.slash) ∙ two.front (length c) one.slash in
+    let tails = sym (one.back (length c) one.slash) ∙ two.back (length c) one.slash in
     let keys : k ≡ l = ap (drop 10) tails in
     cc
 
 -- serials of one text are one
 same_serial : (m n : ℕ) → is_serial m ≡ true → is_serial n ≡ true → decimal m ≡ decimal n → m ≡ n
-same_serial m n is also e =
-    decimal_injective m n (omega (arith, (serial_bounds m is).1)) (omega (arith, (serial_bounds n also).1)) e
+same_serial m n is also = decimal_injective m n (serial_small m is) (serial_small n also)
 
--- paths of one text lead to one route
-same_kind : (p q : Path) → IsPath p → IsPath q → path_text p ≡ path_text q → kind_at p ≡ kind_at q
-same_kind p q is also e = same_route (path_text p) (row_of (kind_at p)) q also (routed p is) e
+-- a path of a fixed route is the route's
+at_fixed : (r : Resource) (q : Path) → Fixed r ≡ kind_at q → resource r ≡ q
+at_fixed r (resource (Certificate n)) kind = cc
+at_fixed r q kind = cc
 
 -- paths of one route and one text are one
-same_at : (p q : Path) → IsPath p → IsPath q → path_text p ≡ path_text q → IsAt (kind_at p) q → p ≡ q
-same_at (message c k) q is also e at =
-    let P : Path → Type 0 = IsPath in
-    same_message c k at.0 at.1 is (subst P at.2 also) (e ∙ ap path_text at.2) ∙ sym at.2
-same_at (resource (Certificate m)) q is also e at =
-    let P : Path → Type 0 = IsPath in
-    let digits = ap (drop 10) (e ∙ ap path_text at.1) in
-    ap (λ n. resource (Certificate n)) (same_serial m at.0 is (subst P at.1 also) digits) ∙ sym at.1
-same_at (resource (Body m)) q is also e at =
-    let P : Path → Type 0 = IsPath in
-    let ends = ap (drop 10) (e ∙ ap path_text at.1) in
-    let digits = append_cancel_right (decimal m) (decimal at.0) (codes "/body") ends in
-    ap (λ n. resource (Body n)) (same_serial m at.0 is (subst P at.1 also) digits) ∙ sym at.1
-same_at (resource r) q is also e at = sym at
+same_at : (p q : Path) → IsPath p → IsPath q → path_text p ≡ path_text q → kind_at p ≡ kind_at q → p ≡ q
+same_at (message c k) (message d l) is also e kind = same_message c k d l is also e
+same_at (message c k) (resource (Certificate n)) is also e kind = cc
+same_at (message c k) q is also e kind = cc
+same_at (resource (Certificate m)) (resource (Certificate n)) is also e kind =
+    ap (λ n. resource (Certificate n)) (same_serial m n is also (ap (drop 10) e))
+same_at (resource (Certificate m)) q is also e kind = cc
+same_at (resource (Body m)) (resource (Body n)) is also e kind =
+    let digits = append_cancel_right (decimal m) (decimal n) (codes "/body") (ap (drop 10) e) in
+    ap (λ n. resource (Body n)) (same_serial m n is also digits)
+same_at (resource (Body m)) q is also e kind = cc
+same_at (resource r) q is also e kind = at_fixed r q kind
 
 -- paths of one text are one
 pub same_path : (p q : Path) → IsPath p → IsPath q → path_text p ≡ path_text q → p ≡ q
-same_path p q is also e = same_at p q is also e (at_route (kind_at p) q (same_kind p q is also e))
+same_path p q is also e =
+    same_at p q is also e (same_route (path_text p) (row_of (kind_at p)) q also (routed p is) e)
 
 -- a head asks one thing
 one_of_head : (h : RequestHead) (rest : List ℕ) (a b : Ask) → HeadAsks h rest a → HeadAsks h rest b → a ≡ b

@@ -2,8 +2,9 @@
 use Rattle.std.proofs.Common.{◌≡◌, ℕ, zero, suc, ◌+◌, ◌*◌, ◌/◌, ◌%◌, ◌<◌, ◌≤◌, true, false}
 use Rattle.std.proofs.Common.{eqb, ltb, nat_lt, slice_set, List, [], ◌∷◌, ◌++◌, length, drop}
 use Rattle.std.proofs.Common.{replicate, slice_index, Option, None, Ok, refl, sym, ap, ◌∙◌, arith}
-use Rattle.std.specs.List.{list_all}
+use Rattle.std.specs.List.{AllByRecursion, fold, list_all}
 use Rattle.std.proofs.lemmas.Bool.{agree_below_at, and_from, and_parts, cond-false, eq-eqb, eqb-true, ltb-true, ne_eqb}
+use Rattle.std.proofs.lemmas.List.Sums.{AllPass-from_list_all}
 use Rattle.std.proofs.lemmas.List.{append-nil, drop_all, drop_more, length-append}
 use Rattle.base64.specs.Engines.{standard}
 use Rattle.base64.specs.GeneralPurpose.{IsBytes, decode_of, encode_of}
@@ -16,6 +17,7 @@ use Rattle.base64.specs.declared.engine.DecodePaddingMode.TheVariants.{RequireCa
 use Rattle.base64.proofs.Decoding.{length-groups_bytes, scan-cons_ok, scan-nil}
 use Rattle.lines.specs.KeyLines.{is_base64_letter, is_base64_word}
 use Rattle.lines.proofs.Base64.{Leftover, length-encode_of}
+use Rattle.lines.proofs.Words.{IsFreeOfSpace}
 
 abbrev table : List ℕ
 table = standard.encode_table
@@ -44,9 +46,15 @@ has_value x lt letter = let below : slice_index values x < 64 = ltb-true _ _ (sy
 
 letter_at : (word : List ℕ) (i : ℕ) → list_all is_base64_letter word ≡ true → i < length word
     → is_base64_letter (slice_index word i) ≡ true
-letter_at [] i e lt = absurd (omega arith)
-letter_at (x ∷ word) zero e lt = (and_parts _ _ e).0
-letter_at (x ∷ word) (suc i) e lt = letter_at word i (and_parts _ _ e).1 (omega arith)
+letter_at word i e lt = AllPass-from_list_all is_base64_letter word e i 0 lt
+
+-- letters have no space among them
+pub letters_free : (word : List ℕ) → list_all is_base64_letter word ≡ true → IsFreeOfSpace word
+letters_free [] e = tt
+letters_free (x ∷ word) e =
+    let parts = and_parts (is_base64_letter x) _ e in
+    let apart = ne_eqb x 32 (λ same. absurd (cc (ap is_base64_letter (sym same) ∙ parts.0))) in
+    (apart, letters_free word parts.1)
 
 -- ---- what is written
 
@@ -115,36 +123,35 @@ letter_kept : (st : Leftover) (i b : ℕ) → nat_lt 0 st.padding_count ≡ fals
     → eqb (slice_index values b) 255 ≡ false → push_leftover values 61 64 st i b ≡ Ok (with_letter st b)
 letter_kept st i b unpadded plain value = rw (plain, unpadded, value) refl
 
+-- letters alone, with their values
+abbrev AreRead : List ℕ → Type 0
+AreRead bs = AllByRecursion (λ b. (eqb b 61 ≡ false) × (eqb (slice_index values b) 255 ≡ false)) bs
+
+scan_letters : (st : Leftover) (i : ℕ) (bs : List ℕ) → nat_lt 0 st.padding_count ≡ false → AreRead bs
+    → scan values 61 64 st i bs ≡ Ok (fold with_letter st bs)
+scan_letters st i [] unpadded all = scan-nil values 61 64 st i
+scan_letters st i (b ∷ bs) unpadded all =
+    scan-cons_ok values 61 64 st i b bs (with_letter st b) (letter_kept st i b unpadded all.0.0 all.0.1)
+    ∙ scan_letters (with_letter st b) (i + 1) bs unpadded all.1
+
 -- a last group of four letters is read whole
 last_four : (word : List ℕ) (w x y z : ℕ) → length word ≡ 68 → drop 64 word ≡ w ∷ x ∷ y ∷ z ∷ []
-    → eqb w 61 ≡ false → eqb x 61 ≡ false → eqb y 61 ≡ false → eqb z 61 ≡ false
-    → eqb (slice_index values w) 255 ≡ false → eqb (slice_index values x) 255 ≡ false
-    → eqb (slice_index values y) 255 ≡ false → eqb (slice_index values z) 255 ≡ false
+    → AreRead (w ∷ x ∷ y ∷ z ∷ [])
     → (suffix_error values 61 false RequireCanonical 64 word ≡ None) × (length (suffix_bytes values 61 64 word) ≡ 3)
-last_four word w x y z len last pw px py pz vw vx vy vz =
-    let one = with_letter no_leftover w in
-    let two = with_letter one x in
-    let three = with_letter two y in
-    let four = with_letter three z in
-    let scanned : scan_last values 61 64 word ≡ Ok four =
-    ap (scan values 61 64 no_leftover 0) last
-    ∙ scan-cons_ok values 61 64 no_leftover 0 w (x ∷ y ∷ z ∷ []) one (letter_kept no_leftover 0 w refl pw vw)
-    ∙ scan-cons_ok values 61 64 one 1 x (y ∷ z ∷ []) two (letter_kept one 1 x refl px vx)
-    ∙ scan-cons_ok values 61 64 two 2 y (z ∷ []) three (letter_kept two 2 y refl py vy)
-    ∙ scan-cons_ok values 61 64 three 3 z [] four (letter_kept three 3 z refl pz vz)
-    ∙ scan-nil values 61 64 four 4 in
+last_four word w x y z len last all =
+    let scanned : scan_last values 61 64 word ≡ Ok (fold with_letter no_leftover (w ∷ x ∷ y ∷ z ∷ [])) =
+    ap (scan values 61 64 no_leftover 0) last ∙ scan_letters no_leftover 0 (w ∷ x ∷ y ∷ z ∷ []) refl all in
     (rw (scanned, len) refl, rw scanned refl)
 
-four_left : (word : List ℕ) → length word ≡ 68 → drop 64 word ≡ slice_index word 64 ∷ slice_index word 65 ∷ slice_index
-    word 66 ∷ slice_index word 67 ∷ []
+four_left : (word : List ℕ) → length word ≡ 68
+    → drop 64 word ≡ slice_index word 64 ∷ slice_index word 65 ∷ slice_index word 66 ∷ slice_index word 67 ∷ []
 four_left word len =
     let a = drop_more word 64 0 (omega arith) in
     let b = drop_more word 65 0 (omega arith) in
     let c = drop_more word 66 0 (omega arith) in
     let d = drop_more word 67 0 (omega arith) in
     let e : drop 68 word ≡ [] = drop_all 68 word (omega arith) in
-    a ∙ ap (λ (l : List ℕ). slice_index word 64 ∷ l) (b ∙ ap (λ (l : List ℕ). slice_index word 65 ∷ l) (c
-    ∙ ap (λ (l : List ℕ). slice_index word 66 ∷ l) (d ∙ ap (λ (l : List ℕ). slice_index word 67 ∷ l) e)))
+    rw (a, b, c, d, e) refl
 
 -- 68 letters are the base64 of 51 bytes.
 pub word_found : (word : List ℕ) → IsBytes word → is_base64_word word ≡ true → (blob : List ℕ)
@@ -153,12 +160,12 @@ word_found word fits is_word =
     let parts = and_parts (eqb (length word) 68) (list_all is_base64_letter word) is_word in
     let len : length word ≡ 68 = eqb-true _ _ parts.0 in
     let letter = λ (i : ℕ) (lt : i < length word). letter_at word i parts.1 lt in
-    let plain = λ (i : ℕ) (lt : i < length word). not_padding (slice_index word i) (fits i) (letter i lt) in
-    let value = λ (i : ℕ) (lt : i < length word). has_value (slice_index word i) (fits i) (letter i lt) in
-    let last = last_four word (slice_index word 64) (slice_index word 65) (slice_index word 66)
-    (slice_index word 67) len (four_left word len)
-    (plain 64 (omega arith)) (plain 65 (omega arith)) (plain 66 (omega arith)) (plain 67 (omega arith))
-    (value 64 (omega arith)) (value 65 (omega arith)) (value 66 (omega arith)) (value 67 (omega arith)) in
+    let read : (i : ℕ) → i < length word → (eqb (slice_index word i) 61 ≡ false)
+    × (eqb (slice_index values (slice_index word i)) 255 ≡ false) = λ i lt.
+    (not_padding (slice_index word i) (fits i) (letter i lt), has_value (slice_index word i) (fits i) (letter i lt)) in
+    let last = last_four word (slice_index word 64) (slice_index word 65) (slice_index word 66) (slice_index word 67)
+    len (four_left word len)
+    (read 64 (omega arith), (read 65 (omega arith), (read 66 (omega arith), (read 67 (omega arith), tt)))) in
     let q : ℕ = groups_before_last (length word) in
     let lone : lone_error values 61 word ≡ None = rw len refl in
     let groups : groups_error values word q ≡ None = groups_none word q fits parts.1 (omega arith) in

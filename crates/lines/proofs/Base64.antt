@@ -1,8 +1,8 @@
--- The standard engine of base64: what it writes is read again, nothing else is read, and no space is written.
-use Rattle.std.proofs.Common.{◌≡◌, ℕ, zero, suc, ◌+◌, ◌*◌, ◌/◌, ◌%◌, ◌<◌, true, false, not, eqb, List}
+-- The standard engine of base64: what it writes is read again, and nothing else is read.
+use Rattle.std.proofs.Common.{◌≡◌, ℕ, zero, suc, ◌+◌, ◌*◌, ◌/◌, ◌<◌, true, false, not, eqb, List}
 use Rattle.std.proofs.Common.{[], ◌∷◌, ◌++◌, length, drop, replicate, get_or, slice_index, Option}
 use Rattle.std.proofs.Common.{Some, None, Result, Ok, Err, refl, sym, subst, ◌∙◌, ◌⊎◌, arith, inl, inr}
-use Rattle.std.specs.List.{AllByRecursion, list_all}
+use Rattle.std.specs.List.{list_all}
 use Rattle.std.proofs.lemmas.Bool.{and_parts, not-true}
 use Rattle.std.proofs.lemmas.List.{length-append, length-replicate}
 use Rattle.base64.specs.Engines.{standard}
@@ -167,7 +167,7 @@ IsBytes-decode_of engine s b fits e =
     let back = IsBytes-suffix_bytes dec s pad (4 * q) table fits in
     subst IsBytes parts.1 (IsBytes-append (groups_bytes dec s q) (suffix_bytes dec pad (4 * q) s) front back)
 
--- ---- no space is written
+-- ---- a byte that no element is
 
 -- what no element of a list is, what stands past its end is not either, unless it is 0
 pub free_at : (c : ℕ) (xs : List ℕ) (i : ℕ) → eqb 0 c ≡ false → list_all (λ x. not (eqb x c)) xs ≡ true
@@ -175,39 +175,3 @@ pub free_at : (c : ℕ) (xs : List ℕ) (i : ℕ) → eqb 0 c ≡ false → list
 free_at c [] i zero_free e = zero_free
 free_at c (x ∷ xs) zero zero_free e = not-true _ (and_parts _ _ e).0
 free_at c (x ∷ xs) (suc i) zero_free e = free_at c xs i zero_free (and_parts _ _ e).1
-
--- no symbol is a space
-symbol_free : (i : ℕ) → eqb (slice_index standard.encode_table i) 32 ≡ false
-symbol_free i = free_at 32 standard.encode_table i refl refl
-
--- no byte is a space
-abbrev pub IsFreeOfSpace : List ℕ → Type 0
-IsFreeOfSpace text = AllByRecursion (λ b. eqb b 32 ≡ false) text
-
--- Where neither part has a space, both together have none.
-pub IsFreeOfSpace-append : (xs ys : List ℕ) → IsFreeOfSpace xs → IsFreeOfSpace ys → IsFreeOfSpace (xs ++ ys)
-IsFreeOfSpace-append [] ys free_xs free_ys = free_ys
-IsFreeOfSpace-append (x ∷ xs) ys free_xs free_ys = (free_xs.0, IsFreeOfSpace-append xs ys free_xs.1 free_ys)
-
--- the symbols of bytes have no space
-symbols_free : (m : List ℕ) → IsFreeOfSpace (encode_symbols standard.encode_table m)
-unfolding encode_symbols
-symbols_free [] = tt
-symbols_free (a ∷ []) = (symbol_free (a / 4), (symbol_free (a % 4 * 16), tt))
-symbols_free (a ∷ b ∷ []) = (symbol_free (a / 4), (symbol_free (a % 4 * 16 + b / 16), (symbol_free (b % 16 * 4), tt)))
-symbols_free (a ∷ b ∷ c ∷ rest) =
-    let third = symbol_free (b % 16 * 4 + c / 64) in
-    let fourth = symbol_free (c % 64) in
-    (symbol_free (a / 4), (symbol_free (a % 4 * 16 + b / 16), (third, (fourth, symbols_free rest))))
-
--- the padding has no space
-padding_free : (n : ℕ) → IsFreeOfSpace (replicate n 61)
-padding_free zero = tt
-padding_free (suc n) = (refl, padding_free n)
-
--- Base64 has no space.
-pub IsFreeOfSpace-encode_of : (bytes : List ℕ) → IsFreeOfSpace (encode_of standard bytes)
-IsFreeOfSpace-encode_of bytes =
-    let padding = padding_len (length bytes) in
-    IsFreeOfSpace-append (encode_symbols standard.encode_table bytes) (replicate padding 61) (symbols_free bytes)
-    (padding_free padding)

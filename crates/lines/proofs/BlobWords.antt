@@ -5,7 +5,7 @@ use Rattle.std.specs.Prelude.{IsTrue}
 use Rattle.std.specs.List.{list_all}
 use Rattle.std.specs.Result.{result_ok}
 use Rattle.std.proofs.lemmas.Bool.{and_parts, eqb-true, eq-eqb, cases_Bool, cond-true, cond-false}
-use Rattle.std.proofs.lemmas.Option.{option_and_then_some, same_Some}
+use Rattle.std.proofs.lemmas.Option.{cond_some, option_and_then_some}
 use Rattle.base64.specs.Engines.{standard}
 use Rattle.base64.specs.GeneralPurpose.{IsBytes, decode_of, encode_of}
 use Rattle.lines.specs.KeyLines.{is_base64_letter, is_base64_word}
@@ -28,14 +28,11 @@ blob_of_found word blob fits e = elim (cases_Bool (eqb (length word) 68)) [
     whole : (b : List ℕ) → result_ok (decode_of standard word) ≡ Some b
         → cond (eqb (length b) 51) (Some b) None ≡ Some blob → (word ≡ encode_of standard blob) × (length blob ≡ 51)
         × IsBytes blob
-    whole b decoded kept = elim (cases_Bool (eqb (length b) 51)) [
-      | inl passed ↦
-          let same : b ≡ blob = same_Some _ _ (sym (cond-true _ (Some b) None passed) ∙ kept) in
-          let read : decode_of standard word ≡ Ok b = ok_of _ b decoded in
-          subst (λ (x : List ℕ). (word ≡ encode_of standard x) × (length x ≡ 51) × IsBytes x) same
-          (base64_found word b fits read, eqb-true _ _ passed, IsBytes-decode_of standard word b fits read)
-      | inr failed ↦ absurd (cc (sym (cond-false _ (Some b) None failed) ∙ kept))
-    ]
+    whole b decoded kept =
+        let is = cond_some (eqb (length b) 51) b blob kept in
+        let read : decode_of standard word ≡ Ok b = ok_of _ b decoded in
+        subst (λ (x : List ℕ). (word ≡ encode_of standard x) × (length x ≡ 51) × IsBytes x) is.1
+        (base64_found word b fits read, eqb-true _ _ is.0, IsBytes-decode_of standard word b fits read)
 
 -- the base64 of a blob stands for it
 pub blob_of_again : (blob : List ℕ) → length blob ≡ 51 → IsBytes blob → blob_of (encode_of standard blob) ≡ Some blob

@@ -1,13 +1,13 @@
 -- What a blob is made of.
-use Rattle.std.proofs.Common.{◌≡◌, ℕ, zero, suc, ◌+◌, ◌<◌, true, eqb, nat_lt, ◌&&◌, List, [], ◌∷◌, ◌++◌}
-use Rattle.std.proofs.Common.{length, drop, get_or, Some, None, refl, sym, ap, subst, ◌∙◌, arith, inl, inr}
+use Rattle.std.proofs.Common.{◌≡◌, ℕ, zero, suc, ◌+◌, true, eqb, nat_lt, ◌&&◌, List, [], ◌∷◌, ◌++◌}
+use Rattle.std.proofs.Common.{length, drop, Some, None, refl, sym, ap, subst, ◌∙◌, arith}
 use Rattle.std.specs.Prelude.{IsTrue}
 use Rattle.std.specs.List.{list_all}
 use Rattle.std.specs.Str.{bytes_eq}
 use Rattle.std.proofs.lemmas.Bool.{and_parts, and_from, eqb-true, eq-eqb, lt-ltb}
-use Rattle.std.proofs.lemmas.Bool.{ltb-true, cases_Bool, cond-true, cond-false}
+use Rattle.std.proofs.lemmas.Bool.{ltb-true, cond-true}
 use Rattle.std.proofs.lemmas.List.{length-drop}
-use Rattle.std.proofs.lemmas.Option.{same_Some}
+use Rattle.std.proofs.lemmas.Option.{cond_some}
 use Rattle.std.proofs.lemmas.Slice.Eq.{bytes_eq-Decides}
 use Rattle.base64.specs.GeneralPurpose.{IsBytes}
 use Rattle.wire.specs.Texts.{string_text, u32_text}
@@ -21,14 +21,11 @@ length-key_blob key = omega arith
 
 -- The key that is found in a blob is its key.
 pub key_of_found : (blob key : List ℕ) → key_of blob ≡ Some key → (blob ≡ key_blob key) × (length key ≡ 32)
-key_of_found blob key e = elim (cases_Bool (bytes_eq blob (key_blob (drop 19 blob)) && eqb (length blob) 51)) [
-  | inl passed ↦
-      let parts = and_parts _ _ passed in
-      let same : blob ≡ key_blob (drop 19 blob) = (bytes_eq-Decides _ _).0 parts.0 in
-      let is : drop 19 blob ≡ key = same_Some _ _ (sym (cond-true _ (Some (drop 19 blob)) None passed) ∙ e) in
-      (same ∙ ap key_blob is, omega (arith, ap length is, length-drop 19 blob, eqb-true _ _ parts.1))
-  | inr failed ↦ absurd (cc (sym (cond-false _ (Some (drop 19 blob)) None failed) ∙ e))
-]
+key_of_found blob key e =
+    let is = cond_some (bytes_eq blob (key_blob (drop 19 blob)) && eqb (length blob) 51) (drop 19 blob) key e in
+    let parts = and_parts _ _ is.0 in
+    let same : blob ≡ key_blob (drop 19 blob) = (bytes_eq-Decides _ _).0 parts.0 in
+    (same ∙ ap key_blob is.1, omega (arith, ap length is.1, length-drop 19 blob, eqb-true _ _ parts.1))
 
 -- The key of a blob is found.
 pub key_of_again : (key : List ℕ) → length key ≡ 32 → key_of (key_blob key) ≡ Some key
@@ -46,14 +43,9 @@ all_bytes (x ∷ xs) fits = and_from _ _ (lt-ltb x 256 (fits 0)) (all_bytes xs (
 
 -- What passes the test is bytes.
 pub IsBytes_from : (xs : List ℕ) → list_all (λ b. nat_lt b 256) xs ≡ true → IsBytes xs
-IsBytes_from [] e = λ i. omega arith
-IsBytes_from (x ∷ xs) e =
-    let parts = and_parts (nat_lt x 256) (list_all (λ b. nat_lt b 256) xs) e in
-    λ i. at x xs (ltb-true x 256 parts.0) (IsBytes_from xs parts.1) i
-  where
-    at : (x : ℕ) (xs : List ℕ) → x < 256 → IsBytes xs → (i : ℕ) → get_or (x ∷ xs) i 0 < 256
-    at x xs first others zero = first
-    at x xs first others (suc i) = others i
+IsBytes_from [] e i = omega arith
+IsBytes_from (x ∷ xs) e zero = ltb-true x 256 (and_parts _ _ e).0
+IsBytes_from (x ∷ xs) e (suc i) = IsBytes_from xs (and_parts _ _ e).1 i
 
 -- 32 bytes are a key.
 pub is_key_from : (key : List ℕ) → length key ≡ 32 → IsBytes key → IsTrue (is_key key)

@@ -9,6 +9,5 @@ ok_of (Err y) x e = absurd cc
 
 -- the first two of three tests, the other way round
 pub or_order : (a b c : Bool) → (a || (b || c)) ≡ (b || (a || c))
-or_order true true c = refl
 or_order true false c = refl
-or_order false b c = refl
+or_order a b c = refl

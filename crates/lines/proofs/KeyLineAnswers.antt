@@ -6,7 +6,7 @@ use Rattle.lines.specs.KeyLines.{is_key_line, key_line_text}
 use Rattle.lines.specs.Reading.{key_line_at, Gives, IsFault, IsLawful}
 use Rattle.lines.specs.declared.key_line.KeyLine.{KeyLine}
 use Rattle.lines.specs.declared.key_line.LineFault.{LineFault}
-use Rattle.lines.specs.declared.key_line.LineFault.TheVariants.{WrongType, BadBase64, BadBlob, BadComment, NoMemory}
+use Rattle.lines.specs.declared.key_line.LineFault.TheVariants.{NoMemory}
 use Rattle.lines.proofs.KeyLineLaws.{Says, fault_again, key_line_again, key_line_says}
 
 -- The text of a lawful line was read, unless memory was refused.
@@ -18,24 +18,18 @@ only_from line r k lawful text given = subst (Gives r) (ap key_line_at text ∙ 
 pub fault_from : (line : List ℕ) (r : Result KeyLine LineFault) → IsBytes line → Gives r (key_line_at line)
     → IfErr r (IsFault line)
 fault_from line (Ok k) fits given = tt
-fault_from line (Err WrongType) fits given = subst (Says line) given (key_line_says line fits)
-fault_from line (Err BadBase64) fits given = subst (Says line) given (key_line_says line fits)
-fault_from line (Err BadBlob) fits given = subst (Says line) given (key_line_says line fits)
-fault_from line (Err BadComment) fits given = subst (Says line) given (key_line_says line fits)
 fault_from line (Err NoMemory) fits given = lawful (key_line_at line) given (key_line_says line fits)
   where
     lawful : (read : Result KeyLine LineFault) → IsOk read → Says line read → IsLawful line
     lawful (Ok k) ok says = (k, says.0, says.1)
     lawful (Err e) ok says = absurd cc
+fault_from line (Err e) fits given = subst (Says line) given (key_line_says line fits)
 
 -- an answer that gives a fault is that fault
 given_fault : (r : Result KeyLine LineFault) (e : LineFault) → Gives r (Err e) → r ≡ Err e
 given_fault (Ok k) e given = absurd cc
-given_fault (Err WrongType) e given = sym given
-given_fault (Err BadBase64) e given = sym given
-given_fault (Err BadBlob) e given = sym given
-given_fault (Err BadComment) e given = sym given
 given_fault (Err NoMemory) e given = absurd cc
+given_fault (Err f) e given = sym given
 
 -- The fault that is there was answered.
 pub answered_from : (line : List ℕ) (r : Result KeyLine LineFault) (e : LineFault) → IsBytes line → e ≢ NoMemory

@@ -1,12 +1,12 @@
 -- What is read as a key line is its text, its text is read, and each fault says what is wrong with the whole text.
 use Rattle.std.proofs.Common.{◌≡◌, ◌≢◌, ℕ, true, ◌⊎◌, List, ◌++◌, length, take, drop}
-use Rattle.std.proofs.Common.{Option, Some, None, Result, Ok, Err, refl, sym, ap, subst, ◌∙◌, arith, inl, inr}
+use Rattle.std.proofs.Common.{Option, Some, None, Result, Ok, Err, refl, sym, ap, ap₂, subst, ◌∙◌, arith, inl, inr}
 use Rattle.std.specs.Prelude.{IfOk, IsTrue}
 use Rattle.std.specs.Result.{MatchResult}
 use Rattle.std.specs.Str.{bytes_eq}
 use Rattle.std.proofs.lemmas.Bool.{and_parts, and_from, eqb-true, both_ways, cases_Bool, cond-true, cond-false}
 use Rattle.std.proofs.lemmas.List.{take-append-drop}
-use Rattle.std.proofs.lemmas.Option.{same_Some}
+use Rattle.std.proofs.lemmas.Option.{cond_some}
 use Rattle.std.proofs.lemmas.Slice.Eq.{bytes_eq-Decides}
 use Rattle.base64.specs.Engines.{standard}
 use Rattle.base64.specs.GeneralPurpose.{IsBytes, encode_of}
@@ -19,8 +19,8 @@ use Rattle.lines.specs.Reading.{key_line_at, Gives, IsFault, HasWrongType, HasBa
 use Rattle.lines.specs.declared.key_line.KeyLine.{KeyLine}
 use Rattle.lines.specs.declared.key_line.LineFault.{LineFault}
 use Rattle.lines.specs.declared.key_line.LineFault.TheVariants.{WrongType, BadBase64, BadBlob, BadComment, NoMemory}
-use Rattle.lines.proofs.Alphabet.{word_again}
-use Rattle.lines.proofs.Base64.{IsBytes-drop, IsBytes-take, IsFreeOfSpace-encode_of}
+use Rattle.lines.proofs.Alphabet.{letters_free, word_again}
+use Rattle.lines.proofs.Base64.{IsBytes-drop, IsBytes-take}
 use Rattle.lines.proofs.BlobWords.{blob_of_again, blob_of_found, blob_of_none}
 use Rattle.lines.proofs.Blobs.{IsBytes-key_blob, is_key_from, is_key_parts, key_of_again, key_of_found, length-key_blob}
 use Rattle.lines.proofs.Words.{comment_of-text, text_is, word_of-text}
@@ -34,30 +34,12 @@ option_cases (Some x) = inr (x, refl)
 
 -- what stands behind the type
 after_type_found : (line rest : List ℕ) → after_type line ≡ Some rest → line ≡ key_line_head ++ rest
-after_type_found line rest e = elim (cases_Bool (bytes_eq (take 12 line) key_line_head)) [
-  | inl passed ↦
-      let head : take 12 line ≡ key_line_head = (bytes_eq-Decides _ _).0 passed in
-      let is : drop 12 line ≡ rest = same_Some _ _ (sym (cond-true _ (Some (drop 12 line)) None passed) ∙ e) in
-      sym (take-append-drop 12 line) ∙ ap (λ (h : List ℕ). h ++ drop 12 line) head
-      ∙ ap (λ (r : List ℕ). key_line_head ++ r) is
-  | inr failed ↦ absurd (cc (sym (cond-false _ (Some (drop 12 line)) None failed) ∙ e))
-]
-
--- what is put behind the type is found there
-after_type_again : (rest : List ℕ) → after_type (key_line_head ++ rest) ≡ Some rest
-after_type_again rest = refl
+after_type_found line rest e =
+    let is = cond_some (bytes_eq (take 12 line) key_line_head) (drop 12 line) rest e in
+    let head : take 12 line ≡ key_line_head = (bytes_eq-Decides _ _).0 is.0 in
+    sym (take-append-drop 12 line) ∙ ap₂ (λ (h r : List ℕ). h ++ r) head is.1
 
 -- ---- the steps of reading
-
--- a step that finds nothing answers its fault
-step_none : {A B : Type 0} (e : LineFault) (o : Option A) (f : A → Result B LineFault) → o ≡ None
-    → (or_fault e o >>= f) ≡ Err e
-step_none e o f none = rw none refl
-
--- a step that finds something goes on with it
-step_some : {A B : Type 0} (e : LineFault) (o : Option A) (x : A) (f : A → Result B LineFault) → o ≡ Some x
-    → (or_fault e o >>= f) ≡ f x
-step_some e o x f some = rw some refl
 
 -- what is left of reading after each step
 abbrev read_key : List ℕ → List ℕ → Result KeyLine LineFault
@@ -72,19 +54,26 @@ read_rest rest = or_fault BadBase64 (blob_of (word_of rest)) >>= read_blob rest
 -- reading, where there is no such type
 at_type : (line : List ℕ) → after_type line ≡ None → key_line_at line ≡ Err WrongType
 unfolding key_line_at
-at_type line none = step_none WrongType (after_type line) read_rest none
+at_type line none = rw none refl
 
 -- reading, behind the type
 at_rest : (line rest : List ℕ) → after_type line ≡ Some rest → key_line_at line ≡ read_rest rest
 unfolding key_line_at
-at_rest line rest some = step_some WrongType (after_type line) rest read_rest some
+at_rest line rest some = rw some refl
 
--- reading, once the blob and its key are known
-at_key : (line rest blob key : List ℕ) → after_type line ≡ Some rest → blob_of (word_of rest) ≡ Some blob
-    → key_of blob ≡ Some key → key_line_at line ≡ read_key rest key
-at_key line rest blob key is_rest is_blob is_key =
-    at_rest line rest is_rest ∙ step_some BadBase64 (blob_of (word_of rest)) blob (read_blob rest) is_blob
-    ∙ step_some BadBlob (key_of blob) key (read_key rest) is_key
+module _ (line rest : List ℕ) (is_rest : after_type line ≡ Some rest) where
+  -- where the word is no blob's
+  at_word : blob_of (word_of rest) ≡ None → key_line_at line ≡ Err BadBase64
+  at_word none = at_rest line rest is_rest ∙ rw none refl
+
+  -- where the blob is no key's
+  at_blob : (blob : List ℕ) → blob_of (word_of rest) ≡ Some blob → key_of blob ≡ None → key_line_at line ≡ Err BadBlob
+  at_blob blob is_blob none = at_rest line rest is_rest ∙ rw (is_blob, none) refl
+
+  -- once the blob and its key are known
+  at_key : (blob key : List ℕ) → blob_of (word_of rest) ≡ Some blob → key_of blob ≡ Some key
+      → key_line_at line ≡ read_key rest key
+  at_key blob key is_blob is_key = at_rest line rest is_rest ∙ rw (is_blob, is_key) refl
 
 -- ---- a line with any comment
 
@@ -97,11 +86,12 @@ at_line key comment lawful =
     let len : length blob ≡ 51 = omega (arith, length-key_blob key) in
     let word : List ℕ = encode_of standard blob in
     let rest : List ℕ = word ++ comment_text comment in
-    let is_word : word_of rest ≡ word = word_of-text word comment (IsFreeOfSpace-encode_of blob) in
-    let is_blob : blob_of (word_of rest) ≡ Some blob = ap blob_of is_word
-    ∙ blob_of_again blob len (IsBytes-key_blob key parts.0 parts.1) in
-    at_key (key_line_head ++ rest) rest blob key (after_type_again rest) is_blob (key_of_again key parts.0)
-    ∙ ap (checked_line key) (comment_of-text word comment (IsFreeOfSpace-encode_of blob))
+    let fits = IsBytes-key_blob key parts.0 parts.1 in
+    let free = letters_free word (and_parts _ _ (word_again blob len fits)).1 in
+    let is_blob : blob_of (word_of rest) ≡ Some blob =
+    ap blob_of (word_of-text word comment free) ∙ blob_of_again blob len fits in
+    at_key (key_line_head ++ rest) rest refl blob key is_blob (key_of_again key parts.0)
+    ∙ ap (checked_line key) (comment_of-text word comment free)
 
 -- The text of a lawful line is read.
 pub key_line_again : (k : KeyLine) → IsTrue (is_key_line k) → key_line_at (key_line_text k) ≡ Ok k
@@ -125,7 +115,7 @@ bad_base64_again line fits bad =
     let is_rest : after_type line ≡ Some rest = ap after_type bad.1 in
     let rest_fits : IsBytes rest = IsBytes-drop 12 (key_line_head ++ rest) (subst IsBytes bad.1 fits) in
     elim (option_cases (blob_of (word_of rest))) [
-      | inl none ↦ at_rest line rest is_rest ∙ step_none BadBase64 (blob_of (word_of rest)) (read_blob rest) none
+      | inl none ↦ at_word line rest is_rest none
       | inr some ↦
           let found = blob_of_found (word_of rest) some.0 (IsBytes-take _ rest rest_fits) some.1 in
           let is_word : is_base64_word (word_of rest) ≡ true = ap is_base64_word found.0
@@ -141,9 +131,7 @@ bad_blob_again line bad =
     let is_rest : after_type line ≡ Some rest = ap after_type bad.2 in
     let is_blob : blob_of (word_of rest) ≡ Some blob = ap blob_of bad.5 ∙ blob_of_again blob bad.4 bad.3 in
     elim (option_cases (key_of blob)) [
-      | inl none ↦
-          at_rest line rest is_rest ∙ step_some BadBase64 (blob_of (word_of rest)) blob (read_blob rest) is_blob
-          ∙ step_none BadBlob (key_of blob) (read_key rest) none
+      | inl none ↦ at_blob line rest is_rest blob is_blob none
       | inr some ↦ absurd (bad.6 some.0 (key_of_found blob some.0 some.1).0)
     ]
 
@@ -198,23 +186,21 @@ key_line_says line fits = elim (option_cases (after_type line)) [
       let word_fits : IsBytes (word_of rest) = IsBytes-take _ rest rest_fits in
       elim (option_cases (blob_of (word_of rest))) [
         | inl none ↦
-            let read = at_rest line rest some.1 ∙ step_none BadBase64 (blob_of (word_of rest)) (read_blob rest) none in
-            subst (Says line) (sym read) (rest, is_line, blob_of_none (word_of rest) word_fits none)
+            subst (Says line) (sym (at_word line rest some.1 none))
+            (rest, is_line, blob_of_none (word_of rest) word_fits none)
         | inr has ↦
             let blob : List ℕ = has.0 in
             let found = blob_of_found (word_of rest) blob word_fits has.1 in
             elim (option_cases (key_of blob)) [
               | inl none ↦
-                  let read =
-                  at_rest line rest some.1 ∙ step_some BadBase64 (blob_of (word_of rest)) blob (read_blob rest) has.1
-                  ∙ step_none BadBlob (key_of blob) (read_key rest) none in
                   let no_key : (key : List ℕ) → blob ≢ key_blob key = λ key is.
                   let len : length key ≡ 32 = omega (arith, found.1, ap length is, length-key_blob key) in
                   absurd (cc (sym none ∙ ap key_of is ∙ key_of_again key len)) in
-                  subst (Says line) (sym read) (rest, blob, is_line, found.2, found.1, found.0, no_key)
+                  subst (Says line) (sym (at_blob line rest some.1 blob has.1 none))
+                  (rest, blob, is_line, found.2, found.1, found.0, no_key)
               | inr key ↦
                   let is_key = key_of_found blob key.0 key.1 in
-                  subst (Says line) (sym (at_key line rest blob key.0 some.1 has.1 key.1))
+                  subst (Says line) (sym (at_key line rest some.1 blob key.0 has.1 key.1))
                   (says_key line rest blob key.0 fits is_line found.0 found.2 is_key.0 is_key.1)
             ]
       ]

@@ -1,13 +1,16 @@
 -- A text is its first word, and a space and what follows, if there is one.
-use Rattle.std.proofs.Common.{◌≡◌, ℕ, ◌+◌, ◌<◌, ◌≤◌, List, [], ◌∷◌, ◌++◌, length, drop}
+use Rattle.std.proofs.Common.{◌≡◌, ℕ, ◌+◌, ◌<◌, ◌≤◌, false, eqb, List, [], ◌∷◌, ◌++◌, length, drop}
 use Rattle.std.proofs.Common.{get_or, Option, Some, None, refl, sym, ap, ◌∙◌, arith, inl, inr}
-use Rattle.std.specs.List.{after_first, position_or_len}
+use Rattle.std.specs.List.{AllByRecursion, after_first, position_or_len}
 use Rattle.std.proofs.lemmas.Bool.{cases_lt, eqb-true, lt-ltb, le-ltb, cond-true, cond-false}
 use Rattle.std.proofs.lemmas.List.{append-nil, take_at, drop_at, take_all, length-append, length-take-le, append_assoc}
 use Rattle.std.proofs.lemmas.List.Sums.{split_at_first, passes_at_first}
 use Rattle.lines.specs.KeyLines.{comment_text}
 use Rattle.lines.specs.Reading.{comment_of, is_space, word_of}
-use Rattle.lines.proofs.Base64.{IsFreeOfSpace}
+
+-- no byte is a space
+abbrev pub IsFreeOfSpace : List ℕ → Type 0
+IsFreeOfSpace text = AllByRecursion (λ b. eqb b 32 ≡ false) text
 
 -- the first space stands right behind a word without spaces
 first_behind : (word rest : List ℕ) → IsFreeOfSpace word

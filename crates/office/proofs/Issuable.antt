@@ -1,11 +1,12 @@
 -- What an allowed issue asks for makes a lawful certificate.
-use Rattle.std.proofs.Common.{◌≡◌, ℕ, ◌-◌, ◌≤◌, List, [], ◌∷◌, ◌++◌, length, map, Bool, true, false, ◌&&◌, leb, ltb, eqb, None, refl, ap, subst, ◌∙◌, inl, inr, arith}
+use Rattle.std.proofs.Common.{◌≡◌, ℕ, List, [], ◌∷◌, ◌++◌, length, map, true, false, ◌&&◌, leb, ltb}
+use Rattle.std.proofs.Common.{None, refl, ap, subst, ◌∙◌, inl, inr, arith}
 use Rattle.std.specs.List.{list_any, list_all, AllByRecursion}
 use Rattle.std.specs.Str.{bytes_eq}
-use Rattle.std.proofs.lemmas.Bool.{and_parts, and_from, or_parts, or_cases, not-true, leb-true, le-leb, lt-ltb, eqb-true}
+use Rattle.std.proofs.lemmas.Bool.{and_parts, and_from, or_parts, or_cases, or_from, not-true, le-leb, lt-ltb, eqb-true}
+use Rattle.std.proofs.lemmas.List.Folds.{list_all-map, list_any-append}
 use Rattle.std.proofs.lemmas.Cmp.{nat_list_eq_equiv}
 use Rattle.std.proofs.lemmas.Slice.Eq.{bytes_eq-Decides}
-use Rattle.std.proofs.lemmas.List.{nil_from_length}
 use Rattle.text.specs.declared.pair.Pair.{Pair}
 use Rattle.values.specs.Names.{is_key_id, is_name, is_principal}
 use Rattle.values.specs.Lists.{are_distinct}
@@ -15,23 +16,21 @@ use Rattle.values.specs.declared.kind.Kind.TheVariants.{User, Host}
 use Rattle.values.specs.declared.option_field.OptionField.{OptionField}
 use Rattle.values.specs.declared.option_field.OptionField.TheVariants.{CriticalOptions, Extensions}
 use Rattle.cert.specs.Options.{is_option, are_for_kind}
-use Rattle.lines.specs.KeyLines.{is_key, is_key_line, is_comment_or_none}
-use Rattle.cert.specs.Bodies.{IsCertFields}
+use Rattle.lines.proofs.KeyLineLaws.{key_size}
 use Rattle.cert.proofs.Listing.{is_options-listing}
 use Rattle.cert.specs.OptionFaults.{first_fault, options_fault}
 use Rattle.message.specs.declared.department.Department.{Department}
 use Rattle.message.specs.declared.issue.Issue.{Issue}
 use Rattle.message.specs.declared.renewal.Renewal.{Renewal}
 use Rattle.values.specs.Serials.{is_serial}
-use Rattle.message.specs.Values.{fits_kind, is_department, is_issue, are_principals, are_administrators, are_rules, are_option_names, are_extension_names, are_namespaces, is_longest_life, are_options, is_end}
+use Rattle.message.specs.Values.{fits_kind, is_department, is_issue, are_principals, is_end}
+use Rattle.message.specs.Values.{are_administrators, are_rules, are_option_names, are_extension_names}
 use Rattle.office.specs.declared.certificate.Certificate.{Certificate}
 use Rattle.office.specs.declared.view.View.{View}
 use Rattle.office.specs.Views.{HasSerial, IsIssuable, IsRenewable}
-use Rattle.office.specs.Permissions.{is_listed, is_permitted, is_life_permitted, meet_rules}
-use Rattle.office.specs.Certificates.{IsCertificate, certificate_for, certificate_with, renewed_fields, flags, fields_for}
-
-same_bytes : (xs ys : List ℕ) → bytes_eq xs ys ≡ true → xs ≡ ys
-same_bytes xs ys e = (bytes_eq-Decides xs ys).0 e
+use Rattle.office.specs.Permissions.{is_listed, is_permitted}
+use Rattle.office.proofs.Growth.{opening_order}
+use Rattle.office.specs.Certificates.{IsCertificate, certificate_for, renewed_certificate, flags}
 
 -- ---- options without a fault
 
@@ -43,12 +42,10 @@ apart_nil : (ps : List Pair) → AreApart [] ps
 apart_nil [] = tt
 apart_nil (p ∷ ps) = (refl, apart_nil ps)
 
-any-push : (name : List ℕ) (earlier : List Pair) (p : Pair) → list_any (λ q. bytes_eq q.name name) earlier ≡ false → bytes_eq p.name name ≡ false
-    → list_any (λ q. bytes_eq q.name name) (earlier ++ p ∷ []) ≡ false
-any-push name [] p e f = rw f refl
-any-push name (q ∷ earlier) p e f =
-    let parts = or_parts (bytes_eq q.name name) (list_any (λ q. bytes_eq q.name name) earlier) e in
-    rw (parts.0, any-push name earlier p parts.1 f) refl
+any-push : (name : List ℕ) (earlier : List Pair) (p : Pair) → list_any (λ q. bytes_eq q.name name) earlier ≡ false
+    → bytes_eq p.name name ≡ false → list_any (λ q. bytes_eq q.name name) (earlier ++ p ∷ []) ≡ false
+any-push name earlier p e f =
+    list_any-append (λ q. bytes_eq q.name name) earlier (p ∷ []) ∙ or_from _ _ e (or_from _ false f refl)
 
 apart_push : (earlier : List Pair) (p : Pair) (ps : List Pair) → AreApart earlier ps → list_any (λ u. bytes_eq u p.name) (map (λ q. q.name) ps) ≡ false → AreApart (earlier ++ p ∷ []) ps
 apart_push earlier p [] a e = tt
@@ -76,17 +73,16 @@ no_fault field kind ps fits all distinct = rw fits (first_fault-none field [] ps
 flag_value : (ks : List (List ℕ)) (n : List ℕ) → AllByRecursion (λ k. is_option_value k [] ≡ true) ks → list_any (λ k. bytes_eq k n) ks ≡ true → is_option_value n [] ≡ true
 flag_value [] n all e = absurd cc
 flag_value (k ∷ ks) n all e = elim (or_cases (bytes_eq k n) (list_any (λ k. bytes_eq k n) ks) e) [
-  | inl here ↦ subst (λ (t : List ℕ). is_option_value t [] ≡ true) (same_bytes k n here) all.0
+  | inl here ↦ subst (λ (t : List ℕ). is_option_value t [] ≡ true) ((bytes_eq-Decides k n).0 here) all.0
   | inr later ↦ flag_value ks n all.1 later
 ]
 
 pub flags_lawful : (names : List (List ℕ)) → list_all (is_known Extensions) names ≡ true → list_all (is_option Extensions) (flags names) ≡ true
 flags_lawful [] e = refl
 flags_lawful (n ∷ names) e =
-    let parts = and_parts (is_known Extensions n) (list_all (is_known Extensions) names) e in
-    let value : is_option_value n [] ≡ true = flag_value (known_names Extensions) n (refl, (refl, (refl, (refl, (refl, (refl, tt)))))) parts.0 in
-    and_from (is_known Extensions n && is_option_value n []) (list_all (is_option Extensions) (flags names))
-    (and_from (is_known Extensions n) (is_option_value n []) parts.0 value) (flags_lawful names parts.1)
+    let parts = and_parts (is_known Extensions n) _ e in
+    let value = flag_value (known_names Extensions) n (refl, (refl, (refl, (refl, (refl, (refl, tt)))))) parts.0 in
+    and_from _ _ (and_from (is_known Extensions n) _ parts.0 value) (flags_lawful names parts.1)
 
 pub flags-names : (names : List (List ℕ)) → map (λ p. p.name) (flags names) ≡ names
 flags-names [] = refl
@@ -94,21 +90,16 @@ flags-names (n ∷ names) = ap (λ (ns : List (List ℕ)). n ∷ ns) (flags-name
 
 -- ---- what a department for hosts permits
 
-none_listed : (ps : List Pair) → list_all (λ o. is_listed [] o.name) ps ≡ true → ps ≡ []
-none_listed [] e = refl
-none_listed (p ∷ ps) e = absurd cc
-
-for_kind : (kind : Kind) (known : List (List ℕ)) (ps : List Pair) → fits_kind kind known ≡ true → list_all (λ o. is_listed known o.name) ps ≡ true → are_for_kind kind ps ≡ true
+for_kind : (kind : Kind) (known : List (List ℕ)) (ps : List Pair) → fits_kind kind known ≡ true
+    → list_all (λ o. is_listed known o.name) ps ≡ true → are_for_kind kind ps ≡ true
 for_kind User known ps fits listed = refl
-for_kind Host known ps fits listed =
-    let empty = none_listed ps (subst (λ (k : List (List ℕ)). list_all (λ o. is_listed k o.name) ps ≡ true) (nil_from_length known (eqb-true _ _ fits)) listed) in
-    rw empty refl
+for_kind Host [] [] fits listed = refl
+for_kind Host [] (p ∷ ps) fits listed = absurd cc
+for_kind Host (k ∷ known) ps fits listed = absurd (omega (arith, eqb-true (length (k ∷ known)) 0 fits))
 
-flags_listed : (known names : List (List ℕ)) → list_all (λ e. is_listed known e) names ≡ true → list_all (λ o. is_listed known o.name) (flags names) ≡ true
-flags_listed known [] e = refl
-flags_listed known (n ∷ names) e =
-    let parts = and_parts (is_listed known n) (list_all (λ e. is_listed known e) names) e in
-    and_from (is_listed known n) (list_all (λ o. is_listed known o.name) (flags names)) parts.0 (flags_listed known names parts.1)
+flags_listed : (known names : List (List ℕ)) → list_all (λ e. is_listed known e) names ≡ true
+    → list_all (λ o. is_listed known o.name) (flags names) ≡ true
+flags_listed known names e = list_all-map (λ o. is_listed known o.name) (λ n. record { name = n; value = [] }) names ∙ e
 
 -- ---- an allowed issue
 
@@ -117,7 +108,7 @@ record IsLawful (d : Department) (i : Issue) : Type 0 where
   options_fit : fits_kind d.kind d.options ≡ true
   extensions_fit : fits_kind d.kind d.extensions ≡ true
   key_id : is_key_id i.key_id ≡ true
-  key : eqb (length i.key.key) 32 ≡ true
+  key : length i.key.key ≡ 32
   principals : are_principals i.principals ≡ true
   before : leb i.before 253402300799 ≡ true
   options : list_all (is_option CriticalOptions) i.options ≡ true
@@ -130,50 +121,38 @@ record IsLawful (d : Department) (i : Issue) : Type 0 where
 
 lawful_parts : (d : Department) (i : Issue) → is_department d ≡ true → is_issue i ≡ true → is_permitted d i ≡ true → IsLawful d i
 lawful_parts d i department issue permitted =
-    let d6 : Bool = is_longest_life d.longest_life && (are_namespaces d.namespaces && fits_kind d.kind d.namespaces) in
-    let d5 : Bool = (are_extension_names d.extensions && fits_kind d.kind d.extensions) && d6 in
-    let d4 : Bool = (are_option_names d.options && fits_kind d.kind d.options) && d5 in
-    let d3 : Bool = are_rules d.rules && d4 in
-    let d2 : Bool = are_administrators d.administrators && d3 in
-    let of_d4 = and_parts (are_rules d.rules) d4 (and_parts (are_administrators d.administrators) d3 (and_parts (is_name d.name) d2 department).1).1 in
-    let options_d5 = and_parts (are_option_names d.options && fits_kind d.kind d.options) d5 of_d4.1 in
-    let extensions_d6 = and_parts (are_extension_names d.extensions && fits_kind d.kind d.extensions) d6 options_d5.1 in
-    let i8 : Bool = are_options i.options && are_extension_names i.extensions in
-    let i7 : Bool = is_end i.before && i8 in
-    let i6 : Bool = is_end i.after && i7 in
-    let i5 : Bool = are_principals i.principals && i6 in
-    let i4 : Bool = is_key_line i.key && i5 in
-    let i3 : Bool = is_key_id i.key_id && i4 in
-    let key_id_i4 = and_parts (is_key_id i.key_id) i4 (and_parts (is_name i.department) i3 issue).1 in
-    let key_i5 = and_parts (is_key_line i.key) i5 key_id_i4.1 in
-    let principals_i6 = and_parts (are_principals i.principals) i6 key_i5.1 in
-    let before_i8 = and_parts (is_end i.before) i8 (and_parts (is_end i.after) i7 principals_i6.1).1 in
-    let options_extensions = and_parts (are_options i.options) (are_extension_names i.extensions) before_i8.1 in
-    let options = and_parts (list_all (is_option CriticalOptions) i.options) (are_distinct (map (λ p. p.name) i.options))
-    (and_parts (leb (length i.options) 3) (list_all (is_option CriticalOptions) i.options && are_distinct (map (λ p. p.name) i.options)) options_extensions.0).1 in
-    let extensions = and_parts (list_all (is_known Extensions) i.extensions) (are_distinct i.extensions) options_extensions.1 in
-    let key = and_parts (is_key i.key.key) (is_comment_or_none i.key.comment) key_i5.0 in
-    let size = and_parts (eqb (length i.key.key) 32) (list_all (λ b. ltb b 256) i.key.key) key.0 in
-    let p4 : Bool = is_life_permitted d i.after i.before in
-    let p3 : Bool = list_all (λ e. is_listed d.extensions e) i.extensions && p4 in
-    let p2 : Bool = list_all (λ o. is_listed d.options o.name) i.options && p3 in
-    let options_p3 = and_parts (list_all (λ o. is_listed d.options o.name) i.options) p3 (and_parts (meet_rules d i.principals) p2 permitted).1 in
-    let extensions_p4 = and_parts (list_all (λ e. is_listed d.extensions e) i.extensions) p4 options_p3.1 in
-    let life = and_parts (ltb i.after i.before) (leb (i.before - i.after) d.longest_life) extensions_p4.1 in
+    let d1 = and_parts (is_name d.name) _ department in
+    let d2 = and_parts (are_administrators d.administrators) _ d1.1 in
+    let d3 = and_parts (are_rules d.rules) _ d2.1 in
+    let d4 = and_parts (are_option_names d.options && fits_kind d.kind d.options) _ d3.1 in
+    let d5 = and_parts (are_extension_names d.extensions && fits_kind d.kind d.extensions) _ d4.1 in
+    let i1 = and_parts _ _ issue in
+    let i2 = and_parts _ _ i1.1 in
+    let i3 = and_parts _ _ i2.1 in
+    let i4 = and_parts _ _ i3.1 in
+    let i5 = and_parts _ _ i4.1 in
+    let i6 = and_parts _ _ i5.1 in
+    let i7 = and_parts _ _ i6.1 in
+    let few = and_parts _ _ i7.0 in
+    let options = and_parts _ _ few.1 in
+    let extensions = and_parts _ _ i7.1 in
+    let p1 = and_parts _ _ permitted in
+    let p2 = and_parts _ _ p1.1 in
+    let p3 = and_parts _ _ p2.1 in
     record {
-      options_fit = (and_parts (are_option_names d.options) (fits_kind d.kind d.options) options_d5.0).1;
-      extensions_fit = (and_parts (are_extension_names d.extensions) (fits_kind d.kind d.extensions) extensions_d6.0).1;
-      key_id = key_id_i4.0;
-      key = size.0;
-      principals = principals_i6.0;
-      before = before_i8.0;
+      options_fit = (and_parts (are_option_names d.options) _ d4.0).1;
+      extensions_fit = (and_parts (are_extension_names d.extensions) _ d5.0).1;
+      key_id = i2.0;
+      key = key_size i.key i3.0;
+      principals = i4.0;
+      before = i6.0;
       options = options.0;
       options_apart = options.1;
       extensions = extensions.0;
       extensions_apart = extensions.1;
-      options_listed = options_p3.0;
-      extensions_listed = extensions_p4.0;
-      life = life.0;
+      options_listed = p2.0;
+      extensions_listed = p3.0;
+      life = (and_parts _ _ p3.1).0;
     }
 
 is_lawful : (v : View) (d : Department) (i : Issue) → IsIssuable v d i → IsLawful d i
@@ -196,59 +175,51 @@ issuable_extensions v d i is =
 -- the next serial is one
 serial_left : (v : View) → HasSerial v → is_serial v.next ≡ true
 serial_left v is =
-    let o = v.opening.now in
-    let ends = and_parts (leb 1 o.first) (leb o.first o.last && leb o.last 9223372036854775806) is.opening.serials in
-    let last = and_parts (leb o.first o.last) (leb o.last 9223372036854775806) ends.1 in
-    let low : 1 ≤ v.next = omega (arith, leb-true _ _ ends.0, is.next) in
-    let high : v.next ≤ 9223372036854775806 = omega (arith, leb-true _ _ last.1, is.left) in
-    and_from _ _ (le-leb _ _ low) (le-leb _ _ high)
+    let order = opening_order v.opening.now is.opening in
+    and_from _ _ (le-leb 1 v.next (omega (arith, order.0, is.next)))
+    (le-leb v.next 9223372036854775806 (omega (arith, order.2, is.left)))
 
--- and its fields are a certificate's
-pub issuable_fields : (v : View) (d : Department) (i : Issue) (ca nonce : List ℕ) → IsIssuable v d i → length ca ≡ 32 → length nonce ≡ 32 → IsCertFields (fields_for i v.next d.kind ca nonce)
-issuable_fields v d i ca nonce is ca_size nonce_size =
-    let p = is_lawful v d i is in
-    let few : Bool = leb 1 (length i.principals) && leb (length i.principals) 16 in
-    let each : Bool = list_all is_principal i.principals in
-    let ps = and_parts few (each && are_distinct i.principals) p.principals in
-    let qs = and_parts each (are_distinct i.principals) ps.1 in
-    record {
-      nonce = nonce_size;
-      key = eqb-true _ _ p.key;
-      serial = serial_left v is.serial;
-      key_id = p.key_id;
-      principals = and_from (few && each) (are_distinct i.principals) (and_from few each ps.0 qs.0) qs.1;
-      validity = and_from _ _ p.life p.before;
-      options = is_options-listing CriticalOptions d.kind i.options (issuable_options v d i is);
-      extensions = is_options-listing Extensions d.kind (flags i.extensions) (issuable_extensions v d i is);
-      ca = ca_size;
-    }
-
--- so it is a certificate
-pub issuable_certificate : (v : View) (d : Department) (i : Issue) (ca nonce : List ℕ) → IsIssuable v d i → length ca ≡ 32 → length nonce ≡ 32 → IsCertificate (certificate_for i v.next d.kind ca nonce)
+-- and with its fields there is a certificate
+pub issuable_certificate : (v : View) (d : Department) (i : Issue) (ca nonce : List ℕ) → IsIssuable v d i
+    → length ca ≡ 32 → length nonce ≡ 32 → IsCertificate (certificate_for i v.next d.kind ca nonce)
 issuable_certificate v d i ca nonce is ca_size nonce_size =
-    record { department = (and_parts (is_name i.department) _ is.issue).0; fields = issuable_fields v d i ca nonce is ca_size nonce_size; body = refl }
-
--- ---- a renewal
-
--- the fields of a certificate for another validity are a certificate's
-pub renewable_fields : (v : View) (old : Certificate) (r : Renewal) (ca nonce : List ℕ) → IsRenewable v old r → length ca ≡ 32 → length nonce ≡ 32
-    → IsCertFields (renewed_fields old.fields r v.next ca nonce)
-renewable_fields v old r ca nonce is ca_size nonce_size =
-    let f = is.certificate.fields in
-    let ends = and_parts (is_end r.after) (is_end r.before) (and_parts (is_serial r.serial) (is_end r.after && is_end r.before) is.renewal).1 in
+    let p = is_lawful v d i is in
+    let few = and_parts (leb 1 (length i.principals) && leb (length i.principals) 16) _ p.principals in
+    let each = and_parts (list_all is_principal i.principals) (are_distinct i.principals) few.1 in
     record {
-      nonce = nonce_size;
-      key = f.key;
-      serial = serial_left v is.serial;
-      key_id = f.key_id;
-      principals = f.principals;
-      validity = and_from _ _ (lt-ltb _ _ is.order) ends.1;
-      options = f.options;
-      extensions = f.extensions;
-      ca = ca_size;
+      department = (and_parts (is_name i.department) _ is.issue).0;
+      fields = record {
+        nonce = nonce_size;
+        key = p.key;
+        serial = serial_left v is.serial;
+        key_id = p.key_id;
+        principals = and_from _ _ (and_from _ _ few.0 each.0) each.1;
+        validity = and_from _ _ p.life p.before;
+        options = is_options-listing CriticalOptions d.kind i.options (issuable_options v d i is);
+        extensions = is_options-listing Extensions d.kind (flags i.extensions) (issuable_extensions v d i is);
+        ca = ca_size;
+      };
+      body = refl;
     }
 
-pub renewable_certificate : (v : View) (old : Certificate) (r : Renewal) (ca nonce : List ℕ) → IsRenewable v old r → length ca ≡ 32 → length nonce ≡ 32
-    → IsCertificate (certificate_with old.department (renewed_fields old.fields r v.next ca nonce))
+-- a certificate for another validity is a certificate
+pub renewable_certificate : (v : View) (old : Certificate) (r : Renewal) (ca nonce : List ℕ) → IsRenewable v old r
+    → length ca ≡ 32 → length nonce ≡ 32 → IsCertificate (renewed_certificate old r v.next ca nonce)
 renewable_certificate v old r ca nonce is ca_size nonce_size =
-    record { department = is.certificate.department; fields = renewable_fields v old r ca nonce is ca_size nonce_size; body = refl }
+    let f = is.certificate.fields in
+    let ends = and_parts (is_end r.after) _ (and_parts (is_serial r.serial) _ is.renewal).1 in
+    record {
+      department = is.certificate.department;
+      fields = record {
+        nonce = nonce_size;
+        key = f.key;
+        serial = serial_left v is.serial;
+        key_id = f.key_id;
+        principals = f.principals;
+        validity = and_from _ _ (lt-ltb _ _ is.order) ends.1;
+        options = f.options;
+        extensions = f.extensions;
+        ca = ca_size;
+      };
+      body = refl;
+    }

@@ -1,5 +1,5 @@
 -- What is known of an arrival that is judged to be a first acceptance.
-use Rattle.std.proofs.Common.{◌≡◌, List, [], ◌∷◌, Bool, true, false, cond, Option, Some, None, Ok, refl, sym, ap, ◌∙◌}
+use Rattle.std.proofs.Common.{◌≡◌, List, [], ◌∷◌, Bool, true, false, cond, Option, Some, None, Ok, refl, subst}
 use Rattle.std.specs.Prelude.{nat_lt}
 use Rattle.std.specs.List.{list_any, AllByRecursion}
 use Rattle.values.specs.declared.limits.TheConstants.{LATEST_MOMENT}
@@ -34,27 +34,19 @@ allowed_step a m None x f e = (refl, cc)
 
 found_through : (s : State) (kept : List Kept) (a : Arrival) (o : Option Message) (late known : Bool) (f : First)
     → message_with_text a.bytes ≡ o → nat_lt LATEST_MOMENT a.moment ≡ late → list_any (has_key a) kept ≡ known
-    → (or_fault BadMessage o >>= λ m. refuse_if late BadMoment >>= λ _. refuse_if known KeyReused >>= λ _. step s a.caller m a.moment a.nonce >>= λ st. Ok (first_of_step a m st)) ≡ Ok f
-    → IsFirst s kept a f
-found_through s kept a None late known f is-m is-late is-known e = absurd cc
-found_through s kept a (Some m) true known f is-m is-late is-known e = absurd cc
-found_through s kept a (Some m) false true f is-m is-late is-known e = absurd cc
+    → (or_fault BadMessage o >>= λ m. refuse_if late BadMoment >>= λ _. refuse_if known KeyReused
+    >>= λ _. step s a.caller m a.moment a.nonce >>= λ st. Ok (first_of_step a m st)) ≡ Ok f → IsFirst s kept a f
 found_through s kept a (Some m) false false f is-m is-late is-known e =
     let r = first_holding (refusals s a.caller m a.moment) in
     let x : Stepped = record { state = after s m a.moment a.nonce; reply = reply_to s m a.moment a.nonce } in
     let g = allowed_step a m r x f e in
-    let same : m ≡ f.message = ap (λ (f : First). f.message) g.1 in record {
-      arrival = sym (ap (λ (f : First). f.arrival) g.1);
-      message = is-m ∙ ap (λ (m : Message). Some m) same;
-      in_time = is-late;
-      new = is-known;
-      allowed = ap (λ (m : Message). first_holding (refusals s a.caller m a.moment)) (sym same) ∙ g.0;
-      reply = sym (ap (λ (f : First). f.reply) g.1) ∙ ap (λ (m : Message). reply_to s m a.moment a.nonce) same;
-    }
+    subst (λ (f : First). IsFirst s kept a f) g.1
+    (record { arrival = refl; message = is-m; in_time = is-late; new = is-known; allowed = g.0; reply = refl })
+found_through s kept a o late known f is-m is-late is-known e = absurd cc
 
 -- a first acceptance is the arrival's message, allowed, with the machine's reply
 pub judged_is_first : (s : State) (kept : List Kept) (a : Arrival) (f : First) → judged s kept a ≡ Ok f → IsFirst s kept a f
-judged_is_first s kept a f e = found_through s kept a (message_with_text a.bytes) (nat_lt LATEST_MOMENT a.moment) (list_any (has_key a) kept) f refl refl refl e
+judged_is_first s kept a f = found_through s kept a (message_with_text a.bytes) _ _ f refl refl refl
 
 -- where no refusal applies, each test is false
 pub none_holds : (rs : List (Refusal × Bool)) → first_holding rs ≡ None → AllByRecursion (λ r. r.1 ≡ false) rs

@@ -1,9 +1,10 @@
 pub mod Steps
 pub mod Judged
 pub mod Histories
-pub mod Growth
 pub mod Issuable
 pub mod Decisions
+pub mod Changes
+pub mod Growth
 pub mod Parts
 pub mod Ranges
 pub mod Sizes

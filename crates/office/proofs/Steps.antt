@@ -1,7 +1,9 @@
 -- One arrival more.
-use Rattle.std.proofs.Common.{◌≡◌, ℕ, ◌<◌, List, [], ◌∷◌, ◌++◌, Bool, true, false, ◌||◌, Option, Some, None, Result, Ok, Err, refl, sym, ap, subst, ◌∙◌}
+use Rattle.std.proofs.Common.{◌≡◌, ℕ, ◌<◌, List, [], ◌∷◌, ◌++◌, Bool, true, Option, Some, None, Result, Ok, Err}
+use Rattle.std.proofs.Common.{refl, sym, ap, subst, ◌∙◌, inl, inr}
 use Rattle.std.specs.Prelude.{nat_lt, IsErr}
 use Rattle.std.specs.List.{list_any}
+use Rattle.std.proofs.lemmas.Bool.{cases_Bool, or_left, or_right}
 use Rattle.std.proofs.lemmas.List.Sums.{fold_push}
 use Rattle.std.proofs.lemmas.List.{map-append}
 use Rattle.values.specs.declared.limits.TheConstants.{LATEST_MOMENT}
@@ -21,18 +23,16 @@ use Rattle.office.specs.Shows.{IsOffice, Shows}
 -- a message that is kept has its key kept
 has_key_kept : (kept : List Kept) (a : Arrival) (r : List ℕ) → reply_kept kept a ≡ Some r → list_any (has_key a) kept ≡ true
 has_key_kept [] a r e = absurd cc
-has_key_kept (k ∷ kept) a r e = by_key (has_key a k) (has_key_kept kept a r) refl e
-  where
-    by_key : (b : Bool) → (reply_kept kept a ≡ Some r → list_any (has_key a) kept ≡ true) → has_key a k ≡ b → reply_kept (k ∷ kept) a ≡ Some r → (has_key a k || list_any (has_key a) kept) ≡ true
-    by_key true rest is e = rw is refl
-    by_key false rest is e = rw is (rest (rw is at e))
+has_key_kept (k ∷ kept) a r e = elim (cases_Bool (has_key a k)) [
+  | inl same ↦ or_left _ _ same
+  | inr other ↦ or_right _ _ (has_key_kept kept a r (rw other at e))
+]
 
 known_key_is_refused : (s : State) (a : Arrival) (m : Option Message) (late : Bool)
     → IsErr {T = First} {E = Refusal} (or_fault BadMessage m >>= λ message. refuse_if late BadMoment >>= λ _. refuse_if true KeyReused >>= λ _.
     step s a.caller message a.moment a.nonce >>= λ stepped. Ok (first_of_step a message stepped))
-known_key_is_refused s a None late = refl
 known_key_is_refused s a (Some m) true = refl
-known_key_is_refused s a (Some m) false = refl
+known_key_is_refused s a m late = refl
 
 -- what is shown is an office
 pub shows_office : (s : State) (kept : List Kept) (o : Opening) (l : List Arrival) → Shows s kept o l → IsOffice o l

@@ -1,71 +1,90 @@
 -- Bodies stay, and name the CA that signs them.
-use Rattle.std.proofs.Common.{◌≡◌, ℕ, zero, suc, ◌+◌, ◌-◌, ◌<◌, ◌≤◌, List, [], ◌∷◌, ◌++◌, ◌⊎◌, length, fold, Bool, true}
-use Rattle.std.proofs.Common.{false, cond, leb, ltb, Option, Some, None, refl, sym, ap, subst, ◌∙◌, inl, inr, arith}
+use Rattle.std.proofs.Common.{◌≡◌, ℕ, zero, suc, ◌+◌, ◌-◌, ◌<◌, List, [], ◌∷◌, ◌++◌, ◌⊎◌, length, map, fold}
+use Rattle.std.proofs.Common.{cond, ltb, Bool, true, false, Option, Some, None}
+use Rattle.std.proofs.Common.{refl, sym, ap, subst, ◌∙◌, inl, inr, arith}
 use Rattle.std.specs.Prelude.{slice_get, option_map}
-use Rattle.std.proofs.lemmas.Bool.{le-leb, ltb-false}
-use Rattle.std.proofs.lemmas.Bool.Decides.{nat_tests}
+use Rattle.std.proofs.lemmas.Bool.{le-leb, lt-leb}
+use Rattle.std.proofs.lemmas.List.{map-append, length-map}
 use Rattle.std.proofs.lemmas.List.Sums.{fold_push}
-use Rattle.std.proofs.lemmas.Option.{slice_get_within}
+use Rattle.std.proofs.lemmas.Option.{slice_get-map, slice_get_within}
 use Rattle.lines.specs.declared.signature.Signature.{Signature}
-use Rattle.values.specs.declared.limits.TheConstants.{LATEST_MOMENT}
-use Rattle.cert.specs.Bodies.{body_text}
 use Rattle.office.specs.declared.opening.Opening.{Opening}
 use Rattle.office.specs.declared.arrival.Arrival.{Arrival}
 use Rattle.office.specs.declared.ca.Ca.{Ca}
 use Rattle.office.specs.declared.certificate.Certificate.{Certificate}
-use Rattle.office.specs.Openings.{IsOpening}
 use Rattle.office.specs.State.{State, next_serial, certificate_of, body_of, key_or, newest_key}
-use Rattle.office.specs.Machine.{signed_at, with_certificate, with_signature, with_ca, ca_from_now}
+use Rattle.office.specs.Machine.{signed_at, with_ca, ca_from_now}
 use Rattle.office.specs.History.{state}
+use Rattle.office.proofs.Decisions.{certificate_at}
+use Rattle.office.proofs.Changes.{IsKeptByEach, IsNext, always, always_more}
 use Rattle.office_laws.specs.Signers.{key_at, signer_of}
 use Rattle.office_laws.specs.Bodies.{IsBodyFor}
-use Rattle.office_laws.proofs.Inductions.{after_all, after_more}
-use Rattle.office_laws.proofs.Changes.{HoldsAfter, IsNext, by_change}
-use Rattle.office_laws.proofs.Shape.{AreCas, Rise, cas_kept, opened_cas}
+use Rattle.office_laws.proofs.Shape.{AreCas, Rise, cas_each, opened_cas}
+
+-- ---- lists
+
+-- what stands at a place stands there with one more at the end
+pub there_push : {X : Type 0} (xs : List X) (y : X) (n : ℕ) (x : X) → slice_get xs n ≡ Some x
+    → slice_get (xs ++ y ∷ []) n ≡ Some x
+there_push [] y n x e = absurd cc
+there_push (z ∷ xs) y zero x e = e
+there_push (z ∷ xs) y (suc n) x e = there_push xs y n x e
+
+at_push : {X : Type 0} (xs : List X) (y : X) (n : ℕ) (x : X) → slice_get (xs ++ y ∷ []) n ≡ Some x
+    → (slice_get xs n ≡ Some x) ⊎ ((n ≡ length xs) × (y ≡ x))
+at_push [] y zero x e = inr (refl, cc)
+at_push [] y (suc n) x e = absurd cc
+at_push (z ∷ xs) y zero x e = inl e
+at_push (z ∷ xs) y (suc n) x e =
+    elim (at_push xs y n x e) [ inl there ↦ inl there | inr last ↦ inr (ap suc last.0, last.1) ]
+
+-- what a signature leaves of certificates
+pub map-signed_at : {X : Type 0} (f : Certificate → X)
+    → ((c : Certificate) (signature : Signature) → f (record c { signature = Some signature }) ≡ f c)
+    → (cs : List Certificate) (place : ℕ) (signature : Signature) → map f (signed_at cs place signature) ≡ map f cs
+map-signed_at f same [] place signature = refl
+map-signed_at f same (c ∷ cs) zero signature = ap (λ x. x ∷ map f cs) (same c signature)
+map-signed_at f same (c ∷ cs) (suc place) signature = ap (λ xs. f c ∷ xs) (map-signed_at f same cs place signature)
 
 -- ---- a body stays
 
 -- the body of the certificate at a place
-abbrev pub body_at : List Certificate → ℕ → Option (List ℕ)
-body_at cs n = option_map (λ c. c.body) (slice_get cs n)
+abbrev body_at : List Certificate → ℕ → Option (List ℕ)
+body_at cs n = slice_get (map (λ c. c.body) cs) n
 
-body_front : (cs : List Certificate) (c : Certificate) (n : ℕ) (body : List ℕ) → body_at cs n ≡ Some body → body_at (cs ++ c ∷ []) n ≡ Some body
-body_front [] c n body e = absurd cc
-body_front (d ∷ cs) c zero body e = e
-body_front (d ∷ cs) c (suc n) body e = body_front cs c n body e
+of_place : (b : Bool) (cs ds : List Certificate) (n : ℕ) (body : List ℕ)
+    → (body_at cs n ≡ Some body → body_at ds n ≡ Some body)
+    → option_map (λ c. c.body) (cond b None (slice_get cs n)) ≡ Some body
+    → option_map (λ c. c.body) (cond b None (slice_get ds n)) ≡ Some body
+of_place true cs ds n body more e = e
+of_place false cs ds n body more e =
+    sym (slice_get-map (λ c. c.body) ds n) ∙ more (slice_get-map (λ c. c.body) cs n ∙ e)
 
-body_signed : (cs : List Certificate) (place : ℕ) (signature : Signature) (n : ℕ) → body_at (signed_at cs place signature) n ≡ body_at cs n
-body_signed [] place signature n = refl
-body_signed (c ∷ cs) zero signature zero = refl
-body_signed (c ∷ cs) zero signature (suc n) = refl
-body_signed (c ∷ cs) (suc place) signature zero = refl
-body_signed (c ∷ cs) (suc place) signature (suc n) = body_signed cs place signature n
+body_each : (serial : ℕ) (body : List ℕ) → IsKeptByEach (λ s. body_of s serial ≡ Some body)
+body_each serial body s moment in_time e =
+    let place = serial - s.opening.first in
+    let cs = s.certificates in
+    let below = ltb serial s.opening.first in record {
+      department = λ d. e;
+      certificate = λ c is. of_place below cs (cs ++ c ∷ []) place body (λ h.
+          ap (λ bs. slice_get bs place) (map-append (λ c. c.body) cs (c ∷ [])) ∙ there_push _ c.body place body h) e;
+      signature = λ n x. of_place below cs (signed_at cs (n - s.opening.first) x) place body (λ h.
+          ap (λ bs. slice_get bs place) (map-signed_at (λ c. c.body) (λ c x. refl) cs (n - s.opening.first) x) ∙ h) e;
+      range = λ r is. e;
+      key_id = λ key_id. e;
+      ca = λ key new none. e;
+      ca_published = λ key new some. e;
+    }
 
-body_of_more : (s t : State) (serial : ℕ) (body : List ℕ) → t.opening ≡ s.opening → (body_at s.certificates (serial - s.opening.first) ≡ Some body → body_at t.certificates (serial - s.opening.first) ≡ Some body)
-    → body_of s serial ≡ Some body → body_of t serial ≡ Some body
-body_of_more s t serial body o more e =
-    rw o (elim (ltb serial s.opening.first) as (λ x. option_map (λ c. c.body) (cond x None (slice_get s.certificates (serial - s.opening.first))) ≡ Some body
-    → option_map (λ c. c.body) (cond x None (slice_get t.certificates (serial - s.opening.first))) ≡ Some body) [ true ↦ λ h. h | false ↦ more ] e)
-
-body_kept : (serial : ℕ) (body : List ℕ) (s : State) (moment : ℕ) → moment ≤ LATEST_MOMENT → body_of s serial ≡ Some body → HoldsAfter (λ t. body_of t serial ≡ Some body) s moment
-body_kept serial body s moment in_time e = record {
-  department = λ d. e;
-  certificate = λ c is. body_of_more s (with_certificate s c) serial body refl (body_front s.certificates c (serial - s.opening.first) body) e;
-  signature = λ n signature. body_of_more s (with_signature s n signature) serial body refl (λ h. body_signed s.certificates (n - s.opening.first) signature (serial - s.opening.first) ∙ h) e;
-  range = λ r is. e;
-  key_id = λ key_id. e;
-  ca = λ key is none. e;
-  ca_published = λ key is some. e;
-}
-
-pub body_stays : (o : Opening) (l later : List Arrival) (serial : ℕ) (body : List ℕ) → body_of (state o l) serial ≡ Some body → body_of (state o (l ++ later)) serial ≡ Some body
-body_stays o l later serial body e =
-    after_more (λ fs s. body_of s serial ≡ Some body) (by_change (λ t. body_of t serial ≡ Some body) (body_kept serial body)) o l later e
+pub body_stays : (o : Opening) (l later : List Arrival) (serial : ℕ) (body : List ℕ)
+    → body_of (state o l) serial ≡ Some body → body_of (state o (l ++ later)) serial ≡ Some body
+body_stays o l later serial body = always_more (λ s. body_of s serial ≡ Some body) (body_each serial body) o l later
 
 -- ---- the CA that a body names
 
 -- the newest of CAs that had all come signs
-newest_signs : (n from : ℕ) (key other : List ℕ) (ca : Ca) (cas : List Ca) → Rise from (ca ∷ cas) n → fold (key_at n) key (ca ∷ cas) ≡ key_or other (slice_get (ca ∷ cas) (length cas))
+newest_signs : (n from : ℕ) (key other : List ℕ) (ca : Ca) (cas : List Ca) → Rise from (ca ∷ cas) n
+    → fold (key_at n) key (ca ∷ cas) ≡ key_or other (slice_get (ca ∷ cas) (length cas))
 newest_signs n from key other ca [] h = rw (le-leb ca.since n h.1) refl
 newest_signs n from key other ca (d ∷ cas) h = newest_signs n ca.since (key_at n key ca) other d cas h.1
 
@@ -73,101 +92,73 @@ newest_is_signer : (s : State) → AreCas s → newest_key s.opening s.cas ≡ s
 newest_is_signer s are =
     let ca = are.first.0 in
     let rest = are.first.1 in
-    subst (λ (cas : List Ca). Rise s.opening.first cas (next_serial s) → key_or s.opening.ca (slice_get cas (length cas - 1)) ≡ fold (key_at (next_serial s)) s.opening.ca cas) (sym are.first.2)
-    (λ rise. ap (λ k. key_or s.opening.ca (slice_get (ca ∷ rest) k)) (last (length rest)) ∙ sym (newest_signs (next_serial s) s.opening.first s.opening.ca s.opening.ca ca rest rise)) are.rise
-  where
-    last : (n : ℕ) → suc n - 1 ≡ n
-    last n = omega arith
+    let last : suc (length rest) - 1 ≡ length rest = omega arith in
+    subst (λ (cas : List Ca). Rise s.opening.first cas (next_serial s)
+    → key_or s.opening.ca (slice_get cas (length cas - 1)) ≡ fold (key_at (next_serial s)) s.opening.ca cas)
+    (sym are.first.2) (λ rise. ap (λ k. key_or s.opening.ca (slice_get (ca ∷ rest) k)) last
+    ∙ sym (newest_signs (next_serial s) s.opening.first s.opening.ca s.opening.ca ca rest rise)) are.rise
 
 -- a CA that comes later doesn't sign
-pub later_signs_not : (s : State) (key : List ℕ) (n : ℕ) → n < next_serial s → signer_of (with_ca s (ca_from_now s key)) n ≡ signer_of s n
-later_signs_not s key n lt = fold_push (key_at n) s.opening.ca s.cas (ca_from_now s key) ∙ rw (above (next_serial s) n lt) refl
-  where
-    above : (a n : ℕ) → n < a → leb a n ≡ false
-    above a n lt = grind (arith, nat_tests)
+pub later_signs_not : (s : State) (key : List ℕ) (n : ℕ) → n < next_serial s
+    → signer_of (with_ca s (ca_from_now s key)) n ≡ signer_of s n
+later_signs_not s key n lt =
+    fold_push (key_at n) s.opening.ca s.cas (ca_from_now s key) ∙ rw (lt-leb (next_serial s) n lt) refl
 
--- each certificate at a place has the body for its serial
-abbrev pub AreBodies : State → Type 0
-AreBodies s = (n : ℕ) (c : Certificate) → slice_get s.certificates n ≡ Some c → IsBodyFor (s.opening.first + n) (signer_of s (s.opening.first + n)) c
+abbrev unsigned : Certificate → Certificate
+unsigned c = record c { signature = None }
 
-at_push : (cs : List Certificate) (d : Certificate) (n : ℕ) (c : Certificate) → slice_get (cs ++ d ∷ []) n ≡ Some c → (slice_get cs n ≡ Some c) ⊎ ((n ≡ length cs) × (d ≡ c))
-at_push [] d zero c e = inr (refl, cc)
-at_push [] d (suc n) c e = absurd cc
-at_push (x ∷ cs) d zero c e = inl e
-at_push (x ∷ cs) d (suc n) c e = elim (at_push cs d n c e) [
-  | inl there ↦ inl there
-  | inr last ↦ inr (ap suc last.0, last.1)
-]
-
-at_signed : (cs : List Certificate) (place : ℕ) (signature : Signature) (n : ℕ) (c : Certificate) → slice_get (signed_at cs place signature) n ≡ Some c
-    → (d : Certificate) × (slice_get cs n ≡ Some d) × (c.fields ≡ d.fields) × (c.body ≡ d.body)
-at_signed [] place signature n c e = absurd cc
-at_signed (d ∷ cs) zero signature zero c e =
-    let same : record d { signature = Some signature } ≡ c = cc in
-    (d, refl, sym (ap (λ (x : Certificate). x.fields) same), sym (ap (λ (x : Certificate). x.body) same))
-at_signed (d ∷ cs) zero signature (suc n) c e = (c, e, refl, refl)
-at_signed (d ∷ cs) (suc place) signature zero c e = (c, e, refl, refl)
-at_signed (d ∷ cs) (suc place) signature (suc n) c e = at_signed cs place signature n c e
-
-new_body : (s : State) (d : Certificate) → IsNext s d → AreCas s → (n : ℕ) (c : Certificate) → n ≡ length s.certificates → d ≡ c → IsBodyFor (s.opening.first + n) (signer_of s (s.opening.first + n)) c
-new_body s d is are n c at same =
-    subst (λ (x : Certificate). IsBodyFor (s.opening.first + n) (signer_of s (s.opening.first + n)) x) same
-    (subst (λ (k : ℕ). IsBodyFor (s.opening.first + k) (signer_of s (s.opening.first + k)) d) (sym at)
-    (record { serial_number = is.serial; ca = is.ca ∙ newest_is_signer s are; body = is.body }))
-
-more_bodies : (s : State) (d : Certificate) → IsNext s d → AreCas s → AreBodies s → (n : ℕ) (c : Certificate) → slice_get (s.certificates ++ d ∷ []) n ≡ Some c
+-- each certificate at a place has the body for its serial, signed or not
+abbrev AreBodies : State → Type 0
+AreBodies s = (n : ℕ) (c : Certificate) → slice_get (map unsigned s.certificates) n ≡ Some c
     → IsBodyFor (s.opening.first + n) (signer_of s (s.opening.first + n)) c
-more_bodies s d is are bodies n c e = elim (at_push s.certificates d n c e) [
-  | inl there ↦ bodies n c there
-  | inr last ↦ new_body s d is are n c last.0 last.1
-]
 
-signed_bodies : (s : State) (place : ℕ) (signature : Signature) → AreBodies s → (n : ℕ) (c : Certificate) → slice_get (signed_at s.certificates place signature) n ≡ Some c
+more_bodies : (s : State) (d : Certificate) → IsNext s d → AreCas s → AreBodies s → (n : ℕ) (c : Certificate)
+    → slice_get (map unsigned (s.certificates ++ d ∷ [])) n ≡ Some c
     → IsBodyFor (s.opening.first + n) (signer_of s (s.opening.first + n)) c
-signed_bodies s place signature bodies n c e =
-    let found = at_signed s.certificates place signature n c e in
-    let old = bodies n found.0 found.1 in record {
-      serial_number = ap (λ f. f.serial) found.2 ∙ old.serial_number;
-      ca = ap (λ f. f.ca) found.2 ∙ old.ca;
-      body = found.3 ∙ old.body ∙ ap body_text (sym found.2);
-    }
+more_bodies s d is are bodies n c e =
+    let cs = map unsigned s.certificates in
+    elim (at_push cs (unsigned d) n c
+    (ap (λ xs. slice_get xs n) (sym (map-append unsigned s.certificates (d ∷ []))) ∙ e)) [
+      | inl there ↦ bodies n c there
+      | inr last ↦
+          let at : n ≡ length s.certificates = last.0 ∙ length-map s.certificates unsigned in
+          rw (at, ← last.1) (record { serial_number = is.serial; ca = is.ca ∙ newest_is_signer s are; body = is.body })
+    ]
 
 under_more_cas : (s : State) (key : List ℕ) → AreBodies s → AreBodies (with_ca s (ca_from_now s key))
 under_more_cas s key bodies n c e =
-    let within = slice_get_within s.certificates n c e in
+    let within = slice_get_within (map unsigned s.certificates) n c e in
     let old = bodies n c e in
-    record { serial_number = old.serial_number; ca = old.ca ∙ sym (later_signs_not s key (s.opening.first + n) (omega (arith, within))); body = old.body }
+    let lt : s.opening.first + n < next_serial s = omega (arith, within, length-map s.certificates unsigned) in
+    rw (later_signs_not s key (s.opening.first + n) lt) old
 
 -- the CAs and the bodies together
-pub record AreSigned (s : State) : Type 0 where
-  pub cas : AreCas s
-  pub bodies : AreBodies s
+record AreSigned (s : State) : Type 0 where
+  cas : AreCas s
+  bodies : AreBodies s
 
-signed_kept : (s : State) (moment : ℕ) → moment ≤ LATEST_MOMENT → AreSigned s → HoldsAfter AreSigned s moment
-signed_kept s moment in_time are =
-    let kept = cas_kept s moment in_time are.cas in record {
+signed_each : IsKeptByEach AreSigned
+signed_each s moment in_time are =
+    let kept = cas_each s moment in_time are.cas in record {
       department = λ d. record { cas = kept.department d; bodies = are.bodies };
       certificate = λ c is. record { cas = kept.certificate c is; bodies = more_bodies s c is are.cas are.bodies };
-      signature = λ serial signature. record { cas = kept.signature serial signature; bodies = signed_bodies s (serial - s.opening.first) signature are.bodies };
+      signature = λ n x. record { cas = kept.signature n x; bodies = λ k c e. are.bodies k c
+          (sym (ap (λ xs. slice_get xs k) (map-signed_at unsigned (λ c x. refl) s.certificates _ x)) ∙ e) };
       range = λ r is. record { cas = kept.range r is; bodies = are.bodies };
       key_id = λ key_id. record { cas = kept.key_id key_id; bodies = are.bodies };
-      ca = λ key is none. record { cas = kept.ca key is none; bodies = under_more_cas s key are.bodies };
-      ca_published = λ key is some. record { cas = kept.ca_published key is some; bodies = under_more_cas s key are.bodies };
+      ca = λ key new none. record { cas = kept.ca key new none; bodies = under_more_cas s key are.bodies };
+      ca_published = λ key new some.
+          record { cas = kept.ca_published key new some; bodies = under_more_cas s key are.bodies };
     }
 
-bodies_signed : (o : Opening) (l : List Arrival) → IsOpening o → AreSigned (state o l)
-bodies_signed o l is = after_all (λ fs s. AreSigned s) (by_change AreSigned signed_kept) o l (record { cas = opened_cas o is; bodies = λ n c e. absurd cc })
-
-named_of : (s : State) (serial : ℕ) (c : Certificate) → AreBodies s → certificate_of s serial ≡ Some c → IsBodyFor serial (signer_of s serial) c
-named_of s serial c bodies e = by_test (ltb serial s.opening.first) refl e
-  where
-    by_test : (b : Bool) → ltb serial s.opening.first ≡ b → cond b None (slice_get s.certificates (serial - s.opening.first)) ≡ Some c → IsBodyFor serial (signer_of s serial) c
-    by_test true is e = absurd cc
-    by_test false is e =
-        let low = ltb-false _ _ is in
-        let back : s.opening.first + (serial - s.opening.first) ≡ serial = omega arith in
-        subst (λ (n : ℕ). IsBodyFor n (signer_of s n) c) back (bodies (serial - s.opening.first) c e)
-
-pub body_names_signer : (o : Opening) (l : List Arrival) → IsOpening o → (serial : ℕ) (c : Certificate) → certificate_of (state o l) serial ≡ Some c
-    → IsBodyFor serial (signer_of (state o l) serial) c
-body_names_signer o l is serial c e = named_of (state o l) serial c (bodies_signed o l is).bodies e
+pub body_names_signer : (o : Opening) (l : List Arrival) (serial : ℕ) (c : Certificate)
+    → certificate_of (state o l) serial ≡ Some c → IsBodyFor serial (signer_of (state o l) serial) c
+body_names_signer o l serial c e =
+    let s = state o l in
+    let at = certificate_at s serial c e in
+    let signed = always AreSigned signed_each o l (record { cas = opened_cas o; bodies = λ n c e. absurd cc }) in
+    let back : s.opening.first + (serial - s.opening.first) ≡ serial = omega (arith, at.0) in
+    let is = signed.bodies (serial - s.opening.first) (unsigned c)
+    (slice_get-map unsigned s.certificates (serial - s.opening.first) ∙ ap (option_map unsigned) at.1) in
+    subst (λ (n : ℕ). IsBodyFor n (signer_of s n) c) back
+    (record { serial_number = is.serial_number; ca = is.ca; body = is.body })

@@ -1,7 +1,7 @@
 -- The message of an arrival's bytes.
-use Rattle.std.proofs.Common.{◌≡◌, ◌↔◌, ℕ, List, Some, None, sym, ap, subst, ◌∙◌, inl, inr}
-use Rattle.std.proofs.lemmas.Bool.{and_parts, cases_Bool, cond-true, cond-false}
-use Rattle.std.proofs.lemmas.Option.{option_and_then_some, same_Some}
+use Rattle.std.proofs.Common.{◌≡◌, ◌↔◌, ℕ, List, Some, ap, subst, ◌∙◌}
+use Rattle.std.proofs.lemmas.Bool.{and_parts}
+use Rattle.std.proofs.lemmas.Option.{cond_some, option_and_then_some}
 use Rattle.std.proofs.lemmas.Slice.Eq.{bytes_eq-Decides}
 use Rattle.message.specs.declared.kinds.Message.{Message}
 use Rattle.message.specs.Belonging.{BelongsTo}
@@ -15,13 +15,9 @@ use Rattle.office.proofs.Texts.{read_is}
 belongs : (bytes : List ℕ) (m : Message) → message_with_text bytes ≡ Some m → BelongsTo bytes m
 belongs bytes m e =
     option_and_then_some (if_text_of bytes) (message_of bytes) m e (λ n read kept.
-    elim (cases_Bool (is_text_of bytes n)) [
-      | inl is ↦
-          let same : n ≡ m = same_Some n m (sym (cond-true _ (Some n) None is) ∙ kept) in
-          let both = and_parts (is_message n) _ is in
-          subst (BelongsTo bytes) same (both.0, (bytes_eq-Decides bytes (message_text n)).0 both.1)
-      | inr other ↦ absurd (cc (sym (cond-false _ (Some n) None other) ∙ kept))
-    ])
+    let is = cond_some (is_text_of bytes n) n m kept in
+    let both = and_parts (is_message n) _ is.0 in
+    subst (BelongsTo bytes) is.1 (both.0, (bytes_eq-Decides bytes (message_text n)).0 both.1))
 
 -- the message of bytes is the one to which they belong
 pub with_text_exactly : (bytes : List ℕ) (m : Message) → (message_with_text bytes ≡ Some m) ↔ BelongsTo bytes m

@@ -1,11 +1,10 @@
 -- A later list revokes what an earlier one does.
-use Rattle.std.proofs.Common.{◌≡◌, ℕ, zero, suc, ◌-◌, ◌<◌, ◌≤◌, List, [], ◌∷◌, ◌++◌, true}
-use Rattle.std.proofs.Common.{◌&&◌, Some, sym, ap, ◌∙◌, inl, inr, arith, length-append}
+use Rattle.std.proofs.Common.{◌≡◌, ℕ, ◌-◌, ◌<◌, List, [], ◌∷◌, ◌++◌, true, ◌&&◌, Some}
+use Rattle.std.proofs.Common.{sym, ap, ◌∙◌, inl, inr, arith, length-append}
 use Rattle.std.specs.Prelude.{slice_get}
 use Rattle.std.specs.Str.{bytes_eq}
 use Rattle.std.proofs.lemmas.Bool.{and_parts, and_from, or_cases, or_left, or_right}
 use Rattle.lines.specs.Keys.{key_blob}
-use Rattle.values.specs.declared.limits.TheConstants.{LATEST_MOMENT}
 use Rattle.krl.specs.Format.{RevocationList, revokes}
 use Rattle.office.specs.declared.opening.Opening.{Opening}
 use Rattle.office.specs.declared.arrival.Arrival.{Arrival}
@@ -17,25 +16,19 @@ use Rattle.office.proofs.Ranges.{revoked_is_issued}
 use Rattle.office_laws.specs.Named.{is_serial_named, is_key_id_named}
 use Rattle.office_laws.specs.Signers.{is_signer}
 use Rattle.office_laws.specs.Lists.{IsExact}
-use Rattle.office_laws.proofs.Inductions.{after_more}
-use Rattle.office_laws.proofs.Changes.{HoldsAfter, by_change}
+use Rattle.office.proofs.Changes.{IsKeptByEach, always_more}
 use Rattle.office_laws.proofs.Named.{serials_are_named, key_ids_are_named, serials_stay, key_ids_stay}
-use Rattle.office_laws.proofs.Bodies.{later_signs_not}
+use Rattle.office_laws.proofs.Bodies.{there_push, later_signs_not}
 
-ca_front : (cas : List Ca) (new : Ca) (place : ℕ) (ca : Ca) → slice_get cas place ≡ Some ca → slice_get (cas ++ new ∷ []) place ≡ Some ca
-ca_front [] new place ca e = absurd cc
-ca_front (c ∷ cas) new zero ca e = e
-ca_front (c ∷ cas) new (suc place) ca e = ca_front cas new place ca e
-
-ca_kept : (place : ℕ) (ca : Ca) (s : State) (moment : ℕ) → moment ≤ LATEST_MOMENT → slice_get s.cas place ≡ Some ca → HoldsAfter (λ t. slice_get t.cas place ≡ Some ca) s moment
-ca_kept place ca s moment in_time e = record {
+ca_each : (place : ℕ) (ca : Ca) → IsKeptByEach (λ s. slice_get s.cas place ≡ Some ca)
+ca_each place ca s moment in_time e = record {
   department = λ d. e;
   certificate = λ c is. e;
-  signature = λ serial signature. e;
+  signature = λ n x. e;
   range = λ r is. e;
   key_id = λ key_id. e;
-  ca = λ key is none. ca_front s.cas _ place ca e;
-  ca_published = λ key is some. ca_front s.cas _ place ca e;
+  ca = λ key new none. there_push s.cas _ place ca e;
+  ca_published = λ key new some. there_push s.cas _ place ca e;
 }
 
 -- the serial was handed out, and the CA signs it
@@ -43,21 +36,23 @@ pub record Signs (ca : Ca) (n : ℕ) (s : State) : Type 0 where
   pub issued : n < next_serial s
   pub signs : is_signer ca s n ≡ true
 
-signs_kept : (ca : Ca) (n : ℕ) (s : State) (moment : ℕ) → moment ≤ LATEST_MOMENT → Signs ca n s → HoldsAfter (Signs ca n) s moment
-signs_kept ca n s moment in_time is = record {
-  department = λ d. record { issued = is.issued; signs = is.signs };
-  certificate = λ c next. record { issued = omega (arith, is.issued, length-append s.certificates (c ∷ [])); signs = is.signs };
-  signature = λ serial signature. record { issued = omega (arith, is.issued, length-signed_at s.certificates (serial - s.opening.first) signature); signs = is.signs };
-  range = λ r handed. record { issued = is.issued; signs = is.signs };
-  key_id = λ key_id. record { issued = is.issued; signs = is.signs };
-  ca = λ key new none. record { issued = is.issued; signs = ap (bytes_eq ca.key) (later_signs_not s key n is.issued) ∙ is.signs };
-  ca_published = λ key new some. record { issued = is.issued; signs = ap (bytes_eq ca.key) (later_signs_not s key n is.issued) ∙ is.signs };
-}
+signs_each : (ca : Ca) (n : ℕ) → IsKeptByEach (Signs ca n)
+signs_each ca n s moment in_time is =
+    let stays = λ (key : List ℕ). ap (bytes_eq ca.key) (later_signs_not s key n is.issued) ∙ is.signs in record {
+      department = λ d. record { issued = is.issued; signs = is.signs };
+      certificate = λ c next. record { issued = omega (arith, length-append s.certificates (c ∷ [])); signs = is.signs };
+      signature = λ k x.
+          record { issued = omega (arith, length-signed_at s.certificates (k - s.opening.first) x); signs = is.signs };
+      range = λ r handed. record { issued = is.issued; signs = is.signs };
+      key_id = λ key_id. record { issued = is.issued; signs = is.signs };
+      ca = λ key new none. record { issued = is.issued; signs = stays key };
+      ca_published = λ key new some. record { issued = is.issued; signs = stays key };
+    }
 
 pub later_revokes : (o : Opening) (l later : List Arrival) (old new : RevocationList) → IsExact o l old → IsExact o (l ++ later) new
     → (place : ℕ) (ca : Ca) → slice_get (state o l).cas place ≡ Some ca → (serial : ℕ) (key_id : List ℕ) → revokes (key_blob ca.key) serial key_id old ≡ true → revokes (key_blob ca.key) serial key_id new ≡ true
 later_revokes o l later old new is-old is-new place ca e serial key_id r =
-    let there : slice_get (state o (l ++ later)).cas place ≡ Some ca = after_more (λ fs s. slice_get s.cas place ≡ Some ca) (by_change (λ t. slice_get t.cas place ≡ Some ca) (ca_kept place ca)) o l later e in
+    let there = always_more (λ s. slice_get s.cas place ≡ Some ca) (ca_each place ca) o l later e in
     let named = is_serial_named o (l ++ later) serial in
     let signs = is_signer ca (state o (l ++ later)) serial in
     let key_named = is_key_id_named o (l ++ later) key_id in
@@ -65,7 +60,8 @@ later_revokes o l later old new is-old is-new place ca e serial key_id r =
       | inl both ↦
           let parts = and_parts (is_serial_named o l serial) (is_signer ca (state o l) serial) both in
           let revoked = serials_are_named o l serial ∙ parts.0 in
-          let signed = after_more (λ fs s. Signs ca serial s) (by_change (Signs ca serial) (signs_kept ca serial)) o l later (record { issued = (revoked_is_issued o l serial revoked).1; signs = parts.1 }) in
+          let signed = always_more (Signs ca serial) (signs_each ca serial) o l later
+          (record { issued = (revoked_is_issued o l serial revoked).1; signs = parts.1 }) in
           or_left (named && signs) key_named (and_from named signs (sym (serials_are_named o (l ++ later) serial) ∙ serials_stay o l later serial revoked) signed.signs)
       | inr key ↦ or_right (named && signs) key_named (sym (key_ids_are_named o (l ++ later) key_id) ∙ key_ids_stay o l later key_id (key_ids_are_named o l key_id ∙ key))
     ]

@@ -1,7 +1,5 @@
 pub mod Brought
-pub mod Inductions
 pub mod Named
-pub mod Changes
 pub mod Shape
 pub mod Signers
 pub mod Lists

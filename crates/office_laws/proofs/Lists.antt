@@ -4,7 +4,7 @@ use Rattle.std.proofs.Common.{true, false, ◌&&◌, ◌||◌, leb, Some, refl, 
 use Rattle.std.specs.Prelude.{slice_get}
 use Rattle.std.specs.List.{AllByRecursion}
 use Rattle.std.specs.Str.{bytes_eq}
-use Rattle.std.proofs.lemmas.Bool.{and_parts, le-leb, leb-true}
+use Rattle.std.proofs.lemmas.Bool.{le-leb}
 use Rattle.lines.specs.Keys.{key_blob}
 use Rattle.krl.specs.declared.ca_part.CaPart.{CaPart}
 use Rattle.krl.specs.Sets.{AreRuns, contains, is_counted, is_last_reached}
@@ -20,6 +20,7 @@ use Rattle.office.specs.Publication.{head_of, is_revoked_under, part_of, parts_f
 use Rattle.office.specs.History.{state}
 use Rattle.office.specs.Shows.{IsOffice}
 use Rattle.office.proofs.Growth.{opening_stays, holds_in_range}
+use Rattle.office.proofs.Sizes.{last_of}
 use Rattle.office.proofs.Ranges.{revoked_is_issued}
 use Rattle.office_laws.specs.Named.{is_serial_named}
 use Rattle.office_laws.specs.Signers.{key_at, is_signer}
@@ -62,12 +63,9 @@ parts_runs s from (c ∷ cas) le = (runs_in_runs (is_revoked_under s from) s.ope
 -- ---- what they revoke
 
 within : (a b c : Bool) → (b ≡ true → a ≡ true) → (a && (b && c)) ≡ (b && c)
-within true b c h = refl
-within false true c h = absurd (clash (h refl))
-  where
-    clash : false ≡ true → ⊥
-    clash e = cc
+within false true c h = absurd (cc (h refl))
 within false false c h = refl
+within true b c h = refl
 
 same_where : (b c d : Bool) → (b ≡ true → c ≡ d) → (b && c) ≡ (b && d)
 same_where true c d h = h refl
@@ -78,7 +76,7 @@ serials_fit o l is =
     let s = state o l in
     let last : s.opening.last ≡ o.last = ap (λ (x : Opening). x.last) (opening_stays o l) in
     let range : next_serial s ≤ s.opening.last + 1 = holds_in_range o l is in
-    let fits : o.last ≤ 9223372036854775806 = leb-true _ _ (and_parts (leb o.first o.last) (leb o.last 9223372036854775806) (and_parts (leb 1 o.first) (leb o.first o.last && leb o.last 9223372036854775806) is.serials).1).1 in
+    let fits = last_of o is in
     omega arith
 
 -- a revoked serial is in the part of its signer
@@ -86,7 +84,7 @@ signed_there : (o : Opening) (l : List Arrival) → IsOpening o → (place : ℕ
     → is_last_reached (map (λ c. c.since) (state o l).cas) place n ≡ is_signer ca (state o l) n
 signed_there o l is place ca e n low =
     let s = state o l in
-    let are = cas_stand o l is in
+    let are = cas_stand o l in
     let first = are.first.0 in
     let came : leb first.since n ≡ true = le-leb first.since n (omega (arith, are.first.3, low)) in
     subst (λ (cas : List Ca). AreDistinct cas → slice_get cas place ≡ Some ca → is_last_reached (map (λ c. c.since) cas) place n ≡ bytes_eq ca.key (fold (key_at n) s.opening.ca cas))
@@ -106,7 +104,7 @@ part_contains o l is place ca e n =
 exact : (o : Opening) (l : List Arrival) → IsOpening o → IsExact o l (krl_list (head_of (state o l)) (published_parts (state o l)) (state o l).revoked_key_ids)
 exact o l is =
     let s = state o l in
-    let are = cas_stand o l is in
+    let are = cas_stand o l in
     let re = revokes_exactly (head_of s) (published_parts s) s.revoked_key_ids (parts_runs s 0 s.cas (serials_fit o l is)) (parts_distinct s 0 s.cas are.distinct) in record {
       own = λ place ca e serial key_id. re.own (part_of s place ca) (part_there s 0 s.cas place place ca e (omega arith)) serial key_id
           ∙ ap₂ (λ a b. a || b) (part_contains o l is place ca e serial) (key_ids_are_named o l key_id);

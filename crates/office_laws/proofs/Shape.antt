@@ -1,21 +1,19 @@
 -- How the CAs of an office stand after every history.
 use Rattle.std.proofs.Common.{◌≡◌, ◌≢◌, ℕ, ◌+◌, ◌-◌, ◌≤◌, List, [], ◌∷◌, ◌++◌, length}
-use Rattle.std.proofs.Common.{Bool, true, false, refl, sym, ap, ◌∙◌, arith, length-append}
+use Rattle.std.proofs.Common.{false, refl, sym, ap, ◌∙◌, arith, length-append}
 use Rattle.std.specs.List.{AllByRecursion}
 use Rattle.std.specs.Str.{bytes_eq}
 use Rattle.std.proofs.lemmas.Bool.{or_parts}
+use Rattle.std.proofs.lemmas.Bool.Decides.{not_from_Decides}
 use Rattle.std.proofs.lemmas.Slice.Eq.{bytes_eq-Decides}
-use Rattle.values.specs.declared.limits.TheConstants.{LATEST_MOMENT}
 use Rattle.office.specs.declared.opening.Opening.{Opening}
 use Rattle.office.specs.declared.arrival.Arrival.{Arrival}
 use Rattle.office.specs.declared.ca.Ca.{Ca}
-use Rattle.office.specs.Openings.{IsOpening}
 use Rattle.office.specs.State.{State, opened, next_serial, is_ca}
-use Rattle.office.specs.Machine.{with_certificate, with_signature, with_ca, ca_from_now}
+use Rattle.office.specs.Machine.{with_ca, ca_from_now}
 use Rattle.office.specs.History.{state}
 use Rattle.office.proofs.Growth.{length-signed_at}
-use Rattle.office_laws.proofs.Inductions.{after_all}
-use Rattle.office_laws.proofs.Changes.{HoldsAfter, IsNewCa, by_change}
+use Rattle.office.proofs.Changes.{IsKeptByEach, always}
 
 -- no two CAs have one key
 abbrev pub AreDistinct : List Ca → Type 0
@@ -27,12 +25,10 @@ abbrev pub Rise : ℕ → List Ca → ℕ → Type 0
 Rise from [] up_to = from ≤ up_to
 Rise from (ca ∷ cas) up_to = (from ≤ ca.since) × Rise ca.since cas up_to
 
--- at least one CA, the first of which begins with the first serial; at most 8; each of 32 bytes, and no two alike
+-- at least one CA, the first of which begins with the first serial; and no two alike
 pub record AreCas (s : State) : Type 0 where
   pub first : (ca : Ca) × (rest : List Ca) × (s.cas ≡ ca ∷ rest) × (ca.since ≡ s.opening.first)
-  pub most : length s.cas ≤ 8
   pub rise : Rise s.opening.first s.cas (next_serial s)
-  pub keys : AllByRecursion (λ ca. length ca.key ≡ 32) s.cas
   pub distinct : AreDistinct s.cas
 
 Rise-later : (from : ℕ) (cas : List Ca) (a b : ℕ) → a ≤ b → Rise from cas a → Rise from cas b
@@ -47,57 +43,46 @@ All-push : (P : Ca → Type 0) (cas : List Ca) (ca : Ca) → AllByRecursion P ca
 All-push P [] ca all p = (p, tt)
 All-push P (c ∷ cas) ca all p = (all.0, All-push P cas ca all.1 p)
 
-key_other : (x y : List ℕ) → bytes_eq x y ≡ false → y ≢ x
-key_other x y apart e = absurd (clash (bytes_eq x y) ((bytes_eq-Decides x y).1 (sym e)) apart)
-  where
-    clash : (b : Bool) → b ≡ true → b ≡ false → ⊥
-    clash b p q = cc
-
 Distinct-push : (cas : List Ca) (ca : Ca) → is_ca cas ca.key ≡ false → AreDistinct cas → AreDistinct (cas ++ ca ∷ [])
 Distinct-push [] ca new d = (tt, tt)
 Distinct-push (c ∷ cas) ca new d =
     let parts = or_parts (bytes_eq c.key ca.key) (is_ca cas ca.key) new in
-    (All-push (λ x. x.key ≢ c.key) cas ca d.0 (key_other c.key ca.key parts.0), Distinct-push cas ca parts.1 d.1)
+    let other = λ (e : ca.key ≡ c.key). not_from_Decides _ (bytes_eq-Decides c.key ca.key) parts.0 (sym e) in
+    (All-push (λ x. x.key ≢ c.key) cas ca d.0 other, Distinct-push cas ca parts.1 d.1)
 
 -- the same CAs, while more serials are handed out
-same_cas : (s t : State) → t.opening ≡ s.opening → t.cas ≡ s.cas → length s.certificates ≤ length t.certificates → AreCas s → AreCas t
+same_cas : (s t : State) → t.opening ≡ s.opening → t.cas ≡ s.cas → length s.certificates ≤ length t.certificates
+    → AreCas s → AreCas t
 same_cas s t o c n are = record {
   first = (are.first.0, are.first.1, c ∙ are.first.2, are.first.3 ∙ ap (λ (x : Opening). x.first) (sym o));
-  most = rw c are.most;
-  rise = rw (o, c) (Rise-later s.opening.first s.cas (next_serial s) (s.opening.first + length t.certificates) (omega (arith, n)) are.rise);
-  keys = rw c are.keys;
+  rise = rw (o, c) (Rise-later s.opening.first s.cas (next_serial s) (s.opening.first + length t.certificates)
+      (omega (arith, n)) are.rise);
   distinct = rw c are.distinct;
 }
 
-one_more_ca : (s : State) (key : List ℕ) → IsNewCa s key → AreCas s → AreCas (with_ca s (ca_from_now s key))
-one_more_ca s key is are =
+one_more_ca : (s : State) (key : List ℕ) → is_ca s.cas key ≡ false → AreCas s → AreCas (with_ca s (ca_from_now s key))
+one_more_ca s key new are =
     let ca = ca_from_now s key in record {
       first = (are.first.0, are.first.1 ++ ca ∷ [], ap (λ cas. cas ++ ca ∷ []) are.first.2, are.first.3);
-      most = omega (arith, is.room, length-append s.cas (ca ∷ []));
       rise = Rise-push s.opening.first s.cas ca are.rise;
-      keys = All-push (λ ca. length ca.key ≡ 32) s.cas ca are.keys is.bytes;
-      distinct = Distinct-push s.cas ca is.new are.distinct;
+      distinct = Distinct-push s.cas ca new are.distinct;
     }
 
-pub cas_kept : (s : State) (moment : ℕ) → moment ≤ LATEST_MOMENT → AreCas s → HoldsAfter AreCas s moment
-cas_kept s moment in_time are = record {
+pub cas_each : IsKeptByEach AreCas
+cas_each s moment in_time are = record {
   department = λ d. same_cas s _ refl refl (omega arith) are;
-  certificate = λ c is. same_cas s (with_certificate s c) refl refl (omega (arith, length-append s.certificates (c ∷ []))) are;
-  signature = λ serial signature. same_cas s (with_signature s serial signature) refl refl (omega (arith, length-signed_at s.certificates (serial - s.opening.first) signature)) are;
+  certificate = λ c is. same_cas s _ refl refl (omega (arith, length-append s.certificates (c ∷ []))) are;
+  signature = λ n x.
+      same_cas s _ refl refl (omega (arith, length-signed_at s.certificates (n - s.opening.first) x)) are;
   range = λ r is. same_cas s _ refl refl (omega arith) are;
   key_id = λ key_id. same_cas s _ refl refl (omega arith) are;
-  ca = λ key is none. one_more_ca s key is are;
-  ca_published = λ key is some. same_cas (with_ca s (ca_from_now s key)) _ refl refl (omega arith) (one_more_ca s key is are);
+  ca = λ key new none. one_more_ca s key new are;
+  ca_published = λ key new some.
+      same_cas (with_ca s (ca_from_now s key)) _ refl refl (omega arith) (one_more_ca s key new are);
 }
 
-pub opened_cas : (o : Opening) → IsOpening o → AreCas (opened o)
-opened_cas o is = record {
-  first = (_, [], refl, refl);
-  most = omega arith;
-  rise = (omega arith, omega arith);
-  keys = (is.ca, tt);
-  distinct = (tt, tt);
-}
+pub opened_cas : (o : Opening) → AreCas (opened o)
+opened_cas o = record { first = (_, [], refl, refl); rise = (omega arith, omega arith); distinct = (tt, tt) }
 
-pub cas_stand : (o : Opening) (l : List Arrival) → IsOpening o → AreCas (state o l)
-cas_stand o l is = after_all (λ fs s. AreCas s) (by_change AreCas cas_kept) o l (opened_cas o is)
+pub cas_stand : (o : Opening) (l : List Arrival) → AreCas (state o l)
+cas_stand o l = always AreCas cas_each o l (opened_cas o)

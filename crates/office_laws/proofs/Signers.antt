@@ -1,11 +1,10 @@
 -- The signer of a serial is the CA that the published list has it under.
-use Rattle.std.proofs.Common.{◌≡◌, ◌≢◌, ℕ, zero, suc, List, [], ◌∷◌, map, Bool, true, false, cond}
-use Rattle.std.proofs.Common.{◌&&◌, leb, ltb, Some, refl, sym, ap, subst, ◌∙◌, arith, add-one}
+use Rattle.std.proofs.Common.{◌≡◌, ◌≢◌, ℕ, zero, suc, List, [], ◌∷◌, map, Bool, true, false}
+use Rattle.std.proofs.Common.{◌&&◌, leb, ltb, Some, refl, sym, ap, subst, ◌∙◌, inl, inr, add-one}
 use Rattle.std.specs.Prelude.{slice_get, slice_index, drop}
 use Rattle.std.specs.List.{fold, list_all, AllByRecursion}
 use Rattle.std.specs.Str.{bytes_eq}
-use Rattle.std.proofs.lemmas.Bool.{and_parts}
-use Rattle.std.proofs.lemmas.Bool.Decides.{nat_tests}
+use Rattle.std.proofs.lemmas.Bool.{and_parts, cases_Bool, cond_both, le-leb, lt-leb, ltb-true, ltb-false}
 use Rattle.std.proofs.lemmas.Slice.Eq.{bytes_eq-Decides}
 use Rattle.krl.specs.Sets.{is_last_reached}
 use Rattle.office.specs.declared.ca.Ca.{Ca}
@@ -18,10 +17,10 @@ abbrev pub are_later : ℕ → List Ca → Bool
 are_later n cas = list_all (λ since. ltb n since) (map (λ ca. ca.since) cas)
 
 not_reached : (n since : ℕ) → ltb n since ≡ true → leb since n ≡ false
-not_reached n since e = grind (arith, nat_tests)
+not_reached n since e = lt-leb since n (ltb-true n since e)
 
 reached : (n since : ℕ) → ltb n since ≡ false → leb since n ≡ true
-reached n since e = grind (arith, nat_tests)
+reached n since e = le-leb since n (ltb-false n since e)
 
 -- CAs that came later sign nothing
 later_sign_nothing : (n : ℕ) (key : List ℕ) (cas : List Ca) → are_later n cas ≡ true → fold (key_at n) key cas ≡ key
@@ -31,11 +30,7 @@ later_sign_nothing n key (ca ∷ cas) e =
     rw (not_reached n ca.since parts.0) (later_sign_nothing n key cas parts.1)
 
 key_not : (x key : List ℕ) (ca : Ca) (n : ℕ) → key ≢ x → ca.key ≢ x → key_at n key ca ≢ x
-key_not x key ca n p q = by_test (leb ca.since n)
-  where
-    by_test : (b : Bool) → cond b ca.key key ≢ x
-    by_test true = q
-    by_test false = p
+key_not x key ca n p q = cond_both (leb ca.since n) ca.key key (λ k. k ≢ x) (λ _. q) (λ _. p)
 
 -- other keys aren't the signer's
 others_sign : (n : ℕ) (x key : List ℕ) (cas : List Ca) → AllByRecursion (λ ca. ca.key ≢ x) cas → key ≢ x → fold (key_at n) key cas ≢ x
@@ -45,21 +40,17 @@ others_sign n x key (ca ∷ cas) all p = others_sign n x (key_at n key ca) cas a
 -- once one that came by then is among the others, it or a later one signs
 one_signs : (n : ℕ) (x key : List ℕ) (cas : List Ca) → AllByRecursion (λ ca. ca.key ≢ x) cas → are_later n cas ≡ false → fold (key_at n) key cas ≢ x
 one_signs n x key [] all e = absurd cc
-one_signs n x key (ca ∷ cas) all e = by_test (ltb n ca.since) refl (one_signs n x key cas all.1)
-  where
-    by_test : (b : Bool) → ltb n ca.since ≡ b → (are_later n cas ≡ false → fold (key_at n) key cas ≢ x) → fold (key_at n) key (ca ∷ cas) ≢ x
-    by_test true is rest = rw (not_reached n ca.since is) (rest (rw is at e))
-    by_test false is rest = rw (reached n ca.since is) (others_sign n x ca.key cas all.1 all.0)
-
-bytes_same : (x y : List ℕ) → x ≡ y → bytes_eq x y ≡ true
-bytes_same x y e = (bytes_eq-Decides x y).1 e
+one_signs n x key (ca ∷ cas) all e = elim (cases_Bool (ltb n ca.since)) [
+  | inl is ↦ rw (not_reached n ca.since is) (one_signs n x key cas all.1 (rw is at e))
+  | inr is ↦ rw (reached n ca.since is) (others_sign n x ca.key cas all.1 all.0)
+]
 
 -- the first of CAs, once it came
 first_signs : (n : ℕ) (ca : Ca) (cas : List Ca) → AllByRecursion (λ c. c.key ≢ ca.key) cas → are_later n cas ≡ bytes_eq ca.key (fold (key_at n) ca.key cas)
 first_signs n ca cas all = by_test (are_later n cas) refl
   where
     by_test : (b : Bool) → are_later n cas ≡ b → b ≡ bytes_eq ca.key (fold (key_at n) ca.key cas)
-    by_test true is = sym (bytes_same ca.key _ (sym (later_sign_nothing n ca.key cas is)))
+    by_test true is = sym ((bytes_eq-Decides ca.key _).1 (sym (later_sign_nothing n ca.key cas is)))
     by_test false is = sym (bytes_other ca.key _ (λ e. one_signs n ca.key ca.key cas all is (sym e)))
 
 -- the key of a CA among others
@@ -80,17 +71,13 @@ place_signs : (n : ℕ) (key : List ℕ) (cas : List Ca) (place : ℕ) (ca : Ca)
 place_signs n key [] place ca d e p = absurd cc
 place_signs n key (c ∷ cas) zero ca d e p =
     let same : c ≡ ca = cc in
-    subst (λ (x : Ca). (leb c.since n && are_later n cas) ≡ bytes_eq x.key (fold (key_at n) key (c ∷ cas))) same (by_test (leb c.since n) refl)
-  where
-    by_test : (b : Bool) → leb c.since n ≡ b → (leb c.since n && are_later n cas) ≡ bytes_eq c.key (fold (key_at n) key (c ∷ cas))
-    by_test true is = rw is (first_signs n c cas d.0)
-    by_test false is = rw is (sym (bytes_other c.key _ (λ e. others_sign n c.key key cas d.0 (other e) (sym e))))
-      where
-        other : c.key ≡ fold (key_at n) key cas → key ≢ c.key
-        other f = subst (λ (x : Ca). key ≢ x.key) (sym same) p
-          where
-            same : c ≡ ca
-            same = cc
+    subst (λ (x : Ca). (leb c.since n && are_later n cas) ≡ bytes_eq x.key (fold (key_at n) key (c ∷ cas))) same
+    (elim (cases_Bool (leb c.since n)) [
+      | inl is ↦ rw is (first_signs n c cas d.0)
+      | inr is ↦
+          let apart : key ≢ c.key = rw same p in
+          rw is (sym (bytes_other c.key _ (λ e. others_sign n c.key key cas d.0 apart (sym e))))
+    ])
 place_signs n key (c ∷ cas) (suc place) ca d e p =
     last_behind c.since (map (λ x. x.since) cas) place n ∙ place_signs n (key_at n key c) cas place ca d.1 e (key_not ca.key key c n p (other_there c.key cas place ca d.0 e))
 

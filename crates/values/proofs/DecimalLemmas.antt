@@ -13,8 +13,9 @@ use Rattle.std.proofs.lemmas.Fmt.{decimal-digits_value, digits_decimal, digits_v
 use Rattle.std.proofs.lemmas.Fmt.{decimal_nonempty, first_decimal, decimal_digit, IsAscii-from_digits}
 use Rattle.std.proofs.lemmas.Bool.{and_parts, and_from, or_cases, or_left, or_right}
 use Rattle.std.proofs.lemmas.Bool.{not_from_false, ltb-true, lt-ltb, le-ltb, and_right, cases_lt}
-use Rattle.std.proofs.lemmas.Bool.{eq-eqb, ne_eqb, cases_Bool, cases_eq, cond-true, cond-false}
+use Rattle.std.proofs.lemmas.Bool.{eq-eqb, ne_eqb, cases_eq, cond-true, cond-false}
 use Rattle.std.proofs.lemmas.Bool.Decides.{nat_tests}
+use Rattle.std.proofs.lemmas.Option.{cond_some}
 use Rattle.values.specs.Decimals.{is_numeral, is_number_below, number_of}
 
 -- the test of digits is std's
@@ -108,15 +109,9 @@ parsed_number t r h p = value_from t r h (parse_digits own 64 t r p (numeral_tel
 -- the number that is read is the text's
 pub number_found : (t : List ℕ) (r : Option ℕ) → r ≡ number_of t → IfSome r (λ n. t ≡ decimal n)
 number_found t None e = tt
-number_found t (Some n) e = elim (cases_Bool (is_number_below (2 ^ 64) t)) [
-  | inl below ↦
-      let same : Some n ≡ Some (digits_value 10 t) = e ∙ cond-true (is_number_below (2 ^ 64) t) _ _ below in
-      let value : n ≡ digits_value 10 t = cc in
-      sym (ap decimal value ∙ decimal_below (2 ^ 64) t (omega arith) below)
-  | inr above ↦
-      let none : Some n ≡ None = e ∙ cond-false (is_number_below (2 ^ 64) t) _ _ above in
-      cc
-]
+number_found t (Some n) e =
+    let is = cond_some (is_number_below (2 ^ 64) t) (digits_value 10 t) n (sym e) in
+    sym (decimal_below (2 ^ 64) t (omega arith) is.0) ∙ ap decimal is.1
 
 -- where none is read, the text is that of no number
 pub number_only : (t : List ℕ) (r : Option ℕ) → r ≡ number_of t → IfNone r ((n : ℕ) → n < 2 ^ 64 → t ≢ decimal n)

@@ -28,7 +28,7 @@ pub decimal_lacks : (byte n : ℕ) → is_ascii_digit byte ≡ false → n < 2 ^
 decimal_lacks byte n off small = lacks_from is_ascii_digit byte (decimal n) off (digits_decimal own n small)
 
 -- the first such byte after a text that lacks it is at its end
-first_after : (byte : ℕ) (t rest : List ℕ) → Lacks byte t
+pub first_after : (byte : ℕ) (t rest : List ℕ) → Lacks byte t
     → position_or_len (λ b. b == byte) (t ++ byte ∷ rest) ≡ length t
 first_after byte t rest lacks = position_or_len_is (λ b. b == byte) (t ++ byte ∷ rest) (length t) 0
     (omega (arith, length-append t (byte ∷ rest)))

@@ -1,13 +1,14 @@
 -- Networks, by how they are spelled.
-use Rattle.std.proofs.Common.{◌≡◌, ◌<◌, ◌≤◌, ◌+◌, ◌-◌, ◌*◌, ◌%◌, ◌^◌, inl, inr, ℕ, suc, List, []}
+use Rattle.std.proofs.Common.{◌≡◌, ◌<◌, ◌≤◌, ◌+◌, ◌-◌, ◌*◌, ◌%◌, ◌^◌, ℕ, suc, List, []}
 use Rattle.std.proofs.Common.{◌∷◌, ◌++◌, length, map, true, false, ◌&&◌, ◌==◌, nat_le, decimal}
-use Rattle.std.proofs.Common.{Option, Some, None, arith, ap, sym, ◌∙◌, refl, append_assoc}
+use Rattle.std.proofs.Common.{Option, Some, arith, ap, sym, ◌∙◌, refl, append_assoc}
 use Rattle.std.specs.Char.{is_ascii_digit}
 use Rattle.std.specs.List.{list_all, slice_split, join_with_byte, before_first, after_first, AllByRecursion}
 use Rattle.std.specs.Net.Text.{dotted_text}
-use Rattle.std.proofs.lemmas.Bool.{and_parts, and_from, eqb-true, eq-eqb, leb-true, le-leb, cases_Bool, cond-false}
+use Rattle.std.proofs.lemmas.Bool.{and_parts, and_from, eqb-true, eq-eqb, leb-true, le-leb}
 use Rattle.std.proofs.lemmas.Fmt.{decimal_nonempty}
 use Rattle.std.proofs.lemmas.List.{length-map}
+use Rattle.std.proofs.lemmas.Option.{cond_some}
 use Rattle.std.proofs.lemmas.List.Elements.{All-append, All-from_recursion, recursion_from_All}
 use Rattle.std.proofs.lemmas.List.Splits.{join_with_byte-slice_split, length-slice_split}
 use Rattle.values.proofs.DecimalLemmas.{number_of-decimal, number_spelled}
@@ -78,17 +79,13 @@ record Address (t : List ℕ) (address : ℕ) : Type 0 where
   spelled : t ≡ dotted_text a b c d
 
 address_found : (t : List ℕ) (address : ℕ) → address_of t ≡ Some address → Address t address
-address_found t address e = elim (cases_Bool (are_octets (slice_split (λ x. x == 46) t))) [
-  | inl octets ↦
-      let w = octets_dotted (slice_split (λ x. x == 46) t) octets in
-      let spelled = sym (join_with_byte-slice_split 46 t) ∙ w.spelled in
-      let read : Some address ≡ Some (((w.a * 256 + w.b) * 256 + w.c) * 256 + w.d) =
-      sym e ∙ ap address_of spelled ∙ address_of-dotted_text w.a w.b w.c w.d w.fit.0 w.fit.1 w.fit.2 w.fit.3 in
-      record { a = w.a; b = w.b; c = w.c; d = w.d; octets = w.fit; value = cc; spelled = spelled }
-  | inr off ↦
-      let none : None ≡ Some address = sym (cond-false (are_octets (slice_split (λ x. x == 46) t)) _ _ off) ∙ e in
-      cc
-]
+address_found t address e =
+    let octets = (cond_some (are_octets (slice_split (λ x. x == 46) t)) _ address e).0 in
+    let w = octets_dotted (slice_split (λ x. x == 46) t) octets in
+    let spelled = sym (join_with_byte-slice_split 46 t) ∙ w.spelled in
+    let read : Some address ≡ Some (((w.a * 256 + w.b) * 256 + w.c) * 256 + w.d) =
+    sym e ∙ ap address_of spelled ∙ address_of-dotted_text w.a w.b w.c w.d w.fit.0 w.fit.1 w.fit.2 w.fit.3 in
+    record { a = w.a; b = w.b; c = w.c; d = w.d; octets = w.fit; value = cc; spelled = spelled }
 
 -- the numbers that a block holds
 record Block (x y : Option ℕ) : Type 0 where
@@ -100,8 +97,6 @@ record Block (x y : Option ℕ) : Type 0 where
   zeros : address % 2 ^ (32 - size) ≡ 0
 
 block_found : (x y : Option ℕ) → is_block x y ≡ true → Block x y
-block_found None y h = cc
-block_found (Some address) None h = cc
 block_found (Some address) (Some size) h =
     let p = and_parts (nat_le size 32) (address % 2 ^ (32 - size) == 0) h in
     record {
@@ -112,6 +107,7 @@ block_found (Some address) (Some size) h =
       within = leb-true _ _ p.0;
       zeros = eqb-true _ _ p.1;
     }
+block_found x y h = cc
 
 pub network_found : (t : List ℕ) → is_network t ≡ true → Spells t
 network_found t h =

@@ -79,10 +79,6 @@ address_of-dotted t octets w =
 -- four octets with dots between them are a dotted text
 pub octets_dotted : (texts : List (List ℕ)) → are_octets texts ≡ true
     → IsDotted (join_with_byte 46 texts) (map (digits_value 10) texts)
-octets_dotted [] h = cc
-octets_dotted (a ∷ []) h = cc
-octets_dotted (a ∷ b ∷ []) h = cc
-octets_dotted (a ∷ b ∷ c ∷ []) h = cc
 octets_dotted (a ∷ b ∷ c ∷ d ∷ []) h =
     let p = and_parts (is_number_below 256 a) (list_all (is_number_below 256) (b ∷ c ∷ d ∷ [])) h in
     let q = and_parts (is_number_below 256 b) (list_all (is_number_below 256) (c ∷ d ∷ [])) p.1 in
@@ -101,13 +97,9 @@ octets_dotted (a ∷ b ∷ c ∷ d ∷ []) h =
       value = refl;
       spelled = simp (ea, eb, ec, ed) (sym (regroup 46 a b c d));
     }
-octets_dotted (a ∷ b ∷ c ∷ d ∷ e ∷ more) h =
-    absurd (omega (
-      arith,
-      eqb-true (length (a ∷ b ∷ c ∷ d ∷ e ∷ more)) 4
-          (and_parts (length (a ∷ b ∷ c ∷ d ∷ e ∷ more) == 4)
-          (list_all (is_number_below 256) (a ∷ b ∷ c ∷ d ∷ e ∷ more)) h).0,
-    ))
+octets_dotted texts h =
+    let size = (and_parts (length texts == 4) (list_all (is_number_below 256) texts) h).0 in
+    absurd (omega (arith, eqb-true (length texts) 4 size))
 
 -- where no dotted text is, there is no address
 pub address_of-none : (t : List ℕ) → ((octets : List ℕ) → ¬ (IsDotted t octets)) → address_of t ≡ None

@@ -1,5 +1,5 @@
 use Rattle.http_requests.specs.Asked.{ask_of}
-use Rattle.http_requests.proofs.LawfulAsk.{lawful_of_head}
+use Rattle.http_requests.proofs.Asking.{lawful_of_head}
 use Rattle.http_requests.proofs.asked.asks.Goals as goal
 
 pub returns-clause-lawful : goal.returns-clause-lawful

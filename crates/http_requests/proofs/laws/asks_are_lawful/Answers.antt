@@ -1,4 +1,4 @@
-use Rattle.http_requests.proofs.LawfulAsk.{lawful_of}
+use Rattle.http_requests.proofs.Asking.{lawful_of}
 use Rattle.http_requests.proofs.laws.asks_are_lawful.Goals as goal
 
 pub returns : goal.returns

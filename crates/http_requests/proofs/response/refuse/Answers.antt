@@ -1,8 +1,15 @@
-use Rattle.std.proofs.Common.{◌≡◌, ◌≤◌, ◌++◌, ◌∷◌, [], ◌∙◌, List, ℕ, length, decimal, ap, arith, length-append}
+use Rattle.std.proofs.Common.{◌≡◌, ◌<◌, ◌≤◌, ◌++◌, ◌∷◌, [], ◌∙◌, List, ℕ, length, decimal, ap, arith, lit<, lit≤}
+use Rattle.std.proofs.Common.{length-append}
 use Rattle.std.proofs.lemmas.Fmt.{length-decimal-le}
-use Rattle.values.specs.Refusals.{refusal_number}
-use Rattle.http_requests.proofs.Refusals.{short_refusal}
+use Rattle.values.specs.declared.refusal.Refusal.{Refusal}
+use Rattle.values.specs.declared.refusal.Refusal.TheVariants.{BadHead}
+use Rattle.values.specs.Refusals.{refusal_number, refusal_name}
 use Rattle.http_requests.proofs.response.refuse.Goals as goal
+
+-- a refusal's number has at most two digits, and its name at most 16 bytes
+short_refusal : (r : Refusal) → (refusal_number r < 100) × (length (refusal_name r) ≤ 16)
+short_refusal BadHead = (lit< tt, lit≤ tt)
+short_refusal r = (lit< tt, lit≤ tt)
 
 -- five pieces, of which the second and the fourth have at most 2 and 16 bytes
 five : (v x y : List ℕ) → length v ≡ 8 → length x ≤ 2 → length y ≤ 16

@@ -1,4 +1,4 @@
-use Rattle.std.proofs.Common.{◌≡◌, ap, sym, ◌∙◌, codes, Some, ◌++◌, drop, take, length, nat_eq}
+use Rattle.std.proofs.Common.{◌≡◌, ap, sym, ◌∙◌, codes, Some, ◌++◌, drop, take, nat_eq}
 use Rattle.std.specs.Cmp.Lexicographic.{pointwise}
 use Rattle.std.proofs.lemmas.Slice.Eq.{strip_prefix_is}
 use Rattle.std.proofs.lemmas.Bool.Decides.{Decides-eqb}
@@ -9,39 +9,31 @@ use Rattle.http_requests.proofs.route.message_of.Goals as goal
 
 pub returns-in_default-slash_at-clause-none : goal.returns-in_default-slash_at-clause-none
 returns-in_default-slash_at-clause-none c = λ caller key is e.
-    let cut = message_cut c.args.path.now c.in-Some.rest.now caller key is e c.in-Some.ensures.cases.1 in
+    let cut = message_cut _ _ caller key is e c.in-Some.ensures.cases.1 in
     let differ = sym c.in_default-slash_at.is ∙ c.slash_at.ensures ∙ cut.slash in
     cc differ
 
 pub returns-in_default-strip_prefix-clause-none : goal.returns-in_default-strip_prefix-clause-none
 returns-in_default-strip_prefix-clause-none c = λ caller key is e.
-    let cut = message_cut c.args.path.now c.in-Some.rest.now caller key is e c.in-Some.ensures.cases.1 in
-    let found = sym c.in-Some-slash_at.is ∙ c.slash_at.ensures ∙ cut.slash in
-    let at : c.in-Some-slash_at.at ≡ length caller = cc found in
-    let tail = c.split_at.ensures.back ∙ ap (λ n. drop n c.in-Some.rest.now) at ∙ cut.back in
+    let cut = message_cut _ _ caller key is e c.in-Some.ensures.cases.1 in
+    let tail = c.split_at.ensures.back ∙ cut.back _ (sym c.slash_at.ensures ∙ c.in-Some-slash_at.is) in
     let differ = sym c.in_default-strip_prefix.ensures.cases
     ∙ ap (λ t. pointwise nat_eq (take 10 t) (codes "/requests/")) tail in
     cc differ
 
 pub returns-then-not-is_name-clause-none : goal.returns-then-not-is_name-clause-none
 returns-then-not-is_name-clause-none c = λ caller key is e.
-    let cut = message_cut c.args.path.now c.in-Some.rest.now caller key is e c.in-Some.ensures.cases.1 in
-    let found = sym c.in-Some-slash_at.is ∙ c.slash_at.ensures ∙ cut.slash in
-    let at : c.in-Some-slash_at.at ≡ length caller = cc found in
-    let front = c.split_at.ensures.front ∙ ap (λ n. take n c.in-Some.rest.now) at ∙ cut.front in
-    let yes = c.is_name.ensures ∙ ap is_name front ∙ is.0 in
-    let differ = sym c.if-not-is_name.true ∙ yes in
+    let cut = message_cut _ _ caller key is e c.in-Some.ensures.cases.1 in
+    let front = c.split_at.ensures.front ∙ cut.front _ (sym c.slash_at.ensures ∙ c.in-Some-slash_at.is) in
+    let differ = sym c.if-not-is_name.true ∙ c.is_name.ensures ∙ ap is_name front ∙ is.0 in
     cc differ
 
 pub returns-then-not-is_name-2-clause-none : goal.returns-then-not-is_name-2-clause-none
 returns-then-not-is_name-2-clause-none c = λ caller key is e.
-    let cut = message_cut c.args.path.now c.in-Some.rest.now caller key is e c.in-Some.ensures.cases.1 in
-    let found = sym c.in-Some-slash_at.is ∙ c.slash_at.ensures ∙ cut.slash in
-    let at : c.in-Some-slash_at.at ≡ length caller = cc found in
-    let tail = c.split_at.ensures.back ∙ ap (λ n. drop n c.in-Some.rest.now) at ∙ cut.back in
+    let cut = message_cut _ _ caller key is e c.in-Some.ensures.cases.1 in
+    let tail = c.split_at.ensures.back ∙ cut.back _ (sym c.slash_at.ensures ∙ c.in-Some-slash_at.is) in
     let end = c.in-Some-strip_prefix.ensures.cases.1 ∙ ap (drop 10) tail in
-    let yes = c.is_name-2.ensures ∙ ap is_name end ∙ is.1 in
-    let differ = sym c.if-not-is_name-2.true ∙ yes in
+    let differ = sym c.if-not-is_name-2.true ∙ c.is_name-2.ensures ∙ ap is_name end ∙ is.1 in
     cc differ
 
 pub returns-clause-text : goal.returns-clause-text

@@ -1,9 +1,8 @@
-use Rattle.std.proofs.Common.{ap, sym, ◌∙◌, subst}
+use Rattle.std.proofs.Common.{ap, sym, ◌∙◌}
 use Rattle.matchit.specs.Seek.{first}
 use Rattle.http_requests.specs.declared.router.RouteKind.TheVariants.{Message, Certificate, Body}
-use Rattle.http_requests.specs.Paths.{Path, IsPath, path_text}
 use Rattle.http_requests.specs.Routing.{routing}
-use Rattle.http_requests.proofs.Finding.{routed, same_route, at_route}
+use Rattle.http_requests.proofs.Finding.{routed, found_of}
 use Rattle.http_requests.proofs.Matching.{fixed_path}
 use Rattle.http_requests.proofs.route.route_of.Goals as goal
 
@@ -25,24 +24,17 @@ returns-in-Some-Fixed-clause-text c =
 pub returns-in-None-message_of-clause-none : goal.returns-in-None-message_of-clause-none
 returns-in-None-message_of-clause-none c = λ p is e.
     let found = c.in-Some-Message.ensures.some in
-    let same = same_route c.args.path.now found.0 p is found.1 e in
-    let at = at_route Message p (sym c.in-Some-Message.field-0-is ∙ sym found.2 ∙ same) in
-    let P : Path → Type 0 = IsPath in
-    c.in-None-message_of.ensures.none at.0 at.1 (subst P at.2 is) (c.as_bytes.ensures.value ∙ e ∙ ap path_text at.2)
+    let at = found_of Message _ found.0 p found.1 (found.2 ∙ c.in-Some-Message.field-0-is) is e in
+    c.in-None-message_of.ensures.none at.0 at.1 at.2 (c.as_bytes.ensures.value ∙ at.3)
 
 pub returns-in-None-certificate_of-clause-none : goal.returns-in-None-certificate_of-clause-none
 returns-in-None-certificate_of-clause-none c = λ p is e.
     let found = c.in-Some-Certificate.ensures.some in
-    let same = same_route c.args.path.now found.0 p is found.1 e in
-    let at = at_route Certificate p (sym c.in-Some-Certificate.field-0-is ∙ sym found.2 ∙ same) in
-    let P : Path → Type 0 = IsPath in
-    c.in-None-certificate_of.ensures.none at.0 (subst P at.1 is)
-    (c.as_bytes-in-Some-Certificate.ensures.value ∙ e ∙ ap path_text at.1)
+    let at = found_of Certificate _ found.0 p found.1 (found.2 ∙ c.in-Some-Certificate.field-0-is) is e in
+    c.in-None-certificate_of.ensures.none at.0 at.1 (c.as_bytes-in-Some-Certificate.ensures.value ∙ at.2)
 
 pub returns-in-None-body_of-clause-none : goal.returns-in-None-body_of-clause-none
 returns-in-None-body_of-clause-none c = λ p is e.
     let found = c.in-Some-Body.ensures.some in
-    let same = same_route c.args.path.now found.0 p is found.1 e in
-    let at = at_route Body p (sym c.in-Some-Body.field-0-is ∙ sym found.2 ∙ same) in
-    let P : Path → Type 0 = IsPath in
-    c.in-None-body_of.ensures.none at.0 (subst P at.1 is) (c.as_bytes-in-Some-Body.ensures.value ∙ e ∙ ap path_text at.1)
+    let at = found_of Body _ found.0 p found.1 (found.2 ∙ c.in-Some-Body.field-0-is) is e in
+    c.in-None-body_of.ensures.none at.0 at.1 (c.as_bytes-in-Some-Body.ensures.value ∙ at.2)

@@ -8,13 +8,7 @@ use Rattle.office.proofs.laws.refusals_ascend.Goals as goal
 
 in_order : (s : State) (caller : List ℕ) (m : Message) (moment : ℕ) → ascend_from 10 (refusals s caller m moment) ≡ true
 in_order s caller (message.Department d) moment = refl
-in_order s caller (message.Issue i) moment = refl
-in_order s caller (message.Renew r) moment = refl
-in_order s caller (message.Deliver d) moment = refl
-in_order s caller (message.RevokeSerial serial) moment = refl
-in_order s caller (message.RevokeRange r) moment = refl
-in_order s caller (message.RevokeKeyId key_id) moment = refl
-in_order s caller (message.Rollover k) moment = refl
+in_order s caller m moment = refl
 
 pub returns : goal.returns
 returns c = in_order

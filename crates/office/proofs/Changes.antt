@@ -1,0 +1,118 @@
+-- What accepted messages do to the state: so an invariant is one proof for each change.
+use Rattle.std.proofs.Common.{◌≡◌, ℕ, ◌<◌, ◌≤◌, List, ◌++◌, Bool, true}
+use Rattle.std.proofs.Common.{false, cond, leb, ltb, Option, Some, None, refl}
+use Rattle.std.specs.Prelude.{IsSome, is_none}
+use Rattle.std.specs.Option.{option_map}
+use Rattle.std.proofs.lemmas.Bool.{or_parts, leb-false, ltb-false}
+use Rattle.lines.specs.declared.signature.Signature.{Signature}
+use Rattle.values.specs.declared.limits.TheConstants.{LATEST_MOMENT}
+use Rattle.cert.specs.Bodies.{body_text}
+use Rattle.message.specs.declared.department.Department.{Department}
+use Rattle.message.specs.declared.renewal.Renewal.{Renewal}
+use Rattle.message.specs.declared.serial_range.SerialRange.{SerialRange}
+use Rattle.message.specs.declared.kinds.Message.{Message}
+use Rattle.message.specs.declared.kinds.Message.TheVariants as message
+use Rattle.message.specs.Values.{is_message}
+use Rattle.office.specs.declared.opening.Opening.{Opening}
+use Rattle.office.specs.declared.arrival.Arrival.{Arrival}
+use Rattle.office.specs.declared.certificate.Certificate.{Certificate}
+use Rattle.office.specs.Certificates.{renewed_certificate}
+use Rattle.office.specs.State.{State, next_serial, certificate_of, newest_key}
+use Rattle.office.specs.State.{is_ca, is_range_revoked, is_key_id_revoked, has_any}
+use Rattle.office.specs.Refusals.{refusals, first_holding}
+use Rattle.office.specs.Machine.{opened, after, issued, with_department, with_certificate, with_one_more}
+use Rattle.office.specs.Machine.{with_signature, with_range, with_key_id, with_ca, ca_from_now, republished}
+use Rattle.office.specs.History.{state}
+use Rattle.office.proofs.Judged.{none_holds}
+use Rattle.office.proofs.Decisions.{serial_of_one}
+use Rattle.office.proofs.Histories.{IsKeptBy, after_all, after_more}
+
+-- the certificate of the next serial, which is one, under the newest CA
+pub record IsNext (s : State) (c : Certificate) : Type 0 where
+  pub left : next_serial s ≤ s.opening.last
+  pub serial : c.fields.serial ≡ next_serial s
+  pub ca : c.fields.ca ≡ newest_key s.opening s.cas
+  pub body : c.body ≡ body_text c.fields
+
+-- serials that were handed out
+pub record IsHandedOut (s : State) (r : SerialRange) : Type 0 where
+  pub low : s.opening.first ≤ r.lo
+  pub high : r.hi < next_serial s
+
+-- what holds after each change of a state
+pub record HoldsAfter (Q : State → Type 0) (s : State) (moment : ℕ) : Type 0 where
+  pub department : (d : Department) → Q (with_department s d)
+  pub certificate : (c : Certificate) → IsNext s c → Q (with_certificate s c)
+  pub signature : (serial : ℕ) (signature : Signature) → Q (with_signature s serial signature)
+  pub range : (r : SerialRange) → IsHandedOut s r → Q (republished (with_range s r) moment)
+  pub key_id : (key_id : List ℕ) → Q (republished (with_key_id s key_id) moment)
+  pub ca : (key : List ℕ) → is_ca s.cas key ≡ false → has_any s.revoked_key_ids ≡ false
+      → Q (with_ca s (ca_from_now s key))
+  pub ca_published : (key : List ℕ) → is_ca s.cas key ≡ false → has_any s.revoked_key_ids ≡ true
+      → Q (republished (with_ca s (ca_from_now s key)) moment)
+
+some_of : (o : Option Certificate) → is_none o ≡ false → IsSome o
+some_of (Some c) e = refl
+some_of None e = absurd cc
+
+module _ (Q : State → Type 0) (s : State) (moment : ℕ) (q : Q s) (h : HoldsAfter Q s moment) where
+  same_or : (b : Bool) (t : State) → Q t → Q (cond b s t)
+  same_or true t p = q
+  same_or false t p = p
+
+  made : (r : Renewal) (nonce : List ℕ) (o : Option Certificate) → next_serial s ≤ s.opening.last → Q (with_one_more s
+      (option_map (λ c. renewed_certificate c r (next_serial s) (newest_key s.opening s.cas) nonce) o))
+  made r nonce None left = q
+  made r nonce (Some c) left =
+      h.certificate (renewed_certificate c r (next_serial s) (newest_key s.opening s.cas) nonce)
+      (record { left = left; serial = refl; ca = refl; body = refl })
+
+  rolled : (key : List ℕ) → is_ca s.cas key ≡ false → (b : Bool) → has_any s.revoked_key_ids ≡ b
+      → Q (cond b (republished (with_ca s (ca_from_now s key)) moment) (with_ca s (ca_from_now s key)))
+  rolled key is true e = h.ca_published key is e
+  rolled key is false e = h.ca key is e
+
+  -- after each lawful message that isn't refused
+  pub holds_then : (caller : List ℕ) (m : Message) (nonce : List ℕ) → is_message m ≡ true
+      → first_holding (refusals s caller m moment) ≡ None → Q (after s m moment nonce)
+  holds_then caller (message.Department d) nonce lawful allowed = h.department d
+  holds_then caller (message.Issue i) nonce lawful allowed =
+      let tests = none_holds (refusals s caller (message.Issue i) moment) allowed in
+      h.certificate (issued s i nonce)
+      (record { left = ltb-false _ _ tests.1.1.1.1.1.1.0; serial = refl; ca = refl; body = refl })
+  holds_then caller (message.Renew r) nonce lawful allowed =
+      let tests = none_holds (refusals s caller (message.Renew r) moment) allowed in
+      made r nonce (certificate_of s r.serial) (ltb-false _ _ tests.1.1.1.1.1.1.1.0)
+  holds_then caller (message.Deliver d) nonce lawful allowed = h.signature d.serial d.signature
+  holds_then caller (message.RevokeSerial serial) nonce lawful allowed =
+      let tests = none_holds (refusals s caller (message.RevokeSerial serial) moment) allowed in
+      let is = serial_of_one s serial (some_of (certificate_of s serial) tests.1.0) in
+      same_or (s.revoked serial) _ (h.range (record { lo = serial; hi = serial }) (record { low = is.0; high = is.1 }))
+  holds_then caller (message.RevokeRange r) nonce lawful allowed =
+      let tests = none_holds (refusals s caller (message.RevokeRange r) moment) allowed in
+      let ends = or_parts (ltb r.lo s.opening.first) (leb (next_serial s) r.hi) tests.1.0 in
+      same_or (is_range_revoked s r) _
+      (h.range r (record { low = ltb-false _ _ ends.0; high = leb-false _ _ ends.1 }))
+  holds_then caller (message.RevokeKeyId key_id) nonce lawful allowed =
+      same_or (is_key_id_revoked s key_id) _ (h.key_id key_id)
+  holds_then caller (message.Rollover k) nonce lawful allowed =
+      let tests = none_holds (refusals s caller (message.Rollover k) moment) allowed in
+      rolled k.key tests.1.0 (has_any s.revoked_key_ids) refl
+
+-- whatever each change keeps
+abbrev pub IsKeptByEach : (State → Type 0) → Type 0
+IsKeptByEach Q = (s : State) (moment : ℕ) → moment ≤ LATEST_MOMENT → Q s → HoldsAfter Q s moment
+
+pub by_change : (Q : State → Type 0) → IsKeptByEach Q → IsKeptBy (λ fs s. Q s)
+by_change Q each fs s f is q =
+    holds_then Q s f.arrival.moment q (each s f.arrival.moment is.in_time q) f.arrival.caller f.message f.arrival.nonce
+    is.lawful is.allowed
+
+-- what holds of an office in which nothing has happened yet holds after every history
+pub always : (Q : State → Type 0) → IsKeptByEach Q → (o : Opening) (l : List Arrival) → Q (opened o) → Q (state o l)
+always Q each = after_all (λ fs s. Q s) (by_change Q each)
+
+-- what holds after a history holds after every longer one
+pub always_more : (Q : State → Type 0) → IsKeptByEach Q → (o : Opening) (l later : List Arrival)
+    → Q (state o l) → Q (state o (l ++ later))
+always_more Q each = after_more (λ fs s. Q s) (by_change Q each)
