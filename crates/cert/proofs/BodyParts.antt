@@ -1,6 +1,6 @@
 -- Lawful fields, and the steps of reading them.
 use Rattle.std.proofs.Common.{◌≡◌, ◌≢◌, ℕ, ◌^◌, ◌<◌, Bool, true, false, cond, eqb, List, [], ◌∷◌, ◌++◌, length}
-use Rattle.std.proofs.Common.{replicate, codes, Option, Some, None, is_some, Result, Ok, Err, refl, sym, ap, ◌∙◌}
+use Rattle.std.proofs.Common.{replicate, codes, Option, Some, None, is_some, refl, sym, ap, ◌∙◌}
 use Rattle.std.proofs.Common.{append_assoc, arith}
 use Rattle.std.proofs.lemmas.Bool.{both_ways, eqb-true, eq-eqb}
 use Rattle.std.proofs.lemmas.Option.{same_Some}
@@ -13,17 +13,8 @@ use Rattle.values.specs.declared.option_field.OptionField.TheVariants.{CriticalO
 use Rattle.cert.specs.Options.{is_options}
 use Rattle.values.specs.Serials.{is_serial}
 use Rattle.cert.specs.Bodies.{IsCertFields, kind_number, are_principals, is_validity}
-use Rattle.text.specs.Results.{◌>>=◌}
 use Rattle.cert.specs.Reading.{kind_of}
 use Rattle.cert.specs.declared.fields.CertFields.{CertFields}
-use Rattle.cert.specs.declared.cert_fault.CertFault.{CertFault}
-
-pub bind_Ok : {A B : Type 0} (r : Result A CertFault) (f : A → Result B CertFault) (x : A) → r ≡ Ok x → (r >>= f) ≡ f x
-bind_Ok r f x e = ap (λ s. s >>= f) e
-
-pub bind_Err : {A B : Type 0} (r : Result A CertFault) (f : A → Result B CertFault) (e : CertFault) → r ≡ Err e
-    → (r >>= f) ≡ Err e
-bind_Err r f e is = ap (λ s. s >>= f) is
 
 pub option_cases : {A : Type 0} (o : Option A) (P : Type 0) → (o ≡ None → P) → ((x : A) → o ≡ Some x → P) → P
 option_cases None P none some = none refl
