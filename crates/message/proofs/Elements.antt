@@ -13,7 +13,7 @@ use Rattle.values.specs.Options.{is_known, known_names}
 use Rattle.values.specs.declared.option_field.OptionField.{OptionField}
 use Rattle.values.specs.declared.option_field.OptionField.TheVariants.{CriticalOptions, Extensions}
 use Rattle.message.specs.Values.{are_administrators, are_rules, are_principals, are_option_names, are_extension_names}
-use Rattle.message.specs.Values.{are_namespaces}
+use Rattle.message.specs.Values.{are_distinct_and, are_namespaces}
 use Rattle.values.proofs.Lacking.{Lacks, lacks_from}
 use Rattle.message.proofs.Fields.{lacks_by, AllLack, all_lack}
 use Rattle.values.proofs.NameLemmas.{department_cut}
@@ -90,31 +90,27 @@ abbrev LackBoth : List (List ℕ) → Type 0
 LackBoth ts = AllLack 44 ts × AllLack 10 ts
 
 both_lack : (test : List ℕ → Bool) → ((t : List ℕ) → test t ≡ true → Lacks 44 t)
-    → ((t : List ℕ) → test t ≡ true → Lacks 10 t)
-    → (ts : List (List ℕ)) → list_all test ts ≡ true → LackBoth ts
-both_lack test comma line ts all = (all_lack test 44 comma ts all, all_lack test 10 line ts all)
+    → ((t : List ℕ) → test t ≡ true → Lacks 10 t) → (ts : List (List ℕ)) → are_distinct_and test ts ≡ true → LackBoth ts
+both_lack test comma line ts is =
+    let all = (and_parts (list_all test ts) _ is).0 in (all_lack test 44 comma ts all, all_lack test 10 line ts all)
 
 pub administrators_lack : (ts : List (List ℕ)) → are_administrators ts ≡ true → LackBoth ts
-administrators_lack ts is =
-    both_lack is_name (name_lacks 44 refl) (name_lacks 10 refl) ts (and_parts _ _ (and_parts _ _ is).1).0
+administrators_lack ts is = both_lack is_name (name_lacks 44 refl) (name_lacks 10 refl) ts (and_parts _ _ is).1
 
 pub rules_lack : (ts : List (List ℕ)) → are_rules ts ≡ true → LackBoth ts
-rules_lack ts is = both_lack is_rule (rule_lacks 44 refl refl) (rule_lacks 10 refl refl) ts
-    (and_parts _ _ (and_parts _ _ is).1).0
+rules_lack ts is = both_lack is_rule (rule_lacks 44 refl refl) (rule_lacks 10 refl refl) ts (and_parts _ _ is).1
 
 pub principals_lack : (ts : List (List ℕ)) → are_principals ts ≡ true → LackBoth ts
 principals_lack ts is =
-    both_lack is_principal (principal_lacks 44 refl) (principal_lacks 10 refl) ts (and_parts _ _ (and_parts _ _ is).1).0
+    both_lack is_principal (principal_lacks 44 refl) (principal_lacks 10 refl) ts (and_parts _ _ is).1
 
 pub option_names_lack : (ts : List (List ℕ)) → are_option_names ts ≡ true → LackBoth ts
-option_names_lack ts is =
-    both_lack (is_known CriticalOptions) (known_lacks_comma CriticalOptions) (known_line CriticalOptions) ts
-    (and_parts _ _ is).0
+option_names_lack =
+    both_lack (is_known CriticalOptions) (known_lacks_comma CriticalOptions) (known_line CriticalOptions)
 
 pub extension_names_lack : (ts : List (List ℕ)) → are_extension_names ts ≡ true → LackBoth ts
-extension_names_lack ts is =
-    both_lack (is_known Extensions) (known_lacks_comma Extensions) (known_line Extensions) ts (and_parts _ _ is).0
+extension_names_lack = both_lack (is_known Extensions) (known_lacks_comma Extensions) (known_line Extensions)
 
 pub namespaces_lack : (ts : List (List ℕ)) → are_namespaces ts ≡ true → LackBoth ts
 namespaces_lack ts is =
-    both_lack is_namespace (namespace_lacks 44 refl) (namespace_lacks 10 refl) ts (and_parts _ _ (and_parts _ _ is).1).0
+    both_lack is_namespace (namespace_lacks 44 refl) (namespace_lacks 10 refl) ts (and_parts _ _ is).1

@@ -2,6 +2,7 @@
 use Rattle.std.proofs.Common.{◌≡◌, ℕ, suc, ◌+◌, ◌<◌, List, [], ◌∷◌, length, drop, false, eqb}
 use Rattle.std.proofs.Common.{Option, Some, None, Result, Ok, Err, sym, ap, subst, ◌∙◌, arith}
 use Rattle.std.specs.List.{All, AllByRecursion}
+use Rattle.std.proofs.lemmas.Option.{none-some}
 use Rattle.base64.specs.GeneralPurpose.{IsBytes}
 use Rattle.message.specs.Reading.{line_of}
 use Rattle.message.proofs.Lines.{line_there, line_is_ended, ended, Shares, shares_less}
@@ -56,10 +57,6 @@ fault_as {k = k} {ps = ps} first to from =
           first.none a.0 a.1 (subst (λ (ls : List (List ℕ)). Shares (suc n) (drop k ps) (ended ls)) a.2 shared);
     }
 
--- what was not read is nothing
-pub not_some : {X : Type 0} (x : X) → None ≡ Some x → ⊥
-not_some x e = cc
-
 -- the number of a line behind another one
 pub one_further : (k i j : ℕ) → i ≡ suc (suc k + j) → i ≡ suc (k + suc j)
 one_further k i j e = omega arith
@@ -73,7 +70,7 @@ pub line_read_is_ended : {X : Type 0} (k : ℕ) (read : List ℕ → Option X) (
     → IsField read text IsLawful
     → (ps : List (List ℕ)) (x : X) → read (line_of (suc k) ps) ≡ Some x → suc k < length ps
 line_read_is_ended {X} k read text IsLawful field ps x e =
-    line_is_ended k ps (λ none. not_some x (sym field.empty ∙ ap read (sym none) ∙ e))
+    line_is_ended k ps (λ none. none-some x (sym field.empty ∙ ap read (sym none) ∙ e))
 
 -- the pieces from a line on that is read
 pub line_read : {X : Type 0} (k : ℕ) (read : List ℕ → Option X) (text : X → List ℕ) (IsLawful : X → Type 0)
@@ -91,4 +88,4 @@ pub none_shared : {X : Type 0} (k : ℕ) (read : List ℕ → Option X) (text : 
     → lines ≡ text x ∷ ls → Shares (suc j) (drop k ps) (ended lines) → ⊥
 none_shared k read text IsLawful field j ps x ls lines none lawful is shared =
     let same = (shares_less k j ps (text x) ls lines is shared).0 in
-    not_some x (sym none ∙ ap read same ∙ field.again x lawful)
+    none-some x (sym none ∙ ap read same ∙ field.again x lawful)

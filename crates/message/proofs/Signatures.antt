@@ -1,12 +1,11 @@
 -- Signatures in lines.
-use Rattle.std.proofs.Common.{◌≡◌, ℕ, List, [], ◌++◌, length, take, drop, replicate, true, ◌&&◌, eqb, Option, Some}
+use Rattle.std.proofs.Common.{◌≡◌, ℕ, List, [], ◌++◌, length, take, drop, replicate, true, eqb, Option, Some}
 use Rattle.std.proofs.Common.{None, refl, sym, ap, subst, ◌∙◌, arith, inl, inr}
 use Rattle.std.specs.Option.{option_and_then, option_map}
 use Rattle.std.specs.Result.{result_ok}
-use Rattle.std.specs.Str.{bytes_eq}
 use Rattle.std.proofs.lemmas.Bool.{and_from, and_parts, cases_Bool, cond-true, cond-false, eq-eqb, eqb-true}
 use Rattle.std.proofs.lemmas.List.{length-drop}
-use Rattle.std.proofs.lemmas.Option.{option_and_then_some, same_Some}
+use Rattle.std.proofs.lemmas.Option.{cond_some, option_and_then_some, same_Some}
 use Rattle.std.proofs.lemmas.Slice.Eq.{bytes_eq-Decides}
 use Rattle.base64.specs.Engines.{standard}
 use Rattle.base64.specs.GeneralPurpose.{IsBytes, decode_of, encode_of}
@@ -29,17 +28,12 @@ use Rattle.message.proofs.Keys.{base64_line}
 blob_found : (blob bytes : List ℕ) → signature_of blob ≡ Some bytes → (blob ≡ signature_blob bytes)
     × (length bytes ≡ 64) × (bytes ≡ drop 19 blob)
 blob_found blob bytes e =
-    elim (cases_Bool (bytes_eq blob (signature_blob (drop 19 blob)) && eqb (length blob) 83)) [
-      | inl passed ↦
-          let parts = and_parts _ _ passed in
-          let same : blob ≡ signature_blob (drop 19 blob) = (bytes_eq-Decides _ _).0 parts.0 in
-          let is : drop 19 blob ≡ bytes = same_Some _ _ (sym (cond-true _ (Some (drop 19 blob)) None passed) ∙ e) in (
-            same ∙ ap signature_blob is,
-            omega (arith, ap length is, length-drop 19 blob, eqb-true _ _ parts.1),
-            sym is,
-          )
-      | inr failed ↦ absurd (cc (sym (cond-false _ (Some (drop 19 blob)) None failed) ∙ e))
-    ]
+    let both = cond_some _ (drop 19 blob) bytes e in
+    let parts = and_parts _ _ both.0 in (
+      (bytes_eq-Decides _ _).0 parts.0 ∙ ap signature_blob both.1,
+      omega (arith, ap length both.1, length-drop 19 blob, eqb-true _ _ parts.1),
+      sym both.1,
+    )
 
 -- the signature of its blob
 blob_again : (bytes : List ℕ) → length bytes ≡ 64 → signature_of (signature_blob bytes) ≡ Some bytes

@@ -6,6 +6,7 @@ use Rattle.std.specs.Prelude.{IsTrue, IfOk}
 use Rattle.std.specs.Result.{result_ok}
 use Rattle.std.specs.List.{AllByRecursion, slice_split, onto_first, join_with_byte}
 use Rattle.std.proofs.lemmas.Bool.{cases_order}
+use Rattle.std.proofs.lemmas.List.{take-take}
 use Rattle.std.proofs.lemmas.List.Splits.{slice_split_at, join_with_byte-slice_split, length-slice_split}
 use Rattle.base64.specs.GeneralPurpose.{IsBytes}
 use Rattle.message.specs.declared.message_fault.MessageFault.{MessageFault}
@@ -116,10 +117,10 @@ only_from bytes r m is text given = subst (Gives r) (ap message_at text ∙ mess
 -- a text belongs to one message
 pub one_message : (a b : Message) → IsTrue (is_message a) → IsTrue (is_message b) → message_text a ≡ message_text b
     → a ≡ b
-one_message a b is_a is_b same = ok_is a b (sym (message_again a is_a) ∙ ap message_at same ∙ message_again b is_b)
-  where
-    ok_is : (a b : Message) → ◌≡◌ {A = Result Message ℕ} (Ok a) (Ok b) → a ≡ b
-    ok_is a b e = cc
+one_message a b is_a is_b same =
+    let e : ◌≡◌ {A = Result Message ℕ} (Ok a) (Ok b) =
+    sym (message_again a is_a) ∙ ap message_at same ∙ message_again b is_b in
+    cc
 
 -- ---- the first line that fits no message
 
@@ -136,7 +137,9 @@ first_bad bytes n fits e =
     let before : n - 1 ≡ j = omega arith in
     record {
       counted = omega arith;
-      lawless = λ a is text. apart bytes a n (sym e ∙ ap message_at text ∙ message_again a is);
+      lawless = λ a is text.
+          let other : ◌≡◌ {A = Result Message ℕ} (Err n) (Ok a) = sym e ∙ ap message_at text ∙ message_again a is in
+          absurd cc;
       some = (
         m,
         (
@@ -149,23 +152,13 @@ first_bad bytes n fits e =
           (subst (Shares (suc j) (pieces bytes)) (pieces_of_message a is)
           (subst (λ (k : ℕ). SharesLines k bytes (message_text a)) at shared));
     }
-  where
-    apart : (bytes : List ℕ) (m : Message) (n : ℕ) → ◌≡◌ {A = Result Message ℕ} (Err n) (Ok m) → ⊥
-    apart bytes m n e = cc
-
--- the first of the first
-take-take-le : (j n : ℕ) (xs : List (List ℕ)) → j ≤ n → take j (take n xs) ≡ take j xs
-take-take-le zero n xs le = refl
-take-take-le (suc j) zero xs le = absurd (omega (arith, le))
-take-take-le (suc j) (suc n) [] le = refl
-take-take-le (suc j) (suc n) (x ∷ xs) le = ap (λ (l : List (List ℕ)). x ∷ l) (take-take-le j n xs (omega (arith, le)))
 
 -- fewer lines are shared too
 fewer : (j n : ℕ) (a b : List ℕ) → j ≤ n → SharesLines n a b → SharesLines j a b
 fewer j n a b le s = (
   omega (arith, s.0),
   omega (arith, s.1),
-  sym (take-take-le j n (pieces a) le) ∙ ap (take j) s.2 ∙ take-take-le j n (pieces b) le,
+  sym (take-take j n (pieces a) le) ∙ ap (take j) s.2 ∙ take-take j n (pieces b) le,
 )
 
 -- there is one first bad line

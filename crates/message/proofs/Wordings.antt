@@ -1,6 +1,7 @@
 -- Other words for a reading.
-use Rattle.std.proofs.Common.{◌≡◌, ℕ, List, Result, Ok, Err, refl, sym, ap, subst, ◌∙◌}
+use Rattle.std.proofs.Common.{◌≡◌, ℕ, List, Bool, true, ◌&&◌, Result, Ok, Err, refl, sym, ap, subst, ◌∙◌}
 use Rattle.std.specs.List.{AllByRecursion}
+use Rattle.std.proofs.lemmas.Bool.{and_parts}
 use Rattle.message.specs.Reading.{made}
 use Rattle.message.proofs.Lines.{ended}
 use Rattle.message.proofs.Readings.{IsLine, IsReading, fault_as}
@@ -56,3 +57,14 @@ same_messages {M} k read Is Are lines all to from reading =
     itself : (r : Result M ℕ) → made (λ m. m) r ≡ r
     itself (Ok m) = refl
     itself (Err n) = refl
+
+-- the same lines, of values said otherwise
+pub same_values : {M : Type 0} {k : ℕ} {read : List (List ℕ) → Result M ℕ} {Is Are : M → Type 0}
+    {lines : M → List (List ℕ)} → IsReading k read Is lines → ((m : M) → Is m → Are m) → ((m : M) → Are m → Is m)
+    → IsReading k read Are lines
+same_values {k = k} {read = read} {Is = Is} {Are = Are} {lines = lines} reading to from =
+    same_messages k read Is Are lines lines (λ m is. (to m is, refl)) from reading
+
+-- tests in turn
+pub and_then : {P : Type 0} (a b : Bool) → (b ≡ true → P) → (a && b) ≡ true → (a ≡ true) × P
+and_then a b more e = let both = and_parts a b e in (both.0, more both.1)
