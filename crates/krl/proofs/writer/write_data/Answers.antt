@@ -1,11 +1,5 @@
-use Rattle.std.proofs.Common.{◌++◌, List, [], ap}
-use Rattle.std.specs.List.{flat_map}
-use Rattle.wire.specs.Texts.{string_text}
-use Rattle.lines.specs.Keys.{key_blob}
-use Rattle.lines.proofs.Pieces.{writes_as, writes_failed, writes_stop, writes_then}
-use Rattle.krl.specs.declared.run.Run.{Run}
-use Rattle.krl.specs.Format.{part_text}
-use Rattle.krl.specs.Published.{serial_parts, key_id_parts}
+use Rattle.krl.proofs.Words.{List, Run, [], ap, flat_map, key_blob, key_id_parts, part_text, serial_parts, string_text}
+use Rattle.krl.proofs.Words.{writes_as, writes_failed, writes_stop, writes_then, ◌++◌}
 use Rattle.krl.proofs.writer.write_data.Goals as goal
 
 pub returns-in_err-write_string : goal.returns-in_err-write_string

@@ -1,6 +1,4 @@
-use Rattle.std.proofs.Common.{◌∷◌, []}
-use Rattle.wire.specs.Texts.{u32_text}
-use Rattle.lines.proofs.Pieces.{writes_then}
+use Rattle.krl.proofs.Words.{[], u32_text, writes_then, ◌∷◌}
 use Rattle.krl.proofs.writer.write_tag.Goals as goal
 
 pub returns : goal.returns
