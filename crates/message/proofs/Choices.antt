@@ -1,10 +1,7 @@
 -- Readings that go one way where a line is of one kind, and another way otherwise; a line, and then the rest.
-use Rattle.std.proofs.Common.{◌≡◌, ℕ, suc, ◌<◌, List, ◌∷◌, length, drop, ◌⊎◌, Option, Some, None, Result, Ok, Err, refl}
-use Rattle.std.proofs.Common.{sym, ap, subst, ◌∙◌, arith, inl, inr, length-drop}
-use Rattle.std.specs.List.{AllByRecursion}
-use Rattle.std.proofs.lemmas.Option.{none-some, same_Some}
-use Rattle.text.specs.Results.{◌>>=◌, or_fault}
-use Rattle.message.specs.Reading.{line_of}
+use Rattle.message.proofs.Words.{AllByRecursion, Err, List, None, Ok, Option, Result, Some, ap, arith, drop, inl, inr}
+use Rattle.message.proofs.Words.{length, length-drop, line_of, none-some, or_fault, refl, same_Some, subst, suc, sym, ℕ}
+use Rattle.message.proofs.Words.{◌<◌, ◌>>=◌, ◌∙◌, ◌∷◌, ◌≡◌, ◌⊎◌}
 use Rattle.message.proofs.Lines.{ended, line_is, more_than_none, Shares, shares_more, shares_less, shares_none}
 use Rattle.message.proofs.Readings.{IsField, IsLine, AreBytes, FirstFault, IsReading, error_at, fault_as, line_read}
 use Rattle.message.proofs.Readings.{line_read_is_ended, none_shared, one_further}

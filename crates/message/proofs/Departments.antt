@@ -1,23 +1,17 @@
 -- Departments: what is read is a department's text, its text is read, and the first fault.
-use Rattle.std.proofs.Common.{◌≡◌, ℕ, List, [], ◌∷◌, ◌++◌, true, ◌&&◌, Some, refl, ap, ◌∙◌, inl, inr}
-use Rattle.std.specs.Prelude.{codes}
-use Rattle.std.specs.Str.{bytes_eq}
-use Rattle.std.proofs.lemmas.Bool.{and_parts, and_from}
-use Rattle.std.proofs.lemmas.Option.{cond_some, same_Some}
-use Rattle.std.proofs.lemmas.Slice.Eq.{bytes_eq-Decides}
-use Rattle.values.specs.Names.{is_name}
+use Rattle.message.proofs.Words.{List, Some, User, [], and_from, and_parts, ap, are_administrators, are_extension_names}
+use Rattle.message.proofs.Words.{are_namespaces, are_option_names, are_rules, bytes_eq, bytes_eq-Decides, codes}
+use Rattle.message.proofs.Words.{cond_some, department_lines, inl, inr, is_department, is_longest_life, is_name}
+use Rattle.message.proofs.Words.{kind_text, refl, same_Some, true, ℕ, ◌&&◌, ◌++◌, ◌∙◌, ◌∷◌, ◌≡◌}
 use Rattle.values.specs.declared.kind.Kind.{Kind}
-use Rattle.values.specs.declared.kind.Kind.TheVariants.{User, Host}
+use Rattle.values.specs.declared.kind.Kind.TheVariants.{Host}
 use Rattle.message.specs.declared.department.Department.{Department}
-use Rattle.message.specs.Values.{are_administrators, are_rules, are_option_names, are_extension_names, are_namespaces}
-use Rattle.message.specs.Values.{fits_kind, is_longest_life, is_department}
-use Rattle.message.specs.Texts.{kind_text, department_lines}
+use Rattle.message.specs.Values.{fits_kind}
 use Rattle.message.specs.Reading.{kind_of, department_in}
 use Rattle.message.proofs.Lines.{chosen}
-use Rattle.message.proofs.Readings.{IsField, IsLine, IsReading}
+use Rattle.message.proofs.Readings.{IsField, IsLine, IsReading, and_then, same_values}
 use Rattle.message.proofs.Choices.{line_then}
 use Rattle.message.proofs.Ends.{then_end}
-use Rattle.message.proofs.Wordings.{and_then, same_values}
 use Rattle.message.proofs.Fields.{lacks_by, text_field, list_field}
 use Rattle.message.proofs.Elements.{name_lacks, administrators_lack, rules_lack, option_names_lack}
 use Rattle.message.proofs.Elements.{extension_names_lack, namespaces_lack}

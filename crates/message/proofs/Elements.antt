@@ -1,20 +1,16 @@
 -- What may stand in a line: no name, rule, principal, key id, namespace, option or number has a line feed or, in
 -- lists, a comma.
-use Rattle.std.proofs.Common.{◌≡◌, ℕ, List, [], ◌∷◌, length, drop, Bool, true, false, not, eqb, refl, sym, ap, subst}
-use Rattle.std.proofs.Common.{◌∙◌, inl, inr}
-use Rattle.std.specs.List.{list_all, list_any}
-use Rattle.std.specs.Str.{bytes_eq}
-use Rattle.std.proofs.lemmas.Bool.{and_parts, or_cases, eqb-true}
-use Rattle.std.proofs.lemmas.List.Elements.{All-append, All-cons}
-use Rattle.std.proofs.lemmas.Slice.Eq.{bytes_eq-Decides}
-use Rattle.values.specs.Names.{is_name, is_name_byte, is_principal, is_principal_byte, is_rule, is_suffix_rule}
-use Rattle.values.specs.Names.{is_key_id, is_key_id_byte, is_key_id_end, is_namespace, department_of}
+use Rattle.message.proofs.Words.{All-append, All-cons, Bool, CriticalOptions, Lacks, List, [], and_parts, ap}
+use Rattle.message.proofs.Words.{are_administrators, are_extension_names, are_namespaces, are_option_names}
+use Rattle.message.proofs.Words.{are_principals, are_rules, bytes_eq, bytes_eq-Decides, drop, eqb, eqb-true, false, inl}
+use Rattle.message.proofs.Words.{inr, is_key_id, is_name, lacks_from, length, list_all, list_any, not, or_cases, refl}
+use Rattle.message.proofs.Words.{subst, sym, true, ℕ, ◌∙◌, ◌∷◌, ◌≡◌}
+use Rattle.values.specs.Names.{is_name_byte, is_principal, is_principal_byte, is_rule, is_suffix_rule, is_key_id_byte}
+use Rattle.values.specs.Names.{is_key_id_end, is_namespace, department_of}
 use Rattle.values.specs.Options.{is_known, known_names}
 use Rattle.values.specs.declared.option_field.OptionField.{OptionField}
-use Rattle.values.specs.declared.option_field.OptionField.TheVariants.{CriticalOptions, Extensions}
-use Rattle.message.specs.Values.{are_administrators, are_rules, are_principals, are_option_names, are_extension_names}
-use Rattle.message.specs.Values.{are_distinct_and, are_namespaces}
-use Rattle.values.proofs.Lacking.{Lacks, lacks_from}
+use Rattle.values.specs.declared.option_field.OptionField.TheVariants.{Extensions}
+use Rattle.message.specs.Values.{are_distinct_and}
 use Rattle.message.proofs.Fields.{lacks_by, AllLack, all_lack}
 use Rattle.values.proofs.NameLemmas.{department_cut}
 

@@ -1,14 +1,12 @@
 -- The end behind the last line.
-use Rattle.std.proofs.Common.{◌≡◌, ℕ, suc, ◌+◌, ◌-◌, ◌<◌, List, [], ◌∷◌, length, drop, Bool, true, false, cond, eqb}
-use Rattle.std.proofs.Common.{Option, Result, Ok, Err, refl, sym, ap, ◌∙◌, arith, length-drop, eq-eqb}
-use Rattle.std.specs.List.{list_any}
+use Rattle.message.proofs.Words.{Bool, Err, List, Ok, Option, Result, [], and_parts, ap, arith, cond, drop, ends_after}
+use Rattle.message.proofs.Words.{eq-eqb, eqb, eqb-true, false, length, length-drop, list_any, refl, suc, sym, true, ℕ}
+use Rattle.message.proofs.Words.{◌+◌, ◌-◌, ◌<◌, ◌∙◌, ◌∷◌, ◌≡◌}
 use Rattle.std.proofs.Math.Bool.{or-false}
-use Rattle.std.proofs.lemmas.Bool.{eqb-true, and_parts}
-use Rattle.message.specs.Reading.{ends_after, one_line_in}
+use Rattle.message.specs.Reading.{one_line_in}
 use Rattle.message.proofs.Lines.{shares_none}
-use Rattle.message.proofs.Readings.{IsField, FirstFault, IsReading, error_at}
+use Rattle.message.proofs.Readings.{IsField, FirstFault, IsReading, error_at, same_values}
 use Rattle.message.proofs.Choices.{line_then}
-use Rattle.message.proofs.Wordings.{same_values}
 
 -- one text, of no bytes
 one_empty : (ls : List (List ℕ)) → length ls ≡ 1 → list_any (λ p. eqb (length p) 0) ls ≡ true → ls ≡ [] ∷ []

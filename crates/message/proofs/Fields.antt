@@ -1,23 +1,15 @@
 -- Values behind a word: what is read is the value's text, and the text is read.
-use Rattle.std.proofs.Common.{◌≡◌, ℕ, List, [], ◌∷◌, ◌++◌, length, take, drop, Bool, true, false, not, eqb, Option}
-use Rattle.std.proofs.Common.{Some, None, refl, sym, ap, subst, ◌∙◌, arith, append-nil}
-use Rattle.std.specs.List.{list_all, slice_split, join_with_byte, AllByRecursion}
-use Rattle.std.specs.Option.{option_and_then}
-use Rattle.std.specs.Str.{bytes_eq}
-use Rattle.std.proofs.Math.Seq.{take-append_seam, drop-append_seam}
-use Rattle.std.proofs.lemmas.Bool.{cond-true, and_parts, eqb-true, not-true}
+use Rattle.message.proofs.Words.{All-append, All-cons, All-nil, AllByRecursion, Bool, IsBytes, IsBytes-drop, Lacks}
+use Rattle.message.proofs.Words.{List, None, Option, Some, [], after, and_parts, ap, append-nil, arith}
+use Rattle.message.proofs.Words.{bytes_eq-Decides, cond-true, cond_some, drop, drop-append_seam, eqb, eqb-true, false}
+use Rattle.message.proofs.Words.{join_with_byte, join_with_byte-slice_split, length, length-slice_split, list_all}
+use Rattle.message.proofs.Words.{list_line, not, not-true, option_and_then, option_and_then_some, refl, same_Some}
+use Rattle.message.proofs.Words.{slice_split, subst, sym, take, true, ℕ, ◌++◌, ◌∙◌, ◌∷◌, ◌≡◌}
+use Rattle.std.proofs.Math.Seq.{take-append_seam}
 use Rattle.std.proofs.lemmas.List.{take-append-drop}
-use Rattle.std.proofs.lemmas.List.Elements.{All-append, All-cons, All-nil}
-use Rattle.std.proofs.lemmas.List.Splits.{join_with_byte-slice_split}
-use Rattle.std.proofs.lemmas.List.Splits.{length-slice_split}
 use Rattle.std.proofs.lemmas.List.Sums.{AllPass-from_list_all}
-use Rattle.std.proofs.lemmas.Option.{cond_some, option_and_then_some, same_Some}
-use Rattle.std.proofs.lemmas.Slice.Eq.{bytes_eq-Decides}
-use Rattle.base64.specs.GeneralPurpose.{IsBytes}
-use Rattle.values.proofs.Lacking.{Lacks, slice_split-join_with_byte}
-use Rattle.lines.proofs.Base64.{IsBytes-drop}
-use Rattle.message.specs.Texts.{list_line}
-use Rattle.message.specs.Reading.{after, passing, listed}
+use Rattle.values.proofs.Lacking.{slice_split-join_with_byte}
+use Rattle.message.specs.Reading.{passing, listed}
 use Rattle.message.proofs.Readings.{IsField, IsLine}
 
 -- ---- texts that lack a byte

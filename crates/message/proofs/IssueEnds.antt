@@ -1,19 +1,13 @@
 -- Issues from their option lines on.
-use Rattle.std.proofs.Common.{◌≡◌, ℕ, zero, suc, ◌+◌, ◌≤◌, List, [], ◌∷◌, ◌++◌, length, map, drop, true, cond, ◌⊎◌}
-use Rattle.std.proofs.Common.{Some, None, Result, Ok, Err, refl, sym, ap, subst, ◌∙◌, arith, inl, inr}
-use Rattle.std.proofs.Common.{append-nil, append_assoc, length-append}
-use Rattle.std.specs.Prelude.{codes}
-use Rattle.std.proofs.Math.Seq.{drop-append_seam, drop-length}
-use Rattle.text.specs.declared.pair.Pair.{Pair}
-use Rattle.lines.specs.declared.key_line.KeyLine.{KeyLine}
-use Rattle.message.specs.declared.issue.Issue.{Issue}
-use Rattle.message.specs.Values.{are_extension_names}
-use Rattle.message.specs.Texts.{list_line, option_line}
-use Rattle.text.specs.Results.{◌>>=◌, or_fault}
-use Rattle.message.specs.Reading.{line_of, ends_after, list_after, option_after, is_new_option, options_from}
-use Rattle.message.proofs.Readings.{IsReading}
+use Rattle.message.proofs.Words.{Err, Issue, KeyLine, List, None, Ok, Pair, Result, Some, [], ap, append-nil}
+use Rattle.message.proofs.Words.{append_assoc, are_extension_names, arith, codes, cond, drop, drop-append_seam}
+use Rattle.message.proofs.Words.{ends_after, inl, inr, is_new_option, length, length-append, line_of, list_line, map}
+use Rattle.message.proofs.Words.{option_after, option_line, or_fault, refl, subst, suc, sym, true, zero, ℕ, ◌++◌, ◌+◌}
+use Rattle.message.proofs.Words.{◌>>=◌, ◌∙◌, ◌∷◌, ◌≡◌, ◌≤◌, ◌⊎◌}
+use Rattle.std.proofs.Math.Seq.{drop-length}
+use Rattle.message.specs.Reading.{list_after, options_from}
+use Rattle.message.proofs.Readings.{IsReading, same_messages}
 use Rattle.message.proofs.Ends.{then_end}
-use Rattle.message.proofs.Wordings.{same_messages}
 use Rattle.message.proofs.Choices.{line_or, line_then}
 use Rattle.message.proofs.Fields.{list_field}
 use Rattle.message.proofs.Elements.{extension_names_lack}

@@ -1,17 +1,12 @@
 -- Issues: what is read is an issue's text, its text is read, and the first fault.
-use Rattle.std.proofs.Common.{◌≡◌, List, [], ◌∷◌, true, refl, sym, ap, subst}
-use Rattle.std.specs.Prelude.{codes}
-use Rattle.std.proofs.lemmas.Bool.{and_parts, and_from, leb-true, le-leb}
-use Rattle.text.specs.declared.pair.Pair.{Pair}
-use Rattle.values.specs.Names.{is_name, is_key_id}
-use Rattle.lines.specs.KeyLines.{is_key_line}
-use Rattle.message.specs.declared.issue.Issue.{Issue}
-use Rattle.message.specs.Values.{are_principals, are_options, is_end, is_issue}
-use Rattle.message.specs.Texts.{issue_lines}
+use Rattle.message.proofs.Words.{Issue, List, Pair, [], and_from, and_parts, ap, are_principals, codes, is_end}
+use Rattle.message.proofs.Words.{is_issue, is_key_id, is_key_line, is_name, issue_lines, leb-true, refl, subst, sym}
+use Rattle.message.proofs.Words.{true, ◌∷◌, ◌≡◌}
+use Rattle.std.proofs.lemmas.Bool.{le-leb}
+use Rattle.message.specs.Values.{are_options}
 use Rattle.message.specs.Reading.{issue_in}
-use Rattle.message.proofs.Readings.{IsReading}
+use Rattle.message.proofs.Readings.{IsReading, and_then, same_values}
 use Rattle.message.proofs.Choices.{line_then}
-use Rattle.message.proofs.Wordings.{and_then, same_values}
 use Rattle.message.proofs.Fields.{text_field, list_field}
 use Rattle.message.proofs.Elements.{name_lacks, key_id_line, principals_lack}
 use Rattle.message.proofs.Numbers.{number_field, end_small}

@@ -1,16 +1,11 @@
 -- Messages of several kinds, of which the first line says the kind.
-use Rattle.std.proofs.Common.{◌≡◌, ℕ, suc, List, [], ◌∷◌, ◌++◌, length, take, drop, Bool, true, false, not, ◌||◌}
-use Rattle.std.proofs.Common.{eqb, cond, Some, None, Result, Err, refl, sym, ap, subst, ◌∙◌, inl, inr}
-use Rattle.std.specs.List.{list_all}
-use Rattle.std.specs.Option.{is_some}
-use Rattle.std.specs.Str.{bytes_eq}
-use Rattle.std.proofs.lemmas.Bool.{and_parts, cases_Bool, cond-false, or_cases, not-true, eq-eqb}
-use Rattle.std.proofs.lemmas.Slice.Eq.{bytes_eq-Decides}
-use Rattle.message.specs.Reading.{after, made, line_of}
+use Rattle.message.proofs.Words.{Bool, Err, List, None, Result, Some, [], after, and_parts, ap, bytes_eq}
+use Rattle.message.proofs.Words.{bytes_eq-Decides, cases_Bool, cond, cond-false, drop, eq-eqb, eqb, false, inl, inr}
+use Rattle.message.proofs.Words.{is_some, length, line_of, list_all, made, not, not-true, or_cases, refl, subst, suc}
+use Rattle.message.proofs.Words.{sym, take, true, ℕ, ◌++◌, ◌||◌, ◌∙◌, ◌∷◌, ◌≡◌}
 use Rattle.message.proofs.Fields.{after_again}
 use Rattle.message.proofs.Lines.{ended, line_is, Shares, shares_less}
-use Rattle.message.proofs.Readings.{IsReading, fault_as}
-use Rattle.message.proofs.Wordings.{read_as, same_reading}
+use Rattle.message.proofs.Readings.{IsReading, fault_as, read_as, same_reading}
 
 -- ---- what a line begins with
 

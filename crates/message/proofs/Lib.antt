@@ -1,6 +1,6 @@
+pub mod Words
 pub mod Lines
 pub mod Readings
-pub mod Wordings
 pub mod Choices
 pub mod Ends
 pub mod Fields

@@ -1,19 +1,12 @@
 -- Messages of all kinds: what is read is a message's text, its text is read, and the first fault.
-use Rattle.std.proofs.Common.{◌≡◌, [], ◌∷◌, true, false, refl, ap, ◌∙◌}
-use Rattle.std.specs.Prelude.{codes}
-use Rattle.std.specs.Fmt.{decimal}
-use Rattle.values.specs.Names.{is_key_id}
-use Rattle.lines.specs.KeyLines.{is_key_line, key_line_text}
-use Rattle.message.specs.declared.kinds.Message.{Message}
+use Rattle.message.proofs.Words.{Message, [], ap, codes, decimal, delivery_lines, department_lines, false, is_delivery}
+use Rattle.message.proofs.Words.{is_department, is_issue, is_key_id, is_key_line, is_message, is_range, is_renewal}
+use Rattle.message.proofs.Words.{is_serial, issue_lines, key_id_after, key_line_after, key_line_text, line, message_in}
+use Rattle.message.proofs.Words.{message_lines, number_after, range_after, range_text, refl, renewal_lines, true, ◌∙◌}
+use Rattle.message.proofs.Words.{◌∷◌, ◌≡◌}
 use Rattle.message.specs.declared.kinds.Message.TheVariants as message
-use Rattle.values.specs.Serials.{is_serial}
-use Rattle.message.specs.Values.{is_delivery, is_department, is_issue, is_message, is_range, is_renewal}
-use Rattle.message.specs.Texts.{delivery_lines, department_lines, issue_lines, line, message_lines, range_text}
-use Rattle.message.specs.Texts.{renewal_lines}
-use Rattle.message.specs.Reading.{delivery_in, department_in, issue_in, key_id_after, key_line_after, message_in}
-use Rattle.message.specs.Reading.{number_after, one_line_in, one_line_message_in, range_after, renewal_in}
-use Rattle.message.proofs.Readings.{IsReading}
-use Rattle.message.proofs.Wordings.{same_values}
+use Rattle.message.specs.Reading.{delivery_in, department_in, issue_in, one_line_in, one_line_message_in, renewal_in}
+use Rattle.message.proofs.Readings.{IsReading, same_values}
 use Rattle.message.proofs.KindsInTurn.{Either, IsOf, kind_alone, kind_or}
 use Rattle.message.proofs.Departments.{department_reads}
 use Rattle.message.proofs.Issues.{issue_reads}

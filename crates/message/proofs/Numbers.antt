@@ -1,22 +1,14 @@
 -- Numbers and ranges of serials in lines.
-use Rattle.std.proofs.Common.{◌≡◌, ℕ, ◌<◌, ◌≤◌, ◌^◌, List, [], ◌∷◌, ◌++◌, Bool, true, false, eqb, leb, Option, Some}
-use Rattle.std.proofs.Common.{None, refl, ap, ◌∙◌, arith}
-use Rattle.std.specs.Fmt.{decimal}
-use Rattle.std.specs.Option.{option_and_then}
-use Rattle.std.proofs.lemmas.Bool.{and_parts, leb-true}
-use Rattle.std.proofs.lemmas.List.Elements.{All-append, All-cons, recursion_from_All}
-use Rattle.std.proofs.lemmas.Option.{option_and_then_some, same_Some}
-use Rattle.base64.specs.GeneralPurpose.{IsBytes}
+use Rattle.message.proofs.Words.{All-append, All-cons, Bool, IsBytes, List, None, Option, Some, [], after, and_parts}
+use Rattle.message.proofs.Words.{ap, arith, comment_of, comment_of-text, comment_text, decimal, eqb, false, is_end}
+use Rattle.message.proofs.Words.{is_longest_life, is_range, leb-true, number_after, option_and_then}
+use Rattle.message.proofs.Words.{option_and_then_some, range_after, range_text, recursion_from_All, refl, same_Some}
+use Rattle.message.proofs.Words.{serial_small, text_is, true, word_of, word_of-text, ℕ, ◌++◌, ◌<◌, ◌∙◌, ◌∷◌, ◌≡◌, ◌≤◌}
+use Rattle.std.proofs.Common.{◌^◌, leb}
 use Rattle.values.specs.Decimals.{number_of}
 use Rattle.values.proofs.DecimalLemmas.{number_of-decimal, number_spelled}
 use Rattle.values.proofs.Lacking.{decimal_lacks}
-use Rattle.values.proofs.SerialLemmas.{serial_small}
-use Rattle.lines.specs.KeyLines.{comment_text}
-use Rattle.lines.specs.Reading.{comment_of, word_of}
-use Rattle.lines.proofs.Words.{comment_of-text, text_is, word_of-text}
-use Rattle.message.specs.Values.{is_end, is_longest_life, is_range}
-use Rattle.message.specs.Texts.{range_text}
-use Rattle.message.specs.Reading.{after, number_after, range_after, range_between, range_of}
+use Rattle.message.specs.Reading.{range_between, range_of}
 use Rattle.message.specs.declared.serial_range.SerialRange.{SerialRange}
 use Rattle.message.proofs.Readings.{IsField, IsLine}
 use Rattle.message.proofs.Fields.{IsHead, field_passing}

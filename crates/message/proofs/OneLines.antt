@@ -1,16 +1,9 @@
 -- Messages of one line: revocations, and rollovers.
-use Rattle.std.proofs.Common.{◌≡◌, ℕ, List, [], ◌∷◌, true, false, Option, Some, None, Result, Err, refl}
-use Rattle.std.specs.Prelude.{codes}
-use Rattle.std.specs.Fmt.{decimal}
-use Rattle.std.specs.Option.{is_some, option_and_then}
-use Rattle.text.specs.Results.{◌>>=◌, or_fault}
-use Rattle.values.specs.Names.{is_key_id}
-use Rattle.values.specs.Serials.{is_serial}
-use Rattle.values.proofs.SerialLemmas.{serial_small}
-use Rattle.lines.specs.KeyLines.{is_key_line, key_line_text}
-use Rattle.message.specs.Values.{is_range}
-use Rattle.message.specs.Texts.{line, range_text}
-use Rattle.message.specs.Reading.{after, key_id_after, key_line_after, line_of, number_after, one_line_in, range_after}
+use Rattle.message.proofs.Words.{Err, List, None, Option, Result, Some, [], after, codes, decimal, false, is_key_id}
+use Rattle.message.proofs.Words.{is_key_line, is_range, is_serial, is_some, key_id_after, key_line_after, key_line_text}
+use Rattle.message.proofs.Words.{line, line_of, number_after, option_and_then, or_fault, range_after, range_text, refl}
+use Rattle.message.proofs.Words.{serial_small, true, ℕ, ◌>>=◌, ◌∷◌, ◌≡◌}
+use Rattle.message.specs.Reading.{one_line_in}
 use Rattle.message.proofs.Elements.{key_id_line}
 use Rattle.message.proofs.Ends.{one_line}
 use Rattle.message.proofs.Fields.{text_field}

@@ -1,30 +1,22 @@
 -- Option lines: which options may follow which, and how their lines are read.
-use Rattle.std.proofs.Common.{◌≡◌, ℕ, suc, List, [], ◌∷◌, ◌++◌, length, map, Bool, true, false, cond, not, ◌&&◌, ◌||◌}
-use Rattle.std.proofs.Common.{eqb, Option, Some, None, All, refl, sym, ap, subst, ◌∙◌, arith, inl, inr, append-nil}
-use Rattle.std.specs.Prelude.{codes}
-use Rattle.std.specs.List.{list_all, list_any}
-use Rattle.std.specs.Str.{bytes_eq}
-use Rattle.std.proofs.lemmas.Bool.{and_parts, and_from, or_parts, or_from, cond-true, cond-false, eqb-true}
-use Rattle.std.proofs.lemmas.Bool.{not-true, not_from_false}
+use Rattle.message.proofs.Words.{All, All-append, All-cons, Bool, CriticalOptions, Lacks, List, None, Option, Pair}
+use Rattle.message.proofs.Words.{Some, [], and_from, and_parts, ap, append-nil, arith, bytes_eq, codes, comment_of}
+use Rattle.message.proofs.Words.{comment_of-text, comment_text, cond, cond-false, cond-true, cond_some, eqb, eqb-true}
+use Rattle.message.proofs.Words.{false, inl, inr, is_new_option, lacks_from, length, list_all, list_any, map, none-some}
+use Rattle.message.proofs.Words.{not, not-true, option_after, option_line, recursion_from_All, refl, same_Some, subst}
+use Rattle.message.proofs.Words.{suc, sym, text_is, true, word_of, word_of-text, ℕ, ◌&&◌, ◌++◌, ◌||◌, ◌∙◌, ◌∷◌, ◌≡◌}
+use Rattle.std.proofs.lemmas.Bool.{or_parts, or_from, not_from_false}
 use Rattle.std.proofs.lemmas.Cmp.{nat_list_eq_equiv}
 use Rattle.std.proofs.lemmas.List.{nil_from_length}
-use Rattle.std.proofs.lemmas.List.Elements.{All-append, All-cons, recursion_from_All}
 use Rattle.std.proofs.lemmas.List.Folds.{list_any-append}
-use Rattle.std.proofs.lemmas.Option.{cond_some, none-some, same_Some}
-use Rattle.text.specs.declared.pair.Pair.{Pair}
 use Rattle.values.specs.Lists.{are_distinct}
 use Rattle.values.specs.Networks.{Network, IsNetwork, network_text, are_networks}
 use Rattle.values.specs.Options.{is_flag, is_option_value, is_command}
-use Rattle.values.specs.declared.option_field.OptionField.TheVariants.{CriticalOptions}
-use Rattle.values.proofs.Lacking.{Lacks, lacks_from}
 use Rattle.values.proofs.NetworkLaws.{network_lacks, networks_found}
 use Rattle.values.proofs.OptionLemmas.{critical_cases}
-use Rattle.lines.specs.KeyLines.{comment_text}
-use Rattle.lines.specs.Reading.{word_of, comment_of}
-use Rattle.lines.proofs.Words.{word_of-text, comment_of-text, text_is}
-use Rattle.message.specs.Texts.{option_text, option_line}
+use Rattle.message.specs.Texts.{option_text}
 use Rattle.message.specs.Values.{is_option}
-use Rattle.message.specs.Reading.{pair_of, is_new_option, option_after}
+use Rattle.message.specs.Reading.{pair_of}
 use Rattle.message.proofs.Lines.{chosen}
 use Rattle.message.proofs.Readings.{IsField, IsLine}
 use Rattle.message.proofs.Fields.{AllLack, lacks_joined, field_passing}

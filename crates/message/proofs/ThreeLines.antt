@@ -1,23 +1,17 @@
 -- Messages of three lines: renewals and deliveries.
-use Rattle.std.proofs.Common.{◌≡◌, ℕ, List, replicate, true, refl, ap}
-use Rattle.std.specs.Prelude.{codes}
-use Rattle.std.proofs.lemmas.Bool.{and_from, and_parts}
-use Rattle.lines.specs.declared.signature.Signature.{Signature}
-use Rattle.values.specs.Serials.{is_serial}
-use Rattle.values.proofs.Lacking.{Lacks, lacks_from}
-use Rattle.values.proofs.SerialLemmas.{serial_small}
+use Rattle.message.proofs.Words.{Lacks, List, Signature, and_from, and_parts, ap, codes, delivery_lines, is_delivery}
+use Rattle.message.proofs.Words.{is_end, is_renewal, is_serial, is_signature, lacks_from, refl, renewal_lines}
+use Rattle.message.proofs.Words.{replicate, serial_small, true, ℕ, ◌≡◌}
 use Rattle.message.specs.declared.delivery.Delivery.{Delivery}
 use Rattle.message.specs.declared.renewal.Renewal.{Renewal}
-use Rattle.message.specs.Values.{is_delivery, is_digest, is_end, is_lower_hex, is_renewal, is_signature}
-use Rattle.message.specs.Texts.{delivery_lines, renewal_lines}
+use Rattle.message.specs.Values.{is_digest, is_lower_hex}
 use Rattle.message.specs.Reading.{delivery_in, renewal_in}
 use Rattle.message.proofs.Fields.{text_field}
 use Rattle.message.proofs.Numbers.{end_small, number_field}
 use Rattle.message.proofs.Signatures.{signature_field}
-use Rattle.message.proofs.Readings.{IsReading}
+use Rattle.message.proofs.Readings.{IsReading, and_then, same_values}
 use Rattle.message.proofs.Choices.{line_then}
 use Rattle.message.proofs.Ends.{then_end}
-use Rattle.message.proofs.Wordings.{and_then, same_values}
 
 -- ---- renewals
 
