@@ -108,7 +108,9 @@ serials_within ids p = let all = data_lengths ids p in omega arith
 
 -- what is known of the length of the serial parts, of a section's data, and of what is within it
 pub ruleset serials_len = (serial_lengths, listed_within, ranges_within)
+
 pub ruleset data_len = (data_lengths, serials_within, ids_within)
+
 pub ruleset within_data = (ids_within, serials_within, listed_within)
 
 pub sections_length : (cas : List CaPart) (ids : List (List ℕ)) → length (flat_map section_text (published_sections cas ids)) ≡ sum_by (section_length ids) cas

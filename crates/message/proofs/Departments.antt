@@ -101,5 +101,8 @@ department_reads =
     same_values whole_lines
     (λ d is. and_from _ _ is.0 (and_from _ _ is.1.1.0 (and_from _ _ is.1.1.1.0 (and_from _ _ is.1.1.1.1.0
     (and_from _ _ is.1.1.1.1.1.0 (and_from _ _ is.1.1.1.1.1.1.0 is.1.1.1.1.1.1.1.0))))))
-    (λ d. and_then _ _ (λ e. (tt, and_then _ _ (and_then _ _ (and_then _ _ (and_then _ _ (and_then _ _
-    (λ e. (e, refl)))))) e)))
+    (λ d. and_then _ _ (λ e. (
+      tt,
+      and_then _ _ (and_then _ _ (and_then _ _ (and_then _ _ (and_then _ _
+          (λ e. (e, refl)))))) e,
+    )))

@@ -108,9 +108,12 @@ module _ {M : Type 0} (lines : M → List (List ℕ)) (head : List ℕ) (this ot
         ∙ (reads_by is.0).again ps m is.1 e;
     fault = λ ps i fits inside e.
         let b = has_head head (line_of 1 ps) in
-        fault_as ((reads_by b).fault ps i fits inside e) (λ m is. (m, (b, is), refl)) (λ j m is shared.
-        (m, subst (λ (b : Bool). IsBy IsThis IsOther b m)
-        (one_head ps j m is.0 (heads_by is.0 m is.1) shared) is.1, refl));
+        fault_as ((reads_by b).fault ps i fits inside e) (λ m is. (m, (b, is), refl)) (λ j m is shared. (
+          m,
+          subst (λ (b : Bool). IsBy IsThis IsOther b m)
+              (one_head ps j m is.0 (heads_by is.0 m is.1) shared) is.1,
+          refl,
+        ));
     are_lines = λ m is. (reads_by is.0).are_lines m is.1;
   }
 
