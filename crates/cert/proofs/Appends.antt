@@ -1,6 +1,5 @@
 -- Texts put at the end.
-use Rattle.std.proofs.Common.{◌≡◌, ℕ, List, ◌++◌, ap, ◌∙◌}
-use Rattle.wire.specs.Texts.{u32_text, string_text}
+use Rattle.cert.proofs.Words.{List, ap, string_text, u32_text, ℕ, ◌++◌, ◌∙◌, ◌≡◌}
 
 -- a text put after what stands so far
 pub put_after : (text out old so_far : List ℕ) → out ≡ old ++ text → old ≡ so_far → out ≡ so_far ++ text

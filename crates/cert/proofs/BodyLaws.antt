@@ -1,33 +1,22 @@
 -- A fault that is there is found; what reading gives is what was answered.
-use Rattle.std.proofs.Common.{◌≡◌, ◌≢◌, ℕ, zero, suc, ◌<◌, Bool, true, false, eqb, List, [], ◌++◌, length, Option, Some}
-use Rattle.std.proofs.Common.{None, is_some, Result, Ok, Err, IfOk, IfErr, refl, sym, ap, ◌∙◌, subst, arith}
-use Rattle.std.proofs.lemmas.Bool.{both_ways, false_from_ne_true, eqb-true}
-use Rattle.std.proofs.lemmas.Option.{same_Some}
-use Rattle.std.proofs.lemmas.Slice.Eq.{bytes_eq-Decides}
-use Rattle.wire.specs.Reading.{u64_at, string_at}
-use Rattle.wire.proofs.Laws.{IsBytes, string_takes}
-use Rattle.lines.specs.Keys.{key_blob, key_of}
-use Rattle.cert.specs.Options.{options_text}
-use Rattle.lines.proofs.Blobs.{key_of_found}
-use Rattle.values.specs.declared.option_field.OptionField.TheVariants.{CriticalOptions, Extensions}
-use Rattle.cert.specs.Bodies.{IsCertFields, cert_type, kind_number, front, body_text, is_validity, principals_text}
-use Rattle.text.specs.Results.{◌>>=◌, or_fault}
-use Rattle.cert.specs.Reading.{check, Gives, kind_of, principals_of, options_of, validity_at, body_at}
-use Rattle.cert.specs.Faults.{IsFault, ends_at, is_whole}
-use Rattle.cert.specs.declared.fields.CertFields.{CertFields}
-use Rattle.cert.specs.declared.cert_fault.CertFault.{CertFault}
-use Rattle.cert.specs.declared.cert_fault.CertFault.TheVariants.{Truncated, WrongType, BadNonce, BadKey, BadSerial}
-use Rattle.cert.specs.declared.cert_fault.CertFault.TheVariants.{BadKind, BadKeyId, BadPrincipals, BadValidity}
-use Rattle.cert.specs.declared.cert_fault.CertFault.TheVariants.{BadOptions, BadExtensions, BadReserved, BadCa}
-use Rattle.cert.specs.declared.cert_fault.CertFault.TheVariants.{TrailingBytes, NoMemory}
+use Rattle.cert.proofs.Words.{Bool, CertFault, CertFields, CriticalOptions, Err, Extensions, Gives, IsBytes}
+use Rattle.cert.proofs.Words.{IsCertFields, IsFault, Leaves, List, None, Ok, Option, Result, Some, [], ap, arith}
+use Rattle.cert.proofs.Words.{body_text, bytes_eq-Decides, cert_type, check, ends_at, eqb, eqb-true, false, front}
+use Rattle.cert.proofs.Words.{is_some, is_whole, key_blob, key_of, key_of_found, kind_number, kind_of, length}
+use Rattle.cert.proofs.Words.{option_map, options_of, options_text, or_fault, principals_of, principals_text, refl}
+use Rattle.cert.proofs.Words.{string_at, string_takes, subst, suc, sym, true, zero, ℕ, ◌++◌, ◌<◌, ◌>>=◌, ◌∙◌, ◌≡◌, ◌≢◌}
+use Rattle.std.proofs.Common.{IfOk, IfErr}
+use Rattle.std.proofs.lemmas.Bool.{false_from_ne_true}
+use Rattle.cert.specs.Reading.{body_at}
+use Rattle.cert.specs.declared.cert_fault.CertFault.TheVariants as fault
 use Rattle.cert.proofs.NestedLaws.{IsBytes_left, IsBytes_string, empty, principals_found}
 use Rattle.cert.proofs.OptionLaws.{options_of_found}
 use Rattle.cert.proofs.Tails
-use Rattle.cert.proofs.BodyParts.{bind_Err, no_value, option_cases, none_of, kind_found, sample}
+use Rattle.cert.proofs.BodyParts.{no_value, none_of, kind_found}
 use Rattle.cert.proofs.BodySays.{Says, body_at-says}
-use Rattle.cert.proofs.BodyAgain.{upto_principals, reads_type, reads_nonce, reads_key, reads_serial, reads_kind}
-use Rattle.cert.proofs.BodyAgain.{reads_key_id, reads_principals, reads_validity, reads_options, reads_extensions}
-use Rattle.cert.proofs.BodyAgain.{reads_reserved, reads_ca, body_at-again}
+use Rattle.cert.proofs.BodyAgain.{Reads, reads_type, reads_nonce, reads_key, reads_serial, reads_kind, reads_key_id}
+use Rattle.cert.proofs.BodyAgain.{reads_principals, reads_validity, reads_options, reads_extensions, reads_reserved}
+use Rattle.cert.proofs.BodyAgain.{reads_ca, body_at-again}
 
 -- what a string of the rest holds is bytes
 inside : (bytes before rest : List ℕ) (s : List ℕ × List ℕ) → bytes ≡ before ++ rest → string_at rest ≡ Some s
@@ -36,51 +25,22 @@ inside bytes before rest s text is fits =
     let left = IsBytes_left bytes before rest text fits in
     IsBytes_string rest s.0 s.1 (string_takes rest s.0 s.1 left is) left
 
-ends_are_bad : (rest : List ℕ) (ends : ℕ × ℕ × List ℕ) → ends_at rest ≡ Some ends
-    → is_validity ends.0 ends.1 ≡ false → validity_at rest ≡ Err BadValidity
-ends_are_bad rest ends e fails =
-    option_cases (u64_at rest) (validity_at rest ≡ Err BadValidity)
-    (λ none. absurd (let nothing : None ≡ Some ends = sym (no_first none) ∙ e in cc))
-    (λ a is. option_cases (u64_at a.1) (validity_at rest ≡ Err BadValidity)
-    (λ none. absurd (let nothing : None ≡ Some ends = sym (no_second a is none) ∙ e in cc)) (λ b also.
-    let same : (a.0, b.0, b.1) ≡ ends = same_Some _ _ (sym (both a b is also) ∙ e) in
-    Tails.validity_is_bad rest a b is also (subst (λ (x : ℕ × ℕ × List ℕ). is_validity x.0 x.1 ≡ false)
-    (sym same) fails)))
-  where
-    no_first : u64_at rest ≡ None → ends_at rest ≡ None
-    no_first e = rw e refl
-
-    no_second : (a : ℕ × List ℕ) → u64_at rest ≡ Some a → u64_at a.1 ≡ None → ends_at rest ≡ None
-    no_second a e f = rw (e, f) refl
-
-    both : (a b : ℕ × List ℕ) → u64_at rest ≡ Some a → u64_at a.1 ≡ Some b → ends_at rest ≡ Some (a.0, b.0, b.1)
-    both a b e f = rw (e, f) refl
-
-ends_are_cut : (rest : List ℕ) → is_some (ends_at rest) ≡ false → validity_at rest ≡ Err Truncated
-ends_are_cut rest e =
-    option_cases (u64_at rest) (validity_at rest ≡ Err Truncated) (λ none. Tails.after_is_cut rest none)
-    (λ a is. option_cases (u64_at a.1) (validity_at rest ≡ Err Truncated) (λ none. Tails.before_is_cut rest a is none)
-    (λ b also. absurd (both_ways _ e (there a b is also))))
-  where
-    there : (a b : ℕ × List ℕ) → u64_at rest ≡ Some a → u64_at a.1 ≡ Some b → is_some (ends_at rest) ≡ true
-    there a b e f = rw (e, f) refl
-
-more : (c : CertFields) (rest : List ℕ) → rest ≢ [] → Tails.from_end c rest ≡ Err TrailingBytes
+more : (c : CertFields) (rest : List ℕ) → rest ≢ [] → Tails.from_end c rest ≡ Err fault.TrailingBytes
 more c rest some = by (eqb (length rest) 0) refl
   where
-    by : (b : Bool) → eqb (length rest) 0 ≡ b → (check TrailingBytes b >>= λ _. Ok c) ≡ Err TrailingBytes
+    by : (b : Bool) → eqb (length rest) 0 ≡ b → (check fault.TrailingBytes b >>= λ _. Ok c) ≡ Err fault.TrailingBytes
     by true e = absurd (some (empty rest e))
     by false e = refl
 
 -- a field is cut, fails its test, or is the text of no value
 
 cut_at : {S A B : Type 0} (o : Option S) (f : S → Result A CertFault) (next : A → Result B CertFault)
-    → is_some o ≡ false → ((or_fault Truncated o >>= f) >>= next) ≡ Err Truncated
-cut_at {S} o f next e = ap (λ (o : Option S). (or_fault Truncated o >>= f) >>= next) (none_of o e)
+    → is_some o ≡ false → ((or_fault fault.Truncated o >>= f) >>= next) ≡ Err fault.Truncated
+cut_at {S} o f next e = ap (λ (o : Option S). (or_fault fault.Truncated o >>= f) >>= next) (none_of o e)
 
 bad_at : {S A B : Type 0} (o : Option S) (f : S → Result A CertFault) (next : A → Result B CertFault) (s : S)
-    (bad : CertFault) → o ≡ Some s → f s ≡ Err bad → ((or_fault Truncated o >>= f) >>= next) ≡ Err bad
-bad_at o f next s bad e fails = ap (λ o. (or_fault Truncated o >>= f) >>= next) e ∙ ap (λ r. r >>= next) fails
+    (bad : CertFault) → o ≡ Some s → f s ≡ Err bad → ((or_fault fault.Truncated o >>= f) >>= next) ≡ Err bad
+bad_at o f next s bad e fails = ap (λ o. (or_fault fault.Truncated o >>= f) >>= next) e ∙ ap (λ r. r >>= next) fails
 
 fails : {A : Type 0} (bad : CertFault) (b : Bool) (f : Unit {0} → Result A CertFault) → ¬ (b ≡ true)
     → (check bad b >>= f) ≡ Err bad
@@ -90,9 +50,17 @@ no_text : {X A : Type 0} (bad : CertFault) (o : Option X) (f : X → Result A Ce
     → (or_fault bad o >>= f) ≡ Err bad
 no_text bad o f none = rw none refl
 
+-- reading what begins with lawful fields
+begun : (next : CertFields → List ℕ → Result CertFields CertFault) {bytes rest : List ℕ} {n : ℕ} {c : CertFields}
+    → Leaves bytes n c rest → Reads n next → body_at bytes ≡ next c rest
+begun next {rest = rest} {c = c} h reads = ap body_at h.text ∙ reads c h.lawful rest
+
+reads_none : Reads 0 Tails.from_type
+reads_none c l rest = Tails.body_at-from_type c rest
+
 cut : (n : ℕ) → n < 12 → (c : CertFields) (rest : List ℕ) → IsCertFields c → is_whole n rest ≡ false
-    → body_at (front n c ++ rest) ≡ Err Truncated
-cut zero lt c rest l e = Tails.body_at-from_type sample rest ∙ cut_at _ _ _ e
+    → body_at (front n c ++ rest) ≡ Err fault.Truncated
+cut zero lt c rest l e = reads_none c l rest ∙ cut_at _ _ _ e
 cut (suc zero) lt c rest l e = reads_type c l rest ∙ cut_at _ _ _ e
 cut (suc (suc zero)) lt c rest l e = reads_nonce c l rest ∙ cut_at _ _ _ e
 cut (suc (suc (suc zero))) lt c rest l e = reads_key c l rest ∙ cut_at _ _ _ e
@@ -100,54 +68,50 @@ cut (suc (suc (suc (suc zero)))) lt c rest l e = reads_serial c l rest ∙ cut_a
 cut (suc (suc (suc (suc (suc zero))))) lt c rest l e = reads_kind c l rest ∙ cut_at _ _ _ e
 cut (suc (suc (suc (suc (suc (suc zero)))))) lt c rest l e = reads_key_id c l rest ∙ cut_at _ _ _ e
 cut (suc (suc (suc (suc (suc (suc (suc zero))))))) lt c rest l e = reads_principals c l rest
-    ∙ bind_Err (validity_at rest) (Tails.then_validity (upto_principals c)) Truncated (ends_are_cut rest e)
+    ∙ cut_at _ _ _ (sym (Tails.whole_ends (ends_at rest)) ∙ e)
 cut (suc (suc (suc (suc (suc (suc (suc (suc zero)))))))) lt c rest l e = reads_validity c l rest ∙ cut_at _ _ _ e
 cut (suc (suc (suc (suc (suc (suc (suc (suc (suc zero))))))))) lt c rest l e = reads_options c l rest ∙ cut_at _ _ _ e
-cut (suc (suc (suc (suc (suc (suc (suc (suc (suc (suc zero)))))))))) lt c rest l e = reads_extensions c l rest ∙ cut_at
-    _ _ _ e
-cut (suc (suc (suc (suc (suc (suc (suc (suc (suc (suc (suc zero))))))))))) lt c rest l e = reads_reserved c l rest
-    ∙ cut_at _ _ _ e
+cut (suc (suc (suc (suc (suc (suc (suc (suc (suc (suc zero)))))))))) lt c rest l e =
+    reads_extensions c l rest ∙ cut_at _ _ _ e
+cut (suc (suc (suc (suc (suc (suc (suc (suc (suc (suc (suc zero))))))))))) lt c rest l e =
+    reads_reserved c l rest ∙ cut_at _ _ _ e
 cut (suc (suc (suc (suc (suc (suc (suc (suc (suc (suc (suc (suc n)))))))))))) lt c rest l e = absurd (omega arith)
 
 -- a fault that is there is found
-pub body_at-fault : (bytes : List ℕ) (e : CertFault) → IsBytes bytes → e ≢ NoMemory → IsFault bytes e
+pub body_at-fault : (bytes : List ℕ) (e : CertFault) → IsBytes bytes → e ≢ fault.NoMemory → IsFault bytes e
     → body_at bytes ≡ Err e
-body_at-fault bytes WrongType fits other (c, rest, h, w) = ap body_at h.text ∙ Tails.body_at-from_type sample rest
+body_at-fault bytes fault.WrongType fits other (c, rest, h, w) = begun _ h reads_none
     ∙ bad_at _ _ _ w.0 _ w.1 (fails _ _ _ (λ t. w.2 ((bytes_eq-Decides w.0.0 cert_type).0 t)))
-body_at-fault bytes BadNonce fits other (c, rest, h, w) = ap body_at h.text ∙ reads_type c h.lawful rest
+body_at-fault bytes fault.BadNonce fits other (c, rest, h, w) = begun _ h reads_type
     ∙ bad_at _ _ _ w.0 _ w.1 (fails _ _ _ (λ t. w.2 (eqb-true _ _ t)))
-body_at-fault bytes BadKey fits other (c, rest, h, w) = ap body_at h.text ∙ reads_nonce c h.lawful rest
+body_at-fault bytes fault.BadKey fits other (c, rest, h, w) = begun _ h reads_nonce
     ∙ bad_at _ _ _ w.0 _ w.1 (fails _ _ _ (λ t. w.2 (eqb-true _ _ t)))
-body_at-fault bytes BadSerial fits other (c, rest, h, w) = ap body_at h.text ∙ reads_key c h.lawful rest
+body_at-fault bytes fault.BadSerial fits other (c, rest, h, w) = begun _ h reads_key
     ∙ bad_at _ _ _ w.0 _ w.1 (fails _ _ _ w.2)
-body_at-fault bytes BadKind fits other (c, rest, h, w) = ap body_at h.text ∙ reads_serial c h.lawful rest
+body_at-fault bytes fault.BadKind fits other (c, rest, h, w) = begun _ h reads_serial
     ∙ bad_at _ _ _ w.0 _ w.1 (no_text _ _ _ (no_value kind_of kind_number (λ _. Unit {0}) w.0.0
     (λ kind e. (kind_found w.0.0 kind e, tt)) (λ x. w.2 x.0 x.2)))
-body_at-fault bytes BadKeyId fits other (c, rest, h, w) = ap body_at h.text ∙ reads_kind c h.lawful rest
+body_at-fault bytes fault.BadKeyId fits other (c, rest, h, w) = begun _ h reads_kind
     ∙ bad_at _ _ _ w.0 _ w.1 (fails _ _ _ w.2)
-body_at-fault bytes BadPrincipals fits other (c, rest, h, w) = ap body_at h.text ∙ reads_key_id c h.lawful rest
+body_at-fault bytes fault.BadPrincipals fits other (c, rest, h, w) = begun _ h reads_key_id
     ∙ bad_at _ _ _ w.0 _ w.1 (no_text _ _ _ (no_value principals_of principals_text _ w.0.0
     (λ x. principals_found w.0.0 x (inside bytes (front 6 c) rest w.0 h.text w.1 fits)) w.2))
-body_at-fault bytes BadValidity fits other (c, rest, h, w) = ap body_at h.text ∙ reads_principals c h.lawful rest
-    ∙ bind_Err (validity_at rest) (Tails.then_validity (upto_principals c)) BadValidity
-    (ends_are_bad rest w.0 w.1 (false_from_ne_true _ w.2))
-body_at-fault bytes BadOptions fits other (c, rest, h, w) = ap body_at h.text ∙ reads_validity c h.lawful rest
-    ∙ bad_at _ _ _ w.0 _ w.1 (no_text _ _ _ (no_value (options_of CriticalOptions c.kind)
-    options_text _ w.0.0 (λ x. options_of_found CriticalOptions c.kind w.0.0 x
-    (inside bytes (front 8 c) rest w.0 h.text w.1 fits)) w.2))
-body_at-fault bytes BadExtensions fits other (c, rest, h, w) = ap body_at h.text ∙ reads_options c h.lawful rest
-    ∙ bad_at _ _ _ w.0 _ w.1 (no_text _ _ _ (no_value (options_of Extensions c.kind)
-    options_text _ w.0.0 (λ x. options_of_found Extensions c.kind w.0.0 x
-    (inside bytes (front 9 c) rest w.0 h.text w.1 fits)) w.2))
-body_at-fault bytes BadReserved fits other (c, rest, h, w) = ap body_at h.text ∙ reads_extensions c h.lawful rest
+body_at-fault bytes fault.BadValidity fits other (c, rest, h, w) = begun _ h reads_principals
+    ∙ bad_at _ _ _ (Tails.paired w.0) _ (ap (option_map Tails.paired) w.1) (fails _ _ _ w.2)
+body_at-fault bytes fault.BadOptions fits other (c, rest, h, w) = begun _ h reads_validity
+    ∙ bad_at _ _ _ w.0 _ w.1 (no_text _ _ _ (no_value (options_of CriticalOptions c.kind) options_text _ w.0.0
+    (λ x. options_of_found CriticalOptions c.kind w.0.0 x (inside bytes (front 8 c) rest w.0 h.text w.1 fits)) w.2))
+body_at-fault bytes fault.BadExtensions fits other (c, rest, h, w) = begun _ h reads_options
+    ∙ bad_at _ _ _ w.0 _ w.1 (no_text _ _ _ (no_value (options_of Extensions c.kind) options_text _ w.0.0
+    (λ x. options_of_found Extensions c.kind w.0.0 x (inside bytes (front 9 c) rest w.0 h.text w.1 fits)) w.2))
+body_at-fault bytes fault.BadReserved fits other (c, rest, h, w) = begun _ h reads_extensions
     ∙ bad_at _ _ _ w.0 _ w.1 (fails _ _ _ (λ t. w.2 (empty w.0.0 t)))
-body_at-fault bytes BadCa fits other (c, rest, h, w) = ap body_at h.text ∙ reads_reserved c h.lawful rest
+body_at-fault bytes fault.BadCa fits other (c, rest, h, w) = begun _ h reads_reserved
     ∙ bad_at _ _ _ w.0 _ w.1 (no_text _ _ _ (no_value key_of key_blob _ w.0.0 (key_of_found w.0.0) w.2))
-body_at-fault bytes TrailingBytes fits other (c, rest, h, some) =
-    ap body_at h.text ∙ reads_ca c h.lawful rest ∙ more c rest some
-body_at-fault bytes Truncated fits other (n, lt, c, rest, h, part) =
+body_at-fault bytes fault.TrailingBytes fits other (c, rest, h, some) = begun _ h reads_ca ∙ more c rest some
+body_at-fault bytes fault.Truncated fits other (n, lt, c, rest, h, part) =
     ap body_at h.text ∙ cut n lt c rest h.lawful part
-body_at-fault bytes NoMemory fits other f = absurd (other refl)
+body_at-fault bytes fault.NoMemory fits other f = absurd (other refl)
 
 -- ---- from what reading gives to what was answered
 
@@ -174,27 +138,27 @@ fault_from bytes (Err e) fits gives = at e gives
     there e is = subst (λ (q : Result CertFields CertFault). Says bytes q) is (body_at-says bytes fits)
 
     at : (e : CertFault) → Gives {X = CertFields} (Err e) (body_at bytes) → IsFault bytes e
-    at Truncated gives = there Truncated gives
-    at WrongType gives = there WrongType gives
-    at BadNonce gives = there BadNonce gives
-    at BadKey gives = there BadKey gives
-    at BadSerial gives = there BadSerial gives
-    at BadKind gives = there BadKind gives
-    at BadKeyId gives = there BadKeyId gives
-    at BadPrincipals gives = there BadPrincipals gives
-    at BadValidity gives = there BadValidity gives
-    at BadOptions gives = there BadOptions gives
-    at BadExtensions gives = there BadExtensions gives
-    at BadReserved gives = there BadReserved gives
-    at BadCa gives = there BadCa gives
-    at TrailingBytes gives = there TrailingBytes gives
-    at NoMemory gives = tt
+    at fault.Truncated gives = there fault.Truncated gives
+    at fault.WrongType gives = there fault.WrongType gives
+    at fault.BadNonce gives = there fault.BadNonce gives
+    at fault.BadKey gives = there fault.BadKey gives
+    at fault.BadSerial gives = there fault.BadSerial gives
+    at fault.BadKind gives = there fault.BadKind gives
+    at fault.BadKeyId gives = there fault.BadKeyId gives
+    at fault.BadPrincipals gives = there fault.BadPrincipals gives
+    at fault.BadValidity gives = there fault.BadValidity gives
+    at fault.BadOptions gives = there fault.BadOptions gives
+    at fault.BadExtensions gives = there fault.BadExtensions gives
+    at fault.BadReserved gives = there fault.BadReserved gives
+    at fault.BadCa gives = there fault.BadCa gives
+    at fault.TrailingBytes gives = there fault.TrailingBytes gives
+    at fault.NoMemory gives = tt
 
 -- The fault that is there was answered, unless memory was refused.
 pub answered_from : (bytes : List ℕ) (r : Result CertFields CertFault) (e : CertFault) → IsBytes bytes
-    → e ≢ NoMemory → IsFault bytes e → Gives r (body_at bytes) → Gives r (Err e)
-answered_from bytes r e fits other fault gives = subst (λ (read : Result CertFields CertFault). Gives r read)
-    (body_at-fault bytes e fits other fault) gives
+    → e ≢ fault.NoMemory → IsFault bytes e → Gives r (body_at bytes) → Gives r (Err e)
+answered_from bytes r e fits other there gives = subst (λ (read : Result CertFields CertFault). Gives r read)
+    (body_at-fault bytes e fits other there) gives
 
 -- No text is that of two values.
 pub body_text-unique : (c d : CertFields) → IsCertFields c → IsCertFields d → body_text c ≡ body_text d → c ≡ d

@@ -1,11 +1,7 @@
 -- Lists read one element after another.
-use Rattle.std.proofs.Common.{◌≡◌, ℕ, suc, ◌+◌, ◌-◌, ◌<◌, ◌≤◌, Bool, true, false, List, [], ◌∷◌, ◌++◌, Option, Some}
-use Rattle.std.proofs.Common.{None, refl, sym, ap, ◌∙◌, append_assoc, arith}
-use Rattle.std.specs.Option.{option_map}
-use Rattle.text.specs.declared.pair.Pair.{Pair}
-use Rattle.wire.specs.Reading.{string_at}
-use Rattle.values.specs.declared.option_field.OptionField.{OptionField}
-use Rattle.cert.specs.Reading.{strings_within, options_within, pair_at, comes_next}
+use Rattle.cert.proofs.Words.{Bool, List, None, Option, OptionField, Pair, Some, [], ap, append_assoc, arith}
+use Rattle.cert.proofs.Words.{comes_next, false, option_map, options_within, pair_at, refl, string_at, strings_within}
+use Rattle.cert.proofs.Words.{suc, sym, true, ℕ, ◌++◌, ◌+◌, ◌-◌, ◌<◌, ◌∙◌, ◌∷◌, ◌≡◌, ◌≤◌}
 
 -- what was read so far, before what is read of the rest
 abbrev pub with_front : {X : Type 0} → List X → Option (List X) → Option (List X)

@@ -1,8 +1,8 @@
+pub mod Words
 pub mod Appends
 pub mod Ascending
 pub mod Elements
 pub mod Listing
-pub mod SamePairs
 pub mod NestedLaws
 pub mod OptionLaws
 pub mod Sizes

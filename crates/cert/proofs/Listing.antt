@@ -1,30 +1,22 @@
 -- Pairs listed one after another.
-use Rattle.std.proofs.Common.{◌≡◌, ℕ, suc, ◌+◌, ◌<◌, Bool, true, false, not, cond, ◌||◌, List, [], ◌∷◌, ◌++◌, length}
-use Rattle.std.proofs.Common.{take, drop, get_or, insert, fold, Option, Some, None, Err, IfSome, subst, add-one}
-use Rattle.std.proofs.Common.{drop-cons, sym, ap, ◌∙◌, refl, arith}
-use Rattle.std.specs.List.{list_all, list_any, position_or_len}
+use Rattle.cert.proofs.Words.{BadValue, Bool, Equal, Err, Greater, Host, Kind, Less, List, None, Option, OptionFault}
+use Rattle.cert.proofs.Words.{OptionField, Ordering, Pair, Some, Twice, Unknown, User, [], and_from, and_parts, ap}
+use Rattle.cert.proofs.Words.{are_for_kind, arith, bytes_eq, comes_before, cond, drop, false, first_fault, insert}
+use Rattle.cert.proofs.Words.{is_ascending, is_eq, is_eq-slice_cmp, is_known, is_lt, is_option, is_option_value}
+use Rattle.cert.proofs.Words.{is_options, length, list_all, list_any, listing, nat_cmp, nat_list_cmp_total}
+use Rattle.cert.proofs.Words.{nat_list_eq_equiv, not, options_fault, ordering_reverse, pair_fault, position_or_len}
+use Rattle.cert.proofs.Words.{refl, slice_cmp, subst, suc, sym, take, true, ℕ, ◌++◌, ◌+◌, ◌<◌, ◌||◌, ◌∙◌, ◌∷◌, ◌≡◌}
+use Rattle.std.proofs.Common.{get_or, fold, IfSome, add-one, drop-cons}
 use Rattle.std.specs.Option.{option_or}
-use Rattle.std.specs.Ordering.{nat_cmp, is_lt, is_eq, match_ordering, ordering_reverse}
-use Rattle.std.specs.declared.cmp.Ordering.{Ordering}
-use Rattle.std.specs.declared.cmp.Ordering.TheVariants.{Less, Equal, Greater}
-use Rattle.std.specs.Cmp.Lexicographic.{slice_cmp}
-use Rattle.std.specs.Str.{bytes_eq}
-use Rattle.std.proofs.lemmas.Bool.{and_parts, and_from, or_parts}
-use Rattle.std.proofs.lemmas.Cmp.{nat_list_eq_equiv, nat_list_cmp_total}
+use Rattle.std.specs.Ordering.{match_ordering}
+use Rattle.std.proofs.lemmas.Bool.{or_parts}
 use Rattle.std.proofs.lemmas.List.Folds.{list_any-append}
 use Rattle.std.proofs.lemmas.List.Sums.{fold_push}
-use Rattle.std.proofs.lemmas.Map.Text.{is_eq-slice_cmp}
-use Rattle.text.specs.declared.pair.Pair.{Pair}
 use Rattle.lines.proofs.Cases.{or_order}
-use Rattle.values.specs.Options.{is_known, is_option_value}
-use Rattle.values.specs.declared.option_field.OptionField.{OptionField}
-use Rattle.cert.specs.declared.option_fault.OptionFault.{OptionFault}
-use Rattle.cert.specs.declared.option_fault.OptionFault.TheVariants.{NotForHosts, Unknown, Twice, BadValue, NoMemory}
-use Rattle.values.specs.declared.kind.Kind.{Kind}
-use Rattle.values.specs.declared.kind.Kind.TheVariants.{User, Host}
+use Rattle.cert.specs.declared.option_fault.OptionFault.TheVariants.{NotForHosts, NoMemory}
 use Rattle.std.proofs.lemmas.List.{take_more}
-use Rattle.cert.specs.Options.{comes_before, is_ascending, with_pair, listing, is_option, is_options, are_for_kind}
-use Rattle.cert.specs.OptionFaults.{pair_fault, first_fault, options_fault, fault_answered}
+use Rattle.cert.specs.Options.{with_pair}
+use Rattle.cert.specs.OptionFaults.{fault_answered}
 
 -- none of the pairs has the name
 abbrev pub Lacks : List Pair → List ℕ → Type 0

@@ -1,26 +1,17 @@
 -- What the lists inside a field say is their text, and their text is read.
-use Rattle.std.proofs.Common.{◌≡◌, ℕ, zero, suc, ◌+◌, ◌^◌, ◌<◌, ◌≤◌, Bool, true, false, cond, eqb, leb, ◌&&◌, List, []}
-use Rattle.std.proofs.Common.{◌∷◌, ◌++◌, length, codes, Option, Some, None, refl, sym, ap, ◌∙◌, subst, append_assoc}
-use Rattle.std.proofs.Common.{arith, inl, inr}
-use Rattle.std.specs.Option.{option_map, option_and_then}
-use Rattle.std.specs.List.{list_all, flat_map}
-use Rattle.std.specs.Str.{bytes_eq}
-use Rattle.std.proofs.lemmas.Bool.{and_parts, and_from, cases_lt, cond-true, leb-true, le-leb, eqb-true}
-use Rattle.std.proofs.lemmas.List.{append-nil, get_or-append-add, get_or_past}
+use Rattle.cert.proofs.Words.{Bool, IsBytes, List, None, Option, Pair, Some, [], and_from, and_parts, ap, append-nil}
+use Rattle.cert.proofs.Words.{append_assoc, are_networks, are_principals, arith, bytes_eq, bytes_eq-Decides, cases_lt}
+use Rattle.cert.proofs.Words.{codes, cond, eqb, eqb-true, false, flat_map, inl, inr, is_command, is_flag}
+use Rattle.cert.proofs.Words.{is_option_value, is_principal, leb, leb-true, length, list_all, option_and_then}
+use Rattle.cert.proofs.Words.{option_and_then_some, option_data, option_map, option_text, pair_at, pair_of}
+use Rattle.cert.proofs.Words.{principals_of, principals_text, refl, same_Some, string_again, string_at, string_takes}
+use Rattle.cert.proofs.Words.{string_text, strings_within, subst, suc, sym, true, u32_text, zero, ℕ, ◌&&◌, ◌++◌, ◌+◌}
+use Rattle.cert.proofs.Words.{◌<◌, ◌^◌, ◌∙◌, ◌∷◌, ◌≡◌, ◌≤◌}
+use Rattle.std.proofs.lemmas.Bool.{cond-true, le-leb}
+use Rattle.std.proofs.lemmas.List.{get_or-append-add, get_or_past}
 use Rattle.std.proofs.Math.ListN.{get_or-append}
-use Rattle.std.proofs.lemmas.Option.{option_and_then_some, same_Some}
-use Rattle.std.proofs.lemmas.Slice.Eq.{bytes_eq-Decides}
-use Rattle.text.specs.declared.pair.Pair.{Pair}
-use Rattle.wire.specs.Texts.{u32_text, string_text}
-use Rattle.wire.specs.Reading.{string_at}
-use Rattle.wire.proofs.Laws.{IsBytes, string_takes, string_again}
 use Rattle.values.specs.Lists.{are_distinct}
-use Rattle.values.specs.Names.{is_principal}
-use Rattle.values.specs.Options.{is_flag, is_command, is_option_value}
-use Rattle.values.specs.Networks.{are_networks}
-use Rattle.cert.specs.Options.{option_data, option_text}
-use Rattle.cert.specs.Bodies.{are_principals, principals_text}
-use Rattle.cert.specs.Reading.{strings_within, principals_of, value_of, pair_of, pair_at}
+use Rattle.cert.specs.Reading.{value_of}
 use Rattle.cert.proofs.Sizes.{principal-le}
 
 -- ---- steps

@@ -1,19 +1,9 @@
 -- What the options inside a field say is their text, and their text is read.
-use Rattle.std.proofs.Common.{◌≡◌, ℕ, zero, suc, ◌≤◌, Bool, true, cond, eqb, ◌&&◌, List, [], ◌∷◌, ◌++◌, length, Some}
-use Rattle.std.proofs.Common.{None, refl, sym, ap, ◌∙◌, subst, arith}
-use Rattle.std.specs.Option.{option_map}
-use Rattle.std.specs.List.{list_all}
-use Rattle.std.proofs.lemmas.Bool.{and_parts, and_from}
-use Rattle.std.proofs.lemmas.Option.{option_and_then_some, same_Some}
-use Rattle.text.specs.declared.pair.Pair.{Pair}
-use Rattle.wire.proofs.Laws.{IsBytes}
-use Rattle.values.specs.Options.{is_known}
-use Rattle.values.specs.declared.kind.Kind.{Kind}
-use Rattle.values.specs.declared.kind.Kind.TheVariants.{User, Host}
-use Rattle.values.specs.declared.option_field.OptionField.{OptionField}
-use Rattle.values.specs.declared.option_field.OptionField.TheVariants.{CriticalOptions, Extensions}
-use Rattle.cert.specs.Options.{comes_before, is_ascending, is_option, is_options, option_text, options_text}
-use Rattle.cert.specs.Reading.{pair_at, comes_next, options_within, options_of}
+use Rattle.cert.proofs.Words.{Bool, CriticalOptions, Extensions, Host, IsBytes, Kind, List, None, OptionField, Pair}
+use Rattle.cert.proofs.Words.{Some, User, [], and_from, and_parts, ap, arith, comes_before, comes_next, cond, eqb}
+use Rattle.cert.proofs.Words.{is_ascending, is_known, is_option, is_options, length, list_all, option_and_then_some}
+use Rattle.cert.proofs.Words.{option_map, option_text, options_of, options_text, options_within, pair_at, refl}
+use Rattle.cert.proofs.Words.{same_Some, subst, suc, sym, true, zero, ℕ, ◌&&◌, ◌++◌, ◌∙◌, ◌∷◌, ◌≡◌, ◌≤◌}
 use Rattle.cert.proofs.Listing.{all_later}
 use Rattle.cert.proofs.Sizes.{name-le, value-le, options-few}
 use Rattle.cert.proofs.NestedLaws.{IsBytes_left, cond_is, map_is, flag_value, empty, pair_found, pair_again}

@@ -1,32 +1,26 @@
 -- What a certificate holds is short.
-use Rattle.std.proofs.Common.{◌≡◌, ℕ, ◌+◌, ◌*◌, ◌^◌, ◌<◌, ◌≤◌, Bool, true, false, ◌&&◌, eqb, leb, cond, List, [], ◌∷◌}
-use Rattle.std.proofs.Common.{length, drop, Option, Some, None, All, IsTrue, codes, arith, sym, ap, ◌∙◌, subst, refl}
-use Rattle.std.proofs.Common.{length-append, length-drop, inl, inr}
-use Rattle.std.specs.List.{list_all, list_any, flat_map, AllByRecursion, slice_split, before_first, after_first}
-use Rattle.std.specs.List.{join_with_byte, position_or_len}
+use Rattle.cert.proofs.Words.{AllByRecursion, Bool, CriticalOptions, Extensions, Kind, List, None, Option, OptionField}
+use Rattle.cert.proofs.Words.{Pair, Some, [], and_parts, ap, are_for_kind, are_networks, are_principals, arith}
+use Rattle.cert.proofs.Words.{bytes_eq, bytes_eq-Decides, cases_Bool, codes, cond, drop, eqb, eqb-true, false, flat_map}
+use Rattle.cert.proofs.Words.{inl, inr, is_ascending, is_command, is_flag, is_key_id, is_known, is_option}
+use Rattle.cert.proofs.Words.{is_option_value, is_options, is_principal, known_names, leb, leb-true, length, list_all}
+use Rattle.cert.proofs.Words.{list_any, nat_tests, option_data, option_text, options_text, or_cases, position_or_len}
+use Rattle.cert.proofs.Words.{principals_text, refl, string_text, subst, sym, true, ℕ, ◌&&◌, ◌+◌, ◌<◌, ◌^◌, ◌∙◌, ◌∷◌}
+use Rattle.cert.proofs.Words.{◌≡◌, ◌≤◌}
+use Rattle.std.proofs.Common.{◌*◌, All, IsTrue, length-append, length-drop}
+use Rattle.std.specs.List.{slice_split, before_first, after_first, join_with_byte}
 use Rattle.std.specs.Fmt.{decimal}
 use Rattle.std.specs.Str.Parse.{digits_value}
-use Rattle.std.proofs.lemmas.Bool.{and_parts, or_cases, cases_Bool, cond-false, leb-true, eqb-true}
-use Rattle.std.proofs.lemmas.Slice.Eq.{bytes_eq-Decides}
+use Rattle.std.proofs.lemmas.Bool.{cond-false}
 use Rattle.std.proofs.lemmas.List.Elements.{All-from_recursion}
-use Rattle.std.specs.Str.{bytes_eq}
 use Rattle.std.proofs.lemmas.Fmt.{length-decimal-le}
 use Rattle.std.proofs.lemmas.List.Splits.{join_with_byte-slice_split}
 use Rattle.std.proofs.lemmas.List.{length-take, length-map}
 use Rattle.values.specs.Decimals.{is_number_below, number_of}
 use Rattle.values.proofs.DecimalLemmas.{decimal_below, value_below, number_found}
-use Rattle.values.specs.Names.{is_key_id, is_key_id_end, is_name, is_principal, has_size, department_of}
-use Rattle.values.specs.Networks.{is_network, are_networks, are_octets, address_of, is_block}
-use Rattle.values.specs.Options.{is_option_value, is_known, is_flag, is_command, known_names}
-use Rattle.values.specs.declared.option_field.OptionField.TheVariants.{CriticalOptions, Extensions}
-use Rattle.values.specs.declared.kind.Kind.{Kind}
-use Rattle.values.specs.declared.option_field.OptionField.{OptionField}
-use Rattle.text.specs.declared.pair.Pair.{Pair}
-use Rattle.wire.specs.Texts.{string_text}
-use Rattle.cert.specs.Options.{is_option, is_options, is_ascending, are_for_kind, option_data, option_text}
-use Rattle.cert.specs.Options.{options_text}
+use Rattle.values.specs.Names.{is_key_id_end, is_name, has_size, department_of}
+use Rattle.values.specs.Networks.{is_network, are_octets, address_of, is_block}
 use Rattle.cert.proofs.Ascending.{length-le_known}
-use Rattle.cert.specs.Bodies.{are_principals, principals_text}
 
 -- a number below 10 ^ k has at most k digits
 number-le : (limit k : ℕ) (t : List ℕ) → 0 < k → limit ≤ 10 ^ k → limit ≤ 2 ^ 64 → is_number_below limit t ≡ true
@@ -97,10 +91,7 @@ networks-le t h =
 -- what ends a key id
 pub key_id_end-le : (t : List ℕ) → is_key_id_end t ≡ true → length t ≤ 65
 key_id_end-le [] h = omega arith
-key_id_end-le (b ∷ rest) h =
-    let parts = and_parts (eqb b 47) _ h in
-    let sized = and_parts (has_size 1 64 rest) _ parts.1 in
-    omega (arith, leb-true _ _ (and_parts (leb 1 (length rest)) _ sized.0).1)
+key_id_end-le (b ∷ rest) h = grind (arith, nat_tests)
 
 -- a key id is short enough for a string
 pub key_id-lt : (t : List ℕ) → IsTrue (is_key_id t) → length t < 2 ^ 32
@@ -114,9 +105,7 @@ key_id-lt t h =
 
 -- a principal is short
 pub principal-le : (t : List ℕ) → is_principal t ≡ true → length t ≤ 64
-principal-le t h =
-    let parts = and_parts (has_size 1 64 t) _ h in
-    leb-true _ _ (and_parts (leb 1 (length t)) _ parts.0).1
+principal-le t h = grind (arith, nat_tests)
 
 -- texts of at most k bytes, in a row
 texts-le : {X : Type 0} (k : ℕ) (f : X → List ℕ) (p : X → Bool) → ((x : X) → p x ≡ true → length (f x) ≤ k)
@@ -154,9 +143,7 @@ name-le CriticalOptions name h = known-le 23 (known_names CriticalOptions) name 
 name-le Extensions name h = known-le 23 (known_names Extensions) name refl h
 
 command-le : (t : List ℕ) → is_command t ≡ true → length t ≤ 200
-command-le t h =
-    let parts = and_parts (has_size 1 200 t) _ h in
-    leb-true _ _ (and_parts (leb 1 (length t)) _ parts.0).1
+command-le t h = grind (arith, nat_tests)
 
 -- a value is short
 pub value-le : (name value : List ℕ) → is_option_value name value ≡ true → length value ≤ 200

@@ -1,6 +1,6 @@
 -- Tests of numbers and of Bools.
-use Rattle.std.proofs.Common.{◌≡◌, ℕ, ◌<◌, ◌≤◌, Bool, true, false, ◌&&◌, ◌||◌, ◌⊎◌, leb, ltb, refl, arith, inl, inr}
-use Rattle.std.proofs.lemmas.Bool.Decides.{nat_tests}
+use Rattle.krl.proofs.Words.{Bool, arith, false, inl, inr, leb, ltb, nat_tests, refl, true, ℕ, ◌&&◌, ◌<◌, ◌||◌, ◌≡◌}
+use Rattle.krl.proofs.Words.{◌≤◌, ◌⊎◌}
 
 -- a smaller number is below
 pub ltb-yes : {a b : ℕ} → a < b → ltb a b ≡ true

@@ -1,14 +1,13 @@
 -- Bytes and strings at their front.
-use Rattle.std.proofs.Common.{◌≡◌, ◌≢◌, ℕ, suc, ◌<◌, ◌^◌, List, [], ◌∷◌, ◌++◌, length, take, drop, cond, ltb, Bool}
-use Rattle.std.proofs.Common.{true, false, Option, Some, None, Bor, ap, subst, arith}
-use Rattle.std.specs.Option.{option_copied, IfSome, IfNone}
-use Rattle.std.specs.Int.{w32, from_be_bytes}
+use Rattle.krl.proofs.Words.{Bool, IfNone, IfSome, IsBytes, IsString, List, None, Option, Some, [], ap, arith, cond}
+use Rattle.krl.proofs.Words.{drop, false, length, ltb, same_Some, string_text, subst, suc, take, true, w32, ℕ, ◌++◌}
+use Rattle.krl.proofs.Words.{◌<◌, ◌^◌, ◌∷◌, ◌≡◌, ◌≢◌}
+use Rattle.std.proofs.Common.{Bor}
+use Rattle.std.specs.Option.{option_copied}
+use Rattle.std.specs.Int.{from_be_bytes}
 use Rattle.std.proofs.lemmas.List.{length-take}
-use Rattle.std.proofs.lemmas.Option.{option_and_then_some, same_Some}
+use Rattle.std.proofs.lemmas.Option.{option_and_then_some}
 use Rattle.wire.specs.Reading.{Moves, front_of, number_at, string_at}
-use Rattle.wire.specs.Texts.{string_text}
-use Rattle.krl.specs.Format.{IsString}
-use Rattle.krl.specs.Reading.{IsBytes}
 use Rattle.wire.proofs.Laws.{IsBytes-take}
 
 -- what follows bytes in bytes is bytes

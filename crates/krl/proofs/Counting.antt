@@ -1,10 +1,9 @@
 -- The runs of a set's serials among so many from a serial on.
-use Rattle.std.proofs.Common.{◌≡◌, ℕ, zero, suc, ◌+◌, ◌<◌, ◌≤◌, ◌^◌, List, [], ◌∷◌, Bool, true, false, ◌&&◌, ◌||◌, leb}
-use Rattle.std.proofs.Common.{eqb, sym, ap, ◌∙◌, arith, inl, inr}
-use Rattle.std.proofs.lemmas.Bool.{cases_Bool, cases_eq, cases_lt, and_from, and_right, eq-eqb, ne_eqb}
-use Rattle.std.proofs.lemmas.Bool.Decides.{nat_tests}
-use Rattle.krl.specs.declared.run.Run.{Run}
-use Rattle.krl.specs.Sets.{is_within, contains, AreRuns, AreRunsFrom, IsOneOf, is_counted, with_first, runs_in}
+use Rattle.krl.proofs.Words.{AreRuns, AreRunsFrom, Bool, IsOneOf, List, Run, [], and_from, ap, arith, cases_Bool}
+use Rattle.krl.proofs.Words.{cases_lt, contains, eq-eqb, eqb, false, inl, inr, is_within, leb, nat_tests, ne_eqb, suc}
+use Rattle.krl.proofs.Words.{sym, true, zero, ℕ, ◌&&◌, ◌+◌, ◌<◌, ◌^◌, ◌||◌, ◌∙◌, ◌∷◌, ◌≡◌, ◌≤◌}
+use Rattle.std.proofs.lemmas.Bool.{cases_eq, and_right}
+use Rattle.krl.specs.Sets.{is_counted, with_first, runs_in}
 use Rattle.krl.proofs.Booleans.{or_group}
 use Rattle.krl.proofs.Maximal.{weaken, runs_unique, run_of}
 use Rattle.krl.proofs.Gathering.{eqb-no, within_one}

@@ -1,11 +1,8 @@
 -- The run that covers an interval is the last of those that begin at or below it.
-use Rattle.std.proofs.Common.{◌≡◌, ℕ, zero, suc, ◌+◌, ◌-◌, ◌<◌, ◌≤◌, List, [], ◌∷◌, Bool, true, false, ◌&&◌, ◌||◌}
-use Rattle.std.proofs.Common.{length, leb, leb-true, le-leb, get_or, refl, sym, arith}
-use Rattle.std.specs.List.{list_any}
+use Rattle.krl.proofs.Words.{AreRunsFrom, Bool, List, Run, [], arith, false, get_or, le-leb, leb, length, list_any}
+use Rattle.krl.proofs.Words.{or-false, refl, suc, sym, true, zero, ℕ, ◌&&◌, ◌+◌, ◌-◌, ◌<◌, ◌||◌, ◌∷◌, ◌≡◌, ◌≤◌}
+use Rattle.std.proofs.Common.{leb-true}
 use Rattle.std.specs.List.Sorted.{IsPartitionPoint, IsPartitionedBy}
-use Rattle.std.proofs.Math.Bool.{or-false}
-use Rattle.krl.specs.declared.run.Run.{Run}
-use Rattle.krl.specs.Sets.{AreRunsFrom}
 use Rattle.krl.proofs.Maximal.{covered_by}
 
 -- each of the runs ends at or above the serial that they ascend from

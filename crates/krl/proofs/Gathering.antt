@@ -1,12 +1,8 @@
 -- The runs of serials that ascend.
-use Rattle.std.proofs.Common.{◌≡◌, ℕ, suc, ◌+◌, ◌-◌, ◌<◌, ◌≤◌, ◌^◌, List, [], ◌∷◌, length, get_or, add-one, false}
-use Rattle.std.proofs.Common.{◌&&◌, ◌||◌, eqb, leb, refl, ap, ◌∙◌, arith, inl, inr}
-use Rattle.std.specs.Prelude.{if◌then◌else◌}
-use Rattle.std.specs.List.Sorted.{IsStrictlyIncreasing}
-use Rattle.std.proofs.lemmas.Bool.{cases_lt, eq-eqb}
-use Rattle.std.proofs.lemmas.Bool.Decides.{nat_tests}
-use Rattle.krl.specs.declared.run.Run.{Run}
-use Rattle.krl.specs.Sets.{is_within, contains, is_among, AreRunsFrom}
+use Rattle.krl.proofs.Words.{AreRunsFrom, IsStrictlyIncreasing, List, Run, [], ap, arith, cases_lt, contains, eq-eqb}
+use Rattle.krl.proofs.Words.{eqb, false, get_or, if◌then◌else◌, inl, inr, is_among, is_within, leb, length, nat_tests}
+use Rattle.krl.proofs.Words.{refl, suc, ℕ, ◌&&◌, ◌+◌, ◌-◌, ◌<◌, ◌^◌, ◌||◌, ◌∙◌, ◌∷◌, ◌≡◌, ◌≤◌}
+use Rattle.std.proofs.Common.{add-one}
 use Rattle.krl.proofs.Booleans.{or_group}
 
 -- a run is carried along the serials: the next serial makes it longer, and any other begins a run

@@ -1,12 +1,7 @@
 -- Runs, and one interval more.
-use Rattle.std.proofs.Common.{◌≡◌, ℕ, ◌+◌, ◌<◌, ◌≤◌, ◌^◌, List, [], ◌∷◌, ◌&&◌, ◌||◌, leb, refl, ap, ◌∙◌, arith, inl}
-use Rattle.std.proofs.Common.{inr}
-use Rattle.std.specs.Prelude.{nat_lt, min, max, if◌then◌else◌}
-use Rattle.std.proofs.lemmas.Bool.{cases_lt, le-ltb}
-use Rattle.std.proofs.lemmas.Bool.Decides.{nat_tests}
-use Rattle.krl.specs.declared.run.Run.{Run}
-use Rattle.krl.specs.Sets.{is_within, contains, AreRunsFrom}
-use Rattle.lines.proofs.Cases.{or_order}
+use Rattle.krl.proofs.Words.{AreRunsFrom, List, Run, [], ap, arith, cases_lt, contains, if◌then◌else◌, inl, inr}
+use Rattle.krl.proofs.Words.{is_within, le-ltb, leb, max, min, nat_lt, nat_tests, or_order, refl, ℕ, ◌&&◌, ◌+◌, ◌<◌}
+use Rattle.krl.proofs.Words.{◌^◌, ◌||◌, ◌∙◌, ◌∷◌, ◌≡◌, ◌≤◌}
 use Rattle.krl.proofs.Booleans.{ltb-yes, or_group}
 use Rattle.krl.proofs.Maximal.{weaken}
 

@@ -1,19 +1,13 @@
 -- Lengths of parts and of lists, as sums.
-use Rattle.std.proofs.Common.{◌≡◌, ℕ, ◌+◌, ◌*◌, ◌<◌, ◌≤◌, List, [], ◌∷◌, ◌++◌, length, Bool, true, false, cond, refl}
-use Rattle.std.proofs.Common.{sym, ap, ◌∙◌, arith, length-append}
-use Rattle.std.specs.List.{sum_by, flat_map}
-use Rattle.std.proofs.lemmas.Bool.Decides.{nat_tests}
-use Rattle.std.proofs.lemmas.Grind.{flat_map-append}
+use Rattle.krl.proofs.Words.{Bool, CaPart, KeyIds, List, Range, Run, Serials, [], ap, arith, ca_section, cond, false}
+use Rattle.krl.proofs.Words.{flat_map, flat_map-append, is_idle, is_short, key_blob, key_id_length, key_id_parts}
+use Rattle.krl.proofs.Words.{length, length-append, listed, listed_length, listed_text, nat_tests, part_text}
+use Rattle.krl.proofs.Words.{published_sections, range_length, range_text, ranges, refl, section_data, section_length}
+use Rattle.krl.proofs.Words.{section_text, serial_list, serial_parts, serials_of, string_text, sum_by, sym, true}
+use Rattle.krl.proofs.Words.{u64_text, ℕ, ◌*◌, ◌++◌, ◌+◌, ◌<◌, ◌∙◌, ◌∷◌, ◌≡◌, ◌≤◌}
 use Rattle.std.proofs.lemmas.List.Sums.{sum_by-cons}
-use Rattle.wire.specs.Texts.{u64_text, string_text}
-use Rattle.lines.specs.Keys.{key_blob}
-use Rattle.krl.specs.declared.run.Run.{Run}
-use Rattle.krl.specs.declared.ca_part.CaPart.{CaPart}
-use Rattle.krl.specs.Format.{Serials, Range, KeyIds, part_text, section_data, section_text}
-use Rattle.krl.specs.Published.{is_short, serials_of, listed, ranges, serial_list, serial_parts, serial_length}
-use Rattle.krl.specs.Published.{key_id_parts, is_idle, ca_section, published_sections}
-use Rattle.krl.specs.Lengths.{listed_text, listed_length, range_text, range_length, key_id_length, tagged_length}
-use Rattle.krl.specs.Lengths.{section_length}
+use Rattle.krl.specs.Published.{serial_length}
+use Rattle.krl.specs.Lengths.{tagged_length}
 
 pub u64s_length : (ns : List ℕ) → length (flat_map u64_text ns) ≡ 8 * length ns
 u64s_length [] = refl
@@ -111,6 +105,13 @@ ids_within ids p = let all = data_lengths ids p in let more = tagged_more (sum_b
 
 pub serials_within : (ids : List (List ℕ)) (p : CaPart) → serial_length p.runs ≤ length (section_data (ca_section ids p))
 serials_within ids p = let all = data_lengths ids p in omega arith
+
+-- what is known of the length of the serial parts, of a section's data, and of what is within it
+pub ruleset serials_len = (serial_lengths, listed_within, ranges_within)
+
+pub ruleset data_len = (data_lengths, serials_within, ids_within)
+
+pub ruleset within_data = (ids_within, serials_within, listed_within)
 
 pub sections_length : (cas : List CaPart) (ids : List (List ℕ)) → length (flat_map section_text (published_sections cas ids)) ≡ sum_by (section_length ids) cas
 sections_length [] ids = refl

@@ -1,3 +1,4 @@
+pub mod Words
 pub mod Booleans
 pub mod Maximal
 pub mod Covering
@@ -9,11 +10,9 @@ pub mod Texts
 pub mod FaultLaws
 pub mod Bytes
 pub mod Items
-pub mod PartReading
 pub mod SectionReading
 pub mod Shortest
 pub mod ShortestParts
 pub mod Publishing
 pub mod LengthLaws
 pub mod WritingLaws
-pub mod PublishedLaws

@@ -1,11 +1,9 @@
 -- The runs of a set are its intervals that can't be made longer.
-use Rattle.std.proofs.Common.{◌≡◌, ℕ, ◌+◌, ◌-◌, ◌<◌, ◌≤◌, List, [], ◌∷◌, Bool, true, false, ◌&&◌, ◌||◌, leb, refl, sym}
-use Rattle.std.proofs.Common.{ap, subst, ◌∙◌, arith, inl, inr}
-use Rattle.std.specs.List.{list_any}
-use Rattle.std.proofs.lemmas.Bool.{cases_lt, or_left}
-use Rattle.std.proofs.lemmas.Bool.Decides.{nat_tests}
-use Rattle.krl.specs.declared.run.Run.{Run}
-use Rattle.krl.specs.Sets.{is_within, contains, AreRunsFrom, IsRunOf, IsOneOf, HasAll}
+use Rattle.krl.proofs.Words.{AreRunsFrom, Bool, IsOneOf, IsRunOf, List, Run, [], ap, arith, cases_lt, contains, false}
+use Rattle.krl.proofs.Words.{inl, inr, is_within, leb, list_any, nat_tests, refl, subst, sym, true, ℕ, ◌&&◌, ◌+◌, ◌-◌}
+use Rattle.krl.proofs.Words.{◌<◌, ◌||◌, ◌∙◌, ◌∷◌, ◌≡◌, ◌≤◌}
+use Rattle.std.proofs.lemmas.Bool.{or_left}
+use Rattle.krl.specs.Sets.{HasAll}
 use Rattle.krl.proofs.Booleans.{is_in, is_under, is_over, ends, or_true, or_cases, clash}
 
 -- what stands before the runs is not in them

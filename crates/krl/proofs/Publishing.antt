@@ -1,28 +1,21 @@
 -- The published list is lawful and supported, and revokes just what its parts name.
-use Rattle.std.proofs.Common.{◌≡◌, ◌≢◌, ℕ, suc, ◌+◌, ◌<◌, ◌≤◌, ◌^◌, List, [], ◌∷◌, ◌++◌, length, Bool, true, false}
-use Rattle.std.proofs.Common.{◌&&◌, ◌||◌, cond, eqb, leb, inl, inr, refl, sym, ap, subst, ◌∙◌, arith, length-append}
-use Rattle.std.specs.List.{list_any, list_all, flat_map, AllByRecursion}
-use Rattle.std.specs.Str.{bytes_eq}
-use Rattle.std.proofs.lemmas.Bool.{and_from, and_parts}
-use Rattle.std.proofs.lemmas.Bool.Decides.{nat_tests}
-use Rattle.std.proofs.lemmas.List.Folds.{list_all-append, list_any-append}
+use Rattle.krl.proofs.Words.{AllByRecursion, AreRuns, AreRunsFrom, Bool, CaPart, IsCut, IsPart, IsSection, IsString}
+use Rattle.krl.proofs.Words.{KeyIds, KrlHead, List, Part, Range, Run, [], and-false, and_from, and_parts, ap, arith}
+use Rattle.krl.proofs.Words.{bytes_eq, ca_section, cond, contains, eqb, false, fits, flat_map, inl, inr, is_for}
+use Rattle.krl.proofs.Words.{is_idle, is_short, is_supported_part, is_supported_section, key_blob, key_id_parts, leb}
+use Rattle.krl.proofs.Words.{length, length-append, list_all, list_any, list_any-append, listed, named_set, names}
+use Rattle.krl.proofs.Words.{names_serial, nat_tests, or-false, part_data, part_fits, part_text, published_sections}
+use Rattle.krl.proofs.Words.{ranges, refl, section_data, section_revokes, serial_list, serial_parts, serials_of}
+use Rattle.krl.proofs.Words.{string_text, subst, suc, sym, true, ℕ, ◌&&◌, ◌++◌, ◌+◌, ◌<◌, ◌^◌, ◌||◌, ◌∙◌, ◌∷◌, ◌≡◌, ◌≢◌}
+use Rattle.krl.proofs.Words.{◌≤◌}
+use Rattle.std.proofs.lemmas.List.Folds.{list_all-append}
 use Rattle.std.proofs.lemmas.Slice.Eq.{bytes_eq-Decides}
-use Rattle.wire.specs.Texts.{string_text}
-use Rattle.lines.specs.Keys.{key_blob}
-use Rattle.krl.specs.declared.run.Run.{Run}
-use Rattle.krl.specs.declared.ca_part.CaPart.{CaPart}
-use Rattle.krl.specs.declared.krl_head.KrlHead.{KrlHead}
-use Rattle.krl.specs.Sets.{contains, AreRunsFrom, AreRuns}
-use Rattle.krl.specs.Format.{Part, Range, KeyIds, part_data, part_text, names, section_data, section_revokes, is_for}
-use Rattle.krl.specs.Format.{is_supported_part, is_supported_section, IsString, IsPart, IsPartContent, IsSection, IsCut}
-use Rattle.krl.specs.Published.{names_serial, named_set, is_short, serials_of, listed, ranges, serial_list}
-use Rattle.krl.specs.Published.{serial_parts, key_id_parts, is_idle, ca_section, published_sections, published_list}
-use Rattle.krl.specs.Published.{published_text, part_fits, fits, is_key_id, IsCaPartOf, AreDistinctCas, RevokesExactly}
+use Rattle.krl.specs.Format.{IsPartContent}
+use Rattle.krl.specs.Published.{published_list, published_text, is_key_id, IsCaPartOf, AreDistinctCas, RevokesExactly}
 use Rattle.krl.specs.Published.{AreOnly}
 use Rattle.krl.proofs.Booleans.{clash}
 use Rattle.krl.proofs.Texts.{cut_unique}
 use Rattle.krl.proofs.ShortestParts.{serials_named}
-use Rattle.std.proofs.Math.Bool.{or-false, and-false}
 
 -- ---- lawful
 

@@ -1,20 +1,63 @@
--- Sections and lists that are read.
-use Rattle.std.proofs.Common.{◌≡◌, ◌≢◌, ℕ, List, [], ◌∷◌, ◌++◌, Bool, true, ◌&&◌, Option, Some, None, Result, Ok}
-use Rattle.std.proofs.Common.{Err, inl, inr, refl, sym, ap, ◌∙◌}
-use Rattle.std.specs.Prelude.{IfOk, IfErr, MatchOption}
-use Rattle.std.specs.List.{list_all, flat_map, AllByRecursion}
-use Rattle.std.proofs.lemmas.Bool.{ne_eqb}
-use Rattle.wire.specs.Texts.{string_text}
-use Rattle.krl.specs.declared.krl_fault.KrlFault.{KrlFault}
-use Rattle.krl.specs.declared.krl_fault.KrlFault.TheVariants.{Unsupported}
-use Rattle.krl.specs.Format.{Part, part_text, tagged_text, names, Section, Certificates, section_text, section_revokes}
-use Rattle.krl.specs.Format.{is_for, Header, header_text, RevocationList, is_supported, is_supported_part}
-use Rattle.krl.specs.Format.{is_supported_section, revokes, IsString, IsPart, IsSection, IsHeader, IsCut}
-use Rattle.krl.specs.Faults.{FieldFault, ItemFault, NothingAfter, IsReadPart, CertificatesFault, SectionFault}
-use Rattle.krl.specs.Faults.{IsReadSection, FirstFault}
-use Rattle.krl.specs.Reading.{AreItems, ReadsCertificates, ReadsList}
+-- Parts, sections and lists that are read.
+use Rattle.krl.proofs.Words.{AllByRecursion, Bool, Certificates, CertificatesFault, FieldFault, FirstFault, Header}
+use Rattle.krl.proofs.Words.{IfNone, IfOk, IfSome, IsCut, IsHeader, IsPart, IsReadPart, IsReadSection, IsSection}
+use Rattle.krl.proofs.Words.{IsString, IsU64, ItemFault, KeyIds, KrlFault, List, MatchOption, None, Option, OtherPart}
+use Rattle.krl.proofs.Words.{Part, Range, ReadsList, Result, RevocationList, Run, Section, SectionFault, Serials, Some}
+use Rattle.krl.proofs.Words.{[], ap, arith, bytes_eq, flat_map, header_text, inl, inr, is_for, is_supported}
+use Rattle.krl.proofs.Words.{is_supported_part, is_supported_section, is_within, list_all, names, ne_eqb, part_text}
+use Rattle.krl.proofs.Words.{refl, section_revokes, section_text, string_text, subst, sym, true, u64_text, ℕ, ◌&&◌}
+use Rattle.krl.proofs.Words.{◌++◌, ◌<◌, ◌==◌, ◌^◌, ◌∙◌, ◌∷◌, ◌≡◌, ◌≢◌}
+use Rattle.krl.specs.Reading.{AreItems}
+use Rattle.std.specs.Prelude.{IfErr}
+use Rattle.std.specs.Option.{ok_or}
+use Rattle.krl.specs.declared.krl_fault.KrlFault.TheVariants.{BadSection, Unsupported}
+use Rattle.krl.specs.Faults.{NoPart, NothingAfter}
+use Rattle.krl.specs.Reading.{ReadsPartData, RefusesPartData, ReadsCertificates}
+use Rattle.std.proofs.Common.{Ok, Err}
+use Rattle.krl.specs.Format.{tagged_text, revokes}
 use Rattle.krl.proofs.Texts.{cut_unique}
 use Rattle.krl.proofs.FaultLaws.{no_first_fault, one_first_fault}
+
+-- ---- parts
+
+no_serials : (bytes : List ℕ) → ((ns : List ℕ) → AllByRecursion IsU64 ns → bytes ≢ flat_map u64_text ns) → NoPart (0x20, bytes)
+no_serials bytes none (Serials ns) h t e = none ns h.0 (sym e)
+no_serials bytes none (Range r) h t e = omega arith
+no_serials bytes none (KeyIds ids) h t e = omega arith
+no_serials bytes none (OtherPart u b) h t e = h.0.0 t
+
+no_range : (bytes : List ℕ) → ((r : Run) → r.lo < 2 ^ 64 → r.hi < 2 ^ 64 → bytes ≢ u64_text r.lo ++ u64_text r.hi) → NoPart (0x21, bytes)
+no_range bytes none (Serials ns) h t e = omega arith
+no_range bytes none (Range r) h t e = none r h.0.0 h.0.1 (sym e)
+no_range bytes none (KeyIds ids) h t e = omega arith
+no_range bytes none (OtherPart u b) h t e = h.0.1 t
+
+no_key_ids : (bytes : List ℕ) → ((ids : List (List ℕ)) → ids ≢ [] → AllByRecursion IsString ids → bytes ≢ flat_map string_text ids) → NoPart (0x23, bytes)
+no_key_ids bytes none (Serials ns) h t e = omega arith
+no_key_ids bytes none (Range r) h t e = omega arith
+no_key_ids bytes none (KeyIds ids) h t e = none ids h.0.0 h.0.1 (sym e)
+no_key_ids bytes none (OtherPart u b) h t e = h.0.2 t
+
+-- what a serial list's reader answers
+pub serials_read : (bytes : List ℕ) (serial : ℕ) (key_id : List ℕ) → IsString bytes → (o : Option Bool) → IfSome o (AreItems u64_text IsU64 (λ n. serial == n) bytes) → IfNone o ((ns : List ℕ) → AllByRecursion IsU64 ns → bytes ≢ flat_map u64_text ns)
+    → IfOk (ok_or o BadSection) (ReadsPartData 0x20 bytes serial key_id) × IfErr (ok_or o BadSection) (RefusesPartData 0x20 bytes)
+serials_read bytes serial key_id fits (Some b) found none = ((Serials found.0, record { lawful = (found.1, subst IsString found.2 fits); supported = refl }, refl, sym found.2, found.3), tt)
+serials_read bytes serial key_id fits None found none = (tt, (no_serials bytes none, refl))
+
+-- what a range's reader answers
+pub range_read : (bytes : List ℕ) (serial : ℕ) (key_id : List ℕ) → IsString bytes → (o : Option Bool) → IfSome o (λ b. (r : Run) × (r.lo < 2 ^ 64) × (r.hi < 2 ^ 64) × (bytes ≡ u64_text r.lo ++ u64_text r.hi) × (b ≡ is_within serial r)) → IfNone o ((r : Run) → r.lo < 2 ^ 64 → r.hi < 2 ^ 64 → bytes ≢ u64_text r.lo ++ u64_text r.hi)
+    → IfOk (ok_or o BadSection) (ReadsPartData 0x21 bytes serial key_id) × IfErr (ok_or o BadSection) (RefusesPartData 0x21 bytes)
+range_read bytes serial key_id fits (Some b) found none = ((Range found.0, record { lawful = ((found.1, found.2), subst IsString found.3 fits); supported = refl }, refl, sym found.3, found.4), tt)
+range_read bytes serial key_id fits None found none = (tt, (no_range bytes none, refl))
+
+-- what a key id list's reader answers
+pub key_ids_read : (bytes : List ℕ) (serial : ℕ) (key_id : List ℕ) → IsString bytes → (o : Option Bool) → IfSome o (λ b. bytes ≢ []) → IfSome o (AreItems string_text IsString (λ i. bytes_eq i key_id) bytes) → IfNone o ((ids : List (List ℕ)) → ids ≢ [] → AllByRecursion IsString ids → bytes ≢ flat_map string_text ids)
+    → IfOk (ok_or o BadSection) (ReadsPartData 0x23 bytes serial key_id) × IfErr (ok_or o BadSection) (RefusesPartData 0x23 bytes)
+key_ids_read bytes serial key_id fits (Some b) some found none =
+    ((KeyIds found.0, record { lawful = ((λ none. some (found.2 ∙ ap (flat_map string_text) none), found.1), subst IsString found.2 fits); supported = refl }, refl, sym found.2, found.3), tt)
+key_ids_read bytes serial key_id fits None some found none = (tt, (no_key_ids bytes none, refl))
+
+-- ---- sections
 
 lawful_parts : (ps : List Part) → AllByRecursion IsReadPart ps → AllByRecursion IsPart ps × (list_all is_supported_part ps ≡ true)
 lawful_parts [] h = (tt, refl)

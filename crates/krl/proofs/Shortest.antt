@@ -1,13 +1,10 @@
 -- No parts that name the set of the runs are shorter than those that are written.
-use Rattle.std.proofs.Common.{◌≡◌, ℕ, ◌+◌, ◌-◌, ◌*◌, ◌<◌, ◌≤◌, List, [], ◌∷◌, ◌++◌, length, Bool, true, false, ◌&&◌}
-use Rattle.std.proofs.Common.{◌||◌, cond, leb, eqb, refl, sym, ap, subst, ◌∙◌, arith, inl, inr, length-append}
-use Rattle.std.specs.Prelude.{nat_lt, if◌then◌else◌}
-use Rattle.std.proofs.lemmas.Bool.{cases_Bool, cases_lt, le-ltb, eqb-true, ne_eqb}
-use Rattle.std.proofs.lemmas.Bool.Decides.{nat_tests}
-use Rattle.krl.specs.declared.run.Run.{Run}
-use Rattle.krl.specs.Sets.{is_within, contains, is_among, AreRunsFrom, AreRuns, IsRunOf, IsOneOf}
-use Rattle.krl.specs.Format.{Part, Serials, Range, KeyIds, OtherPart}
-use Rattle.krl.specs.Published.{is_short, serials_of, listed, ranges, serial_list}
+use Rattle.krl.proofs.Words.{AreRuns, AreRunsFrom, Bool, IsOneOf, IsRunOf, KeyIds, List, OtherPart, Part, Range, Run}
+use Rattle.krl.proofs.Words.{Serials, [], ap, arith, cases_Bool, cases_lt, cond, contains, eqb, false, if◌then◌else◌}
+use Rattle.krl.proofs.Words.{inl, inr, is_among, is_short, is_within, le-ltb, leb, length, length-append, listed}
+use Rattle.krl.proofs.Words.{nat_lt, nat_tests, ne_eqb, ranges, refl, serial_list, serials_of, subst, sym, true, ℕ}
+use Rattle.krl.proofs.Words.{◌&&◌, ◌*◌, ◌++◌, ◌+◌, ◌-◌, ◌<◌, ◌||◌, ◌∙◌, ◌∷◌, ◌≡◌, ◌≤◌}
+use Rattle.std.proofs.lemmas.Bool.{eqb-true}
 use Rattle.krl.proofs.Booleans.{ltb-yes, is_in, or_true, or_cases, clash}
 use Rattle.krl.proofs.Maximal.{run_of, each_is_run, none_below, member_contains}
 
@@ -116,10 +113,7 @@ each_listed r es rs n is none p q =
     ]
 
 least_small : (r : Run) → r.lo ≤ r.hi → least_of r ≤ 21
-least_small r le = elim (cases_lt r.hi (r.lo + 2)) [
-  | inl lt ↦ rw (ltb-yes lt) (omega arith)
-  | inr ge ↦ rw (le-ltb _ _ ge) (omega arith)
-]
+least_small r le = grind (arith, nat_tests)
 
 listed_costs : (r : Run) (es : List ℕ) → r.lo ≤ r.hi → ((n : ℕ) → r.lo ≤ n → n ≤ r.hi → has es n ≡ true) → least_of r ≤ 8 * how_many (λ e. is_within e r) es
 listed_costs r es le each = elim (cases_lt r.hi (r.lo + 2)) [
@@ -228,10 +222,7 @@ short_saves from (r ∷ rs) h =
     omega arith
   where
     one_saves : (r : Run) → r.lo ≤ r.hi → least_of r + 5 * cond (is_short r) 1 0 ≤ 21
-    one_saves r le = elim (cases_lt r.hi (r.lo + 2)) [
-      | inl lt ↦ rw (ltb-yes lt) (omega arith)
-      | inr ge ↦ rw (le-ltb _ _ ge) (omega arith)
-    ]
+    one_saves r le = grind (arith, nat_tests)
 
 pub lists_len : (ns : List ℕ) → parts_len (serial_list ns) ≤ 5 + 8 * length ns
 lists_len [] = omega arith

@@ -1,20 +1,13 @@
 -- No parts that name the set of the runs are shorter, whatever they are.
-use Rattle.std.proofs.Common.{◌≡◌, ℕ, ◌+◌, ◌*◌, ◌<◌, ◌≤◌, List, [], ◌∷◌, ◌++◌, length, true, false, ◌||◌}
-use Rattle.std.proofs.Common.{cond, eqb, refl, sym, ap, ◌∙◌, arith, inl, inr, length-append}
-use Rattle.std.specs.List.{flat_map}
-use Rattle.std.proofs.lemmas.Bool.{cases_lt, le-ltb}
-use Rattle.std.proofs.lemmas.Bool.Decides.{nat_tests}
-use Rattle.std.proofs.lemmas.List.Folds.{list_any-append}
+use Rattle.krl.proofs.Words.{AreRuns, AreRunsFrom, AreShortest, KeyIds, List, OtherPart, Part, Range, Run, Serials, []}
+use Rattle.krl.proofs.Words.{ap, arith, cases_lt, cond, contains, eqb, false, flat_map, inl, inr, is_among, is_short}
+use Rattle.krl.proofs.Words.{is_within, le-ltb, length, length-append, list_any-append, listed, named_set, names_serial}
+use Rattle.krl.proofs.Words.{nat_tests, or-false, or_order, part_text, ranges, refl, serial_list, serial_parts}
+use Rattle.krl.proofs.Words.{serials_of, sym, true, ℕ, ◌*◌, ◌++◌, ◌+◌, ◌<◌, ◌||◌, ◌∙◌, ◌∷◌, ◌≡◌, ◌≤◌}
 use Rattle.std.proofs.lemmas.List.{nil_from_length}
-use Rattle.krl.specs.declared.run.Run.{Run}
-use Rattle.krl.specs.Sets.{is_within, contains, is_among, AreRunsFrom, AreRuns}
-use Rattle.krl.specs.Format.{Part, Serials, Range, KeyIds, OtherPart, part_text}
-use Rattle.krl.specs.Published.{names_serial, named_set, parts_length, is_short, serials_of, listed, ranges}
-use Rattle.krl.specs.Published.{serial_list, serial_parts, AreShortest}
-use Rattle.lines.proofs.Cases.{or_order}
+use Rattle.krl.specs.Published.{parts_length}
 use Rattle.krl.proofs.Booleans.{ltb-yes, or_group}
 use Rattle.krl.proofs.LengthLaws.{u64s_length}
-use Rattle.std.proofs.Math.Bool.{or-false}
 use Rattle.krl.proofs.Shortest.{part_len, parts_len, has, least_of_all, least, ranges_alone, how_short, short_saves}
 use Rattle.krl.proofs.Shortest.{lists_len, parts_len-append, written_cost, no_listed}
 

@@ -1,17 +1,16 @@
 -- Runs cut at serials.
-use Rattle.std.proofs.Common.{◌≡◌, ℕ, zero, suc, ◌+◌, ◌-◌, ◌<◌, ◌≤◌, List, [], ◌∷◌, length, get_or, drop, Bool, true}
-use Rattle.std.proofs.Common.{false, ◌&&◌, ◌||◌, ◌⊎◌, leb, ltb, Option, Some, None, refl, sym, ap, ◌∙◌, arith, inl, inr}
-use Rattle.std.specs.Prelude.{min, max, slice_get}
-use Rattle.std.specs.List.{list_all, filter_map}
+use Rattle.krl.proofs.Words.{AreRunsFrom, Bool, List, None, Option, Run, Some, [], and-false, ap, arith, cases_lt}
+use Rattle.krl.proofs.Words.{contains, drop, false, get_or, inl, inr, is_last_reached, is_within, le-leb, le-ltb, leb}
+use Rattle.krl.proofs.Words.{length, list_all, ltb, max, min, nat_tests, refl, suc, sym, true, zero, ℕ, ◌&&◌, ◌+◌, ◌-◌}
+use Rattle.krl.proofs.Words.{◌<◌, ◌||◌, ◌∙◌, ◌∷◌, ◌≡◌, ◌≤◌, ◌⊎◌}
+use Rattle.std.specs.Prelude.{slice_get}
+use Rattle.std.specs.List.{filter_map}
 use Rattle.std.specs.List.Sorted.{IsNonDecreasing}
-use Rattle.std.proofs.lemmas.Bool.{cases_lt, le-leb, le-ltb}
-use Rattle.std.proofs.lemmas.Bool.Decides.{nat_tests}
+use Rattle.std.proofs.lemmas.Bool.{lt-leb}
 use Rattle.std.proofs.lemmas.List.Sorted.{IsNonDecreasingBy-drop}
-use Rattle.krl.specs.declared.run.Run.{Run}
-use Rattle.krl.specs.Sets.{is_within, contains, AreRunsFrom, is_before, is_last_reached, cut_run}
+use Rattle.krl.specs.Sets.{is_before, cut_run}
 use Rattle.krl.proofs.Booleans.{ltb-yes}
 use Rattle.krl.proofs.Maximal.{weaken}
-use Rattle.std.proofs.Math.Bool.{and-false}
 
 -- the serials from one on and below a bound
 abbrev pub is_between : ℕ → Option ℕ → ℕ → Bool
@@ -23,17 +22,14 @@ CutCases from before r =
     ((cut_run from before r ≡ None) × ((n : ℕ) → (is_between from before n && is_within n r) ≡ false))
     ⊎ ((c : Run) × (cut_run from before r ≡ Some c) × (r.lo ≤ c.lo) × (c.lo ≤ c.hi) × (c.hi ≤ r.hi) × ((n : ℕ) → is_within n c ≡ (is_between from before n && is_within n r)))
 
-leb-no : (a b : ℕ) → b < a → leb a b ≡ false
-leb-no a b lt = grind (arith, nat_tests)
-
 cut_cases : (from : ℕ) (before : Option ℕ) (r : Run) → r.lo ≤ r.hi → CutCases from before r
 cut_cases from None r le = elim (cases_lt r.hi (max r.lo from)) [
-  | inl lt ↦ inl (rw (leb-no (max r.lo from) r.hi lt) refl, λ n. grind (arith, nat_tests))
+  | inl lt ↦ inl (rw (lt-leb (max r.lo from) r.hi lt) refl, λ n. grind (arith, nat_tests))
   | inr ge ↦ inr (record { lo = max r.lo from; hi = r.hi }, rw (le-leb (max r.lo from) r.hi ge) refl, omega arith, ge, omega arith, λ n. grind (arith, nat_tests))
 ]
 cut_cases from (Some bound) r le = elim (cases_lt (max r.lo from) bound) [
-  | inl lt ↦ rw (leb-no bound (max r.lo from) lt) (elim (cases_lt (min r.hi (bound - 1)) (max r.lo from)) [
-    | inl none ↦ inl (rw (leb-no (max r.lo from) (min r.hi (bound - 1)) none) refl, λ n. grind (arith, nat_tests))
+  | inl lt ↦ rw (lt-leb bound (max r.lo from) lt) (elim (cases_lt (min r.hi (bound - 1)) (max r.lo from)) [
+    | inl none ↦ inl (rw (lt-leb (max r.lo from) (min r.hi (bound - 1)) none) refl, λ n. grind (arith, nat_tests))
     | inr ge ↦ inr (record { lo = max r.lo from; hi = min r.hi (bound - 1) }, rw (le-leb (max r.lo from) (min r.hi (bound - 1)) ge) refl, omega arith, ge, omega arith, λ n. grind (arith, nat_tests))
   ])
   | inr past ↦ inl (rw (le-leb bound (max r.lo from) past) refl, λ n. grind (arith, nat_tests))

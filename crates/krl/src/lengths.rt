@@ -81,7 +81,7 @@ pub(crate) fn key_ids_len(ids: &[Text]) -> Option<u64>
 }
 
 // The length of the serial parts of the runs.
-#[tactic(auto, using(crate::proofs::LengthLaws::serial_lengths, crate::proofs::LengthLaws::listed_within, crate::proofs::LengthLaws::ranges_within))]
+#[tactic(auto, using(crate::proofs::LengthLaws::serials_len))]
 pub(crate) fn serials_len(runs: &[Run]) -> Option<u64>
     ensures { SomeIff result (serial_length runs.now ≤ 4294967295) (serial_length runs.now) }
 {
@@ -103,7 +103,7 @@ pub(crate) fn is_idle_part(part: &CaPart, ids: &[Text]) -> bool
 }
 
 /// The length of the data of the CA's section.
-#[tactic(auto, using(crate::proofs::LengthLaws::data_lengths, crate::proofs::LengthLaws::serials_within, crate::proofs::LengthLaws::ids_within))]
+#[tactic(auto, using(crate::proofs::LengthLaws::data_len))]
 pub(crate) fn section_data_len(part: &CaPart, ids: &[Text]) -> Option<u64>
     ensures { SomeIff result (length (section_data (ca_section ids.now part.now)) ≤ 4294967295)
         (length (section_data (ca_section ids.now part.now))) }

@@ -181,7 +181,7 @@ fn write_parts<W: Sink>(runs: &[Run], ids: &[Text], sink: &mut W) -> Result<(), 
 }
 
 // The data of a CA's section.
-#[tactic(auto, using(crate::proofs::LengthLaws::ids_within, crate::proofs::LengthLaws::serials_within, crate::proofs::LengthLaws::listed_within))]
+#[tactic(auto, using(crate::proofs::LengthLaws::within_data))]
 fn write_data<W: Sink>(part: &CaPart, ids: &[Text], sink: &mut W) -> Result<(), Failed>
     requires writer { W.failed sink.old < u64.MAX }
     requires fits { length (section_data (ca_section ids.now part.now)) ≤ 4294967295 }

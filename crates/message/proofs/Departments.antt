@@ -1,22 +1,17 @@
 -- Departments: what is read is a department's text, its text is read, and the first fault.
-use Rattle.std.proofs.Common.{◌≡◌, ℕ, List, [], ◌∷◌, ◌++◌, true, ◌&&◌, Some, None, refl, sym, ap, ◌∙◌, inl, inr}
-use Rattle.std.specs.Prelude.{codes}
-use Rattle.std.specs.Str.{bytes_eq}
-use Rattle.std.proofs.lemmas.Bool.{and_parts, and_from, cases_Bool, cond-true, cond-false}
-use Rattle.std.proofs.lemmas.Option.{same_Some}
-use Rattle.std.proofs.lemmas.Slice.Eq.{bytes_eq-Decides}
-use Rattle.values.specs.Names.{is_name}
+use Rattle.message.proofs.Words.{List, Some, User, [], and_from, and_parts, ap, are_administrators, are_extension_names}
+use Rattle.message.proofs.Words.{are_namespaces, are_option_names, are_rules, bytes_eq, bytes_eq-Decides, codes}
+use Rattle.message.proofs.Words.{cond_some, department_lines, inl, inr, is_department, is_longest_life, is_name}
+use Rattle.message.proofs.Words.{kind_text, refl, same_Some, true, ℕ, ◌&&◌, ◌++◌, ◌∙◌, ◌∷◌, ◌≡◌}
 use Rattle.values.specs.declared.kind.Kind.{Kind}
-use Rattle.values.specs.declared.kind.Kind.TheVariants.{User, Host}
+use Rattle.values.specs.declared.kind.Kind.TheVariants.{Host}
 use Rattle.message.specs.declared.department.Department.{Department}
-use Rattle.message.specs.Values.{are_administrators, are_rules, are_option_names, are_extension_names, are_namespaces}
-use Rattle.message.specs.Values.{fits_kind, is_longest_life, is_department}
-use Rattle.message.specs.Texts.{kind_text, department_lines}
+use Rattle.message.specs.Values.{fits_kind}
 use Rattle.message.specs.Reading.{kind_of, department_in}
-use Rattle.message.proofs.Readings.{IsField, IsLine, IsReading}
-use Rattle.message.proofs.FirstLines.{line_then}
+use Rattle.message.proofs.Lines.{chosen}
+use Rattle.message.proofs.Readings.{IsField, IsLine, IsReading, and_then, same_values}
+use Rattle.message.proofs.Choices.{line_then}
 use Rattle.message.proofs.Ends.{then_end}
-use Rattle.message.proofs.Wordings.{same_messages}
 use Rattle.message.proofs.Fields.{lacks_by, text_field, list_field}
 use Rattle.message.proofs.Elements.{name_lacks, administrators_lack, rules_lack, option_names_lack}
 use Rattle.message.proofs.Elements.{extension_names_lack, namespaces_lack}
@@ -32,18 +27,12 @@ kind_field = record {
 }
   where
     kind_found : (l : List ℕ) (k : Kind) → kind_of l ≡ Some k → l ≡ codes "kind " ++ kind_text k
-    kind_found l k e = elim (cases_Bool (bytes_eq l (codes "kind user"))) [
-      | inl user ↦ (bytes_eq-Decides l (codes "kind user")).0 user
-          ∙ ap (λ (k : Kind). codes "kind " ++ kind_text k)
-          (same_Some User k (sym (cond-true _ (Some User) _ user) ∙ e))
-      | inr other ↦ elim (cases_Bool (bytes_eq l (codes "kind host"))) [
-        | inl host ↦ (bytes_eq-Decides l (codes "kind host")).0 host
-            ∙ ap (λ (k : Kind). codes "kind " ++ kind_text k)
-            (same_Some Host k (sym (cond-true _ (Some Host) None host)
-            ∙ (sym (cond-false _ (Some User) _ other) ∙ e)))
-        | inr none ↦ absurd (cc
-            (sym (cond-false _ (Some Host) None none) ∙ (sym (cond-false _ (Some User) _ other) ∙ e)))
-      ]
+    kind_found l k e = elim (chosen (bytes_eq l (codes "kind user")) (Some User) _ (Some k) e) [
+      | inl user ↦ (bytes_eq-Decides l (codes "kind user")).0 user.0
+          ∙ ap (λ (k : Kind). codes "kind " ++ kind_text k) (same_Some User k user.1)
+      | inr other ↦
+          let host = cond_some (bytes_eq l (codes "kind host")) Host k other.1 in
+          (bytes_eq-Decides l (codes "kind host")).0 host.0 ∙ ap (λ (k : Kind). codes "kind " ++ kind_text k) host.1
     ]
 
     again : (k : Kind) → kind_of (codes "kind " ++ kind_text k) ≡ Some k
@@ -89,8 +78,7 @@ whole_lines =
       kind = kind;
       administrators = administrators;
       rules = rules;
-      options =
-          options;
+      options = options;
       extensions = extensions;
       longest_life = longest_life;
       namespaces = namespaces;
@@ -109,19 +97,12 @@ whole_lines =
 
 -- a department is read from its text alone, its text is read, and the fault is at the first line of no department
 pub department_reads : IsReading 0 department_in (λ d. is_department d ≡ true) department_lines
-department_reads = same_messages 0 department_in
-    IsWhole (λ d. is_department d ≡ true) department_lines department_lines (λ d is. (to d is, refl)) from whole_lines
-  where
-    to : (d : Department) → IsWhole d → is_department d ≡ true
-    to d is = and_from _ _ is.0 (and_from _ _ is.1.1.0 (and_from _ _ is.1.1.1.0 (and_from _ _ is.1.1.1.1.0
-        (and_from _ _ is.1.1.1.1.1.0 (and_from _ _ is.1.1.1.1.1.1.0 is.1.1.1.1.1.1.1.0)))))
-
-    from : (d : Department) → is_department d ≡ true → IsWhole d
-    from d is =
-        let p1 = and_parts _ _ is in
-        let p2 = and_parts _ _ p1.1 in
-        let p3 = and_parts _ _ p2.1 in
-        let p4 = and_parts _ _ p3.1 in
-        let p5 = and_parts _ _ p4.1 in
-        let p6 = and_parts _ _ p5.1 in
-        (p1.0, (tt, (p2.0, (p3.0, (p4.0, (p5.0, (p6.0, (p6.1, refl))))))))
+department_reads =
+    same_values whole_lines
+    (λ d is. and_from _ _ is.0 (and_from _ _ is.1.1.0 (and_from _ _ is.1.1.1.0 (and_from _ _ is.1.1.1.1.0
+    (and_from _ _ is.1.1.1.1.1.0 (and_from _ _ is.1.1.1.1.1.1.0 is.1.1.1.1.1.1.1.0))))))
+    (λ d. and_then _ _ (λ e. (
+      tt,
+      and_then _ _ (and_then _ _ (and_then _ _ (and_then _ _ (and_then _ _
+          (λ e. (e, refl)))))) e,
+    )))

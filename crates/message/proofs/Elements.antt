@@ -1,20 +1,16 @@
 -- What may stand in a line: no name, rule, principal, key id, namespace, option or number has a line feed or, in
 -- lists, a comma.
-use Rattle.std.proofs.Common.{◌≡◌, ℕ, List, [], ◌∷◌, length, drop, Bool, true, false, not, eqb, refl, sym, ap, subst}
-use Rattle.std.proofs.Common.{◌∙◌, inl, inr}
-use Rattle.std.specs.List.{list_all, list_any}
-use Rattle.std.specs.Str.{bytes_eq}
-use Rattle.std.proofs.lemmas.Bool.{and_parts, or_cases, eqb-true}
-use Rattle.std.proofs.lemmas.List.Elements.{All-append, All-cons}
-use Rattle.std.proofs.lemmas.Slice.Eq.{bytes_eq-Decides}
-use Rattle.values.specs.Names.{is_name, is_name_byte, is_principal, is_principal_byte, is_rule, is_suffix_rule}
-use Rattle.values.specs.Names.{is_key_id, is_key_id_byte, is_key_id_end, is_namespace, department_of}
+use Rattle.message.proofs.Words.{All-append, All-cons, Bool, CriticalOptions, Lacks, List, [], and_parts, ap}
+use Rattle.message.proofs.Words.{are_administrators, are_extension_names, are_namespaces, are_option_names}
+use Rattle.message.proofs.Words.{are_principals, are_rules, bytes_eq, bytes_eq-Decides, drop, eqb, eqb-true, false, inl}
+use Rattle.message.proofs.Words.{inr, is_key_id, is_name, lacks_from, length, list_all, list_any, not, or_cases, refl}
+use Rattle.message.proofs.Words.{subst, sym, true, ℕ, ◌∙◌, ◌∷◌, ◌≡◌}
+use Rattle.values.specs.Names.{is_name_byte, is_principal, is_principal_byte, is_rule, is_suffix_rule, is_key_id_byte}
+use Rattle.values.specs.Names.{is_key_id_end, is_namespace, department_of}
 use Rattle.values.specs.Options.{is_known, known_names}
 use Rattle.values.specs.declared.option_field.OptionField.{OptionField}
-use Rattle.values.specs.declared.option_field.OptionField.TheVariants.{CriticalOptions, Extensions}
-use Rattle.message.specs.Values.{are_administrators, are_rules, are_principals, are_option_names, are_extension_names}
-use Rattle.message.specs.Values.{are_namespaces}
-use Rattle.values.proofs.Lacking.{Lacks, lacks_from}
+use Rattle.values.specs.declared.option_field.OptionField.TheVariants.{Extensions}
+use Rattle.message.specs.Values.{are_distinct_and}
 use Rattle.message.proofs.Fields.{lacks_by, AllLack, all_lack}
 use Rattle.values.proofs.NameLemmas.{department_cut}
 
@@ -90,31 +86,27 @@ abbrev LackBoth : List (List ℕ) → Type 0
 LackBoth ts = AllLack 44 ts × AllLack 10 ts
 
 both_lack : (test : List ℕ → Bool) → ((t : List ℕ) → test t ≡ true → Lacks 44 t)
-    → ((t : List ℕ) → test t ≡ true → Lacks 10 t)
-    → (ts : List (List ℕ)) → list_all test ts ≡ true → LackBoth ts
-both_lack test comma line ts all = (all_lack test 44 comma ts all, all_lack test 10 line ts all)
+    → ((t : List ℕ) → test t ≡ true → Lacks 10 t) → (ts : List (List ℕ)) → are_distinct_and test ts ≡ true → LackBoth ts
+both_lack test comma line ts is =
+    let all = (and_parts (list_all test ts) _ is).0 in (all_lack test 44 comma ts all, all_lack test 10 line ts all)
 
 pub administrators_lack : (ts : List (List ℕ)) → are_administrators ts ≡ true → LackBoth ts
-administrators_lack ts is =
-    both_lack is_name (name_lacks 44 refl) (name_lacks 10 refl) ts (and_parts _ _ (and_parts _ _ is).1).0
+administrators_lack ts is = both_lack is_name (name_lacks 44 refl) (name_lacks 10 refl) ts (and_parts _ _ is).1
 
 pub rules_lack : (ts : List (List ℕ)) → are_rules ts ≡ true → LackBoth ts
-rules_lack ts is = both_lack is_rule (rule_lacks 44 refl refl) (rule_lacks 10 refl refl) ts
-    (and_parts _ _ (and_parts _ _ is).1).0
+rules_lack ts is = both_lack is_rule (rule_lacks 44 refl refl) (rule_lacks 10 refl refl) ts (and_parts _ _ is).1
 
 pub principals_lack : (ts : List (List ℕ)) → are_principals ts ≡ true → LackBoth ts
 principals_lack ts is =
-    both_lack is_principal (principal_lacks 44 refl) (principal_lacks 10 refl) ts (and_parts _ _ (and_parts _ _ is).1).0
+    both_lack is_principal (principal_lacks 44 refl) (principal_lacks 10 refl) ts (and_parts _ _ is).1
 
 pub option_names_lack : (ts : List (List ℕ)) → are_option_names ts ≡ true → LackBoth ts
-option_names_lack ts is =
-    both_lack (is_known CriticalOptions) (known_lacks_comma CriticalOptions) (known_line CriticalOptions) ts
-    (and_parts _ _ is).0
+option_names_lack =
+    both_lack (is_known CriticalOptions) (known_lacks_comma CriticalOptions) (known_line CriticalOptions)
 
 pub extension_names_lack : (ts : List (List ℕ)) → are_extension_names ts ≡ true → LackBoth ts
-extension_names_lack ts is =
-    both_lack (is_known Extensions) (known_lacks_comma Extensions) (known_line Extensions) ts (and_parts _ _ is).0
+extension_names_lack = both_lack (is_known Extensions) (known_lacks_comma Extensions) (known_line Extensions)
 
 pub namespaces_lack : (ts : List (List ℕ)) → are_namespaces ts ≡ true → LackBoth ts
 namespaces_lack ts is =
-    both_lack is_namespace (namespace_lacks 44 refl) (namespace_lacks 10 refl) ts (and_parts _ _ (and_parts _ _ is).1).0
+    both_lack is_namespace (namespace_lacks 44 refl) (namespace_lacks 10 refl) ts (and_parts _ _ is).1

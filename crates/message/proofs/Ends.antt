@@ -1,14 +1,12 @@
 -- The end behind the last line.
-use Rattle.std.proofs.Common.{◌≡◌, ℕ, suc, ◌+◌, ◌-◌, ◌<◌, List, [], ◌∷◌, length, drop, Bool, true, false, cond, eqb}
-use Rattle.std.proofs.Common.{Option, Result, Ok, Err, refl, sym, ap, ◌∙◌, arith, length-drop, eq-eqb}
-use Rattle.std.specs.List.{list_any}
+use Rattle.message.proofs.Words.{Bool, Err, List, Ok, Option, Result, [], and_parts, ap, arith, cond, drop, ends_after}
+use Rattle.message.proofs.Words.{eq-eqb, eqb, eqb-true, false, length, length-drop, list_any, refl, suc, sym, true, ℕ}
+use Rattle.message.proofs.Words.{◌+◌, ◌-◌, ◌<◌, ◌∙◌, ◌∷◌, ◌≡◌}
 use Rattle.std.proofs.Math.Bool.{or-false}
-use Rattle.std.proofs.lemmas.Bool.{eqb-true, and_parts}
-use Rattle.message.specs.Reading.{ends_after, one_line_in}
+use Rattle.message.specs.Reading.{one_line_in}
 use Rattle.message.proofs.Lines.{shares_none}
-use Rattle.message.proofs.Readings.{IsField, FirstFault, IsReading, error_at}
-use Rattle.message.proofs.FirstLines.{line_then}
-use Rattle.message.proofs.Wordings.{same_messages}
+use Rattle.message.proofs.Readings.{IsField, FirstFault, IsReading, error_at, same_values}
+use Rattle.message.proofs.Choices.{line_then}
 
 -- one text, of no bytes
 one_empty : (ls : List (List ℕ)) → length ls ≡ 1 → list_any (λ p. eqb (length p) 0) ls ≡ true → ls ≡ [] ∷ []
@@ -73,5 +71,4 @@ module _ {X : Type 0} (read : List ℕ → Option X) (text : X → List ℕ) (Is
 
   -- the value of a line that is all
   pub one_line : IsReading 0 (one_line_in read) IsLawful (λ x. text x ∷ [])
-  one_line = same_messages 0 (one_line_in read) (λ x. IsLawful x × (x ≡ x)) IsLawful (λ x. text x ∷ [])
-      (λ x. text x ∷ []) (λ x is. (is.0, refl)) (λ x is. (is, refl)) first_alone
+  one_line = same_values first_alone (λ x is. is.0) (λ x is. (is, refl))

@@ -1,9 +1,7 @@
 -- Worked messages, computed by the definitions.
-use Rattle.std.proofs.Common.{◌≡◌, [], ◌∷◌, ◌++◌, codes, replicate, refl, None, Some}
+use Rattle.message.proofs.Words.{None, Some, User, [], codes, message_text, refl, replicate, ◌++◌, ◌∷◌, ◌≡◌}
 use Rattle.std.specs.Fmt.{digits}
 use Rattle.base64.proofs.OnLiterals.{base64_on_literals}
-use Rattle.values.specs.declared.kind.Kind.TheVariants.{User}
-use Rattle.message.specs.Texts.{message_text}
 use Rattle.message.specs.declared.kinds.Message.TheVariants as message
 
 -- a department

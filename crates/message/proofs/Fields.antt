@@ -1,23 +1,15 @@
 -- Values behind a word: what is read is the value's text, and the text is read.
-use Rattle.std.proofs.Common.{◌≡◌, ℕ, List, [], ◌∷◌, ◌++◌, length, take, drop, Bool, true, false, not, eqb, Option}
-use Rattle.std.proofs.Common.{Some, None, refl, sym, ap, subst, ◌∙◌, arith, inl, inr, append-nil}
-use Rattle.std.specs.List.{list_all, slice_split, join_with_byte, AllByRecursion}
-use Rattle.std.specs.Option.{option_and_then}
-use Rattle.std.specs.Str.{bytes_eq}
-use Rattle.std.proofs.Math.Seq.{take-append_seam, drop-append_seam}
-use Rattle.std.proofs.lemmas.Bool.{cases_Bool, cond-true, cond-false, and_parts, eqb-true, not-true}
+use Rattle.message.proofs.Words.{All-append, All-cons, All-nil, AllByRecursion, Bool, IsBytes, IsBytes-drop, Lacks}
+use Rattle.message.proofs.Words.{List, None, Option, Some, [], after, and_parts, ap, append-nil, arith}
+use Rattle.message.proofs.Words.{bytes_eq-Decides, cond-true, cond_some, drop, drop-append_seam, eqb, eqb-true, false}
+use Rattle.message.proofs.Words.{join_with_byte, join_with_byte-slice_split, length, length-slice_split, list_all}
+use Rattle.message.proofs.Words.{list_line, not, not-true, option_and_then, option_and_then_some, refl, same_Some}
+use Rattle.message.proofs.Words.{slice_split, subst, sym, take, true, ℕ, ◌++◌, ◌∙◌, ◌∷◌, ◌≡◌}
+use Rattle.std.proofs.Math.Seq.{take-append_seam}
 use Rattle.std.proofs.lemmas.List.{take-append-drop}
-use Rattle.std.proofs.lemmas.List.Elements.{All-append, All-cons, All-nil}
-use Rattle.std.proofs.lemmas.List.Splits.{join_with_byte-slice_split}
-use Rattle.std.proofs.lemmas.List.Splits.{length-slice_split}
 use Rattle.std.proofs.lemmas.List.Sums.{AllPass-from_list_all}
-use Rattle.std.proofs.lemmas.Option.{option_and_then_some, same_Some}
-use Rattle.std.proofs.lemmas.Slice.Eq.{bytes_eq-Decides}
-use Rattle.base64.specs.GeneralPurpose.{IsBytes}
-use Rattle.values.proofs.Lacking.{Lacks, slice_split-join_with_byte}
-use Rattle.lines.proofs.Base64.{IsBytes-drop}
-use Rattle.message.specs.Texts.{list_line}
-use Rattle.message.specs.Reading.{after, passing, listed}
+use Rattle.values.proofs.Lacking.{slice_split-join_with_byte}
+use Rattle.message.specs.Reading.{passing, listed}
 use Rattle.message.proofs.Readings.{IsField, IsLine}
 
 -- ---- texts that lack a byte
@@ -53,17 +45,13 @@ lacks_joined byte by (t ∷ u ∷ ts) other h =
 -- ---- what follows a word
 
 pub after_found : (head l t : List ℕ) → after head l ≡ Some t → (l ≡ head ++ t) × (t ≡ drop (length head) l)
-after_found head l t e = elim (cases_Bool (bytes_eq (take (length head) l) head)) [
-  | inl passed ↦
-      let same : drop (length head) l ≡ t =
-      same_Some _ _ (sym (cond-true _ (Some (drop (length head) l)) None passed) ∙ e) in
-      let front : take (length head) l ≡ head = (bytes_eq-Decides _ _).0 passed in (
-        sym (take-append-drop (length head) l) ∙ ap (λ (x : List ℕ). x ++ drop (length head) l) front
-            ∙ ap (λ (x : List ℕ). head ++ x) same,
-        sym same,
-      )
-  | inr failed ↦ absurd (cc (sym (cond-false _ (Some (drop (length head) l)) None failed) ∙ e))
-]
+after_found head l t e =
+    let both = cond_some _ (drop (length head) l) t e in
+    let front : take (length head) l ≡ head = (bytes_eq-Decides _ _).0 both.0 in (
+      sym (take-append-drop (length head) l) ∙ ap (λ (x : List ℕ). x ++ drop (length head) l) front
+          ∙ ap (λ (x : List ℕ). head ++ x) both.1,
+      sym both.1,
+    )
 
 pub after_again : (head t : List ℕ) → after head (head ++ t) ≡ Some t
 after_again head t =
@@ -77,11 +65,7 @@ pub record IsValue {X : Type 0} (read : List ℕ → Option X) (text : X → Lis
   pub is_line : (x : X) → IsLawful x → IsLine (text x)
 
 pub passing_some : {X : Type 0} (test : X → Bool) (x y : X) → passing test x ≡ Some y → (test y ≡ true) × (x ≡ y)
-passing_some test x y e = elim (cases_Bool (test x)) [
-  | inl passed ↦ let same : x ≡ y = same_Some _ _ (sym (cond-true _ (Some x) None passed) ∙ e) in
-      (sym (ap test same) ∙ passed, same)
-  | inr failed ↦ absurd (cc (sym (cond-false _ (Some x) None failed) ∙ e))
-]
+passing_some test x y e = let both = cond_some (test x) x y e in (sym (ap test both.1) ∙ both.0, both.1)
 
 -- a value that is read and passes a test
 pub value_passing : {X : Type 0} (read : List ℕ → Option X) (text : X → List ℕ) (test : X → Bool)
@@ -181,13 +165,9 @@ cut_text text (t ∷ ts) e =
 
 listed_found : (t : List ℕ) (ts : List (List ℕ)) → listed t ≡ Some ts → t ≡ listed_text ts
 listed_found [] ts e = ap listed_text (same_Some [] ts e)
-listed_found (b ∷ text) ts e = elim (cases_Bool (eqb b 32)) [
-  | inl space ↦
-      let cut : slice_split (λ c. eqb c 44) text ≡ ts =
-      same_Some _ _ (sym (cond-true _ (Some (slice_split (λ c. eqb c 44) text)) None space) ∙ e) in
-      ap (λ (x : ℕ). x ∷ text) (eqb-true _ _ space) ∙ cut_text text ts cut
-  | inr other ↦ absurd (cc (sym (cond-false _ (Some (slice_split (λ c. eqb c 44) text)) None other) ∙ e))
-]
+listed_found (b ∷ text) ts e =
+    let both = cond_some _ (slice_split (λ c. eqb c 44) text) ts e in
+    ap (λ (x : ℕ). x ∷ text) (eqb-true _ _ both.0) ∙ cut_text text ts both.1
 
 listed_again : (ts : List (List ℕ)) → AllLack 44 ts → listed (listed_text ts) ≡ Some ts
 listed_again [] h = refl

@@ -1,21 +1,14 @@
 -- Issues from their option lines on.
-use Rattle.std.proofs.Common.{◌≡◌, ℕ, zero, suc, ◌+◌, ◌≤◌, List, [], ◌∷◌, ◌++◌, length, map, drop, true, cond, ◌⊎◌}
-use Rattle.std.proofs.Common.{Some, None, Result, Ok, Err, refl, sym, ap, subst, ◌∙◌, arith, inl, inr}
-use Rattle.std.proofs.Common.{append-nil, append_assoc, length-append}
-use Rattle.std.specs.Prelude.{codes}
-use Rattle.std.proofs.Math.Seq.{drop-append_seam, drop-length}
-use Rattle.text.specs.declared.pair.Pair.{Pair}
-use Rattle.lines.specs.declared.key_line.KeyLine.{KeyLine}
-use Rattle.message.specs.declared.issue.Issue.{Issue}
-use Rattle.message.specs.Values.{are_extension_names}
-use Rattle.message.specs.Texts.{list_line, option_line}
-use Rattle.text.specs.Results.{◌>>=◌, or_fault}
-use Rattle.message.specs.Reading.{line_of, ends_after, list_after, option_after, is_new_option, options_from}
-use Rattle.message.proofs.Readings.{IsReading}
-use Rattle.message.proofs.FirstLines.{line_then}
+use Rattle.message.proofs.Words.{Err, Issue, KeyLine, List, None, Ok, Pair, Result, Some, [], ap, append-nil}
+use Rattle.message.proofs.Words.{append_assoc, are_extension_names, arith, codes, cond, drop, drop-append_seam}
+use Rattle.message.proofs.Words.{ends_after, inl, inr, is_new_option, length, length-append, line_of, list_line, map}
+use Rattle.message.proofs.Words.{option_after, option_line, or_fault, refl, subst, suc, sym, true, zero, ℕ, ◌++◌, ◌+◌}
+use Rattle.message.proofs.Words.{◌>>=◌, ◌∙◌, ◌∷◌, ◌≡◌, ◌≤◌, ◌⊎◌}
+use Rattle.std.proofs.Math.Seq.{drop-length}
+use Rattle.message.specs.Reading.{list_after, options_from}
+use Rattle.message.proofs.Readings.{IsReading, same_messages}
 use Rattle.message.proofs.Ends.{then_end}
-use Rattle.message.proofs.Wordings.{same_messages}
-use Rattle.message.proofs.Choices.{line_or}
+use Rattle.message.proofs.Choices.{line_or, line_then}
 use Rattle.message.proofs.Fields.{list_field}
 use Rattle.message.proofs.Elements.{extension_names_lack}
 use Rattle.message.proofs.Options.{AreNew, option_field}
@@ -85,11 +78,10 @@ module _ (department key_id : List ℕ) (key : KeyLine) (principals : List (List
             (ap (drop (length options)) same ∙ drop-length options),
       )
 
-  stop_found : (most : ℕ) (options : List Pair) (i : Issue) → IsAfter most options i → (is : IsAfter most options i)
-      → is.0 ≡ [] → IsStop options i
-  stop_found most options i _ is none =
-      let same : i.options ≡ options = is.1 ∙ ap (λ (m : List Pair). options ++ m) none ∙ append-nil options in
-      (is.4, is.5 ∙ ap (λ (o : List Pair). whole o i.extensions) same)
+  stop_found : (options : List Pair) (i : Issue) → i.options ≡ options ++ [] → are_extension_names i.extensions ≡ true
+      → i ≡ whole i.options i.extensions → IsStop options i
+  stop_found options i same lawful all =
+      (lawful, all ∙ ap (λ (o : List Pair). whole o i.extensions) (same ∙ append-nil options))
 
   more_is : (most : ℕ) (options : List Pair) (p : Pair) (i : Issue) → is_new_option options p ≡ true
       → IsAfter most (options ++ p ∷ []) i
@@ -108,17 +100,9 @@ module _ (department key_id : List ℕ) (key : KeyLine) (principals : List (List
 
   cases : (most : ℕ) (options : List Pair) (i : Issue) → IsAfter (suc most) options i
       → IsStop options i ⊎ ((p : Pair) × (is_new_option options p ≡ true) × IsAfter most (options ++ p ∷ []) i)
-  cases most options i is = by is.0 refl
-    where
-      by : (more : List Pair) → is.0 ≡ more
-          → IsStop options i ⊎ ((p : Pair) × (is_new_option options p ≡ true) × IsAfter most (options ++ p ∷ []) i)
-      by [] e = inl (stop_found (suc most) options i is is e)
-      by (p ∷ more) e =
-          let new : AreNew options (p ∷ more) = subst (AreNew options) e is.3 in
-          let few : length (p ∷ more) ≤ suc most = subst (λ (m : List Pair). length m ≤ suc most) e is.2 in
-          let all : i.options ≡ (options ++ p ∷ []) ++ more =
-          is.1 ∙ ap (λ (m : List Pair). options ++ m) e ∙ sym (append_assoc options (p ∷ []) more) in
-          inr (p, new.0, (more, all, omega (arith, few), new.1, is.4, is.5))
+  cases most options i ([], same, few, new, lawful, all) = inl (stop_found options i same lawful all)
+  cases most options i (p ∷ more, same, few, new, lawful, all) =
+      inr (p, new.0, (more, same ∙ sym (append_assoc options (p ∷ []) more), omega arith, new.1, lawful, all))
 
   -- the line of extensions is no option line
   stops : (options : List Pair) (i : Issue) → IsStop options i
@@ -130,11 +114,8 @@ module _ (department key_id : List ℕ) (key : KeyLine) (principals : List (List
       no_option (t ∷ ts) = refl
 
   none_left : (options : List Pair) (i : Issue) → IsAfter 0 options i → IsStop options i
-  none_left options i is = by is.0 refl
-    where
-      by : (more : List Pair) → is.0 ≡ more → IsStop options i
-      by [] e = stop_found 0 options i is is e
-      by (p ∷ more) e = absurd (omega (arith, subst (λ (m : List Pair). length m ≤ 0) e is.2))
+  none_left options i ([], same, few, new, lawful, all) = stop_found options i same lawful all
+  none_left options i (p ∷ more, same, few, new, lawful, all) = absurd (omega arith)
 
   pub options_read : (most k : ℕ) (options : List Pair) → k ≡ 6 + length options
       → IsReading k (λ ps. tail (options_from most (suc k) options ps) ps) (IsAfter most options) (lines_after options)

@@ -1,17 +1,12 @@
 -- Issues: what is read is an issue's text, its text is read, and the first fault.
-use Rattle.std.proofs.Common.{◌≡◌, List, [], ◌∷◌, true, refl, sym, ap, subst}
-use Rattle.std.specs.Prelude.{codes}
-use Rattle.std.proofs.lemmas.Bool.{and_parts, and_from, leb-true, le-leb}
-use Rattle.text.specs.declared.pair.Pair.{Pair}
-use Rattle.values.specs.Names.{is_name, is_key_id}
-use Rattle.lines.specs.KeyLines.{is_key_line}
-use Rattle.message.specs.declared.issue.Issue.{Issue}
-use Rattle.message.specs.Values.{are_principals, are_options, is_end, is_issue}
-use Rattle.message.specs.Texts.{issue_lines}
+use Rattle.message.proofs.Words.{Issue, List, Pair, [], and_from, and_parts, ap, are_principals, codes, is_end}
+use Rattle.message.proofs.Words.{is_issue, is_key_id, is_key_line, is_name, issue_lines, leb-true, refl, subst, sym}
+use Rattle.message.proofs.Words.{true, ◌∷◌, ◌≡◌}
+use Rattle.std.proofs.lemmas.Bool.{le-leb}
+use Rattle.message.specs.Values.{are_options}
 use Rattle.message.specs.Reading.{issue_in}
-use Rattle.message.proofs.Readings.{IsReading}
-use Rattle.message.proofs.FirstLines.{line_then}
-use Rattle.message.proofs.Wordings.{same_messages}
+use Rattle.message.proofs.Readings.{IsReading, and_then, same_values}
+use Rattle.message.proofs.Choices.{line_then}
 use Rattle.message.proofs.Fields.{text_field, list_field}
 use Rattle.message.proofs.Elements.{name_lacks, key_id_line, principals_lack}
 use Rattle.message.proofs.Numbers.{number_field, end_small}
@@ -47,15 +42,13 @@ whole_lines =
 
 -- an issue is read from its text alone, its text is read, and the fault is at the first line of no issue
 pub issue_reads : IsReading 0 issue_in (λ i. is_issue i ≡ true) issue_lines
-issue_reads = same_messages 0 issue_in
-    IsWhole (λ i. is_issue i ≡ true) issue_lines issue_lines (λ i is. (to i is, refl)) from whole_lines
+issue_reads = same_values whole_lines to from
   where
     to : (i : Issue) → IsWhole i → is_issue i ≡ true
     to i is =
         let end = is.1.1.1.1.1.1 in
-        let all : i.options ≡ end.0 = end.1 in
         let options : are_options i.options ≡ true =
-        subst (λ (o : List Pair). are_options o ≡ true) (sym all)
+        subst (λ (o : List Pair). are_options o ≡ true) (sym end.1)
         (and_from _ _ (le-leb _ _ end.2) (new_are_options end.0 end.3)) in
         and_from _ _ is.0 (and_from _ _ is.1.0
         (and_from _ _ is.1.1.0 (and_from _ _ is.1.1.1.0 (and_from _ _ is.1.1.1.1.0
@@ -63,15 +56,7 @@ issue_reads = same_messages 0 issue_in
 
     from : (i : Issue) → is_issue i ≡ true → IsWhole i
     from i is =
-        let p1 = and_parts _ _ is in
-        let p2 = and_parts _ _ p1.1 in
-        let p3 = and_parts _ _ p2.1 in
-        let p4 = and_parts _ _ p3.1 in
-        let p5 = and_parts _ _ p4.1 in
-        let p6 = and_parts _ _ p5.1 in
-        let p7 = and_parts _ _ p6.1 in
-        let options = and_parts _ _ p7.0 in
-        let new = options_are_new i.options options.1 in
-        let end : IsAfter i.department i.key_id i.key i.principals i.after i.before 3 [] i =
-        (i.options, refl, leb-true _ _ options.0, new, p7.1, refl) in
-        (p1.0, (p2.0, (p3.0, (p4.0, (p5.0, (p6.0, end))))))
+        and_then _ _ (and_then _ _ (and_then _ _ (and_then _ _ (and_then _ _ (and_then _ _ (λ rest.
+        let both = and_parts _ _ rest in
+        let options = and_parts _ _ both.0 in
+        (i.options, refl, leb-true _ _ options.0, options_are_new i.options options.1, both.1, refl))))))) is

@@ -1,23 +1,16 @@
 -- Key lines in lines: none has a line feed, and each is read from its text alone.
-use Rattle.std.proofs.Common.{◌≡◌, ℕ, ◌+◌, ◌*◌, ◌/◌, ◌%◌, List, [], ◌∷◌, ◌++◌, length, replicate, slice_index, true}
-use Rattle.std.proofs.Common.{false, eqb, Option, Some, None, Ok, refl, ap}
-use Rattle.std.specs.List.{AllByRecursion}
-use Rattle.std.specs.Result.{result_ok}
-use Rattle.std.proofs.lemmas.Bool.{and_parts}
-use Rattle.std.proofs.lemmas.List.Elements.{All-append, All-cons, All-from_recursion, All-nil, All-replicate}
-use Rattle.base64.specs.Engines.{standard}
-use Rattle.base64.specs.GeneralPurpose.{encode_of}
+use Rattle.message.proofs.Words.{All-append, All-cons, All-nil, AllByRecursion, KeyLine, List, None, Ok, Option, Some}
+use Rattle.message.proofs.Words.{[], after, and_parts, ap, comment_text, encode_of, eqb, false, is_key_line}
+use Rattle.message.proofs.Words.{key_line_after, key_line_text, lacks_from, length, ok_of, refl, replicate, result_ok}
+use Rattle.message.proofs.Words.{standard, true, ℕ, ◌++◌, ◌+◌, ◌∷◌, ◌≡◌}
+use Rattle.std.proofs.Common.{◌*◌, ◌/◌, ◌%◌, slice_index}
+use Rattle.std.proofs.lemmas.List.Elements.{All-from_recursion, All-replicate}
 use Rattle.base64.specs.Rfc4648.{encode_symbols, padding_len}
-use Rattle.values.proofs.Lacking.{lacks_from}
 use Rattle.lines.specs.Keys.{key_blob}
-use Rattle.lines.specs.KeyLines.{is_key_line, is_comment_or_none, is_comment_byte, comment_text, key_line_head}
-use Rattle.lines.specs.KeyLines.{key_line_text}
+use Rattle.lines.specs.KeyLines.{is_comment_or_none, is_comment_byte, key_line_head}
 use Rattle.lines.specs.Reading.{key_line_at}
-use Rattle.lines.specs.declared.key_line.KeyLine.{KeyLine}
 use Rattle.lines.proofs.Base64.{free_at}
 use Rattle.lines.proofs.KeyLineLaws.{found_from, key_line_again}
-use Rattle.message.specs.Reading.{after, key_line_after}
-use Rattle.lines.proofs.Cases.{ok_of}
 use Rattle.message.proofs.Readings.{IsField, IsLine}
 use Rattle.message.proofs.Fields.{IsHead, lacks_by, value_after}
 

@@ -1,9 +1,9 @@
 -- Lines among the pieces of a text, and how many of them two texts share.
-use Rattle.std.proofs.Common.{◌≡◌, ℕ, suc, ◌-◌, ◌<◌, List, [], ◌∷◌, ◌++◌, length, take, drop, get_or, Bool, true, false}
-use Rattle.std.proofs.Common.{cond, ◌⊎◌, ltb, refl, sym, ap, subst, ◌∙◌, arith, inl, inr, length-append, length-drop}
+use Rattle.message.proofs.Words.{Bool, List, [], ap, arith, cond, cond-true, drop, false, get_or, inl, inr, length}
+use Rattle.message.proofs.Words.{length-append, length-drop, line_of, ltb, refl, subst, suc, sym, take, true, ℕ, ◌++◌}
+use Rattle.message.proofs.Words.{◌-◌, ◌<◌, ◌∙◌, ◌∷◌, ◌≡◌, ◌⊎◌}
 use Rattle.std.proofs.Common.{drop-cons}
-use Rattle.std.proofs.lemmas.Bool.{ltb-true, lt-ltb, cond-true}
-use Rattle.message.specs.Reading.{line_of}
+use Rattle.std.proofs.lemmas.Bool.{ltb-true, lt-ltb}
 
 -- what a choice is, by its test
 pub chosen : {A : Type 0} (b : Bool) (x y z : A) → cond b x y ≡ z → ((b ≡ true) × (x ≡ z)) ⊎ ((b ≡ false) × (y ≡ z))

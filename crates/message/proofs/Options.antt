@@ -1,30 +1,23 @@
 -- Option lines: which options may follow which, and how their lines are read.
-use Rattle.std.proofs.Common.{◌≡◌, ℕ, suc, List, [], ◌∷◌, ◌++◌, length, map, Bool, true, false, cond, not, ◌&&◌, ◌||◌}
-use Rattle.std.proofs.Common.{eqb, Option, Some, None, All, refl, sym, ap, subst, ◌∙◌, arith, inl, inr, append-nil}
-use Rattle.std.specs.Prelude.{codes}
-use Rattle.std.specs.List.{list_all, list_any}
-use Rattle.std.specs.Str.{bytes_eq}
-use Rattle.std.proofs.lemmas.Bool.{cases_Bool, and_parts, and_from, or_parts, or_from, cond-true, cond-false, eqb-true}
-use Rattle.std.proofs.lemmas.Bool.{not-true, not_from_false}
+use Rattle.message.proofs.Words.{All, All-append, All-cons, Bool, CriticalOptions, Lacks, List, None, Option, Pair}
+use Rattle.message.proofs.Words.{Some, [], and_from, and_parts, ap, append-nil, arith, bytes_eq, codes, comment_of}
+use Rattle.message.proofs.Words.{comment_of-text, comment_text, cond, cond-false, cond-true, cond_some, eqb, eqb-true}
+use Rattle.message.proofs.Words.{false, inl, inr, is_new_option, lacks_from, length, list_all, list_any, map, none-some}
+use Rattle.message.proofs.Words.{not, not-true, option_after, option_line, recursion_from_All, refl, same_Some, subst}
+use Rattle.message.proofs.Words.{suc, sym, text_is, true, word_of, word_of-text, ℕ, ◌&&◌, ◌++◌, ◌||◌, ◌∙◌, ◌∷◌, ◌≡◌}
+use Rattle.std.proofs.lemmas.Bool.{or_parts, or_from, not_from_false}
 use Rattle.std.proofs.lemmas.Cmp.{nat_list_eq_equiv}
 use Rattle.std.proofs.lemmas.List.{nil_from_length}
-use Rattle.std.proofs.lemmas.List.Elements.{All-append, All-cons, recursion_from_All}
 use Rattle.std.proofs.lemmas.List.Folds.{list_any-append}
-use Rattle.std.proofs.lemmas.Option.{same_Some}
-use Rattle.text.specs.declared.pair.Pair.{Pair}
 use Rattle.values.specs.Lists.{are_distinct}
 use Rattle.values.specs.Networks.{Network, IsNetwork, network_text, are_networks}
 use Rattle.values.specs.Options.{is_flag, is_option_value, is_command}
-use Rattle.values.specs.declared.option_field.OptionField.TheVariants.{CriticalOptions}
-use Rattle.values.proofs.Lacking.{Lacks, lacks_from}
 use Rattle.values.proofs.NetworkLaws.{network_lacks, networks_found}
 use Rattle.values.proofs.OptionLemmas.{critical_cases}
-use Rattle.lines.specs.KeyLines.{comment_text}
-use Rattle.lines.specs.Reading.{word_of, comment_of}
-use Rattle.lines.proofs.Words.{word_of-text, comment_of-text, text_is}
-use Rattle.message.specs.Texts.{option_text, option_line}
+use Rattle.message.specs.Texts.{option_text}
 use Rattle.message.specs.Values.{is_option}
-use Rattle.message.specs.Reading.{pair_of, is_new_option, option_after}
+use Rattle.message.specs.Reading.{pair_of}
+use Rattle.message.proofs.Lines.{chosen}
 use Rattle.message.proofs.Readings.{IsField, IsLine}
 use Rattle.message.proofs.Fields.{AllLack, lacks_joined, field_passing}
 use Rattle.message.proofs.Elements.{known_lacks_space, known_line}
@@ -51,17 +44,12 @@ pair_by name (Some value) = cond (is_flag name) None (Some (valued name value))
 
 pair_by_found : (name : List ℕ) (o : Option (List ℕ)) (p : Pair) → pair_by name o ≡ Some p → name ++ comment_text o
     ≡ option_text p
-pair_by_found name None p e = elim (cases_Bool (is_flag name)) [
-  | inl is ↦
-      let same : flag name ≡ p = same_Some _ _ (sym (cond-true _ (Some (flag name)) None is) ∙ e) in
-      append-nil name ∙ sym (flag_text (flag name) is) ∙ ap option_text same
-  | inr other ↦ absurd (cc (sym (cond-false _ (Some (flag name)) None other) ∙ e))
-]
-pair_by_found name (Some value) p e = elim (cases_Bool (is_flag name)) [
-  | inl is ↦ absurd (cc (sym (cond-true _ None (Some (valued name value)) is) ∙ e))
-  | inr other ↦
-      let same : valued name value ≡ p = same_Some _ _ (sym (cond-false _ None (Some (valued name value)) other) ∙ e) in
-      sym (value_text (valued name value) other) ∙ ap option_text same
+pair_by_found name None p e =
+    let both = cond_some _ (flag name) p e in
+    append-nil name ∙ sym (flag_text (flag name) both.0) ∙ ap option_text both.1
+pair_by_found name (Some value) p e = elim (chosen (is_flag name) None (Some (valued name value)) (Some p) e) [
+  | inl is ↦ absurd (none-some p is.1)
+  | inr other ↦ sym (value_text (valued name value) other.0) ∙ ap option_text (same_Some _ _ other.1)
 ]
 
 -- an option is read from its text alone
@@ -183,7 +171,8 @@ apart before p (q ∷ ps) e =
     let parts = or_parts _ _ (sym (one_more before p q.name) ∙ other) in
     let first = or_parts _ _ parts.1 in
     let rest = apart before p ps both.1 in
-    (and_from _ _ (not_from_false _ parts.0) rest.0, or_from _ _ (nat_list_eq_equiv.symm q.name p.name ∙ first.0) rest.1)
+    let differs = nat_list_eq_equiv.symm q.name p.name ∙ first.0 in
+    (and_from _ _ (not_from_false _ parts.0) rest.0, or_from _ _ differs rest.1)
 
 together : (before : List Pair) (p : Pair) (ps : List Pair) → none_before before ps ≡ true
     → list_any (λ u. bytes_eq u p.name) (names ps) ≡ false

@@ -1,7 +1,6 @@
 -- Lines as they are put.
-use Rattle.std.proofs.Common.{◌≡◌, ℕ, List, [], ◌∷◌, ◌++◌, refl, sym, ap, subst, ◌∙◌, append-nil, append_assoc}
-use Rattle.std.specs.List.{join_with_byte}
-use Rattle.message.specs.Texts.{lines_text, list_line}
+use Rattle.message.proofs.Words.{List, [], ap, append-nil, append_assoc, join_with_byte, lines_text, list_line, refl}
+use Rattle.message.proofs.Words.{subst, sym, ℕ, ◌++◌, ◌∙◌, ◌∷◌, ◌≡◌}
 
 -- the text of lines and more lines
 pub text_append : (ls ms : List (List ℕ)) → lines_text (ls ++ ms) ≡ lines_text ls ++ lines_text ms

@@ -1,24 +1,15 @@
 -- Signatures in lines.
-use Rattle.std.proofs.Common.{◌≡◌, ℕ, List, [], ◌++◌, length, take, drop, replicate, true, ◌&&◌, eqb, Option, Some}
-use Rattle.std.proofs.Common.{None, refl, sym, ap, subst, ◌∙◌, arith, inl, inr}
-use Rattle.std.specs.Option.{option_and_then, option_map}
-use Rattle.std.specs.Result.{result_ok}
-use Rattle.std.specs.Str.{bytes_eq}
-use Rattle.std.proofs.lemmas.Bool.{and_from, and_parts, cases_Bool, cond-true, cond-false, eq-eqb, eqb-true}
-use Rattle.std.proofs.lemmas.List.{length-drop}
-use Rattle.std.proofs.lemmas.Option.{option_and_then_some, same_Some}
-use Rattle.std.proofs.lemmas.Slice.Eq.{bytes_eq-Decides}
-use Rattle.base64.specs.Engines.{standard}
-use Rattle.base64.specs.GeneralPurpose.{IsBytes, decode_of, encode_of}
+use Rattle.message.proofs.Words.{IsBytes, IsBytes-drop, IsBytes_from, List, None, Option, Signature, Some, [], after}
+use Rattle.message.proofs.Words.{all_bytes, and_from, and_parts, ap, arith, bytes_eq-Decides, cases_Bool, cond-false}
+use Rattle.message.proofs.Words.{cond-true, cond_some, drop, encode_of, eq-eqb, eqb, eqb-true, inl, inr, is_signature}
+use Rattle.message.proofs.Words.{length, length-drop, ok_of, option_and_then, option_and_then_some, refl, replicate}
+use Rattle.message.proofs.Words.{result_ok, same_Some, signature_text, standard, subst, sym, take, true, ℕ, ◌++◌, ◌∙◌}
+use Rattle.message.proofs.Words.{◌≡◌}
+use Rattle.std.specs.Option.{option_map}
+use Rattle.base64.specs.GeneralPurpose.{decode_of}
 use Rattle.lines.specs.Keys.{signature_blob, signature_of}
-use Rattle.lines.specs.declared.signature.Signature.{Signature}
-use Rattle.lines.proofs.Base64.{IsBytes-append, IsBytes-decode_of, IsBytes-drop, base64_again, base64_found}
-use Rattle.lines.proofs.Base64.{length-encode_of}
-use Rattle.lines.proofs.Blobs.{IsBytes_from, all_bytes}
-use Rattle.message.specs.Values.{is_signature}
-use Rattle.message.specs.Texts.{signature_text}
-use Rattle.message.specs.Reading.{after, signature_after, signature_at}
-use Rattle.lines.proofs.Cases.{ok_of}
+use Rattle.lines.proofs.Base64.{IsBytes-append, IsBytes-decode_of, base64_again, base64_found, length-encode_of}
+use Rattle.message.specs.Reading.{signature_after, signature_at}
 use Rattle.message.proofs.Readings.{IsField}
 use Rattle.message.proofs.Fields.{IsHead, value_after}
 use Rattle.message.proofs.Keys.{base64_line}
@@ -29,17 +20,12 @@ use Rattle.message.proofs.Keys.{base64_line}
 blob_found : (blob bytes : List ℕ) → signature_of blob ≡ Some bytes → (blob ≡ signature_blob bytes)
     × (length bytes ≡ 64) × (bytes ≡ drop 19 blob)
 blob_found blob bytes e =
-    elim (cases_Bool (bytes_eq blob (signature_blob (drop 19 blob)) && eqb (length blob) 83)) [
-      | inl passed ↦
-          let parts = and_parts _ _ passed in
-          let same : blob ≡ signature_blob (drop 19 blob) = (bytes_eq-Decides _ _).0 parts.0 in
-          let is : drop 19 blob ≡ bytes = same_Some _ _ (sym (cond-true _ (Some (drop 19 blob)) None passed) ∙ e) in (
-            same ∙ ap signature_blob is,
-            omega (arith, ap length is, length-drop 19 blob, eqb-true _ _ parts.1),
-            sym is,
-          )
-      | inr failed ↦ absurd (cc (sym (cond-false _ (Some (drop 19 blob)) None failed) ∙ e))
-    ]
+    let both = cond_some _ (drop 19 blob) bytes e in
+    let parts = and_parts _ _ both.0 in (
+      (bytes_eq-Decides _ _).0 parts.0 ∙ ap signature_blob both.1,
+      omega (arith, ap length both.1, length-drop 19 blob, eqb-true _ _ parts.1),
+      sym both.1,
+    )
 
 -- the signature of its blob
 blob_again : (bytes : List ℕ) → length bytes ≡ 64 → signature_of (signature_blob bytes) ≡ Some bytes

@@ -1,8 +1,8 @@
 -- Option lines, read one after the other.
-use Rattle.std.proofs.Common.{◌≡◌, ℕ, zero, suc, ◌+◌, ◌-◌, ◌<◌, ◌≤◌, List, [], ◌∷◌, ◌++◌, length, Bool, true, false}
-use Rattle.std.proofs.Common.{◌&&◌, Option, Some, None, refl, sym, ap, ◌∙◌, arith, length-append}
-use Rattle.text.specs.declared.pair.Pair.{Pair}
-use Rattle.message.specs.Reading.{line_of, option_after, options_from}
+use Rattle.message.proofs.Words.{Bool, List, None, Option, Pair, Some, [], ap, arith, false, length, length-append}
+use Rattle.message.proofs.Words.{line_of, option_after, refl, suc, sym, true, zero, ℕ, ◌&&◌, ◌++◌, ◌+◌, ◌-◌, ◌<◌, ◌∙◌}
+use Rattle.message.proofs.Words.{◌∷◌, ◌≡◌, ◌≤◌}
+use Rattle.message.specs.Reading.{options_from}
 
 -- one more option
 pub one_option : (left n : ℕ) (before : List Pair) (ps : List (List ℕ)) (p : Pair) → 0 < left

@@ -1,22 +1,21 @@
 -- Messages as texts: a text is read as the message that it belongs to, and the fault is at the first line of none.
-use Rattle.std.proofs.Common.{◌≡◌, ◌↔◌, ℕ, zero, suc, ◌-◌, ◌<◌, ◌≤◌, List, [], ◌∷◌, ◌++◌, length, take, get_or, Bool}
-use Rattle.std.proofs.Common.{true, false, cond, eqb, ltb, Some, Result, Ok, Err, refl, sym, ap, subst, ◌∙◌, arith, inl}
-use Rattle.std.proofs.Common.{inr}
-use Rattle.std.specs.Prelude.{IsTrue, IfOk}
-use Rattle.std.specs.Result.{result_ok}
-use Rattle.std.specs.List.{AllByRecursion, slice_split, onto_first, join_with_byte}
+use Rattle.message.proofs.Words.{AllByRecursion, Bool, Err, IsBytes, IsBytes_from, List, Message, Ok, Result, Some, []}
+use Rattle.message.proofs.Words.{all_bytes, and_from, and_parts, ap, arith, cond, eqb, false, get_or, inl, inr}
+use Rattle.message.proofs.Words.{is_message, join_with_byte, join_with_byte-slice_split, length, length-slice_split}
+use Rattle.message.proofs.Words.{line_of, lines_text, list_all, ltb, message_in, message_lines, message_text, ok_of}
+use Rattle.message.proofs.Words.{refl, result_ok, slice_split, subst, suc, sym, take, true, zero, ℕ, ◌++◌, ◌-◌, ◌<◌}
+use Rattle.message.proofs.Words.{◌∙◌, ◌∷◌, ◌≡◌, ◌≤◌}
+use Rattle.std.proofs.Common.{◌↔◌}
+use Rattle.std.specs.Prelude.{IsTrue, IfOk, nat_lt}
+use Rattle.std.specs.List.{onto_first}
 use Rattle.std.proofs.lemmas.Bool.{cases_order}
-use Rattle.std.proofs.lemmas.List.Splits.{slice_split_at, join_with_byte-slice_split, length-slice_split}
-use Rattle.base64.specs.GeneralPurpose.{IsBytes}
+use Rattle.std.proofs.lemmas.List.{take-take}
+use Rattle.std.proofs.lemmas.List.Splits.{slice_split_at}
 use Rattle.message.specs.declared.message_fault.MessageFault.{MessageFault}
 use Rattle.message.specs.declared.message_fault.MessageFault.TheVariants as fault
-use Rattle.message.specs.declared.kinds.Message.{Message}
-use Rattle.message.specs.Values.{is_message}
-use Rattle.message.specs.Texts.{lines_text, message_lines, message_text}
 use Rattle.message.specs.Belonging.{BelongsTo}
-use Rattle.message.specs.Reading.{Gives, pieces, message_in, message_at, message_of}
+use Rattle.message.specs.Reading.{Gives, pieces, message_at, message_of}
 use Rattle.message.specs.Faults.{SharesLines, IsFirstBad}
-use Rattle.lines.proofs.Cases.{ok_of}
 use Rattle.message.proofs.Lines.{Shares}
 use Rattle.message.proofs.Readings.{IsLine, AreBytes, IsReading}
 use Rattle.message.proofs.Messages.{messages_read}
@@ -42,39 +41,35 @@ text_of bytes ls e = sym (join_with_byte-slice_split 10 bytes) ∙ ap (join_with
 
 -- ---- bytes
 
-bytes_first : (b : ℕ) (bs : List ℕ) → b < 256 → IsBytes bs → IsBytes (b ∷ bs)
-bytes_first b bs this rest zero = this
-bytes_first b bs this rest (suc i) = rest i
+abbrev are_bytes : List ℕ → Bool
+are_bytes bs = list_all (λ b. nat_lt b 256) bs
 
-no_bytes : IsBytes []
-no_bytes i = omega arith
+bytes_split : (p : ℕ → Bool) (bs : List ℕ) → are_bytes bs ≡ true → list_all are_bytes (slice_split p bs) ≡ true
+bytes_split p [] fits = refl
+bytes_split p (b ∷ bs) fits =
+    let both = and_parts (nat_lt b 256) (are_bytes bs) fits in
+    by (p b) (slice_split p bs) both.0 (bytes_split p bs both.1)
+  where
+    by : (c : Bool) (ps : List (List ℕ)) → nat_lt b 256 ≡ true → list_all are_bytes ps ≡ true
+        → list_all are_bytes (cond c ([] ∷ ps) (onto_first b ps)) ≡ true
+    by true ps this rest = rest
+    by false [] this rest = and_from _ true (and_from (nat_lt b 256) true this refl) refl
+    by false (q ∷ ps) this rest =
+        let parts = and_parts (are_bytes q) _ rest in
+        and_from _ _ (and_from (nat_lt b 256) _ this parts.0) parts.1
 
-onto_bytes : (b : ℕ) (ps : List (List ℕ)) → b < 256 → AllByRecursion IsBytes ps
-    → AllByRecursion IsBytes (onto_first b ps)
-onto_bytes b [] this rest = (bytes_first b [] this no_bytes, tt)
-onto_bytes b (p ∷ ps) this rest = (bytes_first b p this rest.0, rest.1)
-
-bytes_one : (p : ℕ → Bool) (b : ℕ) (rest : List (List ℕ)) (c : Bool) → b < 256 → AllByRecursion IsBytes rest
-    → AllByRecursion IsBytes (cond c ([] ∷ rest) (onto_first b rest))
-bytes_one p b rest true this fits = (no_bytes, fits)
-bytes_one p b rest false this fits = onto_bytes b rest this fits
-
-bytes_split : (p : ℕ → Bool) (bs : List ℕ) → IsBytes bs → AllByRecursion IsBytes (slice_split p bs)
-bytes_split p [] fits = (no_bytes, tt)
-bytes_split p (b ∷ bs) fits = bytes_one p b (slice_split p bs) (p b) (fits 0) (bytes_split p bs (λ i. fits (suc i)))
-
-bytes_at : (ps : List (List ℕ)) (i : ℕ) → AllByRecursion IsBytes ps → IsBytes (get_or ps i [])
-bytes_at [] i fits = no_bytes
-bytes_at (p ∷ ps) zero fits = fits.0
-bytes_at (p ∷ ps) (suc i) fits = bytes_at ps i fits.1
+bytes_at : (ps : List (List ℕ)) (i : ℕ) → list_all are_bytes ps ≡ true → are_bytes (get_or ps i []) ≡ true
+bytes_at [] i fits = refl
+bytes_at (p ∷ ps) zero fits = (and_parts (are_bytes p) _ fits).0
+bytes_at (p ∷ ps) (suc i) fits = bytes_at ps i (and_parts (are_bytes p) _ fits).1
 
 -- the lines of bytes are bytes
 lines_fit : (bytes : List ℕ) → IsBytes bytes → AreBytes (pieces bytes)
-lines_fit bytes fits n = by (ltb n (length (pieces bytes)))
+lines_fit bytes fits n = IsBytes_from (line_of n (pieces bytes)) (by (ltb n (length (pieces bytes))))
   where
-    by : (c : Bool) → IsBytes (cond c (get_or (pieces bytes) (n - 1) []) [])
-    by true = bytes_at (pieces bytes) (n - 1) (bytes_split (λ b. eqb b 10) bytes fits)
-    by false = no_bytes
+    by : (c : Bool) → are_bytes (cond c (get_or (pieces bytes) (n - 1) []) []) ≡ true
+    by true = bytes_at (pieces bytes) (n - 1) (bytes_split (λ b. eqb b 10) bytes (all_bytes bytes fits))
+    by false = refl
 
 -- ---- messages
 
@@ -116,10 +111,10 @@ only_from bytes r m is text given = subst (Gives r) (ap message_at text ∙ mess
 -- a text belongs to one message
 pub one_message : (a b : Message) → IsTrue (is_message a) → IsTrue (is_message b) → message_text a ≡ message_text b
     → a ≡ b
-one_message a b is_a is_b same = ok_is a b (sym (message_again a is_a) ∙ ap message_at same ∙ message_again b is_b)
-  where
-    ok_is : (a b : Message) → ◌≡◌ {A = Result Message ℕ} (Ok a) (Ok b) → a ≡ b
-    ok_is a b e = cc
+one_message a b is_a is_b same =
+    let e : ◌≡◌ {A = Result Message ℕ} (Ok a) (Ok b) =
+    sym (message_again a is_a) ∙ ap message_at same ∙ message_again b is_b in
+    cc
 
 -- ---- the first line that fits no message
 
@@ -136,7 +131,9 @@ first_bad bytes n fits e =
     let before : n - 1 ≡ j = omega arith in
     record {
       counted = omega arith;
-      lawless = λ a is text. apart bytes a n (sym e ∙ ap message_at text ∙ message_again a is);
+      lawless = λ a is text.
+          let other : ◌≡◌ {A = Result Message ℕ} (Err n) (Ok a) = sym e ∙ ap message_at text ∙ message_again a is in
+          absurd cc;
       some = (
         m,
         (
@@ -149,23 +146,13 @@ first_bad bytes n fits e =
           (subst (Shares (suc j) (pieces bytes)) (pieces_of_message a is)
           (subst (λ (k : ℕ). SharesLines k bytes (message_text a)) at shared));
     }
-  where
-    apart : (bytes : List ℕ) (m : Message) (n : ℕ) → ◌≡◌ {A = Result Message ℕ} (Err n) (Ok m) → ⊥
-    apart bytes m n e = cc
-
--- the first of the first
-take-take-le : (j n : ℕ) (xs : List (List ℕ)) → j ≤ n → take j (take n xs) ≡ take j xs
-take-take-le zero n xs le = refl
-take-take-le (suc j) zero xs le = absurd (omega (arith, le))
-take-take-le (suc j) (suc n) [] le = refl
-take-take-le (suc j) (suc n) (x ∷ xs) le = ap (λ (l : List (List ℕ)). x ∷ l) (take-take-le j n xs (omega (arith, le)))
 
 -- fewer lines are shared too
 fewer : (j n : ℕ) (a b : List ℕ) → j ≤ n → SharesLines n a b → SharesLines j a b
 fewer j n a b le s = (
   omega (arith, s.0),
   omega (arith, s.1),
-  sym (take-take-le j n (pieces a) le) ∙ ap (take j) s.2 ∙ take-take-le j n (pieces b) le,
+  sym (take-take j n (pieces a) le) ∙ ap (take j) s.2 ∙ take-take j n (pieces b) le,
 )
 
 -- there is one first bad line

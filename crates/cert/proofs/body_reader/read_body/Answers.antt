@@ -1,5 +1,4 @@
-use Rattle.std.proofs.Common.{arith}
-use Rattle.wire.proofs.Laws.{IsBytes}
+use Rattle.cert.proofs.Words.{IsBytes, arith}
 use Rattle.cert.proofs.BodyLaws.{answered_from, fault_from, found_from, only_from}
 use Rattle.cert.proofs.body_reader.read_body.Goals as goal
 

@@ -1,10 +1,6 @@
-use Rattle.std.proofs.Common.{◌≡◌, ℕ, List, [], ◌∷◌, ◌++◌, Option, None, Err, sym, ap, ◌∙◌, subst, refl, arith}
-use Rattle.text.specs.declared.pair.Pair.{Pair}
-use Rattle.values.specs.declared.option_field.OptionField.{OptionField}
-use Rattle.values.specs.declared.option_field.OptionField.TheVariants.{CriticalOptions, Extensions}
-use Rattle.cert.specs.declared.cert_fault.CertFault.{CertFault}
-use Rattle.text.specs.Results.{or_fault}
-use Rattle.cert.specs.Reading.{Gives, field_fault, pair_of}
+use Rattle.cert.proofs.Words.{CertFault, CriticalOptions, Err, Extensions, Gives, List, None, Option, OptionField, Pair}
+use Rattle.cert.proofs.Words.{[], ap, arith, or_fault, pair_of, refl, subst, sym, ℕ, ◌++◌, ◌∙◌, ◌∷◌, ◌≡◌}
+use Rattle.cert.specs.Reading.{field_fault}
 use Rattle.cert.proofs.Elements.{option_goes_on, option_cut, option_fails, options_left}
 use Rattle.cert.proofs.nested.listed_options.Goals as goal
 

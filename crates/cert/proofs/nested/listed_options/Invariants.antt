@@ -1,5 +1,4 @@
-use Rattle.std.proofs.Common.{◌≡◌, ◌-◌, []}
-use Rattle.cert.specs.Reading.{options_within}
+use Rattle.cert.proofs.Words.{[], options_within, ◌-◌, ◌≡◌}
 use Rattle.cert.proofs.Elements.{with_front}
 use Rattle.cert.proofs.nested.listed_options.Given as goal
 

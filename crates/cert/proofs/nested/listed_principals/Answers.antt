@@ -1,5 +1,4 @@
-use Rattle.std.proofs.Common.{◌≡◌, ℕ, List, [], ◌∷◌, ◌++◌, sym, ap, ◌∙◌, arith}
-use Rattle.values.specs.Names.{is_principal}
+use Rattle.cert.proofs.Words.{List, [], ap, arith, is_principal, sym, ℕ, ◌++◌, ◌∙◌, ◌∷◌, ◌≡◌}
 use Rattle.cert.proofs.Elements.{string_goes_on}
 use Rattle.cert.proofs.nested.listed_principals.Goals as goal
 

@@ -1,6 +1,4 @@
-use Rattle.std.proofs.Common.{◌≡◌, ◌-◌}
-use Rattle.values.specs.Names.{is_principal}
-use Rattle.cert.specs.Reading.{strings_within}
+use Rattle.cert.proofs.Words.{is_principal, strings_within, ◌-◌, ◌≡◌}
 use Rattle.cert.proofs.Elements.{with_front}
 use Rattle.cert.proofs.nested.listed_principals.Given as goal
 

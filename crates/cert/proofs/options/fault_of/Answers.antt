@@ -1,10 +1,6 @@
-use Rattle.std.proofs.Common.{◌≡◌, ℕ, Bool, true, false, not, cond, List, Option, Some, None, ap, sym, ◌∙◌, refl}
-use Rattle.std.specs.List.{list_any}
-use Rattle.std.specs.Str.{bytes_eq}
-use Rattle.values.specs.Options.{is_known, is_option_value}
-use Rattle.text.specs.declared.pair.Pair.{Pair}
-use Rattle.cert.specs.declared.option_fault.OptionFault.{OptionFault}
-use Rattle.cert.specs.declared.option_fault.OptionFault.TheVariants.{Unknown, Twice, BadValue}
+use Rattle.cert.proofs.Words.{BadValue, Bool, List, None, Option, OptionFault, OptionField, Pair, Some, Twice, Unknown}
+use Rattle.cert.proofs.Words.{ap, bytes_eq, cond, false, is_known, is_option_value, list_any, not, pair_fault, refl}
+use Rattle.cert.proofs.Words.{sym, true, ℕ, ◌∙◌, ◌≡◌}
 use Rattle.cert.proofs.options.fault_of.Goals as goal
 
 -- the fault that three tests name
@@ -21,12 +17,16 @@ as_tests known twice lawful p q r = rw (p, q, r) refl
 at_name : (test : List ℕ → Bool) (name copy : List ℕ) (r b : Bool) → copy ≡ name → r ≡ test copy → r ≡ b → test name ≡ b
 at_name test name copy r b same e f = ap test (sym same) ∙ sym e ∙ f
 
+-- the fault of a pair, by what the tests answered
+named : (field : OptionField) (earlier : List Pair) (p : Pair) {k t l : Bool} → is_known field p.name ≡ k
+    → list_any (λ q. bytes_eq q.name p.name) earlier ≡ t → is_option_value p.name p.value ≡ l
+    → by_tests k t l ≡ pair_fault field earlier p
+named field earlier p = as_tests _ _ _
+
 pub returns-then-has_name : goal.returns-then-has_name
 returns-then-has_name c =
-    let p = c.args.pair.now in
     let earlier = c.args.earlier.now in
-    as_tests (is_known c.args.field p.name) (list_any (λ (q : Pair). bytes_eq q.name p.name) earlier)
-    (is_option_value p.name p.value)
+    named c.args.field earlier c.args.pair.now
     (at_name (is_known c.args.field) _ _ _ true c.as_slice-name.ensures c.is_known.ensures c.if-not-is_known.false)
     (at_name (λ n. list_any (λ (q : Pair). bytes_eq q.name n) earlier) _ _ _ true c.as_slice-name.ensures
     c.has_name.ensures c.if-has_name.true) refl
@@ -35,8 +35,7 @@ pub returns-then-not-is_option_value : goal.returns-then-not-is_option_value
 returns-then-not-is_option_value c =
     let p = c.args.pair.now in
     let earlier = c.args.earlier.now in
-    as_tests (is_known c.args.field p.name) (list_any (λ (q : Pair). bytes_eq q.name p.name) earlier)
-    (is_option_value p.name p.value)
+    named c.args.field earlier p
     (at_name (is_known c.args.field) _ _ _ true c.as_slice-name.ensures c.is_known.ensures c.if-not-is_known.false)
     (at_name (λ n. list_any (λ (q : Pair). bytes_eq q.name n) earlier) _ _ _ false c.as_slice-name.ensures
     c.has_name.ensures c.if-has_name.false)
@@ -47,8 +46,7 @@ pub returns-else-not-is_option_value : goal.returns-else-not-is_option_value
 returns-else-not-is_option_value c =
     let p = c.args.pair.now in
     let earlier = c.args.earlier.now in
-    as_tests (is_known c.args.field p.name) (list_any (λ (q : Pair). bytes_eq q.name p.name) earlier)
-    (is_option_value p.name p.value)
+    named c.args.field earlier p
     (at_name (is_known c.args.field) _ _ _ true c.as_slice-name.ensures c.is_known.ensures c.if-not-is_known.false)
     (at_name (λ n. list_any (λ (q : Pair). bytes_eq q.name n) earlier) _ _ _ false c.as_slice-name.ensures
     c.has_name.ensures c.if-has_name.false)

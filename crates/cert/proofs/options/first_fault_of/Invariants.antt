@@ -1,5 +1,4 @@
-use Rattle.std.proofs.Common.{◌≡◌, [], take, drop}
-use Rattle.cert.specs.OptionFaults.{first_fault}
+use Rattle.cert.proofs.Words.{[], drop, first_fault, take, ◌≡◌}
 use Rattle.cert.proofs.options.first_fault_of.Given as goal
 
 abbrev pub invariant-loop-i : goal.invariant-loop-i

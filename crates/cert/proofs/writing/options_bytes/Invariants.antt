@@ -1,5 +1,4 @@
-use Rattle.std.proofs.Common.{◌≡◌, take}
-use Rattle.cert.specs.Options.{options_text}
+use Rattle.cert.proofs.Words.{options_text, take, ◌≡◌}
 use Rattle.cert.proofs.writing.options_bytes.Given as goal
 
 abbrev pub invariant-loop-option : goal.invariant-loop-option

@@ -1,5 +1,4 @@
-use Rattle.std.proofs.Common.{◌≡◌, take}
-use Rattle.cert.specs.Bodies.{principals_text}
+use Rattle.cert.proofs.Words.{principals_text, take, ◌≡◌}
 use Rattle.cert.proofs.writing.principals_bytes.Given as goal
 
 abbrev pub invariant-loop-principal : goal.invariant-loop-principal

@@ -1,9 +1,6 @@
-use Rattle.std.proofs.Common.{◌≡◌, ℕ, ◌^◌, ◌<◌, List, [], append_assoc, length, ap, sym, ◌∙◌}
-use Rattle.values.specs.declared.option_field.OptionField.TheVariants.{CriticalOptions, Extensions}
-use Rattle.wire.specs.Texts.{u64_text, string_text}
-use Rattle.cert.specs.Options.{options_text}
-use Rattle.cert.specs.Bodies.{cert_type, kind_number, principals_text, front}
-use Rattle.lines.specs.Keys.{key_blob}
+use Rattle.cert.proofs.Words.{CriticalOptions, Extensions, List, [], ap, append_assoc, cert_type, front, key_blob}
+use Rattle.cert.proofs.Words.{kind_number, length, options_text, principals_text, string_text, sym, u64_text, ℕ, ◌<◌}
+use Rattle.cert.proofs.Words.{◌^◌, ◌∙◌, ◌≡◌}
 use Rattle.cert.specs.Reading.{body_at}
 use Rattle.cert.proofs.BodyAgain.{body_at-again}
 use Rattle.cert.proofs.BodyLaws.{body_text-unique}

@@ -1,6 +1,4 @@
-use Rattle.std.proofs.Common.{◌≡◌, ◌≤◌, take}
-use Rattle.std.specs.List.{sum_by}
-use Rattle.krl.specs.Lengths.{key_id_length}
+use Rattle.krl.proofs.Words.{key_id_length, sum_by, take, ◌≡◌, ◌≤◌}
 use Rattle.krl.proofs.lengths.key_ids_len.Given as goal
 
 abbrev pub invariant-loop-id : goal.invariant-loop-id

@@ -1,6 +1,4 @@
-use Rattle.std.proofs.Common.{◌≡◌, ◌≤◌, take}
-use Rattle.std.specs.List.{sum_by}
-use Rattle.krl.specs.Lengths.{listed_length}
+use Rattle.krl.proofs.Words.{listed_length, sum_by, take, ◌≡◌, ◌≤◌}
 use Rattle.krl.proofs.lengths.listed_len.Given as goal
 
 abbrev pub invariant-loop-run : goal.invariant-loop-run

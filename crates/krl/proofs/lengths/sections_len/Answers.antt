@@ -1,8 +1,4 @@
-use Rattle.std.proofs.Common.{◌∙◌, ◌+◌, ap, sym, List, arith}
-use Rattle.std.proofs.lemmas.List.{take_all}
-use Rattle.std.specs.List.{sum_by}
-use Rattle.krl.specs.declared.ca_part.CaPart.{CaPart}
-use Rattle.krl.specs.Lengths.{section_length}
+use Rattle.krl.proofs.Words.{CaPart, List, ap, arith, section_length, sum_by, sym, take_all, ◌+◌, ◌∙◌}
 use Rattle.krl.proofs.LengthLaws.{sections_length}
 use Rattle.krl.proofs.lengths.sections_len.Goals as goal
 

@@ -1,7 +1,4 @@
-use Rattle.std.proofs.Common.{◌≡◌, ◌≤◌, ◌+◌, ◌*◌, take, true}
-use Rattle.std.specs.List.{sum_by}
-use Rattle.krl.specs.Lengths.{section_length}
-use Rattle.krl.specs.Published.{fits}
+use Rattle.krl.proofs.Words.{fits, section_length, sum_by, take, true, ◌*◌, ◌+◌, ◌≡◌, ◌≤◌}
 use Rattle.krl.proofs.lengths.sections_len.Given as goal
 
 abbrev pub invariant-loop-part : goal.invariant-loop-part

@@ -1,4 +1,4 @@
-use Rattle.krl.proofs.PartReading.{serials_read, range_read, key_ids_read}
+use Rattle.krl.proofs.SectionReading.{serials_read, range_read, key_ids_read}
 use Rattle.krl.proofs.parts.data_names.Goals as goal
 
 pub returns-in-32-clause-found : goal.returns-in-32-clause-found

@@ -1,8 +1,4 @@
-use Rattle.std.proofs.Common.{length}
-use Rattle.std.specs.Str.{bytes_eq}
-use Rattle.wire.specs.Texts.{string_text}
-use Rattle.krl.specs.Format.{IsString}
-use Rattle.krl.specs.Reading.{IsBytes}
+use Rattle.krl.proofs.Words.{IsBytes, IsString, bytes_eq, length, string_text}
 use Rattle.krl.proofs.Items.{SoFar}
 use Rattle.krl.proofs.parts.key_ids_name.Given as goal
 

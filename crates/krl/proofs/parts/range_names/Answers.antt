@@ -1,5 +1,4 @@
-use Rattle.std.proofs.Common.{◌≡◌, ◌∙◌, ◌++◌, List, ℕ, [], ap, sym, arith}
-use Rattle.wire.specs.Texts.{u64_text}
+use Rattle.krl.proofs.Words.{List, [], ap, arith, sym, u64_text, ℕ, ◌++◌, ◌∙◌, ◌≡◌}
 use Rattle.krl.proofs.parts.range_names.Goals as goal
 
 pub returns-clause-found : goal.returns-clause-found

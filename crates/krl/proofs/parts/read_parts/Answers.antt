@@ -1,6 +1,4 @@
-use Rattle.std.proofs.Common.{◌||◌, Bool, subst, sym}
-use Rattle.krl.specs.Format.{names, part_text}
-use Rattle.krl.specs.Faults.{IsReadPart}
+use Rattle.krl.proofs.Words.{Bool, IsReadPart, names, part_text, subst, sym, ◌||◌}
 use Rattle.krl.proofs.Bytes.{suffix_bytes}
 use Rattle.krl.proofs.Items.{SoFar, so_far_more}
 use Rattle.krl.proofs.parts.read_parts.Goals as goal

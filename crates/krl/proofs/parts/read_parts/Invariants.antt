@@ -1,7 +1,4 @@
-use Rattle.std.proofs.Common.{length}
-use Rattle.krl.specs.Format.{names, part_text}
-use Rattle.krl.specs.Faults.{IsReadPart}
-use Rattle.krl.specs.Reading.{IsBytes}
+use Rattle.krl.proofs.Words.{IsBytes, IsReadPart, length, names, part_text}
 use Rattle.krl.proofs.Items.{SoFar}
 use Rattle.krl.proofs.parts.read_parts.Given as goal
 

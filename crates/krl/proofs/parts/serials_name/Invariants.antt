@@ -1,7 +1,4 @@
-use Rattle.std.proofs.Common.{length}
-use Rattle.std.specs.Prelude.{◌==◌}
-use Rattle.wire.specs.Texts.{u64_text}
-use Rattle.krl.specs.Faults.{IsU64}
+use Rattle.krl.proofs.Words.{IsU64, length, u64_text, ◌==◌}
 use Rattle.krl.proofs.Items.{SoFar}
 use Rattle.krl.proofs.parts.serials_name.Given as goal
 

@@ -1,7 +1,4 @@
-use Rattle.std.proofs.Common.{List, ℕ, subst}
-use Rattle.std.specs.Prelude.{IfOk}
-use Rattle.lines.specs.Keys.{key_blob}
-use Rattle.krl.specs.Reading.{ReadsList}
+use Rattle.krl.proofs.Words.{IfOk, List, ReadsList, key_blob, subst, ℕ}
 use Rattle.krl.proofs.SectionReading.{only_answer, only_fault}
 use Rattle.krl.proofs.reader.check.Goals as goal
 

@@ -1,6 +1,4 @@
-use Rattle.std.proofs.Common.{◌∙◌, sym, arith}
-use Rattle.wire.specs.Texts.{string_text}
-use Rattle.krl.specs.Reading.{IsBytes}
+use Rattle.krl.proofs.Words.{IsBytes, arith, string_text, sym, ◌∙◌}
 use Rattle.krl.proofs.Bytes.{suffix_bytes}
 use Rattle.krl.proofs.SectionReading.{certificates_read}
 use Rattle.krl.proofs.reader.read_certificates.Goals as goal

@@ -1,10 +1,8 @@
-use Rattle.std.proofs.Common.{◌∙◌, ◌++◌, ℕ, List, sym, refl, arith, lit<, ap}
-use Rattle.std.proofs.lemmas.Result.{err_from_is_err_and}
-use Rattle.wire.specs.Texts.{u32_text, u64_text, string_text}
+use Rattle.krl.proofs.Words.{Header, IsString, IsU32, IsU64, List, accepted, ap, arith, err_from_is_err_and, lit<}
+use Rattle.krl.proofs.Words.{magic, refl, string_text, sym, u32_text, u64_text, ℕ, ◌++◌, ◌∙◌}
 use Rattle.krl.specs.declared.krl_fault.KrlFault.TheVariants.{Truncated, BadMagic, BadVersion, BadFlags}
-use Rattle.krl.specs.Format.{Header, magic, IsString}
-use Rattle.krl.specs.Faults.{IsU32, IsU64, accepted, refused_unless, is_magic, is_one, is_zero, CommentFault}
-use Rattle.krl.specs.Faults.{ReservedFault, FlagsFault, DateFault, NumberFault, VersionFault}
+use Rattle.krl.specs.Faults.{refused_unless, is_magic, is_one, is_zero, CommentFault, ReservedFault, FlagsFault}
+use Rattle.krl.specs.Faults.{DateFault, NumberFault, VersionFault}
 use Rattle.krl.proofs.Bytes.{suffix_bytes}
 use Rattle.krl.proofs.Texts.{header_fields}
 use Rattle.krl.proofs.SectionReading.{more_after, later}

@@ -1,8 +1,5 @@
-use Rattle.std.proofs.Common.{◌∙◌, sym, arith, inl, subst, List, ℕ}
-use Rattle.std.proofs.lemmas.Result.{err_from_is_err_and}
-use Rattle.krl.specs.Format.{header_text}
-use Rattle.krl.specs.Faults.{HeaderFault}
-use Rattle.krl.specs.Reading.{IsBytes}
+use Rattle.krl.proofs.Words.{HeaderFault, IsBytes, List, arith, err_from_is_err_and, header_text, inl, subst, sym, ℕ}
+use Rattle.krl.proofs.Words.{◌∙◌}
 use Rattle.krl.proofs.Bytes.{suffix_bytes}
 use Rattle.krl.proofs.SectionReading.{list_read, list_refused}
 use Rattle.krl.proofs.reader.read_list.Goals as goal

@@ -1,6 +1,4 @@
-use Rattle.std.proofs.Common.{◌||◌, Bool, subst, sym}
-use Rattle.krl.specs.Format.{section_revokes, section_text}
-use Rattle.krl.specs.Faults.{IsReadSection}
+use Rattle.krl.proofs.Words.{Bool, IsReadSection, section_revokes, section_text, subst, sym, ◌||◌}
 use Rattle.krl.proofs.Bytes.{suffix_bytes}
 use Rattle.krl.proofs.Items.{SoFar, so_far_more}
 use Rattle.krl.proofs.reader.read_sections.Goals as goal

@@ -1,7 +1,4 @@
-use Rattle.std.proofs.Common.{length}
-use Rattle.krl.specs.Format.{section_revokes, section_text}
-use Rattle.krl.specs.Faults.{IsReadSection}
-use Rattle.krl.specs.Reading.{IsBytes}
+use Rattle.krl.proofs.Words.{IsBytes, IsReadSection, length, section_revokes, section_text}
 use Rattle.krl.proofs.Items.{SoFar}
 use Rattle.krl.proofs.reader.read_sections.Given as goal
 

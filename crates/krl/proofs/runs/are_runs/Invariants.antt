@@ -1,6 +1,5 @@
-use Rattle.std.proofs.Common.{◌+◌, drop}
+use Rattle.krl.proofs.Words.{AreRuns, AreRunsFrom, drop, ◌+◌}
 use Rattle.std.specs.Prelude.{◌↔◌}
-use Rattle.krl.specs.Sets.{AreRuns, AreRunsFrom}
 use Rattle.krl.proofs.runs.are_runs.Given as goal
 
 abbrev pub invariant-loop-run : goal.invariant-loop-run

@@ -1,4 +1,5 @@
-use Rattle.std.proofs.Common.{leb, rules}
+use Rattle.krl.proofs.Words.{leb}
+use Rattle.std.proofs.Common.{rules}
 use Rattle.std.proofs.lemmas.List.Sorted.{IsPartitionPoint-from_clause}
 use Rattle.krl.proofs.Covering.{are_parted}
 use Rattle.krl.proofs.runs.count_begun.Goals as goal

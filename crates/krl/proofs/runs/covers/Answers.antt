@@ -1,4 +1,4 @@
-use Rattle.std.proofs.Common.{◌≤◌, ◌∙◌, sym, le-ltb, arith}
+use Rattle.krl.proofs.Words.{arith, le-ltb, sym, ◌∙◌, ◌≤◌}
 use Rattle.krl.proofs.Covering.{none_covers, some_covers}
 use Rattle.krl.proofs.runs.covers.Goals as goal
 

@@ -1,6 +1,4 @@
-use Rattle.std.proofs.Common.{◌≡◌, ◌||◌, ◌+◌, ◌∙◌, arith, ap}
-use Rattle.std.proofs.lemmas.List.{drop_all}
-use Rattle.krl.specs.Sets.{is_among}
+use Rattle.krl.proofs.Words.{ap, arith, drop_all, is_among, ◌+◌, ◌||◌, ◌∙◌, ◌≡◌}
 use Rattle.krl.proofs.Gathering.{gathered, AscendFrom, ascend, gathered_runs, contains_gathered, within_one}
 use Rattle.krl.proofs.runs.gathered.Goals as goal
 

@@ -1,4 +1,4 @@
-use Rattle.std.proofs.Common.{◌≡◌, ◌++◌, drop}
+use Rattle.krl.proofs.Words.{drop, ◌++◌, ◌≡◌}
 use Rattle.krl.proofs.Gathering.{gathered}
 use Rattle.krl.proofs.runs.gathered.Given as goal
 

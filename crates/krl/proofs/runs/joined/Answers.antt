@@ -1,5 +1,4 @@
-use Rattle.std.proofs.Common.{◌≡◌, ◌∙◌, arith}
-use Rattle.std.proofs.lemmas.List.{drop_all}
+use Rattle.krl.proofs.Words.{arith, drop_all, ◌∙◌, ◌≡◌}
 use Rattle.krl.proofs.Joining.{joined, joined_runs, contains_joined}
 use Rattle.krl.proofs.runs.joined.Goals as goal
 

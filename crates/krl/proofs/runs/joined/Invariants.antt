@@ -1,4 +1,4 @@
-use Rattle.std.proofs.Common.{◌≡◌, ◌++◌, drop}
+use Rattle.krl.proofs.Words.{drop, ◌++◌, ◌≡◌}
 use Rattle.krl.proofs.Joining.{joined}
 use Rattle.krl.proofs.runs.joined.Given as goal
 

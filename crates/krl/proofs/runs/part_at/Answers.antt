@@ -1,6 +1,5 @@
-use Rattle.std.proofs.Common.{◌∙◌, ◌&&◌, ap, sym, get_or}
+use Rattle.krl.proofs.Words.{ap, contains, get_or, sym, ◌&&◌, ◌∙◌}
 use Rattle.std.proofs.lemmas.Result.{IfOk-weaker}
-use Rattle.krl.specs.Sets.{contains}
 use Rattle.krl.proofs.Splitting.{is_between, last_reached}
 use Rattle.krl.proofs.runs.part_at.Goals as goal
 

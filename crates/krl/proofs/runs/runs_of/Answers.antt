@@ -1,5 +1,4 @@
-use Rattle.std.proofs.Common.{subst}
-use Rattle.std.specs.List.Sorted.{IsStrictlyIncreasing}
+use Rattle.krl.proofs.Words.{IsStrictlyIncreasing, subst}
 use Rattle.krl.proofs.runs.runs_of.Goals as goal
 
 pub gathered-requires : goal.gathered-requires

@@ -1,6 +1,4 @@
-use Rattle.std.proofs.Common.{arith, ap}
-use Rattle.wire.specs.Texts.{string_text}
-use Rattle.lines.proofs.Pieces.{writes_as, writes_failed, writes_part}
+use Rattle.krl.proofs.Words.{ap, arith, string_text, writes_as, writes_failed, writes_part}
 use Rattle.krl.proofs.writer.write_ids.Goals as goal
 
 pub returns-in_err-write_string : goal.returns-in_err-write_string

@@ -1,7 +1,4 @@
-use Rattle.std.proofs.Common.{true, take}
-use Rattle.std.specs.List.{flat_map}
-use Rattle.wire.specs.Texts.{string_text}
-use Rattle.lines.specs.Writing.{Writes}
+use Rattle.krl.proofs.Words.{Writes, flat_map, string_text, take, true}
 use Rattle.krl.proofs.writer.write_ids.Given as goal
 
 abbrev pub invariant-loop-id : goal.invariant-loop-id

@@ -1,5 +1,4 @@
-use Rattle.std.proofs.Common.{◌∙◌, sym}
-use Rattle.lines.proofs.Pieces.{writes_as, writes_nothing}
+use Rattle.krl.proofs.Words.{sym, writes_as, writes_nothing, ◌∙◌}
 use Rattle.krl.proofs.WritingLaws.{one_section, no_section}
 use Rattle.krl.proofs.writer.write_part.Goals as goal
 

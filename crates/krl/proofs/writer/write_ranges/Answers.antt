@@ -1,8 +1,4 @@
-use Rattle.std.proofs.Common.{arith, get_or}
-use Rattle.lines.proofs.Pieces.{writes_failed, writes_more, writes_part}
-use Rattle.krl.specs.declared.run.Run.{Run}
-use Rattle.krl.specs.Lengths.{range_text}
-use Rattle.krl.proofs.WritingLaws.{within_any}
+use Rattle.krl.proofs.Words.{Run, arith, get_or, get_or_default, range_text, writes_failed, writes_more, writes_part}
 use Rattle.krl.proofs.writer.write_ranges.Goals as goal
 
 abbrev nothing : Run
@@ -10,11 +6,16 @@ nothing = record { lo = 0; hi = 0 }
 
 pub returns-in_err-write_long : goal.returns-in_err-write_long
 returns-in_err-write_long g c =
-    let run = get_or c.args.runs.now c.loop-run.run-index nothing in
-    writes_failed c.from_residual.result _ _ _ c.from_residual.ensures.0
-    (writes_part range_text c.args.runs.now c.loop-run.run-index run _ _ _ (omega arith) (within_any c.args.runs.now c.loop-run.run-index nothing run (omega arith)) c.loop-run.invariant c.in_err-write_long.ensures)
+    let rs = c.args.runs.now in
+    let i = c.loop-run.run-index in
+    let run = get_or rs i nothing in
+    writes_failed c.from_residual.result _ _ _ c.from_residual.ensures.0 (writes_part range_text rs i run _ _ _
+    (omega arith) (get_or_default rs i nothing run (omega arith)) c.loop-run.invariant c.in_err-write_long.ensures)
 
 pub loop-run-preserved : goal.loop-run-preserved
 loop-run-preserved g c =
-    let run = get_or c.args.runs.now c.loop-run.run-index nothing in
-    writes_more range_text c.args.runs.now c.loop-run.run-index run _ _ _ (omega arith) (within_any c.args.runs.now c.loop-run.run-index nothing run (omega arith)) c.loop-run.invariant c.in_ok-write_long.ensures
+    let rs = c.args.runs.now in
+    let i = c.loop-run.run-index in
+    let run = get_or rs i nothing in
+    writes_more range_text rs i run _ _ _ (omega arith) (get_or_default rs i nothing run (omega arith))
+    c.loop-run.invariant c.in_ok-write_long.ensures

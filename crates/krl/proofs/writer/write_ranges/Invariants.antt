@@ -1,7 +1,4 @@
-use Rattle.std.proofs.Common.{true, take}
-use Rattle.std.specs.List.{flat_map}
-use Rattle.lines.specs.Writing.{Writes}
-use Rattle.krl.specs.Lengths.{range_text}
+use Rattle.krl.proofs.Words.{Writes, flat_map, range_text, take, true}
 use Rattle.krl.proofs.writer.write_ranges.Given as goal
 
 abbrev pub invariant-loop-run : goal.invariant-loop-run

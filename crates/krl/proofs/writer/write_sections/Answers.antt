@@ -1,12 +1,7 @@
-use Rattle.std.proofs.Common.{arith, refl, All, ap, subst, ◌∙◌, List}
-use Rattle.std.specs.List.{list_all, flat_map}
-use Rattle.std.proofs.lemmas.List.{take_all}
+use Rattle.krl.proofs.Words.{All, AreRuns, CaPart, List, ap, arith, flat_map, list_all, part_fits, refl, subst}
+use Rattle.krl.proofs.Words.{take_all, writes_as, writes_failed, writes_more, writes_part, ◌∙◌}
 use Rattle.std.proofs.lemmas.List.Recursion.{and_at}
 use Rattle.std.proofs.lemmas.List.Elements.{All-more}
-use Rattle.lines.proofs.Pieces.{writes_as, writes_failed, writes_more, writes_part}
-use Rattle.krl.specs.declared.ca_part.CaPart.{CaPart}
-use Rattle.krl.specs.Sets.{AreRuns}
-use Rattle.krl.specs.Published.{part_fits}
 use Rattle.krl.proofs.WritingLaws.{sections_text, all_sections}
 use Rattle.krl.proofs.writer.write_sections.Goals as goal
 

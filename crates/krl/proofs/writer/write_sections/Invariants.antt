@@ -1,7 +1,4 @@
-use Rattle.std.proofs.Common.{true, take, All}
-use Rattle.std.specs.List.{flat_map}
-use Rattle.lines.specs.Writing.{Writes}
-use Rattle.krl.specs.Sets.{AreRuns}
+use Rattle.krl.proofs.Words.{All, AreRuns, Writes, flat_map, take, true}
 use Rattle.krl.proofs.WritingLaws.{sections_text}
 use Rattle.krl.proofs.writer.write_sections.Given as goal
 

@@ -1,7 +1,6 @@
-use Rattle.std.proofs.Common.{◌∷◌, []}
-use Rattle.wire.specs.Texts.{u32_text}
-use Rattle.lines.proofs.Pieces.{writes_then}
+use Rattle.krl.proofs.Words.{refl}
+use Rattle.krl.proofs.WritingLaws.{writes_on}
 use Rattle.krl.proofs.writer.write_tag.Goals as goal
 
 pub returns : goal.returns
-returns g c = writes_then _ _ _ _ (c.args.kind ∷ []) (u32_text c.args.len) c.in_ok-write_piece.ensures c.write_u32.ensures
+returns g c = writes_on _ _ refl c.in_ok-write_piece.ensures c.write_u32.ensures

@@ -1,6 +1,6 @@
-use Rattle.std.proofs.Common.{◌≡◌, ◌+◌, ◌<◌, ◌-◌, ℕ, List, [], ◌∷◌, ◌++◌, Some, None, map, sym, ap, ◌∙◌, arith}
-use Rattle.text.specs.declared.pair.Pair.{Pair}
-use Rattle.message.specs.Reading.{line_of, option_after, options_from}
+use Rattle.message.proofs.Words.{List, None, Pair, Some, [], ap, arith, line_of, map, option_after, sym, ℕ, ◌++◌, ◌+◌}
+use Rattle.message.proofs.Words.{◌-◌, ◌<◌, ◌∙◌, ◌∷◌, ◌≡◌}
+use Rattle.message.specs.Reading.{options_from}
 use Rattle.message.proofs.Steps.{all_options, are_options, no_option, one_option}
 use Rattle.message.proofs.issue.options_in.Goals as goal
 

@@ -1,4 +1,4 @@
-use Rattle.std.proofs.Common.{◌≡◌, ◌-◌, map, []}
+use Rattle.message.proofs.Words.{[], map, ◌-◌, ◌≡◌}
 use Rattle.message.specs.Reading.{options_from}
 use Rattle.message.proofs.issue.options_in.Given as goal
 

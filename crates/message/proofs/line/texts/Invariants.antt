@@ -1,4 +1,4 @@
-use Rattle.std.proofs.Common.{◌≡◌, map, take}
+use Rattle.message.proofs.Words.{map, take, ◌≡◌}
 use Rattle.message.proofs.line.texts.Given as goal
 
 abbrev pub invariant-loop-part : goal.invariant-loop-part

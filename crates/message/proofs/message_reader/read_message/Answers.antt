@@ -1,5 +1,4 @@
-use Rattle.std.proofs.Common.{arith}
-use Rattle.base64.specs.GeneralPurpose.{IsBytes}
+use Rattle.message.proofs.Words.{IsBytes, arith}
 use Rattle.message.proofs.TextLaws.{answered_from, fault_from, found_from, only_from}
 use Rattle.message.proofs.message_reader.read_message.Goals as goal
 

@@ -1,6 +1,4 @@
-use Rattle.std.proofs.Common.{ap, not, sym, ◌∙◌, List, ℕ}
-use Rattle.std.specs.List.{list_any}
-use Rattle.std.specs.Str.{bytes_eq}
+use Rattle.message.proofs.Words.{List, ap, bytes_eq, list_any, not, sym, ℕ, ◌∙◌}
 use Rattle.message.proofs.Steps.{and_second}
 use Rattle.message.proofs.option.is_new_option.Goals as goal
 

@@ -1,6 +1,4 @@
-use Rattle.std.proofs.Common.{refl, decimal}
-use Rattle.std.specs.Prelude.{codes}
-use Rattle.message.specs.Texts.{line, signature_text}
+use Rattle.message.proofs.Words.{codes, decimal, line, refl, signature_text}
 use Rattle.message.proofs.PutLines.{none_put, then_line}
 use Rattle.message.proofs.writing.put_delivery.Goals as goal
 

@@ -1,6 +1,4 @@
-use Rattle.std.proofs.Common.{◌++◌, ℕ, List, refl, ap, decimal}
-use Rattle.std.specs.Prelude.{codes}
-use Rattle.message.specs.Texts.{kind_text, line, list_line}
+use Rattle.message.proofs.Words.{List, ap, codes, decimal, kind_text, line, list_line, refl, ℕ, ◌++◌}
 use Rattle.message.proofs.PutLines.{none_put, then_line}
 use Rattle.message.proofs.writing.put_department.Goals as goal
 

@@ -1,8 +1,5 @@
-use Rattle.std.proofs.Common.{◌++◌, ℕ, List, map, refl, ap, ◌∙◌, decimal}
-use Rattle.std.specs.Prelude.{codes}
-use Rattle.text.specs.declared.pair.Pair.{Pair}
-use Rattle.lines.specs.KeyLines.{key_line_text}
-use Rattle.message.specs.Texts.{line, lines_text, list_line, option_line}
+use Rattle.message.proofs.Words.{List, Pair, ap, codes, decimal, key_line_text, line, lines_text, list_line, map}
+use Rattle.message.proofs.Words.{option_line, refl, ℕ, ◌++◌, ◌∙◌}
 use Rattle.message.proofs.PutLines.{none_put, then_line, then_lines}
 use Rattle.message.proofs.writing.put_issue.Goals as goal
 

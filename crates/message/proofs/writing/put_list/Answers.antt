@@ -1,4 +1,4 @@
-use Rattle.std.proofs.Common.{◌++◌, ℕ, List, ap, ◌∙◌, append_assoc}
+use Rattle.message.proofs.Words.{List, ap, append_assoc, ℕ, ◌++◌, ◌∙◌}
 use Rattle.message.proofs.PutLines.{each_after, list_put}
 use Rattle.message.proofs.writing.put_list.Goals as goal
 

@@ -1,5 +1,4 @@
-use Rattle.std.proofs.Common.{◌≡◌, ◌++◌, drop}
-use Rattle.message.specs.Texts.{list_line}
+use Rattle.message.proofs.Words.{drop, list_line, ◌++◌, ◌≡◌}
 use Rattle.message.proofs.PutLines.{each_after}
 use Rattle.message.proofs.writing.put_list.Given as goal
 

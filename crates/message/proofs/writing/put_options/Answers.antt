@@ -1,7 +1,6 @@
-use Rattle.std.proofs.Common.{◌≡◌, ◌+◌, ◌<◌, ◌++◌, ◌∷◌, [], ℕ, List, length, map, take, refl, ap, sym, ◌∙◌, arith}
+use Rattle.message.proofs.Words.{List, Pair, [], ap, arith, length, lines_text, map, option_line, refl, sym, take, ℕ}
+use Rattle.message.proofs.Words.{◌++◌, ◌+◌, ◌<◌, ◌∙◌, ◌∷◌, ◌≡◌}
 use Rattle.std.proofs.lemmas.List.{map_more}
-use Rattle.text.specs.declared.pair.Pair.{Pair}
-use Rattle.message.specs.Texts.{lines_text, option_line}
 use Rattle.message.proofs.PutLines.{IsPut, then_line}
 use Rattle.message.proofs.writing.put_options.Goals as goal
 

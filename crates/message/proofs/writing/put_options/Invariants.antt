@@ -1,5 +1,4 @@
-use Rattle.std.proofs.Common.{◌≡◌, ◌++◌, map, take}
-use Rattle.message.specs.Texts.{lines_text, option_line}
+use Rattle.message.proofs.Words.{lines_text, map, option_line, take, ◌++◌, ◌≡◌}
 use Rattle.message.proofs.writing.put_options.Given as goal
 
 abbrev pub invariant-loop-option : goal.invariant-loop-option

@@ -1,6 +1,4 @@
-use Rattle.std.proofs.Common.{◌++◌, [], ◌∷◌, ℕ, List, ap, sym, ◌∙◌, append_assoc, decimal}
-use Rattle.std.specs.Prelude.{codes}
-use Rattle.message.specs.Texts.{lines_text}
+use Rattle.message.proofs.Words.{List, [], ap, append_assoc, codes, decimal, lines_text, sym, ℕ, ◌++◌, ◌∙◌, ◌∷◌}
 use Rattle.message.proofs.PutLines.{in_turn}
 use Rattle.message.proofs.writing.put_range.Goals as goal
 

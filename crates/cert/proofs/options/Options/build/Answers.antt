@@ -1,11 +1,9 @@
-use Rattle.std.proofs.Common.{◌≡◌, ℕ, List, insert, take, drop, None, sym, ap, ◌∙◌, subst, ◌+◌}
-use Rattle.std.specs.List.{list_any, position_or_len}
+use Rattle.cert.proofs.Words.{List, None, Pair, ap, comes_before, drop, insert, is_ascending, is_options, list_any}
+use Rattle.cert.proofs.Words.{listing, options_fault, position_or_len, subst, sym, take, ℕ, ◌+◌, ◌∙◌, ◌≡◌}
 use Rattle.std.proofs.lemmas.List.{take_all}
-use Rattle.text.specs.declared.pair.Pair.{Pair}
-use Rattle.cert.specs.Options.{comes_before, is_ascending, listing, is_options}
-use Rattle.cert.specs.OptionFaults.{options_fault}
-use Rattle.cert.proofs.Listing.{IsListedSoFar, fault_answered-Err, lists_one_more, is_options-listing, is_ascending-listing}
-use Rattle.cert.proofs.SamePairs.{same_pairs}
+use Rattle.cert.proofs.Listing.{IsListedSoFar, fault_answered-Err, is_ascending-listing, is_options-listing}
+use Rattle.cert.proofs.Listing.{lists_one_more}
+use Rattle.cert.proofs.Ascending.{same_pairs}
 use Rattle.cert.proofs.options.Options.build.Goals as goal
 
 pub returns-in-Some-clause-fault : goal.returns-in-Some-clause-fault

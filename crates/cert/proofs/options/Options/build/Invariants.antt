@@ -1,4 +1,4 @@
-use Rattle.std.proofs.Common.{take, drop}
+use Rattle.cert.proofs.Words.{drop, take}
 use Rattle.cert.proofs.Listing.{IsListedSoFar}
 use Rattle.cert.proofs.options.Options.build.Given as goal
 

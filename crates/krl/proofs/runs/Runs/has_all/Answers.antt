@@ -1,5 +1,4 @@
-use Rattle.std.proofs.Common.{◌≡◌, ◌∙◌, sym, ap}
-use Rattle.std.specs.List.{list_any}
+use Rattle.krl.proofs.Words.{ap, list_any, sym, ◌∙◌, ◌≡◌}
 use Rattle.krl.proofs.Maximal.{covered_by, covered, covers_all}
 use Rattle.krl.proofs.runs.Runs.has_all.Goals as goal
 

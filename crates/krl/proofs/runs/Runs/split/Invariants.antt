@@ -1,6 +1,5 @@
-use Rattle.std.proofs.Common.{◌≡◌, ◌<◌, ◌&&◌, ℕ, [], get_or, vec_len}
-use Rattle.std.specs.Prelude.{All}
-use Rattle.krl.specs.Sets.{AreRuns, contains, is_last_reached}
+use Rattle.krl.proofs.Words.{All, AreRuns, [], contains, get_or, is_last_reached, ℕ, ◌&&◌, ◌<◌, ◌≡◌}
+use Rattle.std.proofs.Common.{vec_len}
 use Rattle.krl.proofs.runs.Runs.split.Given as goal
 
 abbrev pub invariant-loop-place : goal.invariant-loop-place
