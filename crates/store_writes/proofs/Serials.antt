@@ -35,9 +35,11 @@ unsigned : (n serial : ℕ) (cs : List Certificate) (signature : List ℕ) → A
 unsigned n serial [] signature counted lt = refl
 unsigned n serial (c ∷ cs) signature counted lt =
     let other : eqb c.fields.serial serial ≡ false = ne_eqb c.fields.serial serial (λ e. omega (arith, counted.0, e)) in
-    rw other (ap (λ (rows : List CertRow). cert_row c ∷ rows) (unsigned (suc n) serial cs signature counted.1 (omega arith)))
+    rw other (ap (λ (rows : List CertRow). cert_row c ∷ rows)
+    (unsigned (suc n) serial cs signature counted.1 (omega arith)))
 
-pub signed_rows : (n serial place : ℕ) (cs : List Certificate) (signature : Signature) → AreCounted n cs → serial ≡ n + place
+pub signed_rows : (n serial place : ℕ) (cs : List Certificate) (signature : Signature) → AreCounted n cs
+    → serial ≡ n + place
     → map (signs serial signature.bytes) (map cert_row cs) ≡ map cert_row (signed_at cs place signature)
 signed_rows n serial place [] signature counted is = refl
 signed_rows n serial zero (c ∷ cs) signature counted is =
@@ -46,7 +48,8 @@ signed_rows n serial zero (c ∷ cs) signature counted is =
     (unsigned (suc n) serial cs signature.bytes counted.1 (omega arith)))
 signed_rows n serial (suc place) (c ∷ cs) signature counted is =
     let other : eqb c.fields.serial serial ≡ false = ne_eqb c.fields.serial serial (λ e. omega (arith, counted.0, e)) in
-    rw other (ap (λ (rows : List CertRow). cert_row c ∷ rows) (signed_rows (suc n) serial place cs signature counted.1 (omega arith)))
+    rw other (ap (λ (rows : List CertRow). cert_row c ∷ rows)
+    (signed_rows (suc n) serial place cs signature counted.1 (omega arith)))
 
 -- a serial with a certificate is not below the first
 pub not_below : (s : State) (serial : ℕ) → IsSome (certificate_of s serial) → s.opening.first ≤ serial
@@ -59,16 +62,20 @@ not_below s serial some = go (nat_lt serial s.opening.first) refl some
 
 -- ---- CAs
 
-ca_last : (n : ℕ) (cas : List Ca) (ca : Ca) → ca_rows n (cas ++ ca ∷ []) ≡ ca_rows n cas ++ ca_row (n + length cas) ca ∷ []
+ca_last : (n : ℕ) (cas : List Ca) (ca : Ca)
+    → ca_rows n (cas ++ ca ∷ []) ≡ ca_rows n cas ++ ca_row (n + length cas) ca ∷ []
 ca_last n [] ca = ap (λ (k : ℕ). ca_row k ca ∷ []) (let same : n ≡ n + 0 = omega arith in same)
 ca_last n (c ∷ cas) ca =
     ap (λ (rows : List CaRow). ca_row n c ∷ rows) (ca_last (suc n) cas ca
-    ∙ ap (λ (k : ℕ). ca_rows (suc n) cas ++ ca_row k ca ∷ []) (let same : suc n + length cas ≡ n + suc (length cas) = omega arith in same))
+    ∙ ap (λ (k : ℕ). ca_rows (suc n) cas ++ ca_row k ca ∷ []) (let same : suc n + length cas ≡ n + suc (length cas) =
+    omega arith in same))
 
-pub ca_added : (cas : List Ca) (ca : Ca) → IsPermutation (ca_row (suc (length cas)) ca ∷ ca_rows 1 cas) (ca_rows 1 (cas ++ ca ∷ []))
+pub ca_added : (cas : List Ca) (ca : Ca)
+    → IsPermutation (ca_row (suc (length cas)) ca ∷ ca_rows 1 cas) (ca_rows 1 (cas ++ ca ∷ []))
 ca_added cas ca =
     let number : 1 + length cas ≡ suc (length cas) = omega arith in
     subst (IsPermutation (ca_row (suc (length cas)) ca ∷ ca_rows 1 cas))
     (sym (ca_last 1 cas ca ∙ ap (λ (k : ℕ). ca_rows 1 cas ++ ca_row k ca ∷ []) number))
-    (IsPermutation-sym (ca_rows 1 cas ++ ca_row (suc (length cas)) ca ∷ []) (ca_row (suc (length cas)) ca ∷ ca_rows 1 cas)
+    (IsPermutation-sym (ca_rows 1 cas ++ ca_row (suc (length cas)) ca ∷ [])
+    (ca_row (suc (length cas)) ca ∷ ca_rows 1 cas)
     (IsPermutation-to_front (ca_rows 1 cas) (ca_row (suc (length cas)) ca)))
