@@ -29,12 +29,13 @@ use Rattle.store_rows.specs.Rows.{ca_row, cert_row, contents_of, office_row, req
 use Rattle.store_rows.proofs.Same.{IsSame}
 use Rattle.store_writes.specs.Changing.{ca_from, with_change, with_key_id}
 use Rattle.store_writes.specs.Due.{IsDue, contents_after, counters_of, kept_of}
+use Rattle.office.proofs.Decisions.{serial_of_one}
 use Rattle.office.proofs.Growth.{length-signed_at}
 use Rattle.store_writes.proofs.Joined.{rows_joined, runs_still}
 use Rattle.store_writes.proofs.Named.{put_named}
 use Rattle.store_writes.proofs.Once.{absent, present}
 use Rattle.store_writes.proofs.Parts.{Holds}
-use Rattle.store_writes.proofs.Serials.{ca_added, not_below, signed_rows, to_front}
+use Rattle.store_writes.proofs.Serials.{ca_added, signed_rows, to_front}
 
 -- ---- the tables of changes
 
@@ -80,7 +81,7 @@ change_made number since os rs (change.Certificate c) s kept lawful room is numb
     let runs = ap (map run_row) (runs_still s c issued (omega (arith, next, fits))) in
     (same _, to_front cert_row c s.certificates, IsPermutation-same _ _ runs, same _, same _)
 change_made number since os rs (change.Signature serial signature) s kept lawful room is numbered next fits issued =
-    let above = not_below s serial room in
+    let above = (serial_of_one s serial room).0 in
     let at = serial - s.opening.first in
     let place : serial ≡ s.opening.first + at = omega arith in
     let certs = signed_rows s.opening.first serial at s.certificates signature lawful.serials place in

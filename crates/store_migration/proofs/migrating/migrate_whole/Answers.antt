@@ -24,15 +24,13 @@ returns-in-Ok g c =
     record {
       ends = λ clean. ends Had (λ _ _. Unit {0}) migrated old first last new (done moved.result) (done c.end.result)
           (c.in-Ok.ensures.begins (early clean)) (moved.ensures.makes (late clean)) (end.concludes clean);
-      judges = λ clean con rests. judged_whole (λ _. ⊥)
-          (Waits Had first) old first last new con moved.result c.end.result
-          c.begin.ensures.survives (early clean) moved.ensures.survives (late clean) end.survives.counts rests
-          (c.in-Ok.ensures.begins (early clean)) (moved.ensures.makes (late clean)) (moved.ensures.judges (late clean))
-          (end.tells clean);
+      judges = λ clean con rests. judged_whole (λ _. ⊥) (Waits Had first) old first last new con moved.result
+          c.end.result c.begin.ensures.survives (early clean) moved.ensures.survives (late clean) end.survives.counts
+          rests (c.in-Ok.ensures.begins (early clean)) (moved.ensures.makes (late clean))
+          (moved.ensures.judges (late clean)) (end.tells clean);
       before = λ clean. on_fault (IsAsBefore old new) c.end.result
-          (concludes_before old first last new (done moved.result)
-          (done c.end.result) (c.in-Ok.ensures.begins (early clean)) (moved.ensures.stays (late clean))
-          (end.concludes clean));
+          (concludes_before old first last new (done moved.result) (done c.end.result)
+          (c.in-Ok.ensures.begins (early clean)) (moved.ensures.stays (late clean)) (end.concludes clean));
       survives = left Had (λ _ _. Unit {0}) migrated old first last new (done moved.result) c.in-Ok.ensures.begins
           moved.ensures.makes c.begin.ensures.survives moved.ensures.survives end.survives;
     }

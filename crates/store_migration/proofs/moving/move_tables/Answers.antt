@@ -21,17 +21,14 @@ returns-in-Ok g c =
     let rest = c.fill.ensures in
     let before : HasCleanDisk new → HasCleanDisk mid = λ clean. omega (arith, rest.survives.clean) in
     record {
-      makes = λ clean. answers_then Had (λ _ _. Unit {0}) migrated HasNoCa (λ _ _. Unit {0}) migrated
-          (λ x. x) old mid new
-          (done c.fill.result) (made_leads old mid (c.in-Ok.ensures.adds (before clean)))
-          (rest.makes clean) (λ _ _ _. tt)
-          (λ _. refl);
+      makes = λ clean. answers_then Had (λ _ _. Unit {0}) migrated HasNoCa (λ _ _. Unit {0}) migrated (λ x. x) old
+          mid new (done c.fill.result) (made_leads old mid (c.in-Ok.ensures.adds (before clean))) (rest.makes clean)
+          (λ _ _ _. tt) (λ _. refl);
       judges = λ clean con had. judged_for con (HasStopped con mid new) (HasStopped con old new) c.fill.result
           (stopped_late (WaitsAt without_ca old) old mid new con one (before clean) rest.survives.counts)
           (rest.judges clean con (made_leads old mid (c.in-Ok.ensures.adds (before clean)) con had).2);
       stays = λ clean. stays_then {X = Unit {0}} old mid new tt (done c.fill.result)
-          (c.in-Ok.ensures.stays (before clean))
-          (rest.stays clean);
+          (c.in-Ok.ensures.stays (before clean)) (rest.stays clean);
       survives = waits_then Had HasNoCa (λ x. x) old mid new (λ clean. made_leads old mid (c.in-Ok.ensures.adds clean))
           (made_waits old mid one) rest.survives;
     }

@@ -30,14 +30,12 @@ returns g c =
           let put = rw w.as_slice-in-None.ensures at w.insert_revoked.ensures in
           let p = found_then (λ (b : Bool) d. cond b d (with_revoked key_id d)) false
           (λ d. list_any (is_key_id key_id) d.revoked) (RefusesKeyId key_id)
-          (RefusesChange 0 0 (change.KeyId key_id)) old mid
-          new w.insert_revoked.result
+          (RefusesChange 0 0 (change.KeyId key_id)) old mid new w.insert_revoked.result
           (λ clean d means. let f = found.finds clean d means in
           (f.0, sym (ap is_some w.in-None.is) ∙ any_found (is_key_id key_id) d.revoked _ f.1))
           found.reads c.find_revoked.ensures.survives
-          (written (with_revoked key_id)
-          (RefusesKeyId key_id) mid new w.insert_revoked.result put.changes put.fault put.stays
-          put.survives)
+          (written (with_revoked key_id) (RefusesKeyId key_id) mid new w.insert_revoked.result put.changes put.fault
+          put.stays put.survives)
           (λ d is why. elim why [ inl there ↦ absurd (not_there key_id d.revoked (sym is) there) | inr more ↦ more ]) in
           record { makes = p.makes; fault = p.fault; stays = p.stays; survives = p.survives })
       | in-Some w ↦ rw (w.conn-is, w.result-is) (record {
@@ -50,7 +48,7 @@ returns g c =
             );
         fault = λ clean. tt;
         stays = λ clean. reads_stay {X = Unit {0}} old mid (Ok tt) (found.reads clean);
-        survives = survives_weaker old mid Never (Waits Has old)
-            (λ clean trees h. absurd h) c.find_revoked.ensures.survives;
+        survives = survives_weaker old mid Never (Waits Has old) (λ clean trees h. absurd h)
+            c.find_revoked.ensures.survives;
       })
     ]

@@ -16,9 +16,8 @@ returns g c =
     let one = c.in_ok-update_office.ensures in
     let rest = c.insert_request.ensures in
     let w = written_then (with_counters k) (with_request row) (RefusesRequest row) (RefusesRecord k row)
-    _ _ _ c.insert_request.result one.changes one.stays c.update_office.ensures.survives rest.changes
-    rest.fault rest.stays
-    rest.survives (λ d. inr) in
+    _ _ _ c.insert_request.result one.changes one.stays c.update_office.ensures.survives rest.changes rest.fault
+    rest.stays rest.survives (λ d. inr) in
     record { makes = w.makes; fault = w.fault; stays = w.stays; survives = w.survives }
 
 pub returns-in_err-update_office-clause-fault : goal.returns-in_err-update_office-clause-fault
