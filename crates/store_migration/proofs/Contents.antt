@@ -46,6 +46,7 @@ only_ca (o ∷ []) ca e = ap (λ (x : CaRow). x ∷ []) (one_of o (o.schema == 1
 only_ca (o ∷ p ∷ offices) ca e = absurd cc
 
 -- the rows that are put in make the contents of schema 2
-pub put_in : (c : Contents) (ca : CaRow) → ca_of c.offices ≡ Ok ca → c.cas ≡ [] → with_schema 2 (with_ca ca c) ≡ migrated c
+pub put_in : (c : Contents) (ca : CaRow) → ca_of c.offices ≡ Ok ca → c.cas ≡ []
+    → with_schema 2 (with_ca ca c) ≡ migrated c
 put_in c ca is none = ap (λ (cas : List CaRow). with_schema 2 (record c { cas = cas }))
     (ap (λ (cas : List CaRow). ca ∷ cas) none ∙ sym (only_ca c.offices ca is))

@@ -6,7 +6,8 @@ use Rattle.store_sql.specs.Contents.{Contents}
 use Rattle.store_rows.proofs.Causes.{failed_early, failed_late}
 use Rattle.store_migration.specs.Migrating.{HasStopped}
 
-pub stopped_late : (P : Trees → Type 0) (a b d : State) (c : Contents) → Survives a b P → HasCleanDisk b → b.faults ≤ d.faults
+pub stopped_late : (P : Trees → Type 0) (a b d : State) (c : Contents) → Survives a b P → HasCleanDisk b
+    → b.faults ≤ d.faults
     → HasStopped c b d → HasStopped c a d
 stopped_late P a b d c one clean le (inl failed) = inl (failed_late P a b d one clean le failed)
 stopped_late P a b d c one clean le (inr refused) = inr refused

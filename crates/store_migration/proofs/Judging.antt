@@ -7,8 +7,8 @@ use Rattle.sqlite.specs.State.{State, HasCleanDisk, IsUnchanged, Survives}
 use Rattle.office.specs.declared.opening.Opening.{Opening}
 use Rattle.office.specs.declared.arrival.Arrival.{Arrival}
 use Rattle.office.specs.declared.store_fault.StoreFault.{StoreFault}
-use Rattle.office.specs.declared.store_fault.StoreFault.TheVariants.{AlreadyAnOffice, Damaged, Device}
-use Rattle.office.specs.declared.store_fault.StoreFault.TheVariants.{NoMemory, NotAnOffice, WrongSchema}
+use Rattle.office.specs.declared.store_fault.StoreFault.TheVariants.{Damaged, Device}
+use Rattle.office.specs.declared.store_fault.StoreFault.TheVariants.{NoMemory, WrongSchema}
 use Rattle.store_sql.specs.declared.offices.OfficeRow.{OfficeRow}
 use Rattle.store_sql.specs.declared.cas.CaRow.{CaRow}
 use Rattle.store_sql.specs.declared.table_fault.Fault.{Fault}
@@ -29,14 +29,10 @@ use Rattle.store_migration.proofs.Failing.{stopped_early, stopped_late}
 is_ok : {X E : Type 0} (r : Result X E) (x : X) → r ≡ Ok x → IsOk r
 is_ok r x e = subst IsOk (sym e) refl
 
-pub judged_for : (c : Contents) (P Q : Type 0) (r : Result (Unit {0}) StoreFault) → (P → Q) → Judges c P r → Judges c Q r
-judged_for c P Q (Ok x) f h = h
-judged_for c P Q (Err NoMemory) f h = h
+pub judged_for : (c : Contents) (P Q : Type 0) (r : Result (Unit {0}) StoreFault) → (P → Q) → Judges c P r
+    → Judges c Q r
 judged_for c P Q (Err Device) f h = f h
-judged_for c P Q (Err AlreadyAnOffice) f h = h
-judged_for c P Q (Err NotAnOffice) f h = h
-judged_for c P Q (Err WrongSchema) f h = h
-judged_for c P Q (Err Damaged) f h = h
+judged_for c P Q _ f h = h
 
 -- a fault of a call on the tables
 pub judged_fault : (old new : State) (c : Contents) (f : Fault) → HasCause old new f
@@ -81,10 +77,7 @@ pub judged_rows : (c : Contents) (P : Type 0) (rows : List OfficeRow) (e : Store
     → IsCaDue (ca_of rows) (Err e) → Judges c P (Err e)
 judged_rows c P rows NoMemory same h = tt
 judged_rows c P rows Device same h = absurd (never_device rows h)
-judged_rows c P rows AlreadyAnOffice same h = ca_same c.offices rows same ∙ h
-judged_rows c P rows NotAnOffice same h = ca_same c.offices rows same ∙ h
-judged_rows c P rows WrongSchema same h = ca_same c.offices rows same ∙ h
-judged_rows c P rows Damaged same h = ca_same c.offices rows same ∙ h
+judged_rows c P rows _ same h = ca_same c.offices rows same ∙ h
 
 -- what was moved was so inside of the transaction
 abbrev IsInside : Result (Unit {0}) StoreFault → State → Type 0
@@ -93,7 +86,8 @@ IsInside (Err e) s = Unit {0}
 
 -- the end of what was moved, or was not
 judged_end : (mid new : State) (c : Contents) (P Q : Type 0) (moved r : Result (Unit {0}) StoreFault)
-    → (P → Q) → (HasFailed mid new → Q) → Judges c P moved → IsInside moved mid → TellsEnd moved mid new r → Judges c Q r
+    → (P → Q) → (HasFailed mid new → Q) → Judges c P moved → IsInside moved mid → TellsEnd moved mid new r
+    → Judges c Q r
 judged_end mid new c P Q (Ok x) (Ok y) early late h inside tells = h
 judged_end mid new c P Q (Ok x) (Err e) early late h inside tells =
     let told = tells inside in subst (λ (e : StoreFault). Judges c Q (Err e)) (sym told.1) (by_fault told.0 told.2)
@@ -105,7 +99,8 @@ judged_end mid new c P Q (Ok x) (Err e) early late h inside tells =
 judged_end mid new c P Q (Err e) r early late h inside tells =
     subst (λ (r : Result (Unit {0}) StoreFault). Judges c Q r) (sym tells) (judged_for c P Q (Err e) early h)
 
-still_inside : (b m : State) (c : Contents) (moved : Result (Unit {0}) StoreFault) → b.in_transaction ≡ true → Had c b.now
+still_inside : (b m : State) (c : Contents) (moved : Result (Unit {0}) StoreFault)
+    → b.in_transaction ≡ true → Had c b.now
     → Makes Had migrated b m (done moved) → IsInside moved m
 still_inside b m c (Ok x) inside had makes = (makes c had).1.mode ∙ inside
 still_inside b m c (Err e) inside had makes = tt
@@ -128,7 +123,4 @@ pub excused : (o : Opening) (l : List Arrival) (stopped : Type 0) (e : StoreFaul
     → Judges (former_contents o l) stopped (Err e) → IsExcused stopped e
 excused o l stopped NoMemory h = tt
 excused o l stopped Device h = h
-excused o l stopped AlreadyAnOffice h = absurd cc
-excused o l stopped NotAnOffice h = absurd cc
-excused o l stopped WrongSchema h = absurd cc
-excused o l stopped Damaged h = absurd cc
+excused o l stopped _ h = absurd cc

@@ -1,57 +1,42 @@
 -- The kept request of a caller and a key.
-use Rattle.std.proofs.Common.{◌≡◌, ℕ, List, [], ◌∷◌, map, filter, Bool, true, false, cond, ◌||◌, Option, Some, None, refl, ap, subst, ◌∙◌}
+use Rattle.std.proofs.Common.{◌≡◌, ℕ, List, [], ◌∷◌, map, filter, true, false, cond, inl, inr, Option, Some, None, refl}
+use Rattle.std.proofs.Common.{ap, subst, ◌∙◌}
 use Rattle.std.specs.Prelude.{find, is_some}
 use Rattle.std.specs.List.{list_any}
 use Rattle.std.specs.Option.{option_map}
 use Rattle.std.specs.Str.{bytes_eq}
-use Rattle.std.proofs.lemmas.Bool.{and_parts, or_parts}
+use Rattle.std.proofs.lemmas.Bool.{and_parts, cases_Bool, or_parts}
 use Rattle.std.proofs.lemmas.Slice.Eq.{bytes_eq-Decides}
 use Rattle.office.specs.declared.arrival.Arrival.{Arrival}
 use Rattle.office.specs.declared.arrival.Kept.{Kept}
 use Rattle.office.specs.State.{State}
-use Rattle.office.specs.History.{has_key, is_repeat, reply_kept}
+use Rattle.office.specs.History.{has_key, reply_kept}
 use Rattle.store_sql.specs.declared.requests.RequestRow.{RequestRow}
 use Rattle.store_sql.specs.Calls.{IsOneOf}
 use Rattle.store_sql.specs.Changes.{requests_for, is_for as row_for}
 use Rattle.store_rows.specs.Rows.{contents_of, request_row}
+use Rattle.sqlite_trees.proofs.ListLemmas.{filter-map}
+use Rattle.store_rows.proofs.Found.{none_passes}
 use Rattle.store_reads.specs.Finding.{kept_in}
 use Rattle.store_reads.specs.Histories.{AreApart, is_for}
 use Rattle.store_reads.proofs.OneRow.{found_row, rows_of}
 
 -- ---- one request has this caller and this key
 
-same_pair : (caller key : List ℕ) (k : Kept) → is_for caller key k ≡ true → (k.caller ≡ caller) × (k.key ≡ key)
-same_pair caller key k is =
-    let parts = and_parts (bytes_eq k.caller caller) (bytes_eq k.key key) is in
-    ((bytes_eq-Decides k.caller caller).0 parts.0, (bytes_eq-Decides k.key key).0 parts.1)
-
-none_of : (caller key : List ℕ) (kept : List Kept) → list_any (is_for caller key) kept ≡ false
-    → filter (row_for caller key) (map request_row kept) ≡ []
-none_of caller key [] none = refl
-none_of caller key (k ∷ kept) none =
-    let parts = or_parts (is_for caller key k) (list_any (is_for caller key) kept) none in
-    let first : is_for caller key k ≡ false = parts.0 in
-    rw first (none_of caller key kept parts.1)
-
 others_apart : (caller key : List ℕ) (k : Kept) (kept : List Kept) → is_for caller key k ≡ true
     → list_any (is_for k.caller k.key) kept ≡ false → list_any (is_for caller key) kept ≡ false
 others_apart caller key k kept is apart =
-    let same = same_pair caller key k is in
-    subst (λ (x : List ℕ). list_any (is_for caller x) kept ≡ false) same.1
-    (subst (λ (x : List ℕ). list_any (is_for x k.key) kept ≡ false) same.0 apart)
+    let parts = and_parts (bytes_eq k.caller caller) (bytes_eq k.key key) is in
+    rw ((bytes_eq-Decides k.caller caller).0 parts.0, (bytes_eq-Decides k.key key).0 parts.1) at apart
 
 one_kept : (caller key : List ℕ) (kept : List Kept) → AreApart kept
     → filter (row_for caller key) (map request_row kept) ≡ rows_of request_row (find (is_for caller key) kept)
 one_kept caller key [] apart = refl
-one_kept caller key (k ∷ kept) apart = by_test (is_for caller key k) refl (one_kept caller key kept apart.1)
-  where
-    by_test : (b : Bool) → is_for caller key k ≡ b
-        → filter (row_for caller key) (map request_row kept) ≡ rows_of request_row (find (is_for caller key) kept)
-        → filter (row_for caller key) (map request_row (k ∷ kept)) ≡ rows_of request_row (find (is_for caller key) (k ∷ kept))
-    by_test true is later =
-        rw is (ap (λ (l : List RequestRow). request_row k ∷ l)
-        (none_of caller key kept (others_apart caller key k kept is apart.0)))
-    by_test false is later = rw is later
+one_kept caller key (k ∷ kept) apart = elim (cases_Bool (is_for caller key k)) [
+  | inl is ↦ rw is (ap (λ (l : List RequestRow). request_row k ∷ l) (filter-map (row_for caller key) request_row kept
+      ∙ ap (map request_row) (none_passes (is_for caller key) kept (others_apart caller key k kept is apart.0))))
+  | inr is ↦ rw is (one_kept caller key kept apart.1)
+]
 
 back_again : (o : Option Kept) → option_map kept_in (option_map request_row o) ≡ o
 back_again None = refl
@@ -69,14 +54,13 @@ kept_found s kept caller key found apart is =
 -- ---- what it says of an arrival
 
 -- a request of the arrival's caller and key is kept
-pub known_by_kept : (a : Arrival) (kept : List Kept) → list_any (has_key a) kept ≡ is_some (find (is_for a.caller a.key) kept)
+pub known_by_kept : (a : Arrival) (kept : List Kept)
+    → list_any (has_key a) kept ≡ is_some (find (is_for a.caller a.key) kept)
 known_by_kept a [] = refl
-known_by_kept a (k ∷ kept) = by_test (has_key a k) (known_by_kept a kept)
-  where
-    by_test : (b : Bool) → list_any (has_key a) kept ≡ is_some (find (is_for a.caller a.key) kept)
-        → (b || list_any (has_key a) kept) ≡ is_some (cond b (Some k) (find (is_for a.caller a.key) kept))
-    by_test true e = refl
-    by_test false e = e
+known_by_kept a (k ∷ kept) = elim (cases_Bool (has_key a k)) [
+  | inl is ↦ rw is refl
+  | inr is ↦ rw is (known_by_kept a kept)
+]
 
 -- its reply, if it was the same message
 abbrev pub reply_of : Arrival → Option Kept → Option (List ℕ)
@@ -95,15 +79,10 @@ no_repeat a (k ∷ kept) none =
 pub reply_by_kept : (a : Arrival) (kept : List Kept) → AreApart kept
     → reply_kept kept a ≡ reply_of a (find (is_for a.caller a.key) kept)
 reply_by_kept a [] apart = refl
-reply_by_kept a (k ∷ kept) apart = by_test (has_key a k) refl (reply_by_kept a kept apart.1)
-  where
-    by_bytes : (b : Bool) → list_any (has_key a) kept ≡ false
-        → option_map (λ k. k.reply) (cond b (Some k) (find (is_repeat a) kept)) ≡ cond b (Some k.reply) None
-    by_bytes true none = refl
-    by_bytes false none = no_repeat a kept none
-
-    by_test : (b : Bool) → has_key a k ≡ b → reply_kept kept a ≡ reply_of a (find (is_for a.caller a.key) kept)
-        → reply_kept (k ∷ kept) a ≡ reply_of a (find (is_for a.caller a.key) (k ∷ kept))
-    by_test true is later =
-        rw is (by_bytes (bytes_eq k.bytes a.bytes) (others_apart a.caller a.key k kept is apart.0))
-    by_test false is later = rw is later
+reply_by_kept a (k ∷ kept) apart = elim (cases_Bool (has_key a k)) [
+  | inl is ↦ rw is (elim (cases_Bool (bytes_eq k.bytes a.bytes)) [
+    | inl same ↦ rw same refl
+    | inr other ↦ rw other (no_repeat a kept (others_apart a.caller a.key k kept is apart.0))
+  ])
+  | inr is ↦ rw is (reply_by_kept a kept apart.1)
+]

@@ -5,7 +5,6 @@ pub mod Rising
 pub mod Reaching
 pub mod RunsShown
 pub mod Named
-pub mod KeyIds
 pub mod Keeping
 pub mod OfHistory
 pub mod Gathered

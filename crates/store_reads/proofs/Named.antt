@@ -1,10 +1,14 @@
 -- The department of a name among the rows.
-use Rattle.std.proofs.Common.{◌≡◌, ℕ, List, [], ◌∷◌, map, filter, Bool, true, false, cond, Less, Some, refl, sym, ap, subst, ◌∙◌}
+use Rattle.std.proofs.Common.{◌≡◌, ℕ, List, [], ◌∷◌, map, filter, true, false, Less, Some, refl, sym, ap, subst, ◌∙◌}
+use Rattle.std.proofs.Common.{inl, inr}
 use Rattle.std.specs.List.{AllByRecursion}
 use Rattle.std.specs.Str.{bytes_eq}
 use Rattle.std.specs.FinMap.Entries.{find}
 use Rattle.std.specs.Cmp.Lexicographic.{slice_cmp}
 use Rattle.std.specs.Ordering.{is_eq, nat_cmp}
+use Rattle.std.proofs.lemmas.Bool.{cases_Bool}
+use Rattle.std.proofs.lemmas.Cmp.{nat_list_eq_equiv}
+use Rattle.std.proofs.lemmas.Option.{same_Some}
 use Rattle.std.proofs.lemmas.Map.Text.{is_eq-slice_cmp}
 use Rattle.std.proofs.lemmas.Slice.Eq.{bytes_eq-Decides}
 use Rattle.sqlite.specs.Tree.{IsAscending}
@@ -28,45 +32,30 @@ IsEntry e = (is_department e.1 ≡ true) × (e.0 ≡ e.1.name)
 abbrev IsBelow : Entry → Entry → Type 0
 IsBelow a b = slice_cmp nat_cmp a.1.name b.1.name ≡ Less
 
-pub bytes_turned : (xs ys : List ℕ) → bytes_eq xs ys ≡ bytes_eq ys xs
-bytes_turned xs ys = both (bytes_eq xs ys) (bytes_eq ys xs) refl refl
-  where
-    both : (a b : Bool) → bytes_eq xs ys ≡ a → bytes_eq ys xs ≡ b → a ≡ b
-    both true true p q = refl
-    both false false p q = refl
-    both true false p q =
-        let back : bytes_eq ys xs ≡ true = (bytes_eq-Decides ys xs).1 (sym ((bytes_eq-Decides xs ys).0 p)) in cc
-    both false true p q =
-        let back : bytes_eq xs ys ≡ true = (bytes_eq-Decides xs ys).1 (sym ((bytes_eq-Decides ys xs).0 q)) in cc
-
 -- what comes after a name isn't this name
 apart : (name other : List ℕ) → slice_cmp nat_cmp name other ≡ Less → bytes_eq other name ≡ false
-apart name other less = bytes_turned other name ∙ sym (is_eq-slice_cmp name other) ∙ ap is_eq less
+apart name other less = nat_list_eq_equiv.symm other name ∙ sym (is_eq-slice_cmp name other) ∙ ap is_eq less
 
-none_after : (name : List ℕ) (d : Department) (es : List Entry) → d.name ≡ name → AllByRecursion (IsBelow (d.name, d)) es
+none_after : (name : List ℕ) (d : Department) (es : List Entry) → d.name ≡ name
+    → AllByRecursion (IsBelow (d.name, d)) es
     → filter (has_name name) (map (λ e. department_row e.1) es) ≡ []
 none_after name d [] is above = refl
 none_after name d (e ∷ es) is above =
-    let other : bytes_eq e.1.name name ≡ false =
-    apart name e.1.name (subst (λ (n : List ℕ). slice_cmp nat_cmp n e.1.name ≡ Less) is above.0) in
-    rw other (none_after name d es is above.1)
+    rw (apart name e.1.name (rw is at above.0)) (none_after name d es is above.1)
 
 named_in : (name : List ℕ) (es : List Entry) → AllByRecursion IsEntry es → IsAscending IsBelow es
-    → filter (has_name name) (map (λ e. department_row e.1) es) ≡ rows_of department_row (find (slice_cmp nat_cmp) name es)
+    → filter (has_name name) (map (λ e. department_row e.1) es) ≡ rows_of department_row
+    (find (slice_cmp nat_cmp) name es)
 named_in name [] all up = refl
-named_in name (e ∷ es) all up = by_test (bytes_eq e.1.name name) refl (named_in name es all.1 up.1)
+named_in name (e ∷ es) all up = elim (cases_Bool (bytes_eq e.1.name name)) [
+  | inl is ↦ rw (here, is) (ap (λ (l : List _). department_row e.1 ∷ l)
+      (none_after name e.1 es ((bytes_eq-Decides e.1.name name).0 is) up.0))
+  | inr is ↦ rw (here, is) (named_in name es all.1 up.1)
+]
   where
     here : is_eq (slice_cmp nat_cmp name e.0) ≡ bytes_eq e.1.name name
-    here = is_eq-slice_cmp name e.0 ∙ bytes_turned name e.0 ∙ ap (λ (n : List ℕ). bytes_eq n name) all.0.1
-
-    by_test : (b : Bool) → bytes_eq e.1.name name ≡ b
-        → filter (has_name name) (map (λ x. department_row x.1) es) ≡ rows_of department_row (find (slice_cmp nat_cmp) name es)
-        → filter (has_name name) (map (λ x. department_row x.1) (e ∷ es))
-        ≡ rows_of department_row (find (slice_cmp nat_cmp) name (e ∷ es))
-    by_test true is later =
-        rw (here, is) (ap (λ (l : List _). department_row e.1 ∷ l)
-        (none_after name e.1 es ((bytes_eq-Decides e.1.name name).0 is) up.0))
-    by_test false is later = rw (here, is) later
+    here =
+        is_eq-slice_cmp name e.0 ∙ nat_list_eq_equiv.symm name e.0 ∙ ap (λ (n : List ℕ). bytes_eq n name) all.0.1
 
 -- one row has the name, where a department has it
 pub named : (name : List ℕ) (s : State) (kept : List Kept) → IsLawful s
@@ -76,17 +65,11 @@ named name s kept lawful = named_in name s.departments lawful.departments lawful
 found_lawful : (name : List ℕ) (es : List Entry) (d : Department) → AllByRecursion IsEntry es
     → find (slice_cmp nat_cmp) name es ≡ Some d → is_department d ≡ true
 found_lawful name [] d all is = absurd cc
-found_lawful name (e ∷ es) d all is = by_test (is_eq (slice_cmp nat_cmp name e.0)) (found_lawful name es d all.1) is
-  where
-    by_test : (b : Bool) → (find (slice_cmp nat_cmp) name es ≡ Some d → is_department d ≡ true) → cond b (Some e.1) (find (slice_cmp nat_cmp) name es) ≡ Some d → is_department d ≡ true
-    by_test true later is =
-        let same : e.1 ≡ d = cc in subst (λ (x : Department). is_department x ≡ true) same all.0.0
-    by_test false later is = later is
-
-pub named_lawful : (name : List ℕ) (s : State) (d : Department) → IsLawful s → department_named s name ≡ Some d
-    → is_department d ≡ true
-named_lawful name s d lawful is = found_lawful name s.departments d lawful.departments is
+found_lawful name (e ∷ es) d all is = elim (cases_Bool (is_eq (slice_cmp nat_cmp name e.0))) [
+  | inl here ↦ subst (λ (x : Department). is_department x ≡ true) (same_Some _ _ (rw here at is)) all.0.0
+  | inr other ↦ found_lawful name es d all.1 (rw other at is)
+]
 
 pub department_again : (name : List ℕ) (s : State) (d : Department) → IsLawful s → department_named s name ≡ Some d
     → department_in (department_row d) ≡ Some d
-department_again name s d lawful is = row_again d (named_lawful name s d lawful is)
+department_again name s d lawful is = row_again d (found_lawful name s.departments d lawful.departments is)

@@ -1,20 +1,19 @@
 -- One row that is found, and its value.
-use Rattle.std.proofs.Common.{◌≡◌, inl, List, [], ◌∷◌, Option, Some, None, Ok, Err, Result, refl, sym, ap, subst, ◌∙◌, arith}
+use Rattle.std.proofs.Common.{◌≡◌, List, [], ◌∷◌, Option, Some, None, Result, refl, ap, subst, ◌∙◌, arith}
 use Rattle.std.specs.Option.{option_map}
 use Rattle.std.proofs.lemmas.List.Sorted.{length_permutation}
-use Rattle.std.proofs.lemmas.Option.{same_Some}
 use Rattle.sqlite.proofs.Callers.{one_permutation}
 use Rattle.sqlite.specs.State.{State as Connection, IsUnchanged}
 use Rattle.store_sql.specs.Contents.{Contents, Means}
 use Rattle.store_sql.specs.Calls.{IsOneOf}
 use Rattle.store_sql.specs.declared.table_fault.Fault.{Fault}
-use Rattle.store_sql.specs.declared.table_fault.Fault.TheVariants.{Damaged, Device, NoMemory}
 use Rattle.office.specs.declared.arrival.Kept.{Kept}
 use Rattle.office.specs.State.{State}
 use Rattle.store_rows.specs.Lawful.{IsLawful}
 use Rattle.store_rows.specs.Reading.{IsRead}
 use Rattle.store_rows.specs.Rows.{contents_of}
 use Rattle.store_rows.specs.Showing.{Shows}
+use Rattle.store_rows.proofs.Sorting.{shows_read}
 use Rattle.store_reads.specs.Finding.{value_in}
 
 -- the row of a value, if there is one
@@ -43,21 +42,14 @@ module _ {R X : Type 0} (value : R → Option X) (row : X → R) (of : Contents 
   found_value : (s : State) (kept : List Kept) (found : Option R) → IsLawful s → IsOneOf (of (contents_of s kept)) found
       → value_in value found ≡ Some (one s)
   found_value s kept found lawful is =
-      ap (value_in value) (found_row row (one s) found (subst (λ (l : List R). IsOneOf l found) (only s kept lawful) is))
+      ap (value_in value)
+      (found_row row (one s) found (subst (λ (l : List R). IsOneOf l found) (only s kept lawful) is))
       ∙ read_again s (one s) lawful refl
 
   -- the value of the row is shown, and the row is not damaged
   pub shows_one : (old new : Connection) (found : Option R) (r : Result (Option X) Fault)
       → ((c : Contents) → Means old.now c → IsUnchanged old new × IsOneOf (of c) found)
       → IsRead (value_in value found) r → Shows (λ s kept x. x ≡ one s) old new r
-  shows_one old new found (Ok o) finds read = λ s kept lawful means.
-      let f = finds (contents_of s kept) means in
-      (same_Some _ _ (sym read ∙ found_value s kept found lawful f.1), f.0)
-  shows_one old new found (Err NoMemory) finds read = λ s kept lawful means.
-      (inl (finds (contents_of s kept) means).0, tt)
-  shows_one old new found (Err Damaged) finds read = λ s kept lawful means.
-      let f = finds (contents_of s kept) means in
-      let there : value_in value found ≡ Some (one s) = found_value s kept found lawful f.1 in
-      let none : value_in value found ≡ None = read in
-      absurd cc
-  shows_one old new found (Err Device) finds read = absurd read
+  shows_one old new found r finds =
+      shows_read (λ s kept x. x ≡ one s) old new (value_in value found) r (λ s kept lawful means.
+      let f = finds (contents_of s kept) means in (f.0, (one s, found_value s kept found lawful f.1, refl)))

@@ -1,8 +1,10 @@
 -- Whether one run has an interval.
-use Rattle.std.proofs.Common.{◌≡◌, arith, ℕ, ◌+◌, ◌<◌, ◌≤◌, inl, inr, List, [], ◌∷◌, map, true, false, Option, None, Some, ap, IsTrue}
+use Rattle.std.proofs.Common.{◌≡◌, arith, ℕ, ◌+◌, ◌<◌, ◌≤◌, inl, inr, List, map, true, false, Option, None}
+use Rattle.std.proofs.Common.{Some, refl, ap, IsTrue}
 use Rattle.std.specs.Prelude.{◌↔◌, nat_le, max}
 use Rattle.std.proofs.lemmas.Bool.{cases_Bool, cases_lt}
 use Rattle.std.proofs.lemmas.Bool.Decides.{nat_tests}
+use Rattle.sqlite_keyed.proofs.ListLemmas.{map_back}
 use Rattle.krl.specs.declared.run.Run.{Run}
 use Rattle.krl.specs.Sets.{HasAll, contains, is_within}
 use Rattle.store_sql.specs.declared.runs.RunRow.{RunRow}
@@ -24,9 +26,7 @@ not_below : (a b : ℕ) → nat_le a b ≡ false → b < a
 not_below a b h = grind (arith, nat_tests)
 
 has_run : (runs : List Run) (x : RunRow) → Has (map run_row runs) x → Has runs (run_of x)
-has_run [] x here = absurd here
-has_run (r ∷ runs) x (inl e) = inl (ap run_of e)
-has_run (r ∷ runs) x (inr there) = inr (has_run runs x there)
+has_run runs x here = rw (map_back run_row run_of (λ r. refl) runs) at (mapped_has run_of (map run_row runs) x here)
 
 -- a serial of the interval that no run has
 missed : (lo hi n : ℕ) (runs : List Run) → lo ≤ n → n ≤ hi

@@ -1,5 +1,6 @@
 -- The runs of a set ascend.
-use Rattle.std.proofs.Common.{◌≡◌, ℕ, zero, suc, ◌+◌, ◌<◌, ◌≤◌, ◌^◌, List, [], ◌∷◌, map, Bool, Less, nat_cmp, refl, sym, ap, arith, inl, inr}
+use Rattle.std.proofs.Common.{◌≡◌, ℕ, zero, suc, ◌+◌, ◌<◌, ◌≤◌, ◌^◌, List, [], ◌∷◌, map, Bool, Less, nat_cmp, sym}
+use Rattle.std.proofs.Common.{arith, inl, inr}
 use Rattle.std.specs.List.{AllByRecursion}
 use Rattle.std.specs.Cmp.{nat_cmp_is}
 use Rattle.std.proofs.lemmas.Bool.{cases_Bool, cases_lt, eq-eqb, ne_eqb}
@@ -7,7 +8,7 @@ use Rattle.sqlite.specs.Tree.{IsAscending}
 use Rattle.krl.specs.declared.run.Run.{Run}
 use Rattle.krl.specs.Sets.{AreRunsFrom, runs_in, with_first}
 use Rattle.store_rows.specs.Rows.{run_row}
-use Rattle.store_reads.specs.RunRows.{RiseFrom, runs_of}
+use Rattle.store_reads.specs.RunRows.{RiseFrom}
 
 -- ---- the runs of a set
 
@@ -18,7 +19,8 @@ rise_lower a b (r ∷ runs) le h = (omega (arith, le, h.0), h.1, h.2)
 first_rises : (n : ℕ) (runs : List Run) → RiseFrom (n + 1) runs → RiseFrom n (with_first n runs)
 first_rises n [] h = (omega arith, omega arith, tt)
 first_rises n (r ∷ runs) h = elim (cases_lt (n + 1) r.lo) [
-  | inl apart ↦ rw (ne_eqb r.lo (n + 1) (λ e. omega (arith, apart, e))) (omega arith, omega arith, (omega (arith, apart), h.1, h.2))
+  | inl apart ↦ rw (ne_eqb r.lo (n + 1) (λ e. omega (arith, apart, e)))
+      (omega arith, omega arith, (omega (arith, apart), h.1, h.2))
   | inr touches ↦ rw (eq-eqb r.lo (n + 1) (omega (arith, touches, h.0))) (omega arith, omega (arith, h.0, h.1), h.2)
 ]
 
@@ -32,10 +34,6 @@ runs_rise set from (suc count) =
     ]
 
 -- ---- rows
-
-pub back_again : (runs : List Run) → runs_of (map run_row runs) ≡ runs
-back_again [] = refl
-back_again (r ∷ runs) = ap (λ (l : List Run). r ∷ l) (back_again runs)
 
 above : (m from : ℕ) (runs : List Run) → m < from → RiseFrom from runs
     → AllByRecursion (λ r. nat_cmp m r.lo ≡ Less) (map run_row runs)

@@ -1,15 +1,15 @@
 -- The runs of the revoked serials, as rows show them.
-use Rattle.std.proofs.Common.{◌≡◌, ℕ, ◌+◌, ◌<◌, ◌≤◌, inl, List, length, map, ◌^◌, Option, Bool, true, false, ◌&&◌, leb, Ok, Err, Result, refl, sym, ap, subst, ◌∙◌, arith, IsPermutation, IsTrue}
+use Rattle.std.proofs.Common.{◌≡◌, ℕ, ◌+◌, ◌<◌, ◌≤◌, inl, List, length, map, ◌^◌, Option, Bool, true, false, ◌&&◌}
+use Rattle.std.proofs.Common.{Ok, Err, Result, refl, sym, ap, ◌∙◌, arith, IsPermutation, IsTrue}
 use Rattle.std.specs.Prelude.{◌↔◌, IsSortedByKey}
 use Rattle.std.specs.Ordering.{nat_cmp}
-use Rattle.std.proofs.lemmas.Bool.{and_parts, leb-true}
 use Rattle.std.proofs.lemmas.Cmp.{nat_cmp_total, on_total}
+use Rattle.sqlite_keyed.proofs.ListLemmas.{map_back}
 use Rattle.sqlite_keyed.proofs.SortLemmas.{sorted_unique}
 use Rattle.sqlite.specs.State.{State as Connection, IsUnchanged}
 use Rattle.krl.specs.declared.run.Run.{Run}
 use Rattle.krl.specs.Sets.{HasAll, contains, is_counted}
 use Rattle.krl.proofs.Counting.{contains_runs_in, are_counted, runs_in_runs}
-use Rattle.values.specs.declared.limits.TheConstants.{LAST_SERIAL}
 use Rattle.office.specs.declared.arrival.Kept.{Kept}
 use Rattle.office.specs.State.{State}
 use Rattle.store_sql.specs.declared.runs.RunRow.{RunRow}
@@ -22,8 +22,9 @@ use Rattle.store_rows.specs.Lawful.{IsLawful}
 use Rattle.store_rows.specs.Rows.{contents_of, revoked_runs, run_row}
 use Rattle.store_rows.specs.Showing.{Shows}
 use Rattle.store_reads.specs.Histories.{IsOfHistory}
-use Rattle.store_reads.specs.RunRows.{AreRead, AreRevokedRuns, RiseFrom, reaches, runs_of}
-use Rattle.store_reads.proofs.Rising.{back_again, rise_lower, rows_rise, runs_rise}
+use Rattle.store_reads.specs.RunRows.{AreRead, AreRevokedRuns, RiseFrom, reaches, run_of, runs_of}
+use Rattle.store_reads.proofs.Rising.{rise_lower, rows_rise, runs_rise}
+use Rattle.store_reads.proofs.Numbered.{serials_within}
 use Rattle.store_reads.proofs.Reaching.{all_in}
 use Rattle.store_rows.proofs.RunsApart.{rows_apart}
 use Rattle.std.proofs.Math.Bool.{and-false}
@@ -33,36 +34,27 @@ revoked_rise s =
     rise_lower 0 s.opening.first (revoked_runs s) (omega arith)
     (runs_rise s.revoked s.opening.first (length s.certificates))
 
-module _ (of : Contents → List RunRow) (runs : State → List Run)
-    (are : (s : State) (kept : List Kept) → of (contents_of s kept) ≡ map run_row (runs s))
-    (rise : (s : State) → RiseFrom 0 (runs s)) where
-  found_runs : (s : State) (kept : List Kept) (rows : List RunRow) → IsPermutation (of (contents_of s kept)) rows
-      → IsSortedByKey (λ r. r.lo) nat_cmp rows → runs_of rows ≡ runs s
-  found_runs s kept rows same sorted =
-      ap runs_of (sorted_unique (λ (x y : RunRow). nat_cmp x.lo y.lo) (on_total (λ (r : RunRow). r.lo) nat_cmp_total)
-      (map run_row (runs s)) rows (rows_rise 0 (runs s) (rise s))
-      (subst (λ (l : List RunRow). IsPermutation l rows) (are s kept) same) sorted) ∙ back_again (runs s)
-
-  shows_runs : (old new : Connection) (rows : List RunRow) (r : Result (List Run) Fault)
-      → ((c : Contents) → Means old.now c → IsUnchanged old new × IsPermutation (of c) rows)
-      → ((c : Contents) → Means old.now c → IsSortedByKey (λ r. r.lo) nat_cmp rows) → AreRead rows r
-      → Shows (λ s kept x. x ≡ runs s) old new r
-  shows_runs old new rows (Ok x) finds sorted read = λ s kept lawful means.
-      let f = finds (contents_of s kept) means in
-      (read ∙ found_runs s kept rows f.1 (sorted (contents_of s kept) means), f.0)
-  shows_runs old new rows (Err NoMemory) finds sorted read = λ s kept lawful means.
-      (inl (finds (contents_of s kept) means).0, tt)
-  shows_runs old new rows (Err Damaged) finds sorted read = λ s kept lawful means.
-      let f = finds (contents_of s kept) means in
-      absurd (read (subst (RiseFrom 0) (sym (found_runs s kept rows f.1 (sorted (contents_of s kept) means))) (rise s)))
-  shows_runs old new rows (Err Device) finds sorted read = absurd read
+found_runs : (s : State) (rows : List RunRow) → IsPermutation (map run_row (revoked_runs s)) rows
+    → IsSortedByKey (λ r. r.lo) nat_cmp rows → runs_of rows ≡ revoked_runs s
+found_runs s rows same sorted =
+    ap runs_of (sorted_unique (λ (x y : RunRow). nat_cmp x.lo y.lo) (on_total (λ (r : RunRow). r.lo) nat_cmp_total)
+    (map run_row (revoked_runs s)) rows (rows_rise 0 (revoked_runs s) (revoked_rise s)) same sorted)
+    ∙ map_back run_row run_of (λ r. refl) (revoked_runs s)
 
 -- every run
 pub shows_every : (old new : Connection) (rows : List RunRow) (r : Result (List Run) Fault)
     → ((c : Contents) → Means old.now c → IsUnchanged old new × IsPermutation c.runs rows)
     → ((c : Contents) → Means old.now c → IsSortedByKey (λ r. r.lo) nat_cmp rows) → AreRead rows r
     → Shows (λ s kept x. x ≡ revoked_runs s) old new r
-shows_every = shows_runs (λ c. c.runs) revoked_runs (λ s kept. refl) revoked_rise
+shows_every old new rows (Ok x) finds sorted read = λ s kept lawful means.
+    let f = finds (contents_of s kept) means in
+    (read ∙ found_runs s rows f.1 (sorted (contents_of s kept) means), f.0)
+shows_every old new rows (Err NoMemory) finds sorted read = λ s kept lawful means.
+    (inl (finds (contents_of s kept) means).0, tt)
+shows_every old new rows (Err Damaged) finds sorted read = λ s kept lawful means.
+    let f = finds (contents_of s kept) means in
+    absurd (read (rw (found_runs s rows f.1 (sorted (contents_of s kept) means)) (revoked_rise s)))
+shows_every old new rows (Err Device) finds sorted read = absurd read
 
 -- ---- the serials in them
 
@@ -75,11 +67,7 @@ counted first count n false is = and-false (is_counted first count n)
 are_few : (s : State) (kept : List Kept) → IsLawful s → IsOfHistory s kept
     → s.opening.first + length s.certificates ≤ 2 ^ 64
 are_few s kept lawful history =
-    let tests = and_parts (leb 1 s.opening.first) (leb s.opening.first s.opening.last && leb s.opening.last LAST_SERIAL)
-    lawful.opening.serials in
-    let last : s.opening.last ≤ LAST_SERIAL = leb-true _ _ (and_parts (leb s.opening.first s.opening.last)
-    (leb s.opening.last LAST_SERIAL) tests.1).1 in
-    omega (arith, last, history.range)
+    omega (arith, (serials_within s.opening.first s.opening.last lawful.opening.serials).1, history.range)
 
 -- just the revoked serials, where only issued ones are revoked
 pub revoked_in : (s : State) (kept : List Kept) → IsLawful s → IsOfHistory s kept → (n : ℕ)

@@ -26,7 +26,8 @@ reads_before a b (Ok x) same = fails_before a b (inl same)
 reads_before a b (Err f) fails = fails_before a b fails.0
 
 ended : (a b c d : State) → (IsTrue b.is_open → IsTrue a.is_open) → (IsTrue b.is_open → b.committed ≡ a.committed)
-    → (IsTrue c.is_open → IsTrue b.is_open) → (IsTrue c.is_open → c.committed ≡ b.committed) → HasEnded c d → IsAsBefore a d
+    → (IsTrue c.is_open → IsTrue b.is_open) → (IsTrue c.is_open → c.committed ≡ b.committed) → HasEnded c d
+    → IsAsBefore a d
 ended a b c d opened begun was keeps end = record {
   was_open = λ still. opened (was (end.was_open still));
   rest = λ still rests. (end.autocommit, end.now still ∙ sym (end.committed still));
@@ -35,7 +36,8 @@ ended a b c d opened begun was keeps end = record {
 }
 
 -- a transaction that is begun and ends with a fault, if its part ends none
-pub concludes_before : {X : Type 0} (a b c d : State) (r q : Result X Fault) → Begins {X = Unit {0}} {E = Fault} a b (Ok tt)
+pub concludes_before : {X : Type 0} (a b c d : State) (r q : Result X Fault)
+    → Begins {X = Unit {0}} {E = Fault} a b (Ok tt)
     → Stays b c r → Concludes r c d q → OnErr q (IsAsBefore a d)
 concludes_before a b c d (Ok v) (Ok w) begun stays told = tt
 concludes_before a b c d (Ok v) (Err f) begun stays told =

@@ -16,6 +16,7 @@ pub cas_rise : (n : ℕ) (cas : List Ca) → IsAscending (λ a b. nat_cmp a.numb
 cas_rise n [] = tt
 cas_rise n (ca ∷ cas) = (above n (suc n) cas (omega arith), cas_rise (suc n) cas)
 
-pub cas_again : (n : ℕ) (cas : List Ca) → AllByRecursion (λ ca. length ca.key ≡ 32) cas → each ca_in (ca_rows n cas) ≡ Some cas
+pub cas_again : (n : ℕ) (cas : List Ca) → AllByRecursion (λ ca. length ca.key ≡ 32) cas
+    → each ca_in (ca_rows n cas) ≡ Some cas
 cas_again n [] all = refl
 cas_again n (ca ∷ cas) all = rw (key_of_again ca.key all.0, cas_again (suc n) cas all.1) refl

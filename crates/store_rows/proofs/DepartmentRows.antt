@@ -1,18 +1,21 @@
 -- The row of a department is that of no other, and it is read again.
-use Rattle.std.proofs.Common.{◌≡◌, ℕ, Bool, true, false, List, [], ◌∷◌, ◌++◌, eqb, refl, sym, ap, ap₂, subst, ◌∙◌, Option, Some, None, append-nil, map}
-use Rattle.std.specs.Prelude.{if◌then◌else◌, Result, Ok, Err, IfOk, IsTrue}
+use Rattle.std.proofs.Common.{◌≡◌, ℕ, Bool, true, false, inl, inr, List, [], ◌∷◌, ◌++◌, eqb, refl, sym, ap, ap₂, subst}
+use Rattle.std.proofs.Common.{◌∙◌, Option, Some, None, append-nil, map}
+use Rattle.std.specs.Prelude.{Result, Ok, Err, IfOk, IsTrue}
 use Rattle.std.specs.List.{AllByRecursion, list_all, slice_split}
 use Rattle.std.specs.Option.{option_and_then, option_map}
-use Rattle.std.proofs.lemmas.Bool.{and_parts, cond-true}
+use Rattle.std.proofs.lemmas.Bool.{and_parts, cases_Bool, cond-true}
+use Rattle.std.proofs.lemmas.Option.{none-some, same_Some}
 use Rattle.std.proofs.lemmas.List.Splits.{join_with_byte-slice_split}
 use Rattle.values.specs.declared.kind.Kind.{Kind}
 use Rattle.values.specs.declared.option_field.OptionField.TheVariants.{CriticalOptions, Extensions}
 use Rattle.values.specs.Names.{is_name, is_rule, is_namespace}
 use Rattle.values.specs.Options.{is_known}
 use Rattle.message.specs.declared.department.Department.{Department}
-use Rattle.message.specs.Values.{is_department, are_administrators, are_rules, are_option_names, are_extension_names, are_namespaces}
+use Rattle.message.specs.Values.{is_department, are_option_names, are_extension_names, are_namespaces}
 use Rattle.message.proofs.Fields.{AllLack, split_joined}
-use Rattle.message.proofs.Elements.{administrators_lack, rules_lack, option_names_lack, extension_names_lack, namespaces_lack}
+use Rattle.message.proofs.Elements.{administrators_lack, rules_lack, option_names_lack, extension_names_lack}
+use Rattle.message.proofs.Elements.{namespaces_lack}
 use Rattle.store_sql.specs.declared.departments.DepartmentRow.{DepartmentRow}
 use Rattle.store_sql.specs.declared.table_fault.Fault.{Fault}
 use Rattle.cert.specs.Bodies.{kind_number}
@@ -53,76 +56,39 @@ parted_joined test [] none all lack = refl
 parted_joined test (t ∷ ts) none all lack =
     parted_some (joined (t ∷ ts)) (joined_some test t ts none (and_parts _ _ all).0) ∙ split_joined t ts lack
 
--- ---- each list of a department
-
-administrators_again : (ts : List (List ℕ)) → are_administrators ts ≡ true → parted (joined ts) ≡ ts
-administrators_again ts is =
-    parted_joined is_name ts refl (and_parts _ _ (and_parts _ _ is).1).0 (administrators_lack ts is).0
-
-rules_again : (ts : List (List ℕ)) → are_rules ts ≡ true → parted (joined ts) ≡ ts
-rules_again ts is = parted_joined is_rule ts refl (and_parts _ _ (and_parts _ _ is).1).0 (rules_lack ts is).0
-
-options_again : (ts : List (List ℕ)) → are_option_names ts ≡ true → parted (joined ts) ≡ ts
-options_again ts is =
-    parted_joined (is_known CriticalOptions) ts refl (and_parts _ _ is).0 (option_names_lack ts is).0
-
-extensions_again : (ts : List (List ℕ)) → are_extension_names ts ≡ true → parted (joined ts) ≡ ts
-extensions_again ts is =
-    parted_joined (is_known Extensions) ts refl (and_parts _ _ is).0 (extension_names_lack ts is).0
-
-namespaces_again : (ts : List (List ℕ)) → are_namespaces ts ≡ true → parted (joined ts) ≡ ts
-namespaces_again ts is =
-    parted_joined is_namespace ts refl (and_parts _ _ (and_parts _ _ is).1).0 (namespaces_lack ts is).0
-
 -- ---- the whole row
 
--- the lists of a lawful department
-record Lists (d : Department) : Type 0 where
-  administrators : are_administrators d.administrators ≡ true
-  rules : are_rules d.rules ≡ true
-  options : are_option_names d.options ≡ true
-  extensions : are_extension_names d.extensions ≡ true
-  namespaces : are_namespaces d.namespaces ≡ true
-
-lists_of : (d : Department) → is_department d ≡ true → Lists d
-lists_of d is =
+parts_again : (d : Department) → is_department d ≡ true → parts_of (department_row d) d.kind ≡ d
+parts_again d is =
     let a = and_parts _ _ (and_parts _ _ is).1 in
     let r = and_parts _ _ a.1 in
     let o = and_parts _ _ r.1 in
     let e = and_parts _ _ o.1 in
-    let l = and_parts _ _ e.1 in
-    record {
-      administrators = a.0;
-      rules = r.0;
-      options = (and_parts _ _ o.0).0;
-      extensions = (and_parts _ _ e.0).0;
-      namespaces = (and_parts _ _ l.1).0;
-    }
-
-department_is : (d : Department) (a r o e n : List (List ℕ)) → a ≡ d.administrators → r ≡ d.rules → o ≡ d.options
-    → e ≡ d.extensions → n ≡ d.namespaces
-    → record d { administrators = a; rules = r; options = o; extensions = e; namespaces = n } ≡ d
-department_is d a r o e n is-a is-r is-o is-e is-n = rw (is-a, is-r, is-o, is-e, is-n) refl
-
-parts_again : (d : Department) → is_department d ≡ true → parts_of (department_row d) d.kind ≡ d
-parts_again d is =
-    let ls : Lists d = lists_of d is in
-    department_is d (parted (joined d.administrators)) (parted (joined d.rules)) (parted (joined d.options))
-    (parted (joined d.extensions)) (parted (joined d.namespaces)) (administrators_again d.administrators ls.administrators)
-    (rules_again d.rules ls.rules) (options_again d.options ls.options)
-    (extensions_again d.extensions ls.extensions) (namespaces_again d.namespaces ls.namespaces)
+    let options : are_option_names d.options ≡ true = (and_parts _ _ o.0).0 in
+    let extensions : are_extension_names d.extensions ≡ true = (and_parts _ _ e.0).0 in
+    let namespaces : are_namespaces d.namespaces ≡ true = (and_parts _ _ (and_parts _ _ e.1).1).0 in
+    let admins = parted_joined is_name d.administrators refl (and_parts _ _ (and_parts _ _ a.0).1).0
+    (administrators_lack d.administrators a.0).0 in
+    let rs = parted_joined is_rule d.rules refl (and_parts _ _ (and_parts _ _ r.0).1).0 (rules_lack d.rules r.0).0 in
+    let os = parted_joined (is_known CriticalOptions) d.options refl (and_parts _ _ options).0
+    (option_names_lack d.options options).0 in
+    let es = parted_joined (is_known Extensions) d.extensions refl (and_parts _ _ extensions).0
+    (extension_names_lack d.extensions extensions).0 in
+    let ns = parted_joined is_namespace d.namespaces refl (and_parts _ _ (and_parts _ _ namespaces).1).0
+    (namespaces_lack d.namespaces namespaces).0 in
+    rw (admins, rs, os, es, ns) refl
 
 pub row_again : (d : Department) → is_department d ≡ true → department_in (department_row d) ≡ Some d
 row_again d is =
-    ap (λ (o : Option Kind). option_and_then (λ kind. if_lawful (parts_of (department_row d) kind)) o) (kind_again d.kind)
+    ap (λ (o : Option Kind). option_and_then (λ kind. if_lawful (parts_of (department_row d) kind)) o)
+    (kind_again d.kind)
     ∙ ap if_lawful (parts_again d is) ∙ cond-true (is_department d) (Some d) None is
 
 lawful_found : (p d : Department) → if_lawful p ≡ Some d → (is_department d ≡ true) × (p ≡ d)
-lawful_found p d e = go (is_department p) refl e
-  where
-    go : (b : Bool) → is_department p ≡ b → (if b then Some p else None) ≡ Some d → (is_department d ≡ true) × (p ≡ d)
-    go true is h = let same : p ≡ d = cc in (ap is_department (sym same) ∙ is, same)
-    go false is h = absurd cc
+lawful_found p d e = elim (cases_Bool (is_department p)) [
+  | inl is ↦ let same : p ≡ d = same_Some _ _ (rw is at e) in (ap is_department (sym same) ∙ is, same)
+  | inr is ↦ absurd (none-some d (rw is at e))
+]
 
 row_of_parts : (row : DepartmentRow) (k : Kind) → kind_number k ≡ row.kind → department_row (parts_of row k) ≡ row
 row_of_parts row k is = rw (
@@ -162,7 +128,8 @@ reads_again row r h d is same = subst (λ o. IsRead o r) (ap department_in same 
 abbrev pub department_rows : List (List ℕ × Department) → List DepartmentRow
 department_rows entries = map (λ e. department_row e.1) entries
 
-pub departments_again : (entries : List (List ℕ × Department)) → AllByRecursion (λ e. (is_department e.1 ≡ true) × (e.0 ≡ e.1.name)) entries
+pub departments_again : (entries : List (List ℕ × Department))
+    → AllByRecursion (λ e. (is_department e.1 ≡ true) × (e.0 ≡ e.1.name)) entries
     → each department_in (department_rows entries) ≡ Some (map (λ e. e.1) entries)
 departments_again [] all = refl
 departments_again (e ∷ entries) all =

@@ -1,4 +1,4 @@
-pub mod Each
+pub mod Found
 pub mod Sorting
 pub mod CaRows
 pub mod CertRows
@@ -7,5 +7,6 @@ pub mod OneOffice
 pub mod Same
 pub mod Steps
 pub mod Causes
+pub mod Parts
 pub mod RunsApart
 pub mod Before

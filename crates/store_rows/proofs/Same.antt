@@ -3,8 +3,10 @@ use Rattle.std.proofs.Common.{ℕ, List, map, IsPermutation}
 use Rattle.std.proofs.lemmas.List.Sorted.{IsPermutation-map, IsPermutation-sym, IsPermutation-trans}
 use Rattle.sqlite.specs.Order.{Row}
 use Rattle.sqlite.specs.Effect.{Database}
-use Rattle.store_sql.specs.Cells.{office_cells, department_cells, cert_cells, request_cells, run_cells, key_id_cells, ca_cells}
-use Rattle.store_sql.specs.Contents.{Contents, Lists, Means, at_places, office_places, department_places, cert_places, request_places, run_places, key_id_places, ca_places}
+use Rattle.store_sql.specs.Cells.{office_cells, department_cells, cert_cells, request_cells, run_cells, key_id_cells}
+use Rattle.store_sql.specs.Cells.{ca_cells}
+use Rattle.store_sql.specs.Contents.{Contents, Lists, Means, at_places, office_places, department_places, cert_places}
+use Rattle.store_sql.specs.Contents.{request_places, run_places, key_id_places, ca_places}
 
 -- the same structs in each table, in some order
 pub record IsSame (c d : Contents) : Type 0 where

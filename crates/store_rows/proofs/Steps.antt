@@ -1,5 +1,5 @@
 -- Parts of one transaction, one after the other.
-use Rattle.std.proofs.Common.{◌≡◌, inl, inr, true, IsTrue, refl, sym, subst, ◌∙◌, arith}
+use Rattle.std.proofs.Common.{◌≡◌, true, IsTrue, refl, sym, subst, ◌∙◌, arith}
 use Rattle.std.specs.Prelude.{Result, Ok, Err}
 use Rattle.sqlite.specs.Tree.{Trees}
 use Rattle.sqlite.specs.Effect.{Database}
@@ -9,7 +9,8 @@ use Rattle.store_sql.specs.Contents.{Contents, Kept, Means}
 use Rattle.store_sql.specs.Calls.{Steps, Changes, Leaves, Begins}
 use Rattle.store_sql.specs.declared.table_fault.Fault.{Fault}
 use Rattle.store_sql.proofs.Later.{inside_is, stops}
-use Rattle.store_rows.specs.Transactions.{Has, Goes, Answers, Makes, Waits, HasEnded, Concludes, Commits, Ends, Leaves as AfterAll}
+use Rattle.store_rows.specs.Transactions.{Has, Goes, Answers, Makes, Waits, HasEnded, Concludes, Commits, Ends}
+use Rattle.store_rows.specs.Transactions.{Leaves as AfterAll}
 
 -- ---- one part
 
@@ -100,29 +101,7 @@ waits after a b one = survives_weaker a b (Leaves after a) (Waits Has a) (λ cle
 
 -- ---- the whole
 
-inside : (s : State) → s.in_transaction ≡ true → IsTrue s.in_transaction
-inside s e = e
-
 module _ {A X : Type 0} (Before : A → Database → Type 0) (Due : A → X → Type 0) (after : A → Contents) where
-  pub ends_unbegun : (a b : State) (e f : Fault) → Begins {X = Unit {0}} a b (Err e) → Ends Before Due after a b (Err f)
-  ends_unbegun a b e f (inl same) = λ still. (
-    same.0.was_open,
-    λ x rests. record {
-      autocommit = same.0.mode ∙ rests.autocommit;
-      now = subst (Before x) (sym same.0.now_is) rests.now;
-      committed = subst (Before x) (sym same.0.committed_is) rests.committed;
-    },
-  )
-  ends_unbegun a b e f (inr back) = λ still.
-      let u = back.undone still in (
-        back.was_open still,
-        λ x rests. record {
-          autocommit = back.autocommit;
-          now = subst (Before x) (sym u.0) rests.committed;
-          committed = subst (Before x) (sym u.1) rests.committed;
-        },
-      )
-
   undone : (a b c d : State) (f : Fault) → Shows a b a.now a.committed true
       → ((x : A) → Before x b.now → IsTrue c.is_open → c.committed ≡ b.committed) → HasEnded c d
       → Ends Before Due after a d (Err f)
@@ -154,10 +133,10 @@ module _ {A X : Type 0} (Before : A → Database → Type 0) (Due : A → X → 
         ),
   )
   ends a b c d (Ok v) (Err f) begun answers told =
-      undone a b c d f begun.1 (λ x before still. (answers x before).1.committed (inside b begun.1.mode)) told
+      undone a b c d f begun.1 (λ x before still. (answers x before).1.committed begun.1.mode) told
   ends a b c d (Err e) (Ok w) begun answers told = absurd told
   ends a b c d (Err e) (Err f) begun answers told =
-      undone a b c d f begun.1 (λ x before still. (answers x before (inside b begun.1.mode)).committed still) told.1
+      undone a b c d f begun.1 (λ x before still. (answers x before begun.1.mode).committed still) told.1
 
   -- what a crash leaves of the whole
   pub left : (a b c d : State) (r : Result X Fault)
@@ -170,8 +149,11 @@ module _ {A X : Type 0} (Before : A → Database → Type 0) (Due : A → X → 
       (survives_then b c d (Waits Before b) (Commits r c) (AfterAll Before after a)
       (λ clean trees h.
       let start : HasCleanDisk b = omega (arith, two.clean, three.clean) in
-      let was = begun start in
-      (was.1.was_open, λ x rests. absurd (let e = sym was.1.mode ∙ h x (subst (Before x) (sym was.1.now_is) rests.now) in cc)))
+      let was = begun start in (
+        was.1.was_open,
+        λ x rests. absurd
+            (let e = sym was.1.mode ∙ h x (subst (Before x) (sym was.1.now_is) rests.now) in cc),
+      ))
       (λ clean trees h.
       let start : HasCleanDisk b = omega (arith, two.clean, three.clean) in
       let mid : HasCleanDisk c = omega (arith, three.clean) in

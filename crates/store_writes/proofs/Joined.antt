@@ -44,7 +44,8 @@ runs_after s r le low high fits =
     let count = length s.certificates in
     let rs = revoked_runs s in
     let are : AreRuns rs = runs_in_runs s.revoked first count fits in
-    runs_in_only (with_range s r).revoked first count (joined r.lo r.hi rs) (joined_runs 0 r.lo r.hi rs (omega arith) le (omega arith) are)
+    runs_in_only (with_range s r).revoked first count (joined r.lo r.hi rs)
+    (joined_runs 0 r.lo r.hi rs (omega arith) le (omega arith) are)
     (λ n. contains_joined 0 r.lo r.hi n rs le are
     ∙ ap (λ b. is_within n (record { lo = r.lo; hi = r.hi }) || b) (contains_runs_in s.revoked first count n fits)
     ∙ counted_in (is_within n (record { lo = r.lo; hi = r.hi })) (is_counted first count n) (s.revoked n)
@@ -69,7 +70,8 @@ whole_run s r = record {
 rows_spanned : (s : State) (r : SerialRange) → is_range r ≡ true → s.opening.first ≤ r.lo → r.hi < next_serial s
     → next_serial s ≤ 2 ^ 64
     → IsPermutation (spanning r.lo r.hi (filter (touches r.lo r.hi) (map run_row (revoked_runs s)))
-    ∷ filter (λ q. not (touches r.lo r.hi q)) (map run_row (revoked_runs s))) (map run_row (revoked_runs (with_range s r)))
+    ∷ filter (λ q. not (touches r.lo r.hi q)) (map run_row (revoked_runs s)))
+    (map run_row (revoked_runs (with_range s r)))
 rows_spanned s r is low high fits =
     let order = in_order r is in
     let rs = revoked_runs s in
@@ -78,7 +80,8 @@ rows_spanned s r is low high fits =
     let far : filter (λ q. not (touches r.lo r.hi q)) (map run_row rs) ≡ map run_row (filter (is_far r.lo r.hi) rs) =
     filter-map (λ q. not (touches r.lo r.hi q)) run_row rs in
     rw (near, far, spanning_rows r.lo r.hi (filter (is_near r.lo r.hi) rs), sym (runs_after s r order.1 low high fits))
-    (IsPermutation-map run_row (span r.lo r.hi (filter (is_near r.lo r.hi) rs) ∷ filter (is_far r.lo r.hi) rs) (joined r.lo r.hi rs)
+    (IsPermutation-map run_row (span r.lo r.hi (filter (is_near r.lo r.hi) rs) ∷ filter (is_far r.lo r.hi) rs)
+    (joined r.lo r.hi rs)
     (spanned r.lo r.hi 0 rs order.0 order.1 (runs_in_runs s.revoked s.opening.first (length s.certificates) fits)))
 
 -- so they are where the ends of the one are had from the last runs that begin before its ends
@@ -97,7 +100,8 @@ rows_joined s r is low high fits =
     whole_is r.lo r.hi rows apart order.1 (last_at r.lo rows) (last_at (r.hi + 1) rows) first last in
     let others : filter (λ q. not (touches r.lo r.hi q)) rows ≡ filter (λ q. not (begins (whole_run s r) q)) rows =
     filter_alike (λ q. not (touches r.lo r.hi q)) (λ q. not (begins (whole_run s r) q)) rows
-    (λ q here. ap not (begin_within r.lo r.hi rows apart order.1 (last_at r.lo rows) (last_at (r.hi + 1) rows) first last q here)) in
+    (λ q here. ap not
+    (begin_within r.lo r.hi rows apart order.1 (last_at r.lo rows) (last_at (r.hi + 1) rows) first last q here)) in
     subst (λ (l : List RunRow). IsPermutation l (map run_row (revoked_runs (with_range s r))))
     (ap₂ (λ (x : RunRow) (xs : List RunRow). x ∷ xs) whole others) (rows_spanned s r is low high fits)
 
@@ -109,7 +113,8 @@ counted_more first count n true h =
     let lt : n < first + count = h refl in
     let same : is_counted first count n ≡ is_counted first (count + 1) n = grind (arith, nat_tests) in
     rw same refl
-counted_more first count n false h = and-false (is_counted first count n) ∙ sym (and-false (is_counted first (count + 1) n))
+counted_more first count n false h =
+    and-false (is_counted first count n) ∙ sym (and-false (is_counted first (count + 1) n))
 
 -- where only serials that were handed out are revoked the next one makes no run
 pub runs_still : (s : State) (c : Certificate) → ((n : ℕ) → s.revoked n ≡ true → n < next_serial s)

@@ -1,14 +1,13 @@
 -- The runs that touch or overlap an interval are one with it.
 use Rattle.std.proofs.Common.{◌≡◌, ℕ, ◌+◌, ◌-◌, ◌<◌, ◌≤◌, List, [], ◌∷◌, Bool, true}
 use Rattle.std.proofs.Common.{false, ◌&&◌, refl, ap, arith, inl, inr, IsPermutation}
-use Rattle.std.specs.Prelude.{nat_lt, nat_le, not, min, max, filter}
-use Rattle.std.proofs.lemmas.Bool.{cases_lt, le-ltb}
+use Rattle.std.specs.Prelude.{nat_le, not, min, max, filter}
+use Rattle.std.proofs.lemmas.Bool.{cases_lt, le-ltb, lt-ltb}
 use Rattle.std.proofs.lemmas.Bool.Decides.{nat_tests}
 use Rattle.std.proofs.lemmas.List.Sorted.{IsPermutation-refl, IsPermutation-cons}
 use Rattle.std.proofs.lemmas.List.Sorted.{IsPermutation-trans, IsPermutation-middle}
 use Rattle.krl.specs.declared.run.Run.{Run}
 use Rattle.krl.specs.Sets.{AreRunsFrom}
-use Rattle.krl.proofs.Booleans.{ltb-yes}
 use Rattle.krl.proofs.Joining.{joined}
 
 -- the run ends at the serial below the interval or later, and begins at the one above it or earlier
@@ -23,9 +22,6 @@ abbrev pub span : ℕ → ℕ → List Run → Run
 span lo hi [] = record { lo = lo; hi = hi }
 span lo hi (r ∷ rs) = span (min lo r.lo) (max hi r.hi) rs
 
-less : (a b : ℕ) → a < b → nat_lt a b ≡ true
-less a b lt = ltb-yes lt
-
 near : (lo hi : ℕ) (r : Run) → 1 ≤ lo → lo ≤ r.hi + 1 → r.lo ≤ hi + 1 → is_near lo hi r ≡ true
 near lo hi r low p q = grind (arith, nat_tests)
 
@@ -36,21 +32,19 @@ above : (lo hi : ℕ) (r : Run) → hi + 1 < r.lo → is_near lo hi r ≡ false
 above lo hi r p = grind (arith, nat_tests)
 
 -- runs above the interval are not near it
-none_near : (lo hi from : ℕ) (rs : List Run) → hi + 1 < from → AreRunsFrom from rs → filter (is_near lo hi) rs ≡ []
-none_near lo hi from [] lt h = refl
+none_near : (lo hi from : ℕ) (rs : List Run) → hi + 1 < from → AreRunsFrom from rs
+    → (filter (is_near lo hi) rs ≡ []) × (filter (is_far lo hi) rs ≡ rs)
+none_near lo hi from [] lt h = (refl, refl)
 none_near lo hi from (r ∷ rs) lt h =
-    rw (above lo hi r (omega (arith, h.0))) (none_near lo hi (r.hi + 2) rs (omega (arith, h.0, h.1)) h.3)
-
-all_far : (lo hi from : ℕ) (rs : List Run) → hi + 1 < from → AreRunsFrom from rs → filter (is_far lo hi) rs ≡ rs
-all_far lo hi from [] lt h = refl
-all_far lo hi from (r ∷ rs) lt h =
-    rw (above lo hi r (omega (arith, h.0))) (ap (λ (xs : List Run). r ∷ xs) (all_far lo hi (r.hi + 2) rs (omega (arith, h.0, h.1)) h.3))
+    let later = none_near lo hi (r.hi + 2) rs (omega (arith, h.0, h.1)) h.3 in
+    let off = above lo hi r (omega (arith, h.0)) in
+    (rw off later.0, rw off (ap (λ (xs : List Run). r ∷ xs) later.1))
 
 -- a run that is carried along those above it stays as it is
 carried : (r : Run) (rs : List Run) → r.lo ≤ r.hi → AreRunsFrom (r.hi + 2) rs → joined r.lo r.hi rs ≡ r ∷ rs
 carried r [] le h = refl
 carried r (s ∷ rs) le h =
-    rw (le-ltb (s.hi + 1) r.lo (omega (arith, h.0, h.1)), less (r.hi + 1) (s.lo) (omega (arith, h.0)))
+    rw (le-ltb (s.hi + 1) r.lo (omega (arith, h.0, h.1)), lt-ltb (r.hi + 1) s.lo (omega (arith, h.0)))
     (ap (λ (xs : List Run). r ∷ xs) (carried s rs h.1 h.3))
 
 -- once the interval has grown over a run that ends at p
@@ -60,37 +54,40 @@ grown lo hi a b p [] low over first last le h = refl
 grown lo hi a b p (r ∷ rs) low over first last le h = elim (cases_lt (hi + 1) r.lo) [
   | inl lt ↦ rw (
     le-ltb (r.hi + 1) a (omega (arith, h.0, h.1)),
-    less (b + 1) (r.lo) (omega (arith, h.0)),
+    lt-ltb (b + 1) r.lo (omega (arith, h.0)),
     above lo hi r lt,
-    none_near lo hi (r.hi + 2) rs (omega (arith, h.1)) h.3,
-    all_far lo hi (r.hi + 2) rs (omega (arith, h.1)) h.3,
+    (none_near lo hi (r.hi + 2) rs (omega (arith, h.1)) h.3).0,
+    (none_near lo hi (r.hi + 2) rs (omega (arith, h.1)) h.3).1,
     carried r rs h.1 h.3,
   ) refl
   | inr ge ↦ rw (
     le-ltb (r.hi + 1) a (omega (arith, h.0, h.1)),
     le-ltb (b + 1) r.lo (omega (arith, h.0)),
     near lo hi r low (omega (arith, h.0, h.1)) ge,
-  ) (grown lo hi (min a r.lo) (max b r.hi) r.hi rs low (omega (arith, h.0, h.1)) (omega arith) (omega (arith, h.0, h.1)) (omega (arith, h.1)) h.3)
+  ) (grown lo hi (min a r.lo) (max b r.hi) r.hi rs low (omega (arith, h.0, h.1)) (omega arith) (omega (arith, h.0, h.1))
+      (omega (arith, h.1)) h.3)
 ]
 
 -- an element behind the first
 pub moved : {X : Type 0} (x y : X) (xs zs : List X) → IsPermutation (x ∷ xs) zs → IsPermutation (x ∷ y ∷ xs) (y ∷ zs)
-moved x y xs zs h = IsPermutation-trans (x ∷ y ∷ xs) (y ∷ x ∷ xs) (y ∷ zs) (IsPermutation-middle (x ∷ []) y xs) (IsPermutation-cons y (x ∷ xs) zs h)
+moved x y xs zs h =
+    IsPermutation-trans _ (y ∷ x ∷ xs) _ (IsPermutation-middle (x ∷ []) y xs) (IsPermutation-cons y (x ∷ xs) zs h)
 
 -- the runs that are far, and the near ones as one with the interval, are the runs joined by the interval
 pub spanned : (lo hi from : ℕ) (rs : List Run) → 1 ≤ lo → lo ≤ hi → AreRunsFrom from rs
     → IsPermutation (span lo hi (filter (is_near lo hi) rs) ∷ filter (is_far lo hi) rs) (joined lo hi rs)
 spanned lo hi from [] low le h = IsPermutation-refl _
 spanned lo hi from (r ∷ rs) low le h = elim (cases_lt (r.hi + 1) lo) [
-  | inl lt ↦ rw (less (r.hi + 1) (lo) lt, below lo hi r lt)
-      (moved (span lo hi (filter (is_near lo hi) rs)) r (filter (is_far lo hi) rs) (joined lo hi rs) (spanned lo hi (r.hi + 2) rs low le h.3))
+  | inl lt ↦ rw (lt-ltb (r.hi + 1) lo lt, below lo hi r lt)
+      (moved (span lo hi (filter (is_near lo hi) rs)) r (filter (is_far lo hi) rs) (joined lo hi rs)
+      (spanned lo hi (r.hi + 2) rs low le h.3))
   | inr ge ↦ elim (cases_lt (hi + 1) r.lo) [
     | inl lt ↦ rw (
       le-ltb (r.hi + 1) lo ge,
-      less (hi + 1) (r.lo) lt,
+      lt-ltb (hi + 1) r.lo lt,
       above lo hi r lt,
-      none_near lo hi (r.hi + 2) rs (omega (arith, h.1)) h.3,
-      all_far lo hi (r.hi + 2) rs (omega (arith, h.1)) h.3,
+      (none_near lo hi (r.hi + 2) rs (omega (arith, h.1)) h.3).0,
+      (none_near lo hi (r.hi + 2) rs (omega (arith, h.1)) h.3).1,
       carried r rs h.1 h.3,
     ) (IsPermutation-refl _)
     | inr over ↦ rw (

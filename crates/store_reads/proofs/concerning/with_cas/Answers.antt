@@ -1,43 +1,19 @@
-use Rattle.std.proofs.lemmas.Result.{err_from_is_err_and}
-use Rattle.std.proofs.Common.{◌≡◌, arith}
-use Rattle.sqlite.specs.Held.{state}
-use Rattle.sqlite.specs.State.{HasCleanDisk}
-use Rattle.store_rows.specs.Offices.{IsOfficeOf}
-use Rattle.store_reads.specs.Concerning.{AreConcerned, IsSubject}
-use Rattle.store_sql.specs.Calls.{Never}
+use Rattle.store_reads.specs.Concerning.{AreConcernedUnder, IsSubject}
 use Rattle.store_reads.specs.Histories.{IsOfHistory}
-use Rattle.store_reads.proofs.Showing.{shows_then}
-use Rattle.store_sql.proofs.Staying.{never_then, reads_then}
+use Rattle.store_reads.proofs.Showing.{asks_both, handed_on}
 use Rattle.store_reads.proofs.concerning.with_cas.Goals as goal
 
-pub returns-clause-shows : goal.returns-clause-shows
-returns-clause-shows g c clean is_open =
+pub returns : goal.returns
+returns g c =
     let m = c.args.message.now in
-    let old = state g.S.Store c.args.conn.now in
-    let mid = state g.S.Store c.subject_of.new.conn in
-    let new = state g.S.Store c.with_subject.new.conn in
-    let still : HasCleanDisk mid = omega (arith, c.with_subject.ensures.survives.clean) in
-    shows_then (λ s kept subject. IsOfHistory s kept → IsSubject subject s m)
-    (λ s kept rows. IsOfHistory s kept → IsOfficeOf c.args.office s → c.args.cas.items ≡ s.cas
-    → IsSubject c.in_ok-subject.subject s m → AreConcerned rows s m)
-    (λ s kept rows. IsOfHistory s kept → IsOfficeOf c.args.office s → c.args.cas.items ≡ s.cas → AreConcerned rows s m)
-    old mid new c.in_ok-subject.subject c.with_subject.result Never c.subject_of.ensures.survives
-    (λ s kept y lawful first rest history office cas. rest history office cas (first history))
-    (c.in_ok-subject.ensures.shows still is_open) (c.with_subject.ensures.shows clean)
-
-pub returns-clause-survives : goal.returns-clause-survives
-returns-clause-survives g c =
-    never_then (state g.S.Store c.args.conn.now) (state g.S.Store c.subject_of.new.conn) (state g.S.Store c.with_subject.new.conn)
-    c.subject_of.ensures.survives c.with_subject.ensures.survives
-
-pub returns-clause-reads : goal.returns-clause-reads
-returns-clause-reads g c clean is_open =
-    let mid = state g.S.Store c.subject_of.new.conn in
-    let still : HasCleanDisk mid = omega (arith, c.with_subject.ensures.survives.clean) in
-    reads_then (state g.S.Store c.args.conn.now) mid (state g.S.Store c.with_subject.new.conn) c.in_ok-subject.subject c.with_subject.result
-    (c.in_ok-subject.ensures.reads still is_open) (c.with_subject.ensures.reads clean)
+    let one = c.in_ok-subject.ensures in
+    let rest = c.with_subject.ensures in
+    let w = asks_both _ (λ s kept subject. IsOfHistory s kept → IsSubject subject s m) _
+    (AreConcernedUnder c.args.office c.args.cas.items m) _ _ _ c.in_ok-subject.subject c.with_subject.result
+    one.shows one.reads c.subject_of.ensures.survives rest.shows rest.reads rest.survives
+    (λ s kept y lawful first rest history office cas. rest history office cas (first history)) in
+    record { shows = w.shows; lawful = rest.lawful; reads = w.reads; survives = w.survives }
 
 pub returns-in_err-subject-clause-shows : goal.returns-in_err-subject-clause-shows
 returns-in_err-subject-clause-shows g c clean is_open =
-    let p = err_from_is_err_and c.from_residual.result c.from_residual.ensures.1 in
-    rw (p.1, p.2) (c.in_err-subject.ensures.shows clean is_open)
+    handed_on _ _ _ c.from_residual.result _ c.from_residual.ensures.1 (c.in_err-subject.ensures.shows clean is_open)

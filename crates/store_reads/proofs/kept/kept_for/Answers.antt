@@ -1,6 +1,6 @@
-use Rattle.std.proofs.lemmas.Result.{err_from_is_err_and}
 use Rattle.std.proofs.Common.{◌∙◌}
 use Rattle.store_rows.specs.Rows.{contents_of}
+use Rattle.store_rows.proofs.Sorting.{fails_shown}
 use Rattle.store_reads.proofs.Keeping.{kept_found}
 use Rattle.store_reads.proofs.kept.kept_for.Goals as goal
 
@@ -14,6 +14,5 @@ returns-clause-shows g c clean s kept lawful means =
 
 pub returns-in_err-found-clause-shows : goal.returns-in_err-found-clause-shows
 returns-in_err-found-clause-shows g c clean =
-    let p = err_from_is_err_and c.from_residual.result c.from_residual.ensures.1 in
-    rw (p.1, p.2) (λ s kept lawful means.
-    (c.in_err-found.ensures.finds clean (contents_of s kept) means, c.in_err-found.ensures.fault clean (contents_of s kept) means))
+    fails_shown _ _ _ c.from_residual.result _ c.from_residual.ensures.1 (c.in_err-found.ensures.finds clean)
+    (c.in_err-found.ensures.fault clean)

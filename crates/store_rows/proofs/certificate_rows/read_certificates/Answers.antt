@@ -1,15 +1,12 @@
-use Rattle.std.proofs.lemmas.Result.{err_from_is_err_and}
 use Rattle.std.proofs.Common.{filter}
 use Rattle.std.proofs.lemmas.Cmp.{nat_cmp_total}
 use Rattle.std.specs.Ordering.{nat_cmp}
-use Rattle.sqlite.specs.Held.{state}
 use Rattle.store_sql.specs.Changes.{certs_within}
 use Rattle.store_sql.specs.declared.certs.CertRow.{CertRow}
 use Rattle.office.specs.State.{State}
 use Rattle.store_rows.specs.Certificates.{certificate_in, is_within}
-use Rattle.store_rows.specs.Rows.{contents_of}
 use Rattle.store_rows.proofs.CertRows.{within_again, within_rise}
-use Rattle.store_rows.proofs.Sorting.{asked, shows_each}
+use Rattle.store_rows.proofs.Sorting.{asked, fails_shown, shows_each}
 use Rattle.store_rows.proofs.certificate_rows.read_certificates.Goals as goal
 
 pub returns-clause-shows : goal.returns-clause-shows
@@ -20,17 +17,13 @@ returns-clause-shows g c clean =
     (λ (s : State). filter (is_within lo hi) s.certificates)
     (λ s kept lawful. within_rise s.opening.first lo hi s.certificates lawful.serials)
     (λ s kept lawful. within_again lo hi s.certificates lawful.certificates)
-    (state g.S.Store c.args.conn.now) (state g.S.Store c.certs_within.new.conn) c.in_ok-rows.rows.items
-    c.read_each.result (c.in_ok-rows.ensures.finds clean) (c.in_ok-rows.ensures.sorted clean)
+    _ _ _ c.read_each.result (c.in_ok-rows.ensures.finds clean) (c.in_ok-rows.ensures.sorted clean)
     (rw c.as_slice.ensures.value at c.read_each.ensures)
 
 pub returns-clause-reads : goal.returns-clause-reads
-returns-clause-reads g c clean =
-    asked (state g.S.Store c.args.conn.now) (state g.S.Store c.certs_within.new.conn)
-    (c.in_ok-rows.ensures.reads clean) c.read_each.result
+returns-clause-reads g c clean = asked _ _ (c.in_ok-rows.ensures.reads clean) c.read_each.result
 
 pub returns-in_err-rows-clause-shows : goal.returns-in_err-rows-clause-shows
 returns-in_err-rows-clause-shows g c clean =
-    let p = err_from_is_err_and c.from_residual.result c.from_residual.ensures.1 in
-    rw (p.1, p.2) (λ s kept lawful means.
-    (c.in_err-rows.ensures.finds clean (contents_of s kept) means, c.in_err-rows.ensures.fault clean (contents_of s kept) means))
+    fails_shown _ _ _ c.from_residual.result _ c.from_residual.ensures.1 (c.in_err-rows.ensures.finds clean)
+    (c.in_err-rows.ensures.fault clean)

@@ -1,18 +1,16 @@
-use Rattle.std.proofs.lemmas.Result.{err_from_is_err_and}
 use Rattle.std.proofs.lemmas.Cmp.{nat_list_cmp_total}
 use Rattle.std.specs.Ordering.{nat_cmp}
 use Rattle.std.specs.Cmp.Lexicographic.{slice_cmp}
 use Rattle.std.specs.Prelude.{◌≡◌}
 use Rattle.std.proofs.Common.{Less}
 use Rattle.sqlite_trees.proofs.ListLemmas.{ascending-map}
-use Rattle.sqlite.specs.Held.{state}
 use Rattle.store_sql.specs.Contents.{Contents}
 use Rattle.store_sql.specs.declared.departments.DepartmentRow.{DepartmentRow}
 use Rattle.office.specs.Publication.{departments_of}
 use Rattle.store_rows.specs.Departments.{department_in}
-use Rattle.store_rows.specs.Rows.{contents_of, department_row}
+use Rattle.store_rows.specs.Rows.{department_row}
 use Rattle.store_rows.proofs.DepartmentRows.{departments_again}
-use Rattle.store_rows.proofs.Sorting.{asked, shows_each}
+use Rattle.store_rows.proofs.Sorting.{asked, fails_shown, shows_each}
 use Rattle.store_rows.proofs.departments.read_departments.Goals as goal
 
 pub returns-clause-shows : goal.returns-clause-shows
@@ -22,17 +20,13 @@ returns-clause-shows g c clean =
     (λ s kept lawful. ascending-map (λ (a b : DepartmentRow). slice_cmp nat_cmp a.name b.name ≡ Less)
     (λ e. department_row e.1) s.departments lawful.names)
     (λ s kept lawful. departments_again s.departments lawful.departments)
-    (state g.S.Store c.args.conn.now) (state g.S.Store c.every_department.new.conn) c.in_ok-rows.rows.items
-    c.read_each.result (c.in_ok-rows.ensures.finds clean) (c.in_ok-rows.ensures.sorted clean)
+    _ _ _ c.read_each.result (c.in_ok-rows.ensures.finds clean) (c.in_ok-rows.ensures.sorted clean)
     (rw c.as_slice.ensures.value at c.read_each.ensures)
 
 pub returns-clause-reads : goal.returns-clause-reads
-returns-clause-reads g c clean =
-    asked (state g.S.Store c.args.conn.now) (state g.S.Store c.every_department.new.conn)
-    (c.in_ok-rows.ensures.reads clean) c.read_each.result
+returns-clause-reads g c clean = asked _ _ (c.in_ok-rows.ensures.reads clean) c.read_each.result
 
 pub returns-in_err-rows-clause-shows : goal.returns-in_err-rows-clause-shows
 returns-in_err-rows-clause-shows g c clean =
-    let p = err_from_is_err_and c.from_residual.result c.from_residual.ensures.1 in
-    rw (p.1, p.2) (λ s kept lawful means.
-    (c.in_err-rows.ensures.finds clean (contents_of s kept) means, c.in_err-rows.ensures.fault clean (contents_of s kept) means))
+    fails_shown _ _ _ c.from_residual.result _ c.from_residual.ensures.1 (c.in_err-rows.ensures.finds clean)
+    (c.in_err-rows.ensures.fault clean)

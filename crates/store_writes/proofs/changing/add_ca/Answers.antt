@@ -5,7 +5,8 @@ use Rattle.store_writes.proofs.changing.add_ca.Goals as goal
 
 pub returns-clause-makes : goal.returns-clause-makes
 returns-clause-makes g c clean =
-    rw (c.in_ok-row.ensures) at (makes (with_ca c.in_ok-row.row) (state g.S.Store c.args.conn.now) (state g.S.Store c.insert_ca.new.conn)
+    rw (c.in_ok-row.ensures) at
+    (makes (with_ca c.in_ok-row.row) (state g.S.Store c.args.conn.now) (state g.S.Store c.insert_ca.new.conn)
     c.insert_ca.result (c.insert_ca.ensures.changes clean))
 
 pub returns-clause-fault : goal.returns-clause-fault

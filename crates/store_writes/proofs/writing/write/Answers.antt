@@ -10,36 +10,28 @@ use Rattle.store_writes.proofs.Parts.{made, waited}
 use Rattle.store_writes.proofs.Whole.{due_holds}
 use Rattle.store_writes.proofs.writing.write.Goals as goal
 
-pub returns-clause-makes : goal.returns-clause-makes
-returns-clause-makes g c clean =
+pub returns : goal.returns
+returns g c =
     let old = state g.S.Store c.args.conn.now in
     let new = state g.S.Store c.write_rows.new.conn in
     let d = c.args.decision.now in
     let a = c.args.arrival.now in
     let cas = c.args.cas.now in
-    let number = c.number-number.result in
+    let number = c.number-number in
     let k = c.in-Some.counters in
     let row = c.in_ok-request.request in
-    made (IsDue d cas) (contents_after d a) (λ x. with_change number k.next d.change (with_request row (with_counters k x))) old new
-    c.write_rows.result
-    (due_holds d a cas number k row old c.requires.lawful c.number-number.ensures c.in-Some.ensures.value c.in_ok-request.ensures)
-    (c.write_rows.ensures.makes clean)
-
-pub returns-clause-fault : goal.returns-clause-fault
-returns-clause-fault g c clean =
-    let old = state g.S.Store c.args.conn.now in
-    let new = state g.S.Store c.write_rows.new.conn in
-    let d = c.args.decision.now in
-    let a = c.args.arrival.now in
-    let cas = c.args.cas.now in
-    fails_weaker (IsDue d cas) Has
-    (RefusesRows c.number-number.result d.change c.in-Some.counters c.in_ok-request.request)
-    (λ x. RefusesDecision d a cas (contents_of x.0 x.1)) (λ x. contents_of x.0 x.1) old new c.write_rows.result
-    (λ x due. due.means)
-    (λ x due why. rw (c.number-number.ensures, c.in-Some.ensures.value, c.in_ok-request.ensures) at why)
-    (c.write_rows.ensures.fault clean)
-
-pub returns-clause-survives : goal.returns-clause-survives
-returns-clause-survives g c =
-    waited (IsDue c.args.decision.now c.args.cas.now) (state g.S.Store c.args.conn.now) (state g.S.Store c.write_rows.new.conn)
-    (λ x due. (contents_of x.0 x.1, due.means)) c.write_rows.ensures.survives
+    let rest = c.write_rows.ensures in
+    record {
+      makes = λ clean. made (IsDue d cas) (contents_after d a)
+          (λ x. with_change number.result k.next d.change (with_request row (with_counters k x))) old new
+          c.write_rows.result
+          (due_holds d a cas number.result k row old c.requires.lawful number.ensures c.in-Some.ensures.value
+          c.in_ok-request.ensures) (rest.makes clean);
+      fault = λ clean. fails_weaker (IsDue d cas) Has (RefusesRows number.result d.change k row)
+          (λ x. RefusesDecision d a cas (contents_of x.0 x.1)) (λ x. contents_of x.0 x.1) old new c.write_rows.result
+          (λ x due. due.means)
+          (λ x due why. rw (number.ensures, c.in-Some.ensures.value, c.in_ok-request.ensures) at why)
+          (rest.fault clean);
+      stays = rest.stays;
+      survives = waited (IsDue d cas) old new (λ x due. (contents_of x.0 x.1, due.means)) rest.survives;
+    }

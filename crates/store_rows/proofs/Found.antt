@@ -1,0 +1,19 @@
+-- What a search for those that pass a test finds.
+use Rattle.std.proofs.Common.{◌≡◌, List, [], ◌∷◌, filter, Bool, false, Option, Some, None, sym, ◌∙◌, arith}
+use Rattle.std.specs.Prelude.{is_some}
+use Rattle.std.specs.List.{list_any}
+use Rattle.std.proofs.lemmas.Bool.{ne_eqb, not-false, not-true}
+use Rattle.std.proofs.lemmas.List.Sorted.{length_permutation}
+use Rattle.sqlite_keyed.proofs.ListLemmas.{filter_none, none_counted, none_from_any}
+use Rattle.store_sql.specs.Calls.{IsOneOf}
+
+module _ {X : Type 0} (test : X → Bool) (xs : List X) where
+  pub none_passes : list_any test xs ≡ false → filter test xs ≡ []
+  none_passes none = filter_none test xs (none_from_any test xs none)
+
+  -- one is found where one passes
+  pub any_found : (found : Option X) → IsOneOf (filter test xs) found → is_some found ≡ list_any test xs
+  any_found None is = sym (not-true (list_any test xs) (sym (rw is at (none_counted test xs))))
+  any_found (Some x) is =
+      sym (not-false (list_any test xs) (sym (none_counted test xs)
+      ∙ ne_eqb _ _ (λ e. omega (arith, e, length_permutation (filter test xs) (x ∷ is.0) is.1))))
