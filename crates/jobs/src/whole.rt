@@ -15,21 +15,22 @@ use crate::job::{Done, OfficeJob, do_on};
 use crate::job_fault::JobFault;
 use crate::served::serve_at_port;
 use office::Opening;
+use sqlite::Alter;
 use std::alloc::Global;
 use std::io::{Read, Write};
 use std::net::{Net, TcpListener, TcpStream};
 use std::time::Clock;
 
 /// Does a job in a database, closes it, and then prints what is told of the job. The output is given back.
-pub fn do_in<D: Database, W: Write>(
+pub fn do_in<S: Alter, D: Database<S>, W: Write>(
     alloc: Global,
     db: &mut D,
     job: &OfficeJob<'_>,
     out: W,
 ) -> (Result<(), JobFault>, W)
     requires { IsLawful job.now }
-    ensures { DoesIn D.Tables.Store D.opens D.closes db.old db.new (Does job.now)
-        (told_text job.now) (W.contents out) (W.contents result.1) result.0 }
+    ensures { DoesIn S.Store D.opens D.closes db.old db.new (Does job.now) (told_text job.now) (W.contents out)
+        (W.contents result.1) result.0 }
 {
     match db.open() {
         Ok(conn) => {
@@ -43,14 +44,14 @@ pub fn do_in<D: Database, W: Write>(
 }
 
 /// Applies the exchanges of a file to the office in a database. The output is given back.
-pub fn apply_in<R: Read + Drop, D: Database, W: Write>(
+pub fn apply_in<R: Read + Drop, S: Alter, D: Database<S>, W: Write>(
     alloc: Global,
     db: &mut D,
     file: R,
     out: W,
 ) -> (Result<(), JobFault>, W)
-    ensures { AppliesIn D.Tables.Store D.opens D.closes db.old db.new
-        (R.remaining file) (W.contents out) (W.contents result.1) result.0 }
+    ensures { AppliesIn S.Store D.opens D.closes db.old db.new (R.remaining file) (W.contents out)
+        (W.contents result.1) result.0 }
 {
     match read_exchanges_from(alloc, file) {
         Ok(exchanges) => do_in(alloc, db, &OfficeJob::Apply(exchanges.as_slice()), out),
@@ -74,15 +75,15 @@ fn opening_from<R: Read + Drop>(
 }
 
 /// Makes an office in a new database, with the key of a file. The output is given back.
-pub fn found_in<R: Read + Drop, D: Database, W: Write>(
+pub fn found_in<R: Read + Drop, S: Alter, D: Database<S>, W: Write>(
     alloc: Global,
     db: &mut D,
     ca: R,
     founding: &Founding<'_>,
     out: W,
 ) -> (Result<(), JobFault>, W)
-    ensures { FoundsIn D.Tables.Store D.opens D.closes db.old db.new
-        founding.now (R.remaining ca) (W.contents out) (W.contents result.1) result.0 }
+    ensures { FoundsIn S.Store D.opens D.closes db.old db.new founding.now (R.remaining ca) (W.contents out)
+        (W.contents result.1) result.0 }
 {
     match opening_from(alloc, ca, founding) {
         Ok(opening) => do_in(alloc, db, &OfficeJob::Init(&opening), out),
@@ -92,9 +93,15 @@ pub fn found_in<R: Read + Drop, D: Database, W: Write>(
 
 /// Serves the office in a database at a port of the loopback interface, and closes the database. Answers the status of
 /// the serving, which has told of its own faults.
+///
+/// # Errors
+///
+/// Why nobody could be served: the database can't be opened, it isn't that of an office, or nobody listens at the port.
+/// `NoMemory` or `Device` is also answered where all were served and the database couldn't be closed well.
 pub fn serve_in<
     R: Net<Listener = TcpListener, Stream = TcpStream> + Clock + AllocGlobal,
-    D: Database,
+    S: Alter,
+    D: Database<S>,
     N: Read + Drop,
     O: Write,
     E: Write,
@@ -107,8 +114,8 @@ pub fn serve_in<
     out: &mut O,
     err: &mut E,
 ) -> Result<u8, JobFault>
-    ensures serves { ServesIn D.Tables.Store D.opens D.closes db.old db.new connections
-        (N.remaining nonces) (O.contents out.old) (O.contents out.new) result }
+    ensures serves { ServesIn S.Store D.opens D.closes db.old db.new connections (N.remaining nonces)
+        (O.contents out.old) (O.contents out.new) result }
     ensures status { IfOk result (λ status. status ≤ 1) }
 {
     match db.open() {

@@ -7,7 +7,7 @@ pub returns-in-Ok : goal.returns-in-Ok
 returns-in-Ok g c = record {
   exchanges = Ok c.in-Ok.exchanges.items;
   are_of = c.in-Ok.ensures.found;
-  applied = subst (λ es. DoesIn g.D.Tables.Store g.D.Database.opens g.D.Database.closes c.args.db.now c.do_in.new.db
+  applied = subst (λ es. DoesIn g.S.Store g.D.Database.opens g.D.Database.closes c.args.db.now c.do_in.new.db
       (Applies es) [] (g.W.Write.contents c.args.out) (g.W.Write.contents c.do_in.result.1) c.do_in.result.0)
       c.as_slice.ensures.value c.do_in.ensures;
 }
