@@ -1,11 +1,11 @@
 -- The whole of a job, from the opening of its database to the closing.
-use Rattle.std.specs.Prelude.{◌≡◌, ◌⊎◌, ℕ, List, [], Option, Result, Ok, Err, IfSome}
+use Rattle.std.specs.Prelude.{◌≡◌, ◌⊎◌, ℕ, List, [], Option, Result, Ok, Err, IfOk, IfSome}
 use Rattle.std.specs.Io.KnownBytes.{Appends}
 use Rattle.sqlite_trees.specs.declared.store.Store.{Ghosts}
 use Rattle.sqlite.specs.declared.error.Error.{Error}
 use Rattle.sqlite.specs.Held.{Held}
 use Rattle.sqlite.specs.State.{State}
-use Rattle.store_sql.specs.Honest.{On}
+use Rattle.store_sql.specs.Honest.{IsOutside, IsUnlimited, On}
 use Rattle.lines.specs.declared.key_line.KeyLine.{KeyLine}
 use Rattle.office.specs.declared.opening.Opening.{Opening}
 use Rattle.office.specs.declared.opening.OpeningFault.{OpeningFault}
@@ -29,6 +29,12 @@ abbrev pub Follows : {A B : Type 0} → (Used : A → Result B JobFault → Type
     → Result B JobFault → Type 0
 Follows Used Nothing (Ok x) result = Used x result
 Follows Used Nothing (Err e) result = (result ≡ Err e) × Nothing
+
+-- No transaction is open on what is opened, and its queries may take any number of steps.
+abbrev pub OpensFree : {S D : Type 0} → Ghosts S → (Result (Held S) Error → D → Type 0) → Type 0
+OpensFree {S} {D} store opens =
+    (found : Result (Held S) Error) (db : D) → opens found db
+    → IfOk found (λ conn. IsOutside store conn × IsUnlimited store conn)
 
 -- the connection that was opened, or the fault of the database
 abbrev pub found_open : {A : Type 0} → Result A Error → Result A JobFault

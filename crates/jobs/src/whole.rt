@@ -5,7 +5,7 @@
 ghost use Rattle.std.specs.Prelude.{◌≡◌, ◌≤◌, IfOk};
 ghost use Rattle.office.specs.Openings.{IsOpening};
 ghost use Rattle.jobs.specs.Jobs.{Does, IsLawful, told_text};
-ghost use Rattle.jobs.specs.Whole.{AppliesIn, Begins, DoesIn, FoundsIn, ServesIn};
+ghost use Rattle.jobs.specs.Whole.{AppliesIn, Begins, DoesIn, FoundsIn, OpensFree, ServesIn};
 
 use crate::database::Database;
 use crate::ending::{closed, database_fault, finish};
@@ -15,20 +15,21 @@ use crate::job::{Done, OfficeJob, do_on};
 use crate::job_fault::JobFault;
 use crate::served::serve_at_port;
 use office::Opening;
-use sqlite::Alter;
+use sqlite::{Alter, Connection};
 use std::alloc::Global;
 use std::io::{Read, Write};
 use std::net::{Net, TcpListener, TcpStream};
 use std::time::Clock;
 
 /// Does a job in a database, closes it, and then prints what is told of the job. The output is given back.
-pub fn do_in<S: Alter, D: Database<S>, W: Write>(
+pub fn do_in<S: Alter, D: Database<Conn = Connection<S>>, W: Write>(
     alloc: Global,
     db: &mut D,
     job: &OfficeJob<'_>,
     out: W,
 ) -> (Result<(), JobFault>, W)
-    requires { IsLawful job.now }
+    requires free { OpensFree S.Store (D.opens db.old) }
+    requires lawful { IsLawful job.now }
     ensures { DoesIn S.Store D.opens D.closes db.old db.new (Does job.now) (told_text job.now) (W.contents out)
         (W.contents result.1) result.0 }
 {
@@ -44,12 +45,13 @@ pub fn do_in<S: Alter, D: Database<S>, W: Write>(
 }
 
 /// Applies the exchanges of a file to the office in a database. The output is given back.
-pub fn apply_in<R: Read + Drop, S: Alter, D: Database<S>, W: Write>(
+pub fn apply_in<R: Read + Drop, S: Alter, D: Database<Conn = Connection<S>>, W: Write>(
     alloc: Global,
     db: &mut D,
     file: R,
     out: W,
 ) -> (Result<(), JobFault>, W)
+    requires { OpensFree S.Store (D.opens db.old) }
     ensures { AppliesIn S.Store D.opens D.closes db.old db.new (R.remaining file) (W.contents out)
         (W.contents result.1) result.0 }
 {
@@ -75,13 +77,14 @@ fn opening_from<R: Read + Drop>(
 }
 
 /// Makes an office in a new database, with the key of a file. The output is given back.
-pub fn found_in<R: Read + Drop, S: Alter, D: Database<S>, W: Write>(
+pub fn found_in<R: Read + Drop, S: Alter, D: Database<Conn = Connection<S>>, W: Write>(
     alloc: Global,
     db: &mut D,
     ca: R,
     founding: &Founding<'_>,
     out: W,
 ) -> (Result<(), JobFault>, W)
+    requires { OpensFree S.Store (D.opens db.old) }
     ensures { FoundsIn S.Store D.opens D.closes db.old db.new founding.now (R.remaining ca) (W.contents out)
         (W.contents result.1) result.0 }
 {
@@ -101,7 +104,7 @@ pub fn found_in<R: Read + Drop, S: Alter, D: Database<S>, W: Write>(
 pub fn serve_in<
     R: Net<Listener = TcpListener, Stream = TcpStream> + Clock + AllocGlobal,
     S: Alter,
-    D: Database<S>,
+    D: Database<Conn = Connection<S>>,
     N: Read + Drop,
     O: Write,
     E: Write,
@@ -114,6 +117,7 @@ pub fn serve_in<
     out: &mut O,
     err: &mut E,
 ) -> Result<u8, JobFault>
+    requires { OpensFree S.Store (D.opens db.old) }
     ensures serves { ServesIn S.Store D.opens D.closes db.old db.new connections (N.remaining nonces)
         (O.contents out.old) (O.contents out.new) result }
     ensures status { IfOk result (λ status. status ≤ 1) }

@@ -10,7 +10,7 @@ returns-in-Ok g c = record {
   ran = record {
     found = Ok c.in-Ok.conn;
     opened = c.«open».new.self;
-    is_opened = c.in-Ok.ensures.opens;
+    is_opened = c.in-Ok.ensures;
     ran = record {
       outcome = c.do_on-outcome.result.outcome;
       last = c.do_on-outcome.result.conn;
@@ -32,7 +32,7 @@ returns-in-Err g c = record {
   ran = record {
     found = Err c.in-Err.error;
     opened = c.«open».new.self;
-    is_opened = c.in-Err.ensures.opens;
+    is_opened = c.in-Err.ensures;
     ran = (ap Err c.database_fault.ensures.value, (refl, refl));
   };
   told_of = (refl, refl);

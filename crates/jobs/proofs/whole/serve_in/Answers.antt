@@ -16,7 +16,7 @@ pub returns-in-Ok-clause-serves : goal.returns-in-Ok-clause-serves
 returns-in-Ok-clause-serves g c = record {
   found = Ok c.in-Ok.conn;
   opened = c.«open».new.self;
-  is_opened = c.in-Ok.ensures.opens;
+  is_opened = c.in-Ok.ensures;
   ran = record {
     outcome = c.serve_at_port-served.result.0;
     last = c.serve_at_port-served.result.1;
@@ -36,6 +36,6 @@ pub returns-in-Err-clause-serves : goal.returns-in-Err-clause-serves
 returns-in-Err-clause-serves g c = record {
   found = Err c.in-Err.error;
   opened = c.«open».new.self;
-  is_opened = c.in-Err.ensures.opens;
+  is_opened = c.in-Err.ensures;
   ran = (ap Err c.database_fault.ensures.value, (refl, refl));
 }
