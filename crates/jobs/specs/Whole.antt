@@ -24,7 +24,7 @@ use Rattle.jobs.specs.Serving.{Serves}
 
 -- ---- steps
 
--- What was had was used so. Where it wasn't had, its fault is what came, and nothing was done.
+-- Two steps: what the first gave was used by the second. Where the first met a fault, that is what came of both.
 abbrev pub Follows : {A B : Type 0} → (Used : A → Result B JobFault → Type 0) → (Nothing : Type 0) → Result A JobFault
     → Result B JobFault → Type 0
 Follows Used Nothing (Ok x) result = Used x result
