@@ -3,6 +3,7 @@ pub mod Asking
 pub mod Bodies
 pub mod Carried
 pub mod Causes
+pub mod Ended
 pub mod Made
 pub mod Meeting
 pub mod Printed

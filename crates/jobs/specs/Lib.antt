@@ -10,3 +10,4 @@ pub mod Reading
 pub mod Serving
 pub mod Checking
 pub mod Trial
+pub mod Whole

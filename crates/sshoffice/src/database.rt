@@ -1,28 +1,45 @@
 //! Databases, opened and closed.
 
-ghost use Rattle.std.specs.Prelude.{◌≡◌, ◌≤◌, false, IfErr, IfOk, None};
-ghost use Rattle.sqlite.specs.Files.{file_state};
+ghost use Rattle.std.specs.Prelude.{◌≤◌, ⊤, IfOk};
 ghost use Rattle.sqlite.specs.Held.{IsNew};
-ghost use Rattle.jobs.specs.Faults.{IsOfADatabase};
 ghost use Rattle.jobs.specs.Jobs.{IsLawful};
 
 use crate::asked::Service;
 use crate::files::open_file;
-use jobs::{Done, JobFault, OfficeJob, closed, database_fault, do_on, finish, serve_at_port};
-use sqlite::{Connection, File, FileStore};
+use jobs::{Database, Founding, JobFault, OfficeJob};
+use sqlite::{Connection, Error, File, FileStore};
 use std::io::Write;
 
 /// A connection to the file at a path.
 type FileConnection = Connection<FileStore<File>>;
 
 /// Opens the database at a path, or makes one without tables. Nothing is asked of it.
-fn open_database(rt: &HostRuntime, path: &str) -> Result<FileConnection, JobFault>
+fn open_database(rt: &HostRuntime, path: &str) -> Result<FileConnection, Error>
     ensures new { IfOk result IsNew }
-    ensures only { IfErr result IsOfADatabase }
 {
-    match Connection::open(rt, path) {
-        Ok(conn) => Ok(conn),
-        Err(error) => Err(database_fault(error)),
+    Connection::open(rt, path)
+}
+
+/// The database at a path.
+#[derive(Drop)]
+struct DatabaseFile<'a> {
+    rt: &'a HostRuntime,
+    path: &'a str,
+}
+
+impl Database for DatabaseFile<'_> {
+    type Conn = FileConnection;
+
+    ghost opens = { λ _ found _. IfOk found IsNew };
+
+    fn open(&mut self) -> Result<FileConnection, Error> {
+        open_database(self.rt, self.path)
+    }
+
+    fn close(&mut self, conn: FileConnection) -> Result<(), Error>
+        ensures { ⊤ }
+    {
+        conn.close()
     }
 }
 
@@ -35,9 +52,36 @@ pub(crate) fn do_in<O: Write>(
 ) -> Result<(), JobFault>
     requires { IsLawful job.now }
 {
-    let conn = open_database(rt, path)?;
-    let Done { outcome, conn, out } = do_on(rt.alloc(), conn, job, out);
-    finish(out, job, closed(outcome, conn.close()))
+    let mut db = DatabaseFile { rt, path };
+    let (done, _) = jobs::do_in(rt.alloc(), &mut db, job, out);
+    done
+}
+
+/// Applies the exchanges of a file to the office in the database at a path.
+pub(crate) fn apply_in<O: Write>(
+    rt: &HostRuntime,
+    path: &str,
+    file: &str,
+    out: &mut O,
+) -> Result<(), JobFault> {
+    let file = open_file(rt, file)?;
+    let mut db = DatabaseFile { rt, path };
+    let (done, _) = jobs::apply_in(rt.alloc(), &mut db, file, out);
+    done
+}
+
+/// Makes an office with the key of a file in the database at a path.
+pub(crate) fn found_in<O: Write>(
+    rt: &HostRuntime,
+    path: &str,
+    ca: &str,
+    founding: &Founding<'_>,
+    out: &mut O,
+) -> Result<(), JobFault> {
+    let ca = open_file(rt, ca)?;
+    let mut db = DatabaseFile { rt, path };
+    let (done, _) = jobs::found_in(rt.alloc(), &mut db, ca, founding, out);
+    done
 }
 
 /// Serves the office in a database. Answers the status of the serving, which has told of its own faults.
@@ -50,15 +94,8 @@ pub(crate) fn serve<O: Write, E: Write>(
     ensures { IfOk result (λ status. status ≤ 1) }
 {
     let nonces = open_file(rt, service.nonces)?;
-    let conn = open_database(rt, service.db)?;
-    let (served, conn) = serve_at_port(
-        rt,
-        conn,
-        nonces,
-        service.port,
-        service.connections,
-        out,
-        err,
-    );
-    closed(served, conn.close())
+    let path = service.db;
+    let mut db = DatabaseFile { rt, path };
+    let (port, connections) = (service.port, service.connections);
+    jobs::serve_in(rt, &mut db, nonces, port, connections, out, err)
 }

@@ -3,13 +3,12 @@
 ghost use Rattle.std.specs.Prelude.{IfErr};
 ghost use Rattle.jobs.specs.Faults.{IsOfAFile};
 
-use jobs::{JobFault, check_list, file_fault, read_exchanges_from, read_key};
+use jobs::{JobFault, check_list, file_fault, read_key};
 use lines::KeyLine;
 use std::fs;
 use std::fs::File;
 use std::io::Write;
 use std::rt::Files;
-use web::Exchange;
 
 /// Opens the file at a path.
 pub(crate) fn open_file<R: Files<File = File>>(rt: &R, path: &str) -> Result<File, JobFault>
@@ -27,14 +26,6 @@ pub(crate) fn read_key_file<R: Files<File = File> + AllocGlobal>(
     path: &str,
 ) -> Result<KeyLine, JobFault> {
     read_key(rt.alloc(), open_file(rt, path)?)
-}
-
-/// The exchanges of the file at a path.
-pub(crate) fn read_exchange_file<R: Files<File = File> + AllocGlobal>(
-    rt: &R,
-    path: &str,
-) -> Result<Vec<Exchange>, JobFault> {
-    read_exchanges_from(rt.alloc(), open_file(rt, path)?)
 }
 
 /// Prints whether the list of a file revokes the certificate of this serial and key id, under the CA of a file.

@@ -5,13 +5,10 @@ ghost use Rattle.command_line.specs.Answers.{AreBad};
 ghost use Rattle.sshoffice.specs.Words.{IsOfBadWords};
 
 use crate::asked::{Service, asked_of, founding_of, service_of};
-use crate::database::{do_in, serve};
-use crate::files::{check, open_file, read_exchange_file, read_key_file};
+use crate::database::{apply_in, do_in, found_in, serve};
+use crate::files::{check, open_file};
 use command_line::{Job, WordsFault, read_words};
-use jobs::{
-    Founding, JobFault, OfficeJob, apply_to_trial, flushed, opening_of, status_of, test_ended,
-    write_out,
-};
+use jobs::{JobFault, apply_to_trial, flushed, status_of, test_ended, write_out};
 use server::selftest;
 use std::io::{ErrorKind, Write};
 use trial::trial_office;
@@ -25,23 +22,10 @@ fn apply<O: Write>(
     file: &str,
     out: &mut O,
 ) -> Result<(), JobFault> {
-    let Some(db) = db else {
-        return apply_to_trial(rt.alloc(), open_file(rt, file)?, out);
-    };
-    let exchanges = read_exchange_file(rt, file)?;
-    do_in(rt, db, &OfficeJob::Apply(exchanges.as_slice()), out)
-}
-
-fn found<O: Write>(
-    rt: &HostRuntime,
-    db: &str,
-    ca: &str,
-    founding: &Founding<'_>,
-    out: &mut O,
-) -> Result<(), JobFault> {
-    let ca = read_key_file(rt, ca)?;
-    let opening = opening_of(rt.alloc(), ca.key, founding)?;
-    do_in(rt, db, &OfficeJob::Init(&opening), out)
+    match db {
+        Some(db) => apply_in(rt, db, file, out),
+        None => apply_to_trial(rt.alloc(), open_file(rt, file)?, out),
+    }
 }
 
 /// Serves the trial office one request of its own, and prints that it was answered as is due.
@@ -58,7 +42,7 @@ fn done_by<O: Write>(rt: &HostRuntime, job: &Job, out: &mut O) -> Result<(), Job
         return do_in(rt, db, &asked, out);
     }
     if let Some((db, ca, founding)) = founding_of(job) {
-        return found(rt, db, ca, &founding, out);
+        return found_in(rt, db, ca, &founding, out);
     }
     match job {
         Job::Apply { db, file } => apply(rt, db.as_ref().map(|db| db.as_str()), file.as_str(), out),
