@@ -112,9 +112,19 @@ IsRow t (Fixed r) = IsPath (resource r) × (are_bytes t ≡ true) × (t ≡ path
 IsRow t _ = ⊤
 
 are_rows : AllRows (λ t r. IsRow t r.value) routing
-are_rows =
-    (tt, ((tt, refl, refl), (tt, (tt,
-    ((tt, refl, refl), ((tt, refl, refl), ((tt, refl, refl), ((tt, refl, refl), tt))))))))
+are_rows = (
+  tt,
+  (
+    (tt, refl, refl),
+    (
+      tt,
+      (
+        tt,
+        ((tt, refl, refl), ((tt, refl, refl), ((tt, refl, refl), ((tt, refl, refl), tt)))),
+      ),
+    ),
+  ),
+)
 
 -- a path that finds a fixed route is that route's path
 pub fixed_path : (path : List ℕ) (r : RouteOf RouteKind) (what : Resource) → first routing path ≡ Some r

@@ -142,8 +142,11 @@ signed_each s moment in_time are =
     let kept = cas_each s moment in_time are.cas in record {
       department = λ d. record { cas = kept.department d; bodies = are.bodies };
       certificate = λ c is. record { cas = kept.certificate c is; bodies = more_bodies s c is are.cas are.bodies };
-      signature = λ n x. record { cas = kept.signature n x; bodies = λ k c e. are.bodies k c
-          (sym (ap (λ xs. slice_get xs k) (map-signed_at unsigned (λ c x. refl) s.certificates _ x)) ∙ e) };
+      signature = λ n x. record {
+        cas = kept.signature n x;
+        bodies = λ k c e. are.bodies k c
+            (sym (ap (λ xs. slice_get xs k) (map-signed_at unsigned (λ c x. refl) s.certificates _ x)) ∙ e);
+      };
       range = λ r is. record { cas = kept.range r is; bodies = are.bodies };
       key_id = λ key_id. record { cas = kept.key_id key_id; bodies = are.bodies };
       ca = λ key new none. record { cas = kept.ca key new none; bodies = under_more_cas s key are.bodies };
