@@ -2,10 +2,10 @@
 //!
 //! `do_in`, `apply_in`, `found_in` and `serve_in` are whole jobs, from the opening of a database to its closing. In
 //! between `do_on` does what is asked of the office in the database, from the connection as it is given to that which
-//! is handed back: it makes an office, applies exchanges, prints the list or a report, or moves tables. `closed` keeps a
-//! fault of the job or tells one of the closing, and `finish` then prints what is told. `serve_over` serves an office,
-//! and `check_list` asks a list about a certificate. What is left to a program is to open and to close files, databases
-//! and sockets.
+//! is handed back: it makes an office, applies exchanges, prints the list or a report, or moves tables. `closed` keeps
+//! a fault of the job or tells one of the closing, and `finish` then prints what is told. `serve_over` serves an
+//! office, and `check_list` asks a list about a certificate. What is left to a program is to open and to close files,
+//! databases and sockets.
 #![tactic(auto)]
 
 mod applying;
