@@ -36,15 +36,19 @@ verdict (Err e) h = subst IsOfChecking (sym h) tt
 
 -- ---- of a run over the trial office
 
-pub trial_file : (e : JobFault) → IsOfExchanges e → IsOfATrial e
-trial_file File h = tt
-trial_file NoMemory h = tt
-trial_file (BadExchange k) h = tt
-trial_file other h = absurd h
+pub of_file : (e : JobFault) → IsOfExchanges e → IsOfATrial e
+of_file File h = tt
+of_file NoMemory h = tt
+of_file (BadExchange k) h = tt
+of_file other h = absurd h
 
-pub trial_register : (e : StoreFault) → IsOfATrial (of_store e)
-trial_register store.NoMemory = tt
-trial_register other = tt
+-- no exchange was run
+pub not_run : (e : JobFault) → IsOfExchanges e → ¬ (e ≡ Fault)
+not_run e h same = subst IsOfExchanges same h
+
+pub of_office : (e : StoreFault) → IsOfATrial (of_store e)
+of_office store.NoMemory = tt
+of_office other = tt
 
 pub trial_run : (r : Result (Unit {0}) RunFault) → IfErr (run_result r) IsOfATrial
 trial_run (Ok done) = tt
@@ -53,9 +57,13 @@ trial_run (Err run.Write) = tt
 trial_run (Err run.Fault) = tt
 
 -- what was not run printed nothing
-pub run_silent : (P : Type 0) (r : Result (Unit {0}) RunFault) → (r ≡ Err run.NoMemory → P)
+run_silent : (P : Type 0) (r : Result (Unit {0}) RunFault) → (r ≡ Err run.NoMemory → P)
     → IfErr (run_result r) (λ e. e ≢ Write → e ≢ Fault → P)
 run_silent P (Ok done) h = tt
 run_silent P (Err run.NoMemory) h = λ _ _. h refl
 run_silent P (Err run.Write) h = λ other _. absurd (other refl)
 run_silent P (Err run.Fault) h = λ _ other. absurd (other refl)
+
+pub silent : (P : Type 0) (r : Result (Unit {0}) RunFault) (came : Result (Unit {0}) JobFault) → came ≡ run_result r
+    → (r ≡ Err run.NoMemory → P) → IfErr came (λ e. e ≢ Write → e ≢ Fault → P)
+silent P r came same h = subst (λ d. IfErr d (λ e. e ≢ Write → e ≢ Fault → P)) (sym same) (run_silent P r h)

@@ -7,7 +7,7 @@ use Rattle.exchanges.specs.declared.exchange_reader.ExchangesFault.{ExchangesFau
 use Rattle.exchanges.specs.declared.exchange_reader.ExchangesFault.TheVariants as exchanges
 use Rattle.exchanges.proofs.LongFiles.{first_tells}
 use Rattle.jobs.specs.declared.job_fault.JobFault.{JobFault}
-use Rattle.jobs.specs.declared.job_fault.JobFault.TheVariants.{File, NoMemory, Fault}
+use Rattle.jobs.specs.declared.job_fault.JobFault.TheVariants.{File, NoMemory}
 use Rattle.jobs.specs.Faults.{IsOfAFile, IsOfExchanges, of_exchanges}
 
 -- the first bytes, so many, were read
@@ -28,7 +28,3 @@ of_a_file other h = absurd h
 pub of_a_record : (e : ExchangesFault) → IsOfExchanges (of_exchanges e)
 of_a_record (exchanges.BadExchange k) = tt
 of_a_record exchanges.NoMemory = tt
-
--- no exchange was run
-pub not_run : (e : JobFault) → IsOfExchanges e → ¬ (e ≡ Fault)
-not_run e h same = subst IsOfExchanges same h

@@ -51,7 +51,7 @@ pub fn apply_over<S: Alter, W: Write>(
 }
 
 /// Runs the exchanges that a file's reader gives over the trial office, and prints what each was given.
-#[tactic(auto, using(crate::proofs::Telling::not_run, crate::proofs::Causes::trial_file, crate::proofs::Causes::trial_register, crate::proofs::Causes::run_silent))]
+#[tactic(auto, using(crate::proofs::Causes::of_file, crate::proofs::Causes::not_run, crate::proofs::Causes::of_office))]
 pub fn apply_to_trial<R: Read + Drop, W: Write>(
     alloc: Global,
     file: R,

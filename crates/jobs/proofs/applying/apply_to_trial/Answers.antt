@@ -4,7 +4,7 @@ use Rattle.std.proofs.lemmas.Result.{IfOk-weaker}
 use Rattle.sqlite.proofs.Callers.{memory_is_clean}
 use Rattle.jobs.specs.Faults.{IsOfATrial}
 use Rattle.jobs.proofs.Applied.{applies_of, not_bad, of_ok, was_fault}
-use Rattle.jobs.proofs.Causes.{trial_run}
+use Rattle.jobs.proofs.Causes.{silent, trial_run}
 use Rattle.jobs.proofs.applying.apply_to_trial.Goals as goal
 
 pub returns-clause-ok : goal.returns-clause-ok
@@ -29,3 +29,8 @@ returns-clause-bad g c = λ k failed.
 pub returns-clause-only : goal.returns-clause-only
 returns-clause-only g c =
     subst (λ r. IfErr r IsOfATrial) (sym c.of_a_run.ensures) (trial_run c.apply_exchanges-done.result)
+
+pub returns-clause-silent : goal.returns-clause-silent
+returns-clause-silent g c =
+    silent _ c.apply_exchanges-done.result c.of_a_run.result c.of_a_run.ensures
+    c.apply_exchanges-done.ensures.unprinted
