@@ -1,16 +1,14 @@
 -- What a call leaves of what the tables tell.
-use Rattle.std.proofs.Common.{◌≡◌, inl, inr, ℕ, true, false, Option, None, sym, ap, subst, ◌∙◌}
+use Rattle.std.proofs.Common.{◌≡◌, inl, inr, ℕ, true, false, IsTrue, Option, None, sym, ap, subst, ◌∙◌}
 use Rattle.std.specs.Prelude.{List, is_some}
 use Rattle.sqlite.specs.Tree.{Trees}
 use Rattle.sqlite.specs.State.{State, HasCleanDisk, Survives}
-use Rattle.store_sql.specs.Contents.{Kept}
+use Rattle.store_sql.specs.Contents.{Contents, Kept}
 use Rattle.store_sql.specs.Calls.{Fails, Never}
 use Rattle.store_sql.specs.Faults.{HasFailed}
 use Rattle.office.specs.declared.opening.Opening.{Opening}
 use Rattle.office.specs.declared.arrival.Arrival.{Arrival}
 use Rattle.store_rows.specs.Transactions.{Has, Rests}
-use Rattle.store_rows.proofs.Steps.{ends_unbegun}
-use Rattle.store_sql.specs.declared.table_fault.Fault.TheVariants.{NoMemory}
 use Rattle.store_rows.specs.Rows.{office_contents}
 use Rattle.store.specs.Meaning.{DiskFailed, IsLeft, Tells}
 
@@ -21,6 +19,27 @@ disk_failed old new unlimited (inr (inl shut)) = inr shut
 disk_failed old new unlimited (inr (inr limited)) =
     let wrong : true ≡ false = sym limited ∙ ap (λ (limit : Option ℕ). is_some limit) unlimited in cc
 
+-- a call that fails leaves tables as they are
+rests_still : (c : Contents) (a b : State) → Fails a b → IsTrue b.is_open
+    → IsTrue a.is_open × (Rests (Has c) a → Rests (Has c) b)
+rests_still c a b (inl same) still = (
+  same.0.was_open,
+  λ rests. record {
+    autocommit = same.0.mode ∙ rests.autocommit;
+    now = subst (Has c) (sym same.0.now_is) rests.now;
+    committed = subst (Has c) (sym same.0.committed_is) rests.committed;
+  },
+)
+rests_still c a b (inr back) still =
+    let u = back.undone still in (
+      back.was_open still,
+      λ rests. record {
+        autocommit = back.autocommit;
+        now = subst (Has c) (sym u.0) rests.committed;
+        committed = subst (Has c) (sym u.1) rests.committed;
+      },
+    )
+
 -- a call that leaves tables with contents as they are
 pub tells_still : (old new : State) → Survives old new Never → HasCleanDisk new → Fails old new → (o : Opening)
     (l : List Arrival) → Tells old o l → Tells new o l
@@ -28,8 +47,8 @@ tells_still old new survives clean fails o l tells = record {
   history = tells.history;
   unlimited = survives.limit ∙ tells.unlimited;
   rows = λ still.
-      let e = ends_unbegun Has (λ _ (_ : Unit {0}). Unit {0}) (λ c. c) old new NoMemory NoMemory fails still in
-      e.1 (office_contents o l) (tells.rows e.0);
+      let e = rests_still (office_contents o l) old new fails still in
+      e.1 (tells.rows e.0);
   left = λ trees may. elim (survives.crash clean trees may) [
     | inl before ↦ tells.left trees before
     | inr none ↦ absurd none
