@@ -4,6 +4,7 @@ use Rattle.std.proofs.lemmas.Bool.{both_ways}
 use Rattle.sqlite.specs.Schema.{Schema}
 use Rattle.store_sql.specs.Look.{is_office_name}
 use Rattle.sqlite.specs.Held.{state}
+use Rattle.store_rows.proofs.Before.{same_before}
 use Rattle.store.specs.Creating.{RefusesOpening}
 use Rattle.store.proofs.ShortRows.{opening_fits}
 use Rattle.store.proofs.OfficeRows.{excused_unless}
@@ -34,3 +35,6 @@ returns-in-Err-clause-only g c clean blank =
     let new = state g.S.Store c.create.new.conn in
     rw c.fault_of.ensures (excused_unless old new (RefusesOpening c.args.opening.now) c.in-Err.fault
     c.requires.unlimited (opening_fits c.args.opening.now c.requires.lawful) (c.in-Err.ensures.cause clean blank))
+
+pub returns-then-has_any_table-clause-before : goal.returns-then-has_any_table-clause-before
+returns-then-has_any_table-clause-before g c clean = same_before (state g.S.Store c.args.conn)
