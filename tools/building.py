@@ -12,14 +12,21 @@ import time
 MEMORY_TAKEN = 0.85
 SHARE_OF_NEED = 0.5
 
-# A crate of twice so many lines is proved by two processes: each reads the libraries below, which takes some seconds.
-LINES_OF_A_JOB = 400
+# By how many processes a crate of the longest chain is proved. Two processes take a third more of the processors' time
+# than one, since what one has worked out the other works out again.
+JOBS_ON_CHAIN = 3
+
+# A crate counts as one of the longest chain if its own chain is at least this share of that chain.
+SHARE_OF_CHAIN = 0.9
+
+# The start of a proof takes as long as the proof of so many lines.
+LINES_OF_A_START = 250
 
 # What a process takes of the memory that proves the program beside others, in bytes.
 MEMORY_OF_A_JOB = 3_000_000_000
 
-# How far the processes of a crate give way that isn't on the longest chain.
-LATER = 5
+# How far the processes of a crate give way to those of each crate with a longer chain, and how far at most.
+LATER, LAST = 3, 15
 
 
 class Progress:
@@ -97,17 +104,27 @@ def state(crate, flags):
     return status
 
 
+def lines_of(crate):
+    """The lines of a crate's code, definitions and proofs: the time of its proof goes with them."""
+    found = 0
+    for file in sys.modules["rtlib"].files_of(crate.folder):
+        with open(file, "rb") as it:
+            found += it.read().count(b"\n")
+    return found
+
+
 class Lanes:
     """Proves crates side by side: each as soon as those below it are proved and memory is free for it.
 
-    A large crate is proved by several processes. There may be more processes than processors, so that no processor is
-    idle. The system gives the most time to the crate with the longest chain of others behind it.
+    A crate of the longest chain is proved by several processes, and each other crate by one. There may be more processes
+    than processors, so that no processor is idle. The system gives the most time to the crate with the longest chain of
+    others behind it.
     """
 
     def __init__(self, rt, libraries, progress, logs, kept):
         self.rt, self.progress, self.logs, self.kept = rt, progress, logs, kept
         self.processors, self.memory = rt.processors(), MEMORY_TAKEN * rt.free()
-        self.size = {it.name: it.count(rb"\n") for it in libraries}
+        self.size = {it.name: LINES_OF_A_START + lines_of(it) for it in libraries}
         self.behind = {}
         for crate in reversed(libraries):
             above = [it.name for it in libraries if crate in it.below()]
@@ -116,8 +133,13 @@ class Lanes:
         self.running, self.proved, self.ended = {}, {}, queue.Queue()
 
     def jobs_of(self, crate):
-        """By how many processes a crate is proved."""
-        return max(1, min(self.processors, round(self.size[crate.name] / LINES_OF_A_JOB)))
+        """By how many processes a crate is proved that can be begun now. On two processors, a crate of the longest chain
+        has a second process only where a processor is idle."""
+        longest = max(self.behind[it.name] for it in [*self.left, *(it for it, _ in self.running.values())])
+        if self.behind[crate.name] < SHARE_OF_CHAIN * longest:
+            return 1
+        idle = self.processors - sum(it for _, it in self.running.values())
+        return max(1, min(self.processors, idle if self.processors < 3 else max(idle, JOBS_ON_CHAIN)))
 
     def memory_of(self, crate, jobs):
         """The memory that a proof takes, in bytes: each further process adds its own share."""
@@ -134,17 +156,18 @@ class Lanes:
         for crate in [*self.left]:
             jobs = self.jobs_of(crate)
             if all(it.name in self.proved for it in crate.below()) and self.has_room_for(crate, jobs):
-                gives_way = any(self.behind[it] > self.behind[crate.name] for it in self.running)
+                before = sum(self.behind[it] > self.behind[crate.name] for it in self.running)
                 self.left.remove(crate)
                 self.running[crate.name] = crate, jobs
-                threading.Thread(target=self.work, args=(crate, jobs, gives_way), daemon=True).start()
+                threading.Thread(target=self.work, args=(crate, jobs, before), daemon=True).start()
 
-    def work(self, crate, jobs, gives_way):
-        """Proves a crate in a thread of its own, from which its processes have their priority."""
+    def work(self, crate, jobs, before):
+        """Proves a crate in a thread of its own, from which its processes have their priority: the lower, the more of the
+        crates that are being proved have longer chains."""
         is_proved = False
         try:
-            if gives_way:
-                os.setpriority(os.PRIO_PROCESS, threading.get_native_id(), LATER)
+            # On Linux this lowers the priority of this thread, and of the processes that it starts.
+            os.nice(min(LAST, LATER * before))
             if all(self.proved[it.name] for it in crate.below()):
                 is_proved = prove(crate, self.progress, jobs, crate.name in self.kept, self.logs)
         finally:
