@@ -1,10 +1,10 @@
 //! The command that clap reads, with its help.
 
 ghost use Rattle.std.specs.Prelude.{◌≡◌, [], IfOk};
-ghost use Rattle.clap.specs.Words.{app_of};
-ghost use Rattle.command_line.specs.Command.{IsArgument, IsSubcommand, apply_command, check_command, first_half};
-ghost use Rattle.command_line.specs.Command.{init_command, number, number_word, office_command, on_database, optional};
-ghost use Rattle.command_line.specs.Command.{required, selftest_command, serve_command, subcommand, top_command, word};
+ghost use Rattle.clap.specs.Words.{App, Shape, app_of, with_subcommand};
+ghost use Rattle.command_line.specs.Command.{IsArgument, IsSubcommand, apply_command, check_command, init_command};
+ghost use Rattle.command_line.specs.Command.{number, number_word, office_command, on_database, optional, required};
+ghost use Rattle.command_line.specs.Command.{selftest_command, serve_command, subcommand, top_command, word};
 
 use crate::help;
 use clap::builder::ValueParser;
@@ -77,32 +77,35 @@ fn top_command<'a>(alloc: Global) -> Command<'a>
 fn init_command<'a>(alloc: Global) -> Result<Command<'a>, AllocError>
     ensures { IfOk result (IsSubcommand init_command) }
 {
-    plain_command(alloc, "init", help::INIT, help::INIT_MORE)
-        .arg(required(alloc, "db", "PATH", help::NEW_DATABASE))?
-        .arg(required(alloc, "ca", "PATH", help::CA_FILE))?
-        .arg(required(alloc, "root", "NAME", help::ROOT))?
-        .arg(required(alloc, "station", "NAME", help::STATION))?
-        .arg(number(alloc, "first", "N", 0, u64::MAX, help::FIRST))?
-        .arg(number(alloc, "last", "N", 0, u64::MAX, help::LAST))
+    plain_command(alloc, "init", help::INIT, help::INIT_MORE).args(vec![in alloc;
+        required(alloc, "db", "PATH", help::NEW_DATABASE),
+        required(alloc, "ca", "PATH", help::CA_FILE),
+        required(alloc, "root", "NAME", help::ROOT),
+        required(alloc, "station", "NAME", help::STATION),
+        number(alloc, "first", "N", 0, u64::MAX, help::FIRST),
+        number(alloc, "last", "N", 0, u64::MAX, help::LAST),
+    ]?)
 }
 
 fn apply_command<'a>(alloc: Global) -> Result<Command<'a>, AllocError>
     ensures { IfOk result (IsSubcommand apply_command) }
 {
-    plain_command(alloc, "apply", help::APPLY, help::APPLY_MORE)
-        .arg(optional(alloc, "db", "PATH", help::DATABASE_OR_NONE))?
-        .arg(word(alloc, "FILE", help::EXCHANGE_FILE))
+    plain_command(alloc, "apply", help::APPLY, help::APPLY_MORE).args(vec![in alloc;
+        optional(alloc, "db", "PATH", help::DATABASE_OR_NONE),
+        word(alloc, "FILE", help::EXCHANGE_FILE),
+    ]?)
 }
 
 fn serve_command<'a>(alloc: Global) -> Result<Command<'a>, AllocError>
     ensures { IfOk result (IsSubcommand serve_command) }
 {
     let most = MOST_CONNECTIONS;
-    plain_command(alloc, "serve", help::SERVE, help::SERVE_MORE)
-        .arg(required(alloc, "db", "PATH", help::DATABASE))?
-        .arg(number(alloc, "port", "P", 0, 65535, help::PORT))?
-        .arg(number(alloc, "connections", "N", 1, most, help::CONNECTIONS))?
-        .arg(required(alloc, "nonces", "PATH", help::NONCES))
+    plain_command(alloc, "serve", help::SERVE, help::SERVE_MORE).args(vec![in alloc;
+        required(alloc, "db", "PATH", help::DATABASE),
+        number(alloc, "port", "P", 0, 65535, help::PORT),
+        number(alloc, "connections", "N", 1, most, help::CONNECTIONS),
+        required(alloc, "nonces", "PATH", help::NONCES),
+    ]?)
 }
 
 // A command of one database, as `krl --db PATH`.
@@ -120,11 +123,12 @@ fn on_database<'a>(
 fn check_command<'a>(alloc: Global) -> Result<Command<'a>, AllocError>
     ensures { IfOk result (IsSubcommand check_command) }
 {
-    plain_command(alloc, "check", help::CHECK, help::CHECK_MORE)
-        .arg(required(alloc, "ca", "PATH", help::CA_FILE))?
-        .arg(word(alloc, "KRL", help::LIST_FILE))?
-        .arg(number_word(alloc, "SERIAL", 1, u64::MAX, help::SERIAL))?
-        .arg(word(alloc, "KEYID", help::KEY_ID))
+    plain_command(alloc, "check", help::CHECK, help::CHECK_MORE).args(vec![in alloc;
+        required(alloc, "ca", "PATH", help::CA_FILE),
+        word(alloc, "KRL", help::LIST_FILE),
+        number_word(alloc, "SERIAL", 1, u64::MAX, help::SERIAL),
+        word(alloc, "KEYID", help::KEY_ID),
+    ]?)
 }
 
 fn selftest_command<'a>(alloc: Global) -> Command<'a>
@@ -133,16 +137,15 @@ fn selftest_command<'a>(alloc: Global) -> Command<'a>
     plain_command(alloc, "selftest", help::SELFTEST, help::SELFTEST_MORE)
 }
 
-// The command with the first five of its subcommands. A function with all nine takes minutes to prove.
-fn first_half<'a>(alloc: Global) -> Result<Command<'a>, AllocError>
-    ensures { IfOk result (λ c. app_of c ≡ first_half) }
+// The office's command with one more job, unless memory was refused for one of them.
+fn with_job<'a>(
+    office: Result<Command<'a>, AllocError>,
+    job: Result<Command<'a>, AllocError>,
+) -> Result<Command<'a>, AllocError>
+    ensures { (app : App) (shape : Shape) → IfOk office.entry (λ c. app_of c ≡ app)
+        → IfOk job.entry (IsSubcommand shape) → IfOk result (λ c. app_of c ≡ with_subcommand app shape) }
 {
-    top_command(alloc)
-        .subcommand(init_command(alloc)?)?
-        .subcommand(apply_command(alloc)?)?
-        .subcommand(serve_command(alloc)?)?
-        .subcommand(on_database(alloc, "krl", help::KRL, help::KRL_MORE)?)?
-        .subcommand(on_database(alloc, "signers", help::SIGNERS, help::SIGNERS_MORE)?)
+    office?.subcommand(job?)
 }
 
 /// The whole command, whose meaning to clap is that of `specs/Command.antt`.
@@ -153,9 +156,22 @@ fn first_half<'a>(alloc: Global) -> Result<Command<'a>, AllocError>
 pub fn office_command<'a>(alloc: Global) -> Result<Command<'a>, AllocError>
     ensures { IfOk result (λ c. app_of c ≡ office_command) }
 {
-    first_half(alloc)?
-        .subcommand(on_database(alloc, "table", help::TABLE, help::TABLE_MORE)?)?
-        .subcommand(check_command(alloc)?)?
-        .subcommand(on_database(alloc, "migrate", help::MIGRATE, help::MIGRATE_MORE)?)?
-        .subcommand(selftest_command(alloc))
+    let office = with_job(Ok(top_command(alloc)), init_command(alloc));
+    let office = with_job(office, apply_command(alloc));
+    let office = with_job(office, serve_command(alloc));
+    let office = with_job(office, on_database(alloc, "krl", help::KRL, help::KRL_MORE));
+    let office = with_job(
+        office,
+        on_database(alloc, "signers", help::SIGNERS, help::SIGNERS_MORE),
+    );
+    let office = with_job(
+        office,
+        on_database(alloc, "table", help::TABLE, help::TABLE_MORE),
+    );
+    let office = with_job(office, check_command(alloc));
+    let office = with_job(
+        office,
+        on_database(alloc, "migrate", help::MIGRATE, help::MIGRATE_MORE),
+    );
+    with_job(office, Ok(selftest_command(alloc)))
 }
