@@ -1,5 +1,6 @@
 use Rattle.std.specs.Prelude.{codes}
-use Rattle.command_line.specs.Command.{apply_command, check_command, init_command, on_database, selftest_command, serve_command}
+use Rattle.command_line.specs.Command.{apply_command, check_command, init_command, on_database}
+use Rattle.command_line.specs.Command.{selftest_command, serve_command}
 use Rattle.command_line.proofs.command.office_command.Goals as goal
 
 pub returns : goal.returns
