@@ -76,11 +76,6 @@ top_command = record (subcommand (codes "sshoffice") []) { subcommand_required =
 abbrev pub with_commands : List Shape → App
 with_commands subs = record { top = record top_command { is_leaf = false }; subs = subs }
 
--- the command with its first five subcommands
-abbrev pub first_half : App
-first_half = with_commands (init_command ∷ apply_command ∷ serve_command ∷ on_database (codes "krl")
-    ∷ on_database (codes "signers") ∷ [])
-
 -- the whole command
 abbrev pub office_command : App
 office_command = with_commands (init_command ∷ apply_command ∷ serve_command ∷ on_database (codes "krl")

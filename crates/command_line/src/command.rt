@@ -1,10 +1,11 @@
 //! The command that clap reads, with its help.
 
-ghost use Rattle.std.specs.Prelude.{◌≡◌, [], IfOk};
-ghost use Rattle.clap.specs.Words.{app_of};
-ghost use Rattle.command_line.specs.Command.{IsArgument, IsSubcommand, apply_command, check_command, first_half};
-ghost use Rattle.command_line.specs.Command.{init_command, number, number_word, office_command, on_database, optional};
-ghost use Rattle.command_line.specs.Command.{required, selftest_command, serve_command, subcommand, top_command, word};
+ghost use Rattle.std.specs.Prelude.{◌≡◌, [], IfOk, map};
+ghost use Rattle.clap.specs.Words.{App, Shape, app_of, with_subcommand};
+ghost use Rattle.command_line.specs.Command.{IsArgument, IsSubcommand, apply_command, check_command, init_command};
+ghost use Rattle.command_line.specs.Command.{number, number_word, office_command, on_database, optional, required};
+ghost use Rattle.command_line.specs.Command.{selftest_command, serve_command, subcommand, top_command, word};
+ghost use Rattle.command_line.specs.Parts.{rule_of_part};
 
 use crate::help;
 use clap::builder::ValueParser;
@@ -13,6 +14,21 @@ use std::alloc::{AllocError, Global};
 
 /// The most connections that one run of `serve` may be asked for.
 pub const MOST_CONNECTIONS: u64 = 1_000_000;
+
+// An option or word of a job: its name, what help calls its value, its limits and what help says of it.
+#[derive(Clone, Copy)]
+enum Part<'a> {
+    // `--name VALUE`, which may be left out.
+    Optional(&'a str, &'a str, &'a str),
+    // `--name VALUE`, which must be given.
+    Required(&'a str, &'a str, &'a str),
+    // `--name N`, with a number within the limits.
+    Number(&'a str, &'a str, u64, u64, &'a str),
+    // A word by its place.
+    Word(&'a str, &'a str),
+    // A number by its place, within the limits.
+    NumberWord(&'a str, u64, u64, &'a str),
+}
 
 // `--name VALUE`, which may be left out.
 fn optional<'a>(alloc: Global, name: &'a str, value: &'a str, help: &'a str) -> Arg<'a>
@@ -74,35 +90,71 @@ fn top_command<'a>(alloc: Global) -> Command<'a>
     office.version(help::VERSION).subcommand_required(true)
 }
 
+// What clap takes for a part.
+fn argument<'a>(alloc: Global, part: Part<'a>) -> Arg<'a>
+    ensures { IsArgument (rule_of_part part.entry) result }
+{
+    match part {
+        Part::Optional(name, value, help) => optional(alloc, name, value, help),
+        Part::Required(name, value, help) => required(alloc, name, value, help),
+        Part::Number(name, value, low, high, help) => number(alloc, name, value, low, high, help),
+        Part::Word(name, help) => word(alloc, name, help),
+        Part::NumberWord(name, low, high, help) => number_word(alloc, name, low, high, help),
+    }
+}
+
+// A command with these options and words.
+fn job_command<'a>(
+    alloc: Global,
+    name: &'a str,
+    about: &'a str,
+    more: &'a str,
+    parts: &[Part<'a>],
+) -> Result<Command<'a>, AllocError>
+    ensures { IfOk result (IsSubcommand (subcommand name.entry.now (map rule_of_part parts.now))) }
+{
+    let mut command = plain_command(alloc, name, about, more);
+    for part in parts {
+        command = command.arg(argument(alloc, *part))?;
+    }
+    Ok(command)
+}
+
 fn init_command<'a>(alloc: Global) -> Result<Command<'a>, AllocError>
     ensures { IfOk result (IsSubcommand init_command) }
 {
-    plain_command(alloc, "init", help::INIT, help::INIT_MORE)
-        .arg(required(alloc, "db", "PATH", help::NEW_DATABASE))?
-        .arg(required(alloc, "ca", "PATH", help::CA_FILE))?
-        .arg(required(alloc, "root", "NAME", help::ROOT))?
-        .arg(required(alloc, "station", "NAME", help::STATION))?
-        .arg(number(alloc, "first", "N", 0, u64::MAX, help::FIRST))?
-        .arg(number(alloc, "last", "N", 0, u64::MAX, help::LAST))
+    let parts = [
+        Part::Required("db", "PATH", help::NEW_DATABASE),
+        Part::Required("ca", "PATH", help::CA_FILE),
+        Part::Required("root", "NAME", help::ROOT),
+        Part::Required("station", "NAME", help::STATION),
+        Part::Number("first", "N", 0, u64::MAX, help::FIRST),
+        Part::Number("last", "N", 0, u64::MAX, help::LAST),
+    ];
+    job_command(alloc, "init", help::INIT, help::INIT_MORE, &parts)
 }
 
 fn apply_command<'a>(alloc: Global) -> Result<Command<'a>, AllocError>
     ensures { IfOk result (IsSubcommand apply_command) }
 {
-    plain_command(alloc, "apply", help::APPLY, help::APPLY_MORE)
-        .arg(optional(alloc, "db", "PATH", help::DATABASE_OR_NONE))?
-        .arg(word(alloc, "FILE", help::EXCHANGE_FILE))
+    let parts = [
+        Part::Optional("db", "PATH", help::DATABASE_OR_NONE),
+        Part::Word("FILE", help::EXCHANGE_FILE),
+    ];
+    job_command(alloc, "apply", help::APPLY, help::APPLY_MORE, &parts)
 }
 
 fn serve_command<'a>(alloc: Global) -> Result<Command<'a>, AllocError>
     ensures { IfOk result (IsSubcommand serve_command) }
 {
     let most = MOST_CONNECTIONS;
-    plain_command(alloc, "serve", help::SERVE, help::SERVE_MORE)
-        .arg(required(alloc, "db", "PATH", help::DATABASE))?
-        .arg(number(alloc, "port", "P", 0, 65535, help::PORT))?
-        .arg(number(alloc, "connections", "N", 1, most, help::CONNECTIONS))?
-        .arg(required(alloc, "nonces", "PATH", help::NONCES))
+    let parts = [
+        Part::Required("db", "PATH", help::DATABASE),
+        Part::Number("port", "P", 0, 65535, help::PORT),
+        Part::Number("connections", "N", 1, most, help::CONNECTIONS),
+        Part::Required("nonces", "PATH", help::NONCES),
+    ];
+    job_command(alloc, "serve", help::SERVE, help::SERVE_MORE, &parts)
 }
 
 // A command of one database, as `krl --db PATH`.
@@ -114,17 +166,20 @@ fn on_database<'a>(
 ) -> Result<Command<'a>, AllocError>
     ensures { IfOk result (IsSubcommand (on_database name.entry.now)) }
 {
-    plain_command(alloc, name, about, more).arg(required(alloc, "db", "PATH", help::DATABASE))
+    let parts = [Part::Required("db", "PATH", help::DATABASE)];
+    job_command(alloc, name, about, more, &parts)
 }
 
 fn check_command<'a>(alloc: Global) -> Result<Command<'a>, AllocError>
     ensures { IfOk result (IsSubcommand check_command) }
 {
-    plain_command(alloc, "check", help::CHECK, help::CHECK_MORE)
-        .arg(required(alloc, "ca", "PATH", help::CA_FILE))?
-        .arg(word(alloc, "KRL", help::LIST_FILE))?
-        .arg(number_word(alloc, "SERIAL", 1, u64::MAX, help::SERIAL))?
-        .arg(word(alloc, "KEYID", help::KEY_ID))
+    let parts = [
+        Part::Required("ca", "PATH", help::CA_FILE),
+        Part::Word("KRL", help::LIST_FILE),
+        Part::NumberWord("SERIAL", 1, u64::MAX, help::SERIAL),
+        Part::Word("KEYID", help::KEY_ID),
+    ];
+    job_command(alloc, "check", help::CHECK, help::CHECK_MORE, &parts)
 }
 
 fn selftest_command<'a>(alloc: Global) -> Command<'a>
@@ -133,16 +188,15 @@ fn selftest_command<'a>(alloc: Global) -> Command<'a>
     plain_command(alloc, "selftest", help::SELFTEST, help::SELFTEST_MORE)
 }
 
-// The command with the first five of its subcommands. A function with all nine takes minutes to prove.
-fn first_half<'a>(alloc: Global) -> Result<Command<'a>, AllocError>
-    ensures { IfOk result (λ c. app_of c ≡ first_half) }
+// The office's command with one more job, unless memory was refused for one of them.
+fn with_job<'a>(
+    office: Result<Command<'a>, AllocError>,
+    job: Result<Command<'a>, AllocError>,
+) -> Result<Command<'a>, AllocError>
+    ensures { (app : App) (shape : Shape) → IfOk office.entry (λ c. app_of c ≡ app)
+        → IfOk job.entry (IsSubcommand shape) → IfOk result (λ c. app_of c ≡ with_subcommand app shape) }
 {
-    top_command(alloc)
-        .subcommand(init_command(alloc)?)?
-        .subcommand(apply_command(alloc)?)?
-        .subcommand(serve_command(alloc)?)?
-        .subcommand(on_database(alloc, "krl", help::KRL, help::KRL_MORE)?)?
-        .subcommand(on_database(alloc, "signers", help::SIGNERS, help::SIGNERS_MORE)?)
+    office?.subcommand(job?)
 }
 
 /// The whole command, whose meaning to clap is that of `specs/Command.antt`.
@@ -153,9 +207,22 @@ fn first_half<'a>(alloc: Global) -> Result<Command<'a>, AllocError>
 pub fn office_command<'a>(alloc: Global) -> Result<Command<'a>, AllocError>
     ensures { IfOk result (λ c. app_of c ≡ office_command) }
 {
-    first_half(alloc)?
-        .subcommand(on_database(alloc, "table", help::TABLE, help::TABLE_MORE)?)?
-        .subcommand(check_command(alloc)?)?
-        .subcommand(on_database(alloc, "migrate", help::MIGRATE, help::MIGRATE_MORE)?)?
-        .subcommand(selftest_command(alloc))
+    let office = with_job(Ok(top_command(alloc)), init_command(alloc));
+    let office = with_job(office, apply_command(alloc));
+    let office = with_job(office, serve_command(alloc));
+    let office = with_job(office, on_database(alloc, "krl", help::KRL, help::KRL_MORE));
+    let office = with_job(
+        office,
+        on_database(alloc, "signers", help::SIGNERS, help::SIGNERS_MORE),
+    );
+    let office = with_job(
+        office,
+        on_database(alloc, "table", help::TABLE, help::TABLE_MORE),
+    );
+    let office = with_job(office, check_command(alloc));
+    let office = with_job(
+        office,
+        on_database(alloc, "migrate", help::MIGRATE, help::MIGRATE_MORE),
+    );
+    with_job(office, Ok(selftest_command(alloc)))
 }

@@ -3,7 +3,8 @@
 ghost use Rattle.std.specs.Prelude.{◌≡◌, map, Some, IfOk, IfErr, string_bytes};
 ghost use Rattle.clap.specs.Words.{found_of, kind_of, rows_of, subcommand_rows_of};
 ghost use Rattle.command_line.specs.Answers.{IsAnswered, IsFaultOf, IsLack, Names};
-ghost use Rattle.command_line.specs.Asked.{apply_in, asked, asked_by, asked_in, check_in, init_in, serve_in};
+ghost use Rattle.command_line.specs.Asked.{apply_in, asked, asked_by, asked_in, check_in, database_in, init_in, krl};
+ghost use Rattle.command_line.specs.Asked.{migrate, serve_in, signers, table};
 
 use crate::command::{MOST_CONNECTIONS, office_command};
 use crate::values::{lack, number_at, text_at, text_if_given};
@@ -60,39 +61,58 @@ fn check_job(alloc: Global, found: &ArgMatches<'_>) -> Result<Job, WordsFault>
     })
 }
 
+fn krl_job(alloc: Global, found: &ArgMatches<'_>) -> Result<Job, WordsFault>
+    ensures ok { IfOk result (λ job. database_in krl (rows_of (found_of found.now)) ≡ Some (asked job)) }
+    ensures err { IfErr result (IsLack (database_in krl (rows_of (found_of found.now)))) }
+{
+    Ok(Job::Krl {
+        db: text_at(alloc, found, "db")?,
+    })
+}
+
+fn signers_job(alloc: Global, found: &ArgMatches<'_>) -> Result<Job, WordsFault>
+    ensures ok { IfOk result (λ job. database_in signers (rows_of (found_of found.now)) ≡ Some (asked job)) }
+    ensures err { IfErr result (IsLack (database_in signers (rows_of (found_of found.now)))) }
+{
+    Ok(Job::Signers {
+        db: text_at(alloc, found, "db")?,
+    })
+}
+
+fn table_job(alloc: Global, found: &ArgMatches<'_>) -> Result<Job, WordsFault>
+    ensures ok { IfOk result (λ job. database_in table (rows_of (found_of found.now)) ≡ Some (asked job)) }
+    ensures err { IfErr result (IsLack (database_in table (rows_of (found_of found.now)))) }
+{
+    Ok(Job::Table {
+        db: text_at(alloc, found, "db")?,
+    })
+}
+
+fn migrate_job(alloc: Global, found: &ArgMatches<'_>) -> Result<Job, WordsFault>
+    ensures ok { IfOk result (λ job. database_in migrate (rows_of (found_of found.now)) ≡ Some (asked job)) }
+    ensures err { IfErr result (IsLack (database_in migrate (rows_of (found_of found.now)))) }
+{
+    Ok(Job::Migrate {
+        db: text_at(alloc, found, "db")?,
+    })
+}
+
 // The job of the subcommand of this name.
 fn named_job(alloc: Global, name: &str, found: &ArgMatches<'_>) -> Result<Job, WordsFault>
     ensures ok { IfOk result (λ job. asked_by name.now (rows_of (found_of found.now)) ≡ Some (asked job)) }
     ensures err { IfErr result (IsLack (asked_by name.now (rows_of (found_of found.now)))) }
 {
-    if name == "init" {
-        init_job(alloc, found)
-    } else if name == "apply" {
-        apply_job(alloc, found)
-    } else if name == "serve" {
-        serve_job(alloc, found)
-    } else if name == "krl" {
-        Ok(Job::Krl {
-            db: text_at(alloc, found, "db")?,
-        })
-    } else if name == "signers" {
-        Ok(Job::Signers {
-            db: text_at(alloc, found, "db")?,
-        })
-    } else if name == "table" {
-        Ok(Job::Table {
-            db: text_at(alloc, found, "db")?,
-        })
-    } else if name == "check" {
-        check_job(alloc, found)
-    } else if name == "migrate" {
-        Ok(Job::Migrate {
-            db: text_at(alloc, found, "db")?,
-        })
-    } else if name == "selftest" {
-        Ok(Job::Selftest)
-    } else {
-        Err(lack(alloc, "a command"))
+    match name {
+        "init" => init_job(alloc, found),
+        "apply" => apply_job(alloc, found),
+        "serve" => serve_job(alloc, found),
+        "krl" => krl_job(alloc, found),
+        "signers" => signers_job(alloc, found),
+        "table" => table_job(alloc, found),
+        "check" => check_job(alloc, found),
+        "migrate" => migrate_job(alloc, found),
+        "selftest" => Ok(Job::Selftest),
+        _ => Err(lack(alloc, "a command")),
     }
 }
 

@@ -1,11 +1,16 @@
-use Rattle.std.proofs.lemmas.Result.{IfOk-weaker}
-use Rattle.command_line.proofs.Commands.{one_below}
+use Rattle.std.specs.Prelude.{codes}
+use Rattle.command_line.specs.Command.{apply_command, check_command, init_command, on_database}
+use Rattle.command_line.specs.Command.{selftest_command, serve_command}
 use Rattle.command_line.proofs.command.office_command.Goals as goal
 
 pub returns : goal.returns
 returns c =
-    let table = one_below _ _ _ _ _ c.in_ok-first_half.ensures c.in_ok-on_database.ensures c.in_ok-subcommand.ensures in
-    let check = one_below _ _ _ _ _ table c.in_ok-check_command.ensures c.in_ok-subcommand-2.ensures in
-    let migrate = one_below _ _ _ _ _ check c.in_ok-on_database-2.ensures c.in_ok-subcommand-3.ensures in
-    let selftest = c.selftest_command.ensures in
-    IfOk-weaker c.subcommand-4.result _ _ (λ r added. one_below _ _ _ _ _ migrate selftest added) c.subcommand-4.ensures
+    let init = c.with_job-office.ensures _ init_command c.top_command.ensures c.init_command.ensures in
+    let apply = c.with_job-office-2.ensures _ apply_command init c.apply_command.ensures in
+    let serve = c.with_job-office-3.ensures _ serve_command apply c.serve_command.ensures in
+    let krl = c.with_job-office-4.ensures _ (on_database (codes "krl")) serve c.on_database.ensures in
+    let signers = c.with_job-office-5.ensures _ (on_database (codes "signers")) krl c.on_database-2.ensures in
+    let table = c.with_job-office-6.ensures _ (on_database (codes "table")) signers c.on_database-3.ensures in
+    let check = c.with_job-office-7.ensures _ check_command table c.check_command.ensures in
+    let migrate = c.with_job-office-8.ensures _ (on_database (codes "migrate")) check c.on_database-4.ensures in
+    c.with_job.ensures _ selftest_command migrate c.selftest_command.ensures
