@@ -5,7 +5,7 @@ use text::{Text, Texts};
 use values::Kind;
 
 /// The fields of a certificate that its body holds (PROTOCOL.certkeys, ssh-ed25519-cert-v01@openssh.com).
-#[derive(Debug, Drop)]
+#[derive(Drop)]
 pub struct CertFields {
     /// Bytes that make two bodies differ.
     pub nonce: [u8; 32],

@@ -15,7 +15,7 @@ use text::{NoMemory, Pair, Pairs};
 use values::{Kind, OptionField, is_known, is_option_value};
 
 /// A field of critical options or of extensions. Contracts see it as its pairs, strictly ascending by name.
-#[derive(Debug, Drop)]
+#[derive(Drop)]
 pub struct Options {
     pairs: Pairs,
 }

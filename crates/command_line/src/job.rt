@@ -1,7 +1,7 @@
 //! What the words ask for.
 
 /// What the words ask for. A path is the word's text, and an option that may be left out is `None` where it is.
-#[derive(Debug, Drop)]
+#[derive(Drop)]
 pub enum Job {
     /// Makes an office in a new database.
     Init {

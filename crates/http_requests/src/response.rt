@@ -18,7 +18,7 @@ pub const MAX_RESPONSE_HEAD: usize = 145;
 pub const MAX_REFUSAL: usize = 28;
 
 /// The media type of a body (RFC 9110, section 8.3).
-#[derive(Clone, Copy, Debug, PartialEq, Eq)]
+#[derive(Clone, Copy, PartialEq, Eq)]
 pub enum MediaType {
     /// `text/plain`
     PlainText,

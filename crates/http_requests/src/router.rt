@@ -9,7 +9,7 @@ use std::alloc::Global;
 use text::NoMemory;
 
 /// Which route a path has.
-#[derive(Clone, Copy, Debug, PartialEq, Eq)]
+#[derive(Clone, Copy, PartialEq, Eq)]
 pub enum RouteKind {
     /// `/v1/callers/{caller}/requests/{key}`
     Message,

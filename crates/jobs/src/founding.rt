@@ -16,7 +16,7 @@ use store::Store;
 use text::NoMemory;
 
 /// What an office is to begin with, beside the key of its CA.
-#[derive(Clone, Copy, Debug)]
+#[derive(Clone, Copy)]
 pub struct Founding<'a> {
     /// The caller that may do everything but deliver signatures.
     pub root: &'a str,

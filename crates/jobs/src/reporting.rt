@@ -20,7 +20,7 @@ use std::io::Write;
 use store::Store;
 
 /// A report, by the request for it.
-#[derive(Clone, Copy, Debug)]
+#[derive(Clone, Copy)]
 pub enum Report {
     /// The allowed signers.
     Signers,

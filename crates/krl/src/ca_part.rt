@@ -3,7 +3,7 @@
 use crate::runs::Runs;
 
 /// The serials that are revoked under one CA.
-#[derive(Debug, Drop)]
+#[derive(Drop)]
 pub struct CaPart {
     /// The 32 bytes of the CA's public key.
     pub ca: [u8; 32],

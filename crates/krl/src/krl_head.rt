@@ -1,7 +1,7 @@
 //! What a list's header says.
 
 /// The version and the date of a list (OpenSSH PROTOCOL.krl).
-#[derive(Clone, Copy, Debug, PartialEq, Eq)]
+#[derive(Clone, Copy, PartialEq, Eq)]
 pub struct KrlHead {
     /// The number of the list, higher in each later one (`krl_version`).
     pub version: u64,

@@ -16,7 +16,7 @@ use std::marker::Model;
 use text::NoMemory;
 
 /// A set of serials. Contracts see it as its runs: ascending, and no two of them overlap or touch.
-#[derive(Debug, Drop)]
+#[derive(Drop)]
 pub struct Runs {
     runs: Vec<Run>,
 }

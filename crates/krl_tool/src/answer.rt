@@ -4,7 +4,7 @@ use krl::KrlFault;
 use std::fmt;
 
 /// Whether a list revokes a certificate, or the list's fault. It is printed as `revoked`, `clear` or the fault's name.
-#[derive(Clone, Copy, Debug)]
+#[derive(Clone, Copy)]
 pub(crate) struct Answer(pub Result<bool, KrlFault>);
 
 impl fmt::Display for Answer {

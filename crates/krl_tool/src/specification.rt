@@ -7,7 +7,7 @@ use std::alloc::Global;
 use text::{Text, Texts};
 
 /// What a list is to revoke.
-#[derive(Debug, Drop)]
+#[derive(Drop)]
 pub(crate) struct Specification {
     /// The serials of each CA.
     pub parts: Vec<CaPart>,
@@ -16,7 +16,7 @@ pub(crate) struct Specification {
 }
 
 // One line.
-#[derive(Clone, Copy, Debug)]
+#[derive(Clone, Copy)]
 enum Line<'a> {
     // The CA of the serials that follow.
     Ca([u8; 32]),
@@ -25,14 +25,14 @@ enum Line<'a> {
 }
 
 // The lines read so far.
-#[derive(Debug, Drop)]
+#[derive(Drop)]
 struct Draft {
     sections: Vec<Section>,
     key_ids: Vec<Text>,
 }
 
 // The serials of one CA, as they were read.
-#[derive(Debug, Drop)]
+#[derive(Drop)]
 struct Section {
     ca: [u8; 32],
     runs: Vec<Run>,

@@ -6,7 +6,7 @@ use std::alloc::Global;
 use text::{NoMemory, Text};
 
 /// An Ed25519 public key, with a comment or none. No comment and a comment of no bytes are two values.
-#[derive(Debug, Drop)]
+#[derive(Drop)]
 pub struct KeyLine {
     /// The 32 bytes of the key.
     pub key: [u8; 32],

@@ -16,7 +16,7 @@ use text::{Text, Texts};
 use wire::{Failed, Sink, write_all};
 
 /// A line of allowed signers: an authority, and whom and what it may vouch for.
-#[derive(Debug, Drop)]
+#[derive(Drop)]
 pub struct SignerRow {
     /// The patterns of the principals.
     pub rules: Texts,

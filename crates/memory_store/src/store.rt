@@ -14,7 +14,7 @@ use std::marker::Model;
 use text::{NoMemory, Text};
 
 /// An office's register as lists in memory. Contracts see it as the plain machine's state and the rows that are kept.
-#[derive(Debug, Drop)]
+#[derive(Drop)]
 pub struct PlainStore {
     pub(crate) opening: Opening,
     // by number

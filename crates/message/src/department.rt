@@ -23,7 +23,7 @@ use text::{NoMemory, Text, Texts};
 use values::{Kind, LONGEST_LIFE};
 
 /// A department with its profile of what may be issued.
-#[derive(Debug, Drop)]
+#[derive(Drop)]
 pub struct Department {
     /// 1 to 32 bytes of `a-z 0-9 -`.
     pub name: Text,

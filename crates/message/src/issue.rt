@@ -13,7 +13,7 @@ use std::alloc::Global;
 use text::{NoMemory, Pairs, Text, Texts};
 
 /// A certificate that is asked for.
-#[derive(Debug, Drop)]
+#[derive(Drop)]
 pub struct Issue {
     /// The name of the department.
     pub department: Text,

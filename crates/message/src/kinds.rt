@@ -9,7 +9,7 @@ use lines::KeyLine;
 use text::Text;
 
 /// What a message asks for. Lists and option lines are kept in the order given, so a text belongs to one message.
-#[derive(Debug, Drop)]
+#[derive(Drop)]
 pub enum Message {
     /// A department, new or with another profile.
     Department(Department),

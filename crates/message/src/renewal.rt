@@ -8,7 +8,7 @@ use crate::message_fault::MessageFault;
 use crate::value::{end_after, serial_after};
 
 /// A certificate once more, with another validity.
-#[derive(Clone, Copy, Debug, PartialEq, Eq)]
+#[derive(Clone, Copy, PartialEq, Eq)]
 pub struct Renewal {
     /// The serial of the certificate, 1 to 9223372036854775806.
     pub serial: u64,

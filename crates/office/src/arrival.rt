@@ -6,7 +6,7 @@ use values::Refusal;
 /// A message with its caller, its request key, its moment and its nonce.
 ///
 /// Caller and key are names (1 to 32 bytes of `a-z 0-9 -`, as `is_name` tests); whoever makes an arrival sees to it.
-#[derive(Debug, Drop)]
+#[derive(Drop)]
 pub struct Arrival {
     pub caller: Text,
     /// The request's key: with the caller it names a request for good.
@@ -20,7 +20,7 @@ pub struct Arrival {
 }
 
 /// What an arrival is answered.
-#[derive(Debug, Drop)]
+#[derive(Drop)]
 pub enum Outcome {
     /// It was accepted now, with this reply.
     Accepted(Text),
@@ -31,7 +31,7 @@ pub enum Outcome {
 }
 
 /// What is kept of an arrival that was accepted.
-#[derive(Debug, Drop)]
+#[derive(Drop)]
 pub struct Kept {
     pub caller: Text,
     pub key: Text,

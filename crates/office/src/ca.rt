@@ -4,7 +4,7 @@
 pub const MOST_CAS: usize = 8;
 
 /// A CA of an office. They are numbered from 1, in the order in which they came.
-#[derive(Clone, Copy, Debug, PartialEq, Eq)]
+#[derive(Clone, Copy, PartialEq, Eq)]
 pub struct Ca {
     /// The Ed25519 public key.
     pub key: [u8; 32],

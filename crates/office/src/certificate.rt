@@ -8,7 +8,7 @@ use std::alloc::Global;
 use text::{NoMemory, Text};
 
 /// A certificate that was issued. It is kept for good.
-#[derive(Debug, Drop)]
+#[derive(Drop)]
 pub struct Certificate {
     /// The name of the department that it was issued for.
     pub department: Text,

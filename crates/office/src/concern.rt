@@ -8,7 +8,7 @@ use message::{Message, SerialRange};
 use values::department_of;
 
 /// What a message writes of departments, serials and key ids, borrowed from it.
-#[derive(Debug, Drop)]
+#[derive(Drop)]
 pub struct Concern<'a> {
     /// A department's name: in the revocation of a key id, the name that the key id begins with.
     pub department: Option<&'a [u8]>,

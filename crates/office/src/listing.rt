@@ -13,7 +13,7 @@ use text::Text;
 pub const BATCH: usize = 1000;
 
 /// The serials and the key ids that are revoked.
-#[derive(Debug, Drop)]
+#[derive(Drop)]
 pub struct Revocations {
     pub serials: Runs,
     /// Ascending.

@@ -7,7 +7,7 @@ use text::Text;
 use values::{LAST_SERIAL, is_name};
 
 /// What an office begins with and keeps for good.
-#[derive(Debug, Drop)]
+#[derive(Drop)]
 pub struct Opening {
     /// The Ed25519 public key of the first CA.
     pub ca: [u8; 32],

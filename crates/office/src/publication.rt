@@ -5,7 +5,7 @@ use text::{Text, Texts};
 use values::Kind;
 
 /// A certificate that waits for its signature.
-#[derive(Debug, Drop)]
+#[derive(Drop)]
 pub struct Pending {
     pub serial: u64,
     /// The SHA-256 of the body, as 64 hexadecimal digits in lower case.
@@ -13,7 +13,7 @@ pub struct Pending {
 }
 
 /// A certificate of a serial.
-#[derive(Debug, Drop)]
+#[derive(Drop)]
 pub struct Issued {
     pub key_id: Text,
     /// The body with its signature (PROTOCOL.certkeys), or none where it isn't signed.
@@ -21,7 +21,7 @@ pub struct Issued {
 }
 
 /// What the published list is made of.
-#[derive(Debug, Drop)]
+#[derive(Drop)]
 pub struct Revoked {
     /// The list's version and date.
     pub head: KrlHead,
@@ -32,7 +32,7 @@ pub struct Revoked {
 }
 
 /// What became of a certificate.
-#[derive(Clone, Copy, Debug, PartialEq, Eq)]
+#[derive(Clone, Copy, PartialEq, Eq)]
 pub enum Standing {
     /// It is neither signed nor revoked.
     Pending,
@@ -43,7 +43,7 @@ pub enum Standing {
 }
 
 /// A certificate, as a report lists it.
-#[derive(Debug, Drop)]
+#[derive(Drop)]
 pub struct Entry {
     pub serial: u64,
     pub kind: Kind,

@@ -12,7 +12,7 @@ use text::Text;
 use values::Refusal;
 
 /// The rows that a message concerns, as `concerned` names them, and the office's own row.
-#[derive(Debug, Drop)]
+#[derive(Drop)]
 pub struct View<'a> {
     pub opening: &'a Opening,
     /// The serial to be handed out next, at most the last and one.
@@ -36,7 +36,7 @@ pub struct View<'a> {
 }
 
 /// What is to be written.
-#[derive(Debug, Drop)]
+#[derive(Drop)]
 pub enum Change {
     /// Nothing: all is as the message asks.
     Nothing,
@@ -55,7 +55,7 @@ pub enum Change {
 }
 
 /// What an accepted message is answered, and what it changes.
-#[derive(Debug, Drop)]
+#[derive(Drop)]
 pub struct Decision {
     /// The reply's text.
     pub reply: Text,
@@ -69,7 +69,7 @@ pub struct Decision {
 }
 
 /// Why a message isn't accepted now.
-#[derive(Clone, Copy, Debug, PartialEq, Eq)]
+#[derive(Clone, Copy, PartialEq, Eq)]
 pub enum Stop {
     /// The refusal with the least number.
     Refused(Refusal),

@@ -8,7 +8,7 @@ use command_line::Job;
 use jobs::{Founding, OfficeJob};
 
 /// What is to be served, where and how often.
-#[derive(Clone, Copy, Debug)]
+#[derive(Clone, Copy)]
 pub(crate) struct Service<'a> {
     /// Path of the database.
     pub db: &'a str,

@@ -25,7 +25,7 @@ use store_rows::{Office, is_opening, read_cas, read_office};
 use store_sql::Fault;
 
 /// The rows that a message concerns, and the office's own row.
-#[derive(Debug, Drop)]
+#[derive(Drop)]
 pub struct Concerned {
     office: Office,
     cas: Vec<Ca>,

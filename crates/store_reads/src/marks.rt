@@ -18,7 +18,7 @@ use std::alloc::Global;
 use store_sql::Fault;
 
 /// What is revoked of what a message concerns.
-#[derive(Clone, Copy, Debug)]
+#[derive(Clone, Copy)]
 pub(crate) struct Marks {
     /// The serial, or each of the range.
     pub(crate) is_revoked: bool,

@@ -19,7 +19,7 @@ use std::alloc::Global;
 use store_sql::Fault;
 
 /// The certificate and the department that a message concerns, if they are there.
-#[derive(Debug, Drop)]
+#[derive(Drop)]
 pub(crate) struct Subject {
     pub(crate) certificate: Option<Certificate>,
     pub(crate) department: Option<Department>,

@@ -16,7 +16,7 @@ use store_sql::{Fault, OfficeRow, every_office};
 use values::{LAST_SERIAL, is_name};
 
 /// What the row of the office says.
-#[derive(Debug, Drop)]
+#[derive(Drop)]
 pub struct Office {
     /// What it began with.
     pub opening: Opening,

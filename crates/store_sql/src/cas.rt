@@ -20,7 +20,7 @@ use std::alloc::Global;
 use text::{NoMemory, Text};
 
 /// A CA.
-#[derive(Debug, Drop)]
+#[derive(Drop)]
 pub struct CaRow {
     /// From 1 on.
     pub number: Number,

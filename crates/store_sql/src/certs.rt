@@ -21,7 +21,7 @@ use std::alloc::Global;
 use text::{NoMemory, Text};
 
 /// A certificate.
-#[derive(Debug, Drop)]
+#[derive(Drop)]
 pub struct CertRow {
     pub serial: Number,
     /// The name of its department.

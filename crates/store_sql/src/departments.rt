@@ -21,7 +21,7 @@ use std::alloc::Global;
 use text::{NoMemory, Text};
 
 /// A department. Lists are texts joined by commas, in the order given.
-#[derive(Debug, Drop)]
+#[derive(Drop)]
 pub struct DepartmentRow {
     /// Its key.
     pub name: Text,

@@ -22,7 +22,7 @@ use std::alloc::Global;
 use text::{NoMemory, Text};
 
 /// The one row of the office.
-#[derive(Debug, Drop)]
+#[derive(Drop)]
 pub struct OfficeRow {
     /// 1 in an office.
     pub id: Number,
@@ -47,7 +47,7 @@ pub struct OfficeRow {
 }
 
 /// What moves as the office works.
-#[derive(Clone, Copy, Debug, PartialEq, Eq)]
+#[derive(Clone, Copy, PartialEq, Eq)]
 pub struct Counters {
     /// The serial that is handed out next.
     pub next: Number,

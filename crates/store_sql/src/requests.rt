@@ -18,7 +18,7 @@ use std::alloc::Global;
 use text::{NoMemory, Text};
 
 /// A request that was accepted.
-#[derive(Debug, Drop)]
+#[derive(Drop)]
 pub struct RequestRow {
     pub caller: Text,
     /// The caller's key of the request.

@@ -21,7 +21,7 @@ use std::alloc::Global;
 use text::NoMemory;
 
 /// A run of revoked serials, both ends included.
-#[derive(Clone, Copy, Debug, PartialEq, Eq)]
+#[derive(Clone, Copy, PartialEq, Eq)]
 pub struct RunRow {
     pub lo: Number,
     pub hi: Number,

@@ -7,7 +7,7 @@ use crate::memory::NoMemory;
 use std::alloc::Global;
 
 /// A name with its value.
-#[derive(Debug, Drop)]
+#[derive(Drop)]
 pub struct Pair {
     /// The bytes of the name.
     pub name: Text,

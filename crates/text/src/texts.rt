@@ -10,7 +10,7 @@ use std::alloc::Global;
 use std::marker::Model;
 
 /// Texts, in order. Contracts see them as the list of their bytes.
-#[derive(Debug, Drop)]
+#[derive(Drop)]
 pub struct Texts {
     items: Vec<Text>,
 }

@@ -1,7 +1,7 @@
 //! The kinds of certificates.
 
 /// Whom a certificate speaks of (PROTOCOL.certkeys, "type"). A department keeps its kind for good.
-#[derive(Clone, Copy, Debug, PartialEq, Eq)]
+#[derive(Clone, Copy, PartialEq, Eq)]
 pub enum Kind {
     /// A user: SSH_CERT_TYPE_USER, which is 1.
     User,

@@ -6,7 +6,7 @@ ghost use Rattle.std.specs.Str.{bytes_eq};
 ghost use Rattle.values.specs.Options.{is_flag, is_known};
 
 /// The two fields of a certificate that hold options (PROTOCOL.certkeys, "Critical options" and "Extensions").
-#[derive(Clone, Copy, Debug, PartialEq, Eq)]
+#[derive(Clone, Copy, PartialEq, Eq)]
 pub enum OptionField {
     /// A server that doesn't know one refuses the certificate.
     CriticalOptions,

@@ -4,7 +4,7 @@ ghost use Rattle.std.specs.Prelude.{◌≡◌};
 ghost use Rattle.values.specs.Refusals.{refusal_name, refusal_number, refusal_row, refusal_status};
 
 /// Why a request is refused. Of those that apply, the one that stands first here is answered.
-#[derive(Clone, Copy, Debug, PartialEq, Eq)]
+#[derive(Clone, Copy, PartialEq, Eq)]
 pub enum Refusal {
     /// The first 8192 bytes of a request hold no complete head that can be read, or a length that is no number.
     BadHead,

@@ -16,7 +16,7 @@ use std::alloc::Global;
 use text::NoMemory;
 
 /// A report with something to say of certificates, one after the other.
-#[derive(Clone, Copy, Debug)]
+#[derive(Clone, Copy)]
 pub(crate) enum Report {
     /// A line for each that waits for its signature.
     Pending,

@@ -3,7 +3,7 @@
 use text::Text;
 
 /// A request with the moment and the nonce that are handed in with it.
-#[derive(Debug, Drop)]
+#[derive(Drop)]
 pub struct Exchange {
     /// The bytes of an HTTP request.
     pub request: Text,
@@ -13,7 +13,7 @@ pub struct Exchange {
 }
 
 /// What an exchange was given.
-#[derive(Debug, Drop)]
+#[derive(Drop)]
 pub enum Given {
     /// The bytes of a response.
     Answer(Text),

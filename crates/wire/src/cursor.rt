@@ -47,7 +47,7 @@ fn split_string(bytes: &[u8]) -> Option<(&[u8], &[u8])>
 /// Contracts see a cursor as the bytes that are left. Each call that reads answers the value whose text stands at their
 /// front and moves just past it. It answers `None` exactly where too few bytes are left, and then the cursor is as it
 /// was. Reading takes no memory.
-#[derive(Debug, Drop)]
+#[derive(Drop)]
 pub struct Cursor<'a> {
     rest: &'a [u8],
 }

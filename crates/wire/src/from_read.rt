@@ -10,7 +10,7 @@ use std::io::{ErrorKind, Read};
 ///
 /// A read that a signal interrupted (`ErrorKind::Interrupted`) took nothing. It is made again and is no failure.
 /// Every other error is one.
-#[derive(Debug, Drop)]
+#[derive(Drop)]
 pub struct FromRead<R> {
     reader: R,
     failures: u64,

@@ -10,7 +10,7 @@ use std::io::{ErrorKind, Write};
 ///
 /// A write that a signal interrupted (`ErrorKind::Interrupted`) took nothing. It is made again and is no failure.
 /// Every other error is one, and so is a write that takes nothing of a piece that isn't empty. Nothing is flushed.
-#[derive(Debug, Drop)]
+#[derive(Drop)]
 pub struct FromWrite<W> {
     writer: W,
     failures: u64,

@@ -11,7 +11,7 @@ pub use reader::ScriptedReader;
 pub use writer::ScriptedWriter;
 
 /// How many bytes a call gives or takes.
-#[derive(Clone, Copy, Debug, PartialEq, Eq)]
+#[derive(Clone, Copy, PartialEq, Eq)]
 pub enum Pace {
     /// As many as there are and as fit.
     Whole,
@@ -34,7 +34,7 @@ impl Pace {
 }
 
 /// What a reader does where no byte is left.
-#[derive(Clone, Copy, Debug, PartialEq, Eq)]
+#[derive(Clone, Copy, PartialEq, Eq)]
 pub enum Ending {
     /// It answers that no byte is left.
     Ends,

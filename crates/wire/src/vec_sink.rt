@@ -9,7 +9,7 @@ use crate::sink::Sink;
 /// A vector that takes bytes at its end, with the number of its failures.
 ///
 /// A write takes the whole piece. It fails only where a growth was refused, so never within the vector's capacity.
-#[derive(Debug, Drop)]
+#[derive(Drop)]
 pub struct VecSink {
     bytes: Vec<u8>,
     failures: u64,

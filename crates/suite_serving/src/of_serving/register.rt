@@ -11,7 +11,7 @@ use std::alloc::Global;
 use text::{Text, Texts};
 
 /// It accepts each arrival with one reply, and counts them. It means no history.
-#[derive(Debug, Drop)]
+#[derive(Drop)]
 pub(crate) struct Register {
     pub(crate) applied: u64,
 }

@@ -9,7 +9,7 @@ use crate::failure::Failed;
 use crate::source::Source;
 
 /// A nonce source that gives one byte again and again, and that ends or fails after so many.
-#[derive(Debug, Drop)]
+#[derive(Drop)]
 pub struct ScriptedNonces {
     /// The byte that it gives.
     pub byte: u8,

@@ -9,7 +9,7 @@ use crate::failure::Failed;
 use crate::source::Source;
 
 /// A reader of bytes in memory, at a pace that is chosen, that ends or fails after the last.
-#[derive(Debug, Drop)]
+#[derive(Drop)]
 pub struct ScriptedReader<'a> {
     /// The bytes that it still gives.
     pub rest: &'a [u8],

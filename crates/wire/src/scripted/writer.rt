@@ -13,7 +13,7 @@ use std::alloc::Global;
 
 /// A writer that keeps what it takes, at a pace that is chosen, and that fails once it has taken so many bytes.
 /// A growth that is refused is a failure too.
-#[derive(Debug, Drop)]
+#[derive(Drop)]
 pub struct ScriptedWriter {
     /// The bytes that it took.
     pub taken: Vec<u8>,
