@@ -36,6 +36,14 @@ pub struct Department {
     pub namespaces: Texts,
 }
 
+/// Copies of two lists.
+fn both_copied(alloc: Global, one: &Texts, other: &Texts) -> Result<(Texts, Texts), NoMemory>
+    ensures one { IfOk result (λ both. both.0 ≡ one.now) }
+    ensures other { IfOk result (λ both. both.1 ≡ other.now) }
+{
+    Ok((one.copied(alloc)?, other.copied(alloc)?))
+}
+
 impl Department {
     /// A copy of its own.
     ///
@@ -45,13 +53,15 @@ impl Department {
     pub fn copied(&self, alloc: Global) -> Result<Department, NoMemory>
         ensures { IfOk result (λ d. d ≡ self.now) }
     {
+        let (administrators, rules) = both_copied(alloc, &self.administrators, &self.rules)?;
+        let (options, extensions) = both_copied(alloc, &self.options, &self.extensions)?;
         Ok(Department {
             name: self.name.copied(alloc)?,
             kind: self.kind,
-            administrators: self.administrators.copied(alloc)?,
-            rules: self.rules.copied(alloc)?,
-            options: self.options.copied(alloc)?,
-            extensions: self.extensions.copied(alloc)?,
+            administrators,
+            rules,
+            options,
+            extensions,
             longest_life: self.longest_life,
             namespaces: self.namespaces.copied(alloc)?,
         })

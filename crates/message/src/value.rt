@@ -65,10 +65,12 @@ pub(crate) fn key_line_after(
     match read_key_line(alloc, text) {
         Ok(key) => Ok(key),
         Err(LineFault::NoMemory) => Err(MessageFault::NoMemory),
-        Err(LineFault::WrongType) => Err(MessageFault::BadLine(n as u64)),
-        Err(LineFault::BadBase64) => Err(MessageFault::BadLine(n as u64)),
-        Err(LineFault::BadBlob) => Err(MessageFault::BadLine(n as u64)),
-        Err(LineFault::BadComment) => Err(MessageFault::BadLine(n as u64)),
+        Err(
+            LineFault::WrongType
+            | LineFault::BadBase64
+            | LineFault::BadBlob
+            | LineFault::BadComment,
+        ) => Err(MessageFault::BadLine(n as u64)),
     }
 }
 
