@@ -18,5 +18,6 @@ pub mod OneLines
 pub mod Messages
 pub mod TextLaws
 pub mod Steps
+pub mod Chains
 pub mod PutLines
 pub mod Examples

@@ -1,5 +1,6 @@
 pub mod Values
 pub mod Texts
 pub mod Belonging
+mod Kinds
 pub mod Reading
 pub mod Faults

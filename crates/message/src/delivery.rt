@@ -1,8 +1,10 @@
 //! A signature for a certificate.
 
 ghost use Rattle.std.specs.Prelude.{map};
-ghost use Rattle.message.specs.Reading.{Gives, delivery_in};
+ghost use Rattle.message.specs.Reading.{Gives, delivery_in, made};
+ghost use Rattle.message.specs.declared.kinds.Message.TheVariants as message;
 
+use crate::kinds::Message;
 use crate::line::{ends_after, line};
 use crate::message_fault::MessageFault;
 use crate::value::{digest_after, serial_after, signature_after};
@@ -19,28 +21,26 @@ pub struct Delivery {
     pub signature: Signature,
 }
 
-impl Delivery {
-    /// The delivery whose lines these are.
-    #[tactic(auto, unfolding(crate::specs::Reading::delivery_in))]
-    pub(crate) fn read(pieces: &[&[u8]]) -> Result<Delivery, MessageFault>
-        ensures { Gives result (delivery_in (map (λ x. x.now) pieces.now)) }
-    {
-        let Some(serial) = serial_after(line(pieces, 1), b"deliver ") else {
-            return Err(MessageFault::BadLine(1));
-        };
-        let Some(digest) = digest_after(line(pieces, 2), b"digest ") else {
-            return Err(MessageFault::BadLine(2));
-        };
-        let Some(signature) = signature_after(line(pieces, 3), b"signature ") else {
-            return Err(MessageFault::BadLine(3));
-        };
-        if !ends_after(pieces, 3) {
-            return Err(MessageFault::BadLine(4));
-        }
-        Ok(Delivery {
-            serial,
-            digest,
-            signature,
-        })
+/// The delivery whose lines these are.
+#[tactic(auto, unfolding(crate::specs::Reading::delivery_in))]
+pub(crate) fn delivery_in(pieces: &[&[u8]]) -> Result<Message, MessageFault>
+    ensures { Gives result (made (λ x. message.Deliver x) (delivery_in (map (λ x. x.now) pieces.now))) }
+{
+    let Some(serial) = serial_after(line(pieces, 1), b"deliver ") else {
+        return Err(MessageFault::BadLine(1));
+    };
+    let Some(digest) = digest_after(line(pieces, 2), b"digest ") else {
+        return Err(MessageFault::BadLine(2));
+    };
+    let Some(signature) = signature_after(line(pieces, 3), b"signature ") else {
+        return Err(MessageFault::BadLine(3));
+    };
+    if !ends_after(pieces, 3) {
+        return Err(MessageFault::BadLine(4));
     }
+    Ok(Message::Deliver(Delivery {
+        serial,
+        digest,
+        signature,
+    }))
 }

@@ -1,23 +1,16 @@
 //! What a department is.
 
-ghost use Rattle.std.specs.Prelude.{◌≡◌, ◌&&◌, IfOk, codes, map};
+ghost use Rattle.std.specs.Prelude.{◌≡◌, IfOk, codes, map};
 ghost use Rattle.text.specs.Results.{or_fault};
-ghost use Rattle.message.specs.Reading.{Gives, department_in, kind_of, line_of, list_after, number_after};
-ghost use Rattle.message.specs.Values.{
-  are_administrators,
-  are_extension_names,
-  are_namespaces,
-  are_option_names,
-  are_rules,
-  fits_kind,
-  is_longest_life,
-};
+ghost use Rattle.message.specs.Reading.{Gives, department_in, kind_of, line_of, made, number_after};
+ghost use Rattle.message.specs.declared.kinds.Message.TheVariants as message;
+ghost use Rattle.message.specs.Values.{fits_kind, is_longest_life};
 
-use crate::line::{ends_after, line, list_after, name_after, number_after};
-use crate::lists::{
-    are_administrators, are_extension_names, are_namespaces, are_option_names, are_rules,
-};
+use crate::kinds::Message;
+use crate::line::{ends_after, line, number_after};
+use crate::lists::{ListKind, TextKind, list_in};
 use crate::message_fault::MessageFault;
+use crate::value::text_after;
 use std::alloc::Global;
 use text::{NoMemory, Text, Texts};
 use values::{Kind, LONGEST_LIFE};
@@ -43,6 +36,14 @@ pub struct Department {
     pub namespaces: Texts,
 }
 
+/// Copies of two lists.
+fn both_copied(alloc: Global, one: &Texts, other: &Texts) -> Result<(Texts, Texts), NoMemory>
+    ensures one { IfOk result (λ both. both.0 ≡ one.now) }
+    ensures other { IfOk result (λ both. both.1 ≡ other.now) }
+{
+    Ok((one.copied(alloc)?, other.copied(alloc)?))
+}
+
 impl Department {
     /// A copy of its own.
     ///
@@ -52,13 +53,15 @@ impl Department {
     pub fn copied(&self, alloc: Global) -> Result<Department, NoMemory>
         ensures { IfOk result (λ d. d ≡ self.now) }
     {
+        let (administrators, rules) = both_copied(alloc, &self.administrators, &self.rules)?;
+        let (options, extensions) = both_copied(alloc, &self.options, &self.extensions)?;
         Ok(Department {
             name: self.name.copied(alloc)?,
             kind: self.kind,
-            administrators: self.administrators.copied(alloc)?,
-            rules: self.rules.copied(alloc)?,
-            options: self.options.copied(alloc)?,
-            extensions: self.extensions.copied(alloc)?,
+            administrators,
+            rules,
+            options,
+            extensions,
             longest_life: self.longest_life,
             namespaces: self.namespaces.copied(alloc)?,
         })
@@ -89,52 +92,6 @@ pub fn fits_kind(kind: Kind, texts: &[Text]) -> bool
     }
 }
 
-/// The administrators of line 3.
-fn administrators_in(alloc: Global, pieces: &[&[u8]]) -> Result<Texts, MessageFault>
-    ensures { Gives result
-        (or_fault 3 (list_after are_administrators (codes "admins") (line_of 3 (map (λ x. x.now) pieces.now)))) }
-{
-    match list_after(alloc, line(pieces, 3), b"admins")? {
-        Some(texts) if are_administrators(texts.as_slice()) => Ok(texts),
-        _ => Err(MessageFault::BadLine(3)),
-    }
-}
-
-/// The rules of line 4.
-fn rules_in(alloc: Global, pieces: &[&[u8]]) -> Result<Texts, MessageFault>
-    ensures { Gives result
-        (or_fault 4 (list_after are_rules (codes "principals") (line_of 4 (map (λ x. x.now) pieces.now)))) }
-{
-    match list_after(alloc, line(pieces, 4), b"principals")? {
-        Some(texts) if are_rules(texts.as_slice()) => Ok(texts),
-        _ => Err(MessageFault::BadLine(4)),
-    }
-}
-
-/// The names of options of line 5.
-fn options_in(alloc: Global, kind: Kind, pieces: &[&[u8]]) -> Result<Texts, MessageFault>
-    ensures { Gives result (or_fault 5 (list_after (λ ts. are_option_names ts && fits_kind kind ts) (codes "options")
-        (line_of 5 (map (λ x. x.now) pieces.now)))) }
-{
-    match list_after(alloc, line(pieces, 5), b"options")? {
-        Some(texts) if are_option_names(texts.as_slice()) && fits_kind(kind, texts.as_slice()) =>
-            Ok(texts),
-        _ => Err(MessageFault::BadLine(5)),
-    }
-}
-
-/// The names of extensions of line 6.
-fn extensions_in(alloc: Global, kind: Kind, pieces: &[&[u8]]) -> Result<Texts, MessageFault>
-    ensures { Gives result (or_fault 6 (list_after (λ ts. are_extension_names ts && fits_kind kind ts)
-        (codes "extensions") (line_of 6 (map (λ x. x.now) pieces.now)))) }
-{
-    match list_after(alloc, line(pieces, 6), b"extensions")? {
-        Some(texts) if are_extension_names(texts.as_slice()) && fits_kind(kind, texts.as_slice()) =>
-            Ok(texts),
-        _ => Err(MessageFault::BadLine(6)),
-    }
-}
-
 /// The longest life of line 7.
 fn longest_life_in(pieces: &[&[u8]]) -> Result<u64, MessageFault>
     ensures { Gives result
@@ -146,45 +103,30 @@ fn longest_life_in(pieces: &[&[u8]]) -> Result<u64, MessageFault>
     }
 }
 
-/// The namespaces of line 8.
-fn namespaces_in(alloc: Global, kind: Kind, pieces: &[&[u8]]) -> Result<Texts, MessageFault>
-    ensures { Gives result (or_fault 8 (list_after (λ ts. are_namespaces ts && fits_kind kind ts) (codes "namespaces")
-        (line_of 8 (map (λ x. x.now) pieces.now)))) }
+/// The department whose lines these are.
+#[tactic(auto, unfolding(crate::specs::Reading::department_in))]
+pub(crate) fn department_in(alloc: Global, pieces: &[&[u8]]) -> Result<Message, MessageFault>
+    ensures { Gives result (made (λ x. message.Department x) (department_in (map (λ x. x.now) pieces.now))) }
 {
-    match list_after(alloc, line(pieces, 8), b"namespaces")? {
-        Some(texts) if are_namespaces(texts.as_slice()) && fits_kind(kind, texts.as_slice()) => Ok(
-            texts,
-        ),
-        _ => Err(MessageFault::BadLine(8)),
+    let name = text_after(alloc, pieces, 1, b"department ", TextKind::Name)?;
+    let kind = kind_in(pieces)?;
+    let administrators = list_in(alloc, pieces, 3, ListKind::Administrators)?;
+    let rules = list_in(alloc, pieces, 4, ListKind::Rules)?;
+    let options = list_in(alloc, pieces, 5, ListKind::OptionsOf(kind))?;
+    let extensions = list_in(alloc, pieces, 6, ListKind::ExtensionsOf(kind))?;
+    let longest_life = longest_life_in(pieces)?;
+    let namespaces = list_in(alloc, pieces, 8, ListKind::NamespacesOf(kind))?;
+    if !ends_after(pieces, 8) {
+        return Err(MessageFault::BadLine(9));
     }
-}
-
-impl Department {
-    /// The department whose lines these are.
-    #[tactic(auto, unfolding(crate::specs::Reading::department_in))]
-    pub(crate) fn read(alloc: Global, pieces: &[&[u8]]) -> Result<Department, MessageFault>
-        ensures { Gives result (department_in (map (λ x. x.now) pieces.now)) }
-    {
-        let name = name_after(alloc, pieces, 1, b"department ")?;
-        let kind = kind_in(pieces)?;
-        let administrators = administrators_in(alloc, pieces)?;
-        let rules = rules_in(alloc, pieces)?;
-        let options = options_in(alloc, kind, pieces)?;
-        let extensions = extensions_in(alloc, kind, pieces)?;
-        let longest_life = longest_life_in(pieces)?;
-        let namespaces = namespaces_in(alloc, kind, pieces)?;
-        if !ends_after(pieces, 8) {
-            return Err(MessageFault::BadLine(9));
-        }
-        Ok(Department {
-            name,
-            kind,
-            administrators,
-            rules,
-            options,
-            extensions,
-            longest_life,
-            namespaces,
-        })
-    }
+    Ok(Message::Department(Department {
+        name,
+        kind,
+        administrators,
+        rules,
+        options,
+        extensions,
+        longest_life,
+        namespaces,
+    }))
 }

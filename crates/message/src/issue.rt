@@ -1,13 +1,15 @@
 //! What is asked for in an issue.
 
 ghost use Rattle.std.specs.Prelude.{◌≡◌, ◌≤◌, IfOk, length, map, []};
-ghost use Rattle.message.specs.Reading.{Gives, issue_in, options_from};
+ghost use Rattle.message.specs.Reading.{Gives, issue_in, made, options_from};
+ghost use Rattle.message.specs.declared.kinds.Message.TheVariants as message;
 
-use crate::line::{ends_after, line, name_after};
-use crate::lists::{extensions_in, principals_in};
+use crate::kinds::Message;
+use crate::line::{ends_after, line};
+use crate::lists::{ListKind, TextKind, list_in};
 use crate::message_fault::MessageFault;
 use crate::option::option_after;
-use crate::value::{end_after, key_id_after, key_line_after};
+use crate::value::{end_after, key_line_after, text_after};
 use lines::KeyLine;
 use std::alloc::Global;
 use text::{NoMemory, Pairs, Text, Texts};
@@ -48,33 +50,31 @@ fn options_in(alloc: Global, pieces: &[&[u8]]) -> Result<Pairs, NoMemory>
     Ok(options)
 }
 
-impl Issue {
-    /// The issue whose lines these are.
-    #[tactic(auto, unfolding(crate::specs::Reading::issue_in))]
-    pub(crate) fn read(alloc: Global, pieces: &[&[u8]]) -> Result<Issue, MessageFault>
-        ensures { Gives result (issue_in (map (λ x. x.now) pieces.now)) }
-    {
-        let department = name_after(alloc, pieces, 1, b"issue ")?;
-        let key_id = key_id_after(alloc, pieces, 2, b"keyid ")?;
-        let key = key_line_after(alloc, pieces, 3, b"key ")?;
-        let principals = principals_in(alloc, pieces, 4)?;
-        let after = end_after(pieces, 5, b"after ")?;
-        let before = end_after(pieces, 6, b"before ")?;
-        let options = options_in(alloc, pieces)?;
-        let last = 7 + options.as_slice().len();
-        let extensions = extensions_in(alloc, pieces, last)?;
-        if !ends_after(pieces, last) {
-            return Err(MessageFault::BadLine(last as u64 + 1));
-        }
-        Ok(Issue {
-            department,
-            key_id,
-            key,
-            principals,
-            after,
-            before,
-            options,
-            extensions,
-        })
+/// The issue whose lines these are.
+#[tactic(auto, unfolding(crate::specs::Reading::issue_in))]
+pub(crate) fn issue_in(alloc: Global, pieces: &[&[u8]]) -> Result<Message, MessageFault>
+    ensures { Gives result (made (λ x. message.Issue x) (issue_in (map (λ x. x.now) pieces.now))) }
+{
+    let department = text_after(alloc, pieces, 1, b"issue ", TextKind::Name)?;
+    let key_id = text_after(alloc, pieces, 2, b"keyid ", TextKind::KeyId)?;
+    let key = key_line_after(alloc, pieces, 3, b"key ")?;
+    let principals = list_in(alloc, pieces, 4, ListKind::Principals)?;
+    let after = end_after(pieces, 5, b"after ")?;
+    let before = end_after(pieces, 6, b"before ")?;
+    let options = options_in(alloc, pieces)?;
+    let last = 7 + options.as_slice().len();
+    let extensions = list_in(alloc, pieces, last, ListKind::Extensions)?;
+    if !ends_after(pieces, last) {
+        return Err(MessageFault::BadLine(last as u64 + 1));
     }
+    Ok(Message::Issue(Issue {
+        department,
+        key_id,
+        key,
+        principals,
+        after,
+        before,
+        options,
+        extensions,
+    }))
 }

@@ -3,13 +3,11 @@
 ghost use Rattle.std.specs.Prelude.{◌≡◌, ◌≤◌, map, IfOk, option_copied};
 ghost use Rattle.std.specs.Option.{option_and_then};
 ghost use Rattle.values.specs.Decimals.{number_of};
-ghost use Rattle.text.specs.Results.{or_fault};
-ghost use Rattle.message.specs.Reading.{Gives, after, ends_after, line_of, listed, name_after};
+ghost use Rattle.message.specs.Reading.{after, ends_after, line_of, listed};
 
-use crate::message_fault::MessageFault;
 use std::alloc::Global;
 use text::{NoMemory, Text, Texts, cut};
-use values::{is_name, read_decimal};
+use values::read_decimal;
 
 /// Line `n` from 1. A line that is missing, or whose line feed is, is no bytes, which fit nothing.
 pub(crate) fn line<'a>(pieces: &[&'a [u8]], n: usize) -> &'a [u8]
@@ -36,22 +34,6 @@ pub(crate) fn after<'a>(line: &'a [u8], head: &[u8]) -> Option<&'a [u8]>
     ensures { option_copied result ≡ after head.now line.now }
 {
     line.strip_prefix(head)
-}
-
-/// The name behind these bytes on line `n`.
-pub(crate) fn name_after(
-    alloc: Global,
-    pieces: &[&[u8]],
-    n: usize,
-    head: &[u8],
-) -> Result<Text, MessageFault>
-    requires { 1 ≤ n }
-    ensures { Gives result (or_fault n (name_after head.now (line_of n (map (λ x. x.now) pieces.now)))) }
-{
-    match after(line(pieces, n), head) {
-        Some(name) if is_name(name) => Ok(Text::from_slice(alloc, name)?),
-        _ => Err(MessageFault::BadLine(n as u64)),
-    }
 }
 
 /// A number behind these bytes.

@@ -1,10 +1,9 @@
-//! The lists of messages.
+//! The texts and the lists of messages.
 
-ghost use Rattle.std.specs.Prelude.{◌≡◌, ◌≤◌, ◌&&◌, codes, map, nat_le, length};
+ghost use Rattle.std.specs.Prelude.{◌≡◌, ◌≤◌, map};
 ghost use Rattle.std.specs.List.{list_all};
-ghost use Rattle.values.specs.Names.{is_name, is_namespace, is_principal, is_rule};
-ghost use Rattle.values.specs.Options.{is_known};
 ghost use Rattle.text.specs.Results.{or_fault};
+ghost use Rattle.message.specs.Kinds.{is_list, is_text, list_word};
 ghost use Rattle.message.specs.Reading.{Gives, line_of, list_after};
 ghost use Rattle.message.specs.Values.{
   are_administrators,
@@ -16,145 +15,152 @@ ghost use Rattle.message.specs.Values.{
   are_rules,
 };
 
+use crate::department::fits_kind;
 use crate::line::{line, list_after};
 use crate::message_fault::MessageFault;
 use std::alloc::Global;
 use text::{Text, Texts};
 use values::{
-    MOST_ADMINISTRATORS, MOST_NAMESPACES, MOST_PRINCIPALS, MOST_RULES, OptionField, are_distinct,
-    is_known, is_name, is_namespace, is_principal, is_rule,
+    Kind, MOST_ADMINISTRATORS, MOST_NAMESPACES, MOST_PRINCIPALS, MOST_RULES, OptionField,
+    are_distinct, is_key_id, is_known, is_name, is_namespace, is_principal, is_rule,
 };
 
-fn all_names(texts: &[Text]) -> bool
-    ensures { result ≡ list_all is_name texts.now }
-{
-    texts.iter().all(|t| is_name(t.as_slice()))
+/// What the texts of a message are, each of its kind.
+#[derive(Clone, Copy)]
+pub(crate) enum TextKind {
+    Name,
+    KeyId,
+    Rule,
+    Principal,
+    OptionName,
+    ExtensionName,
+    Namespace,
 }
 
-fn are_distinct_names(texts: &[Text]) -> bool
-    ensures { result ≡ are_distinct_and is_name texts.now }
+/// Whether the text is lawful as one of this kind.
+pub(crate) fn is_text(kind: TextKind, text: &[u8]) -> bool
+    ensures { result ≡ is_text kind text.now }
 {
-    all_names(texts) && are_distinct(texts)
+    match kind {
+        TextKind::Name => is_name(text),
+        TextKind::KeyId => is_key_id(text),
+        TextKind::Rule => is_rule(text),
+        TextKind::Principal => is_principal(text),
+        TextKind::OptionName => is_known(OptionField::CriticalOptions, text),
+        TextKind::ExtensionName => is_known(OptionField::Extensions, text),
+        TextKind::Namespace => is_namespace(text),
+    }
 }
 
-fn all_rules(texts: &[Text]) -> bool
-    ensures { result ≡ list_all is_rule texts.now }
+fn are_texts(kind: TextKind, texts: &[Text]) -> bool
+    ensures { result ≡ list_all (is_text kind) texts.now }
 {
-    texts.iter().all(|t| is_rule(t.as_slice()))
+    texts.iter().all(|t| is_text(kind, t.as_slice()))
 }
 
-fn are_distinct_rules(texts: &[Text]) -> bool
-    ensures { result ≡ are_distinct_and is_rule texts.now }
+fn are_distinct_texts(kind: TextKind, texts: &[Text]) -> bool
+    ensures { result ≡ are_distinct_and (is_text kind) texts.now }
 {
-    all_rules(texts) && are_distinct(texts)
-}
-
-fn all_principals(texts: &[Text]) -> bool
-    ensures { result ≡ list_all is_principal texts.now }
-{
-    texts.iter().all(|t| is_principal(t.as_slice()))
-}
-
-fn are_distinct_principals(texts: &[Text]) -> bool
-    ensures { result ≡ are_distinct_and is_principal texts.now }
-{
-    all_principals(texts) && are_distinct(texts)
-}
-
-fn all_namespaces(texts: &[Text]) -> bool
-    ensures { result ≡ list_all is_namespace texts.now }
-{
-    texts.iter().all(|t| is_namespace(t.as_slice()))
-}
-
-fn are_distinct_namespaces(texts: &[Text]) -> bool
-    ensures { result ≡ are_distinct_and is_namespace texts.now }
-{
-    all_namespaces(texts) && are_distinct(texts)
-}
-
-fn all_known(field: OptionField, texts: &[Text]) -> bool
-    ensures { result ≡ list_all (is_known field) texts.now }
-{
-    texts.iter().all(|t| is_known(field, t.as_slice()))
-}
-
-fn are_known(field: OptionField, texts: &[Text]) -> bool
-    ensures { result ≡ are_distinct_and (is_known field) texts.now }
-{
-    all_known(field, texts) && are_distinct(texts)
+    are_texts(kind, texts) && are_distinct(texts)
 }
 
 /// Whether these are 0 to 16 distinct names.
 pub fn are_administrators(texts: &[Text]) -> bool
     ensures { result ≡ are_administrators texts.now }
 {
-    texts.len() <= MOST_ADMINISTRATORS && are_distinct_names(texts)
+    texts.len() <= MOST_ADMINISTRATORS && are_distinct_texts(TextKind::Name, texts)
 }
 
 /// Whether these are 1 to 16 distinct rules.
 pub fn are_rules(texts: &[Text]) -> bool
     ensures { result ≡ are_rules texts.now }
 {
-    1 <= texts.len() && texts.len() <= MOST_RULES && are_distinct_rules(texts)
+    1 <= texts.len() && texts.len() <= MOST_RULES && are_distinct_texts(TextKind::Rule, texts)
 }
 
 /// Whether these are 1 to 16 distinct principals.
 pub fn are_principals(texts: &[Text]) -> bool
     ensures { result ≡ are_principals texts.now }
 {
-    1 <= texts.len() && texts.len() <= MOST_PRINCIPALS && are_distinct_principals(texts)
+    1 <= texts.len()
+        && texts.len() <= MOST_PRINCIPALS
+        && are_distinct_texts(TextKind::Principal, texts)
 }
 
 /// Whether these are distinct names of critical options.
 pub fn are_option_names(texts: &[Text]) -> bool
     ensures { result ≡ are_option_names texts.now }
 {
-    are_known(OptionField::CriticalOptions, texts)
+    are_distinct_texts(TextKind::OptionName, texts)
 }
 
 /// Whether these are distinct names of extensions.
 pub fn are_extension_names(texts: &[Text]) -> bool
     ensures { result ≡ are_extension_names texts.now }
 {
-    are_known(OptionField::Extensions, texts)
+    are_distinct_texts(TextKind::ExtensionName, texts)
 }
 
 /// Whether these are 0 to 8 distinct namespaces.
 pub fn are_namespaces(texts: &[Text]) -> bool
     ensures { result ≡ are_namespaces texts.now }
 {
-    texts.len() <= MOST_NAMESPACES && are_distinct_namespaces(texts)
+    texts.len() <= MOST_NAMESPACES && are_distinct_texts(TextKind::Namespace, texts)
 }
 
-/// The principals of line `n`.
-pub(crate) fn principals_in(
-    alloc: Global,
-    pieces: &[&[u8]],
-    n: usize,
-) -> Result<Texts, MessageFault>
-    requires { 1 ≤ n }
-    ensures { Gives result
-        (or_fault n (list_after are_principals (codes "principals") (line_of n (map (λ x. x.now) pieces.now)))) }
+/// Which list a line has. A department's lists say its kind, where one for hosts has none.
+#[derive(Clone, Copy)]
+pub(crate) enum ListKind {
+    Administrators,
+    Rules,
+    Principals,
+    Extensions,
+    OptionsOf(Kind),
+    ExtensionsOf(Kind),
+    NamespacesOf(Kind),
+}
+
+/// The word before the list.
+fn word(kind: ListKind) -> &'static [u8]
+    ensures { result.now ≡ list_word kind }
 {
-    match list_after(alloc, line(pieces, n), b"principals")? {
-        Some(principals) if are_principals(principals.as_slice()) => Ok(principals),
-        _ => Err(MessageFault::BadLine(n as u64)),
+    match kind {
+        ListKind::Administrators => b"admins",
+        ListKind::Rules | ListKind::Principals => b"principals",
+        ListKind::OptionsOf(_) => b"options",
+        ListKind::Extensions | ListKind::ExtensionsOf(_) => b"extensions",
+        ListKind::NamespacesOf(_) => b"namespaces",
     }
 }
 
-/// The extensions of line `n`.
-pub(crate) fn extensions_in(
+/// Whether the texts are such a list.
+fn is_list(kind: ListKind, texts: &[Text]) -> bool
+    ensures { result ≡ is_list kind texts.now }
+{
+    match kind {
+        ListKind::Administrators => are_administrators(texts),
+        ListKind::Rules => are_rules(texts),
+        ListKind::Principals => are_principals(texts),
+        ListKind::Extensions => are_extension_names(texts),
+        ListKind::OptionsOf(kind) => are_option_names(texts) && fits_kind(kind, texts),
+        ListKind::ExtensionsOf(kind) => are_extension_names(texts) && fits_kind(kind, texts),
+        ListKind::NamespacesOf(kind) => are_namespaces(texts) && fits_kind(kind, texts),
+    }
+}
+
+/// The list of line `n`.
+pub(crate) fn list_in(
     alloc: Global,
     pieces: &[&[u8]],
     n: usize,
+    kind: ListKind,
 ) -> Result<Texts, MessageFault>
     requires { 1 ≤ n }
     ensures { Gives result
-        (or_fault n (list_after are_extension_names (codes "extensions") (line_of n (map (λ x. x.now) pieces.now)))) }
+        (or_fault n (list_after (is_list kind) (list_word kind) (line_of n (map (λ x. x.now) pieces.now)))) }
 {
-    match list_after(alloc, line(pieces, n), b"extensions")? {
-        Some(extensions) if are_extension_names(extensions.as_slice()) => Ok(extensions),
+    match list_after(alloc, line(pieces, n), word(kind))? {
+        Some(texts) if is_list(kind, texts.as_slice()) => Ok(texts),
         _ => Err(MessageFault::BadLine(n as u64)),
     }
 }

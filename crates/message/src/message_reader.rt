@@ -8,13 +8,13 @@ ghost use Rattle.message.specs.Texts.{message_text};
 ghost use Rattle.message.specs.Values.{is_message};
 ghost use Rattle.message.specs.declared.kinds.Message.{Message};
 
-use crate::delivery::Delivery;
-use crate::department::Department;
-use crate::issue::Issue;
+use crate::delivery::delivery_in;
+use crate::department::department_in;
+use crate::issue::issue_in;
 use crate::kinds::Message;
 use crate::line::{after, line};
 use crate::message_fault::MessageFault;
-use crate::renewal::Renewal;
+use crate::renewal::renewal_in;
 use crate::single::{key_id_in, key_in, range_in, serial_in};
 use std::alloc::Global;
 use text::cut;
@@ -31,16 +31,16 @@ fn one_line_message_in(alloc: Global, pieces: &[&[u8]]) -> Result<Message, Messa
     ensures { Gives result (one_line_message_in (map (λ x. x.now) pieces.now)) }
 {
     if begins(pieces, b"revoke-serial ") {
-        return Ok(Message::RevokeSerial(serial_in(pieces)?));
+        return serial_in(pieces);
     }
     if begins(pieces, b"revoke-range ") {
-        return Ok(Message::RevokeRange(range_in(pieces)?));
+        return range_in(pieces);
     }
     if begins(pieces, b"revoke-keyid ") {
-        return Ok(Message::RevokeKeyId(key_id_in(alloc, pieces)?));
+        return key_id_in(alloc, pieces);
     }
     if begins(pieces, b"rollover ") {
-        return Ok(Message::Rollover(key_in(alloc, pieces)?));
+        return key_in(alloc, pieces);
     }
     Err(MessageFault::BadLine(1))
 }
@@ -49,16 +49,16 @@ fn message_in(alloc: Global, pieces: &[&[u8]]) -> Result<Message, MessageFault>
     ensures { Gives result (message_in (map (λ x. x.now) pieces.now)) }
 {
     if begins(pieces, b"department ") {
-        return Ok(Message::Department(Department::read(alloc, pieces)?));
+        return department_in(alloc, pieces);
     }
     if begins(pieces, b"issue ") {
-        return Ok(Message::Issue(Issue::read(alloc, pieces)?));
+        return issue_in(alloc, pieces);
     }
     if begins(pieces, b"renew ") {
-        return Ok(Message::Renew(Renewal::read(pieces)?));
+        return renewal_in(pieces);
     }
     if begins(pieces, b"deliver ") {
-        return Ok(Message::Deliver(Delivery::read(pieces)?));
+        return delivery_in(pieces);
     }
     one_line_message_in(alloc, pieces)
 }

@@ -1,8 +1,10 @@
 //! A certificate that is asked for once more.
 
 ghost use Rattle.std.specs.Prelude.{map};
-ghost use Rattle.message.specs.Reading.{Gives, renewal_in};
+ghost use Rattle.message.specs.Reading.{Gives, made, renewal_in};
+ghost use Rattle.message.specs.declared.kinds.Message.TheVariants as message;
 
+use crate::kinds::Message;
 use crate::line::{ends_after, line};
 use crate::message_fault::MessageFault;
 use crate::value::{end_after, serial_after};
@@ -18,24 +20,22 @@ pub struct Renewal {
     pub before: u64,
 }
 
-impl Renewal {
-    /// The renewal whose lines these are.
-    #[tactic(auto, unfolding(crate::specs::Reading::renewal_in))]
-    pub(crate) fn read(pieces: &[&[u8]]) -> Result<Renewal, MessageFault>
-        ensures { Gives result (renewal_in (map (λ x. x.now) pieces.now)) }
-    {
-        let Some(serial) = serial_after(line(pieces, 1), b"renew ") else {
-            return Err(MessageFault::BadLine(1));
-        };
-        let after = end_after(pieces, 2, b"after ")?;
-        let before = end_after(pieces, 3, b"before ")?;
-        if !ends_after(pieces, 3) {
-            return Err(MessageFault::BadLine(4));
-        }
-        Ok(Renewal {
-            serial,
-            after,
-            before,
-        })
+/// The renewal whose lines these are.
+#[tactic(auto, unfolding(crate::specs::Reading::renewal_in))]
+pub(crate) fn renewal_in(pieces: &[&[u8]]) -> Result<Message, MessageFault>
+    ensures { Gives result (made (λ x. message.Renew x) (renewal_in (map (λ x. x.now) pieces.now))) }
+{
+    let Some(serial) = serial_after(line(pieces, 1), b"renew ") else {
+        return Err(MessageFault::BadLine(1));
+    };
+    let after = end_after(pieces, 2, b"after ")?;
+    let before = end_after(pieces, 3, b"before ")?;
+    if !ends_after(pieces, 3) {
+        return Err(MessageFault::BadLine(4));
     }
+    Ok(Message::Renew(Renewal {
+        serial,
+        after,
+        before,
+    }))
 }

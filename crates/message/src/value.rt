@@ -2,14 +2,17 @@
 
 ghost use Rattle.std.specs.Prelude.{◌≡◌, ◌≤◌, map};
 ghost use Rattle.std.specs.List.{list_all};
+ghost use Rattle.std.specs.Option.{option_and_then};
 ghost use Rattle.text.specs.Results.{or_fault};
+ghost use Rattle.message.specs.Kinds.{is_text};
 ghost use Rattle.message.specs.Reading.{
   Gives,
+  after,
   digest_after,
-  key_id_after,
   key_line_after,
   line_of,
   number_after,
+  passing,
   range_after,
   range_of,
   signature_after,
@@ -19,26 +22,29 @@ ghost use Rattle.values.specs.Serials.{is_serial};
 ghost use Rattle.message.specs.Values.{is_digest, is_end, is_lower_hex, is_range};
 
 use crate::line::{after, line, number_after};
+use crate::lists::{TextKind, is_text};
 use crate::message_fault::MessageFault;
 use crate::serial_range::SerialRange;
 use base64::engine::general_purpose::STANDARD;
 use lines::{KeyLine, LineFault, Signature, read_key_line, read_signature_blob, word_and_rest};
 use std::alloc::Global;
 use text::Text;
-use values::{LATEST_MOMENT, is_key_id, is_serial, read_decimal};
+use values::{LATEST_MOMENT, is_serial, read_decimal};
 
-/// The key id behind these bytes on line `n`.
-pub(crate) fn key_id_after(
+/// The text of this kind behind these bytes on line `n`.
+pub(crate) fn text_after(
     alloc: Global,
     pieces: &[&[u8]],
     n: usize,
     head: &[u8],
+    kind: TextKind,
 ) -> Result<Text, MessageFault>
     requires { 1 ≤ n }
-    ensures { Gives result (or_fault n (key_id_after head.now (line_of n (map (λ x. x.now) pieces.now)))) }
+    ensures { Gives result (or_fault n
+        (option_and_then (passing (is_text kind)) (after head.now (line_of n (map (λ x. x.now) pieces.now))))) }
 {
     match after(line(pieces, n), head) {
-        Some(key_id) if is_key_id(key_id) => Ok(Text::from_slice(alloc, key_id)?),
+        Some(text) if is_text(kind, text) => Ok(Text::from_slice(alloc, text)?),
         _ => Err(MessageFault::BadLine(n as u64)),
     }
 }
@@ -59,10 +65,12 @@ pub(crate) fn key_line_after(
     match read_key_line(alloc, text) {
         Ok(key) => Ok(key),
         Err(LineFault::NoMemory) => Err(MessageFault::NoMemory),
-        Err(LineFault::WrongType) => Err(MessageFault::BadLine(n as u64)),
-        Err(LineFault::BadBase64) => Err(MessageFault::BadLine(n as u64)),
-        Err(LineFault::BadBlob) => Err(MessageFault::BadLine(n as u64)),
-        Err(LineFault::BadComment) => Err(MessageFault::BadLine(n as u64)),
+        Err(
+            LineFault::WrongType
+            | LineFault::BadBase64
+            | LineFault::BadBlob
+            | LineFault::BadComment,
+        ) => Err(MessageFault::BadLine(n as u64)),
     }
 }
 

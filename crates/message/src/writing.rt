@@ -102,8 +102,7 @@ fn put_department(out: &mut Vec<u8>, department: &Department) -> Result<(), NoMe
     put_list(out, b"options", department.options.as_slice())?;
     put_list(out, b"extensions", department.extensions.as_slice())?;
     put_number(out, b"maxlife ", department.longest_life)?;
-    put_list(out, b"namespaces", department.namespaces.as_slice())?;
-    Ok(())
+    put_list(out, b"namespaces", department.namespaces.as_slice())
 }
 
 fn put_key(out: &mut Vec<u8>, head: &[u8], key: &KeyLine) -> Result<(), NoMemory>
@@ -125,8 +124,7 @@ fn put_issue(out: &mut Vec<u8>, issue: &Issue) -> Result<(), NoMemory>
     put_number(out, b"after ", issue.after)?;
     put_number(out, b"before ", issue.before)?;
     put_options(out, issue.options.as_slice())?;
-    put_list(out, b"extensions", issue.extensions.as_slice())?;
-    Ok(())
+    put_list(out, b"extensions", issue.extensions.as_slice())
 }
 
 fn put_renewal(out: &mut Vec<u8>, renewal: &Renewal) -> Result<(), NoMemory>
@@ -134,8 +132,7 @@ fn put_renewal(out: &mut Vec<u8>, renewal: &Renewal) -> Result<(), NoMemory>
 {
     put_number(out, b"renew ", renewal.serial)?;
     put_number(out, b"after ", renewal.after)?;
-    put_number(out, b"before ", renewal.before)?;
-    Ok(())
+    put_number(out, b"before ", renewal.before)
 }
 
 fn put_signature(out: &mut Vec<u8>, signature: &Signature) -> Result<(), NoMemory>
@@ -154,8 +151,7 @@ fn put_delivery(out: &mut Vec<u8>, delivery: &Delivery) -> Result<(), NoMemory>
 {
     put_number(out, b"deliver ", delivery.serial)?;
     put_line(out, b"digest ", &delivery.digest)?;
-    put_signature(out, &delivery.signature)?;
-    Ok(())
+    put_signature(out, &delivery.signature)
 }
 
 fn put_range(out: &mut Vec<u8>, range: SerialRange) -> Result<(), NoMemory>
@@ -164,8 +160,22 @@ fn put_range(out: &mut Vec<u8>, range: SerialRange) -> Result<(), NoMemory>
 {
     out.extend_from_slice(b"revoke-range ")?;
     put_decimal(out, range.lo)?;
-    put_number(out, b" ", range.hi)?;
-    Ok(())
+    put_number(out, b" ", range.hi)
+}
+
+fn put_message(out: &mut Vec<u8>, message: &Message) -> Result<(), NoMemory>
+    ensures { OnOk result (out.new.items ≡ out.old.items ++ message_text message.now) }
+{
+    match message {
+        Message::Department(department) => put_department(out, department),
+        Message::Issue(issue) => put_issue(out, issue),
+        Message::Renew(renewal) => put_renewal(out, renewal),
+        Message::Deliver(delivery) => put_delivery(out, delivery),
+        Message::RevokeSerial(serial) => put_number(out, b"revoke-serial ", *serial),
+        Message::RevokeRange(range) => put_range(out, *range),
+        Message::RevokeKeyId(key_id) => put_line(out, b"revoke-keyid ", key_id.as_slice()),
+        Message::Rollover(key) => put_key(out, b"rollover ", key),
+    }
 }
 
 /// The text of a message. Read again, the text of a lawful message gives it.
@@ -177,15 +187,6 @@ pub fn write_message(alloc: Global, message: &Message) -> Result<Vec<u8>, NoMemo
     ensures { IfOk result (λ text. text.items ≡ message_text message.now) }
 {
     let mut out = Vec::new(alloc);
-    match message {
-        Message::Department(department) => put_department(&mut out, department)?,
-        Message::Issue(issue) => put_issue(&mut out, issue)?,
-        Message::Renew(renewal) => put_renewal(&mut out, renewal)?,
-        Message::Deliver(delivery) => put_delivery(&mut out, delivery)?,
-        Message::RevokeSerial(serial) => put_number(&mut out, b"revoke-serial ", *serial)?,
-        Message::RevokeRange(range) => put_range(&mut out, *range)?,
-        Message::RevokeKeyId(key_id) => put_line(&mut out, b"revoke-keyid ", key_id.as_slice())?,
-        Message::Rollover(key) => put_key(&mut out, b"rollover ", key)?,
-    }
+    put_message(&mut out, message)?;
     Ok(out)
 }

@@ -1,4 +1,5 @@
 use Rattle.message.proofs.Words.{List, ap, codes, decimal, kind_text, line, list_line, refl, ℕ, ◌++◌}
+use Rattle.std.proofs.lemmas.Result.{on_ok_weaker}
 use Rattle.message.proofs.PutLines.{none_put, then_line}
 use Rattle.message.proofs.writing.put_department.Goals as goal
 
@@ -18,4 +19,5 @@ returns c =
     let extensions =
     then_line options _ (ap (list_line (codes "extensions")) c.as_slice-5.ensures) c.in_ok-put_list-4.ensures in
     let life = then_line extensions (line (codes "maxlife") (decimal d.longest_life)) refl c.in_ok-put_number.ensures in
-    (then_line life _ (ap (list_line (codes "namespaces")) c.as_slice-6.ensures) c.in_ok-put_list-5.ensures).is
+    let same_namespaces = ap (list_line (codes "namespaces")) c.as_slice-6.ensures in
+    on_ok_weaker c.put_list-5.result (λ put. (then_line life _ same_namespaces put).is) c.put_list-5.ensures

@@ -1,5 +1,6 @@
 use Rattle.message.proofs.Words.{List, Pair, ap, codes, decimal, key_line_text, line, lines_text, list_line, map}
 use Rattle.message.proofs.Words.{option_line, refl, ℕ, ◌++◌, ◌∙◌}
+use Rattle.std.proofs.lemmas.Result.{on_ok_weaker}
 use Rattle.message.proofs.PutLines.{none_put, then_line, then_lines}
 use Rattle.message.proofs.writing.put_issue.Goals as goal
 
@@ -19,4 +20,5 @@ returns c =
     let before = then_line after (line (codes "before") (decimal i.before)) refl c.in_ok-put_number-2.ensures in
     let options = then_lines before (map option_line i.options)
     (c.in_ok-put_options.ensures ∙ ap put c.as_slice-4.ensures) in
-    (then_line options _ (ap (list_line (codes "extensions")) c.as_slice-5.ensures) c.in_ok-put_list-2.ensures).is
+    let same_extensions = ap (list_line (codes "extensions")) c.as_slice-5.ensures in
+    on_ok_weaker c.put_list-2.result (λ put. (then_line options _ same_extensions put).is) c.put_list-2.ensures
