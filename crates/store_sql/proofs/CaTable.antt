@@ -2,7 +2,7 @@
 use Rattle.store_sql.proofs.Words.{Binary, Blob, CaRow, Contents, FailsBy, Fault, HasOne, Holds, INSERT_CA, Insert, Int}
 use Rattle.store_sql.proofs.Words.{List, Means, Null, RefusedFor, Result, Row, State, Term, Values, [], agree, all_has}
 use Rattle.store_sql.proofs.Words.{and_parts, ap, arith, ascending, bytes_eq-Decides, ca_at, ca_cells, ca_places, codes}
-use Rattle.store_sql.proofs.Words.{col, column, drop, equal, everything, false, first_key, guards, inl, inr, joined}
+use Rattle.store_sql.proofs.Words.{col, column, drop, equal, everything, first_key, guards, inl, inr, joined}
 use Rattle.store_sql.proofs.Words.{lit, lt-ltb, nat_cmp, pos, refl, subst, sym, true, whole, ℕ, ◌&&◌, ◌<◌}
 use Rattle.store_sql.proofs.Words.{◌^◌, ◌∙◌, ◌∷◌, ◌≡◌, ◌⊎◌}
 use Rattle.sqlite_trees.specs.View.{IsStorable}

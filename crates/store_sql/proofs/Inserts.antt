@@ -7,7 +7,7 @@ use Rattle.store_sql.proofs.Words.{at_places, cast_row, cert_at, edit_of, eqb-tr
 use Rattle.store_sql.proofs.Words.{if◌then◌else◌, inl, inr, is_eq, is_taken, joined, length, list_any, plain, pos, refl}
 use Rattle.store_sql.proofs.Words.{rowid, same_name, slice_get, some_has, stamped, statement_of, subst, sym, test_has}
 use Rattle.store_sql.proofs.Words.{true, understood, value_cmp, value_cmp-Int, value_rows, whole, with_rowid, works, ℕ}
-use Rattle.store_sql.proofs.Words.{◌/◌, ◌<◌, ◌==◌, ◌^◌, ◌||◌, ◌∙◌, ◌∷◌, ◌≡◌, ◌≢◌}
+use Rattle.store_sql.proofs.Words.{◌/◌, ◌<◌, ◌==◌, ◌^◌, ◌||◌, ◌∙◌, ◌∷◌, ◌≡◌}
 use Rattle.sqlite_schema.specs.declared.schema.Action.TheVariants.{NoAction}
 use Rattle.sqlite_rules.specs.Action.{deed_of}
 use Rattle.store_sql.proofs.Selects.{IsTreeOf}

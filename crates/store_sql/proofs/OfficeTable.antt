@@ -5,9 +5,9 @@ use Rattle.store_sql.proofs.Words.{Eq, Err, Error, FailsBy, FailsIn, FailsToQuer
 use Rattle.store_sql.proofs.Words.{HasOffices, HasOne, Holds, INSERT_OFFICE, IfErr, IfOk, Insert, Int, IsRead}
 use Rattle.store_sql.proofs.Words.{IsTooLong, List, Lists, NUMBER_OFFICE, Null, OfficeRow, Ok, RefusedFor, Result, Row}
 use Rattle.store_sql.proofs.Words.{Schema, Shown, State, Table, Term, Text, Trees, Update, Values, Vec, [], ap, arith}
-use Rattle.store_sql.proofs.Words.{ascending, codes, col, column, counter_cells, drop, everything, false, inl, inr, lit}
-use Rattle.store_sql.proofs.Words.{lt-ltb, nat_cmp, office_at, office_cells, office_places, op2, pos, refl, sym, true}
-use Rattle.store_sql.proofs.Words.{whole, ℕ, ◌<◌, ◌^◌, ◌∙◌, ◌∷◌, ◌≡◌}
+use Rattle.store_sql.proofs.Words.{ascending, codes, col, column, counter_cells, drop, everything, inl, inr, lit}
+use Rattle.store_sql.proofs.Words.{lt-ltb, nat_cmp, office_at, office_cells, office_places, op2, pos, refl, true}
+use Rattle.store_sql.proofs.Words.{whole, ℕ, ◌<◌, ◌^◌, ◌∷◌, ◌≡◌}
 use Rattle.store_sql.proofs.Reasons.{is_exact, IsPut, never, size, storable, unclashed}
 use Rattle.store_sql.proofs.Selects.{IsTreeOf, select, number_cmp, FindSorted, select_all}
 use Rattle.store_sql.proofs.FaultLemmas.{IsStatement, HasWriteCause}

@@ -3,7 +3,7 @@ use Rattle.store_sql.proofs.Words.{AllByRecursion, Bool, Contents, Damaged, Dele
 use Rattle.store_sql.proofs.Words.{HasCause, HasCauseOr, INSERT_RUN, Index, Keeps, List, Means, NoMemory, Ok}
 use Rattle.store_sql.proofs.Words.{RefusedFor, Result, Row, RunRow, State, Trees, Unique, [], accepts_program, all_has}
 use Rattle.store_sql.proofs.Words.{ap, arith, cases_eq, clashes, column, drop, false, guards, ids_of, inl, inr, joined}
-use Rattle.store_sql.proofs.Words.{lt-ltb, not, refl, run_at, run_cells, statement_of, subst, sym, true, understood}
+use Rattle.store_sql.proofs.Words.{lt-ltb, not, refl, run_at, run_cells, statement_of, subst, true, understood}
 use Rattle.store_sql.proofs.Words.{whole, with_tree, without_all, ℕ, ◌&&◌, ◌<◌, ◌==◌, ◌^◌, ◌∙◌, ◌≡◌}
 use Rattle.sqlite_rules.proofs.ListLemmas.{test_from}
 use Rattle.sqlite_rules.proofs.RuleLemmas.{keeps_at, keeps_from}

@@ -1,6 +1,6 @@
 -- What a text is, from what it compiles to, so that this is computed once.
 use Rattle.store_sql.proofs.Words.{Command, CompileError, Compiled, IsPlain, List, None, Ok, Query, Result, Schema}
-use Rattle.store_sql.proofs.Words.{Select, [], ap, codes, command_of, false, length, reads_listing, refl, subst, sym, take}
+use Rattle.store_sql.proofs.Words.{Select, [], ap, codes, command_of, length, refl, subst, sym, take}
 use Rattle.store_sql.proofs.Words.{understood, ℕ, ◌∷◌, ◌≡◌}
 use Rattle.std.proofs.Common.{le_refl, le-leb}
 use Rattle.sqlite.specs.Listing.{misses_table}
