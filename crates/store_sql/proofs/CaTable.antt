@@ -2,8 +2,8 @@
 use Rattle.store_sql.proofs.Words.{Binary, Blob, CaRow, Contents, FailsBy, Fault, HasOne, Holds, INSERT_CA, Insert, Int}
 use Rattle.store_sql.proofs.Words.{List, Means, Null, RefusedFor, Result, Row, State, Term, Values, [], agree, all_has}
 use Rattle.store_sql.proofs.Words.{and_parts, ap, arith, ascending, bytes_eq-Decides, ca_at, ca_cells, ca_places, codes}
-use Rattle.store_sql.proofs.Words.{col, column, drop, equal, everything, false, first_key, guards, inl, inr, joined}
-use Rattle.store_sql.proofs.Words.{lit, lt-ltb, nat_cmp, pos, refl, subst, sym, true, understood, whole, ℕ, ◌&&◌, ◌<◌}
+use Rattle.store_sql.proofs.Words.{col, column, drop, equal, everything, first_key, guards, inl, inr, joined}
+use Rattle.store_sql.proofs.Words.{lit, lt-ltb, nat_cmp, pos, refl, subst, sym, true, whole, ℕ, ◌&&◌, ◌<◌}
 use Rattle.store_sql.proofs.Words.{◌^◌, ◌∙◌, ◌∷◌, ◌≡◌, ◌⊎◌}
 use Rattle.sqlite_trees.specs.View.{IsStorable}
 use Rattle.store_sql.proofs.Selects.{IsTreeOf, number_cmp, FindSorted, select_all}
@@ -15,9 +15,10 @@ use Rattle.store_sql.proofs.Elsewhere.{ca_apart, in_ca}
 use Rattle.store_sql.proofs.CallLemmas.{IsSelect, Write}
 use Rattle.store_sql.proofs.Inserts.{IsInsert, insert, insert_fails, refers_still, taken_number}
 use Rattle.store_sql.proofs.Queries.{on_table, blob_test}
-use Rattle.store_sql.specs.Refusals.{RefusesCa}
+use Rattle.store_sql.specs.Refusals.{IsTooLong, RefusesCa}
 use Rattle.store_sql.proofs.Edits.{of_record}
-use Rattle.store_sql.proofs.Reasons.{HasClash, IsPut, storable}
+use Rattle.store_sql.proofs.Reasons.{HasClash, IsPut, never, size, storable}
+use Rattle.store_sql.proofs.Texts.{query, statement}
 
 pub tree : IsTreeOf Holds ca_cells ca_places 9 (λ c. c.cas)
 tree = record { stored = λ trees. refl; held = λ trees c h. h.cas; apart = ca_apart }
@@ -31,8 +32,8 @@ abbrev pub ca_row : CaRow → Row
 ca_row x = Int (pos x.number) ∷ Null ∷ Blob x.ca ∷ Int (pos x.since) ∷ []
 
 insert_is : IsStatement INSERT_CA.now (Insert 6 (Values terms 4)) 3
-unfolding understood everything
-insert_is = (refl, (refl, refl), (refl, refl))
+unfolding everything
+insert_is = statement whole INSERT_CA.now _ 3 refl refl
 
 pub puts : IsInsert INSERT_CA.now ca_cells ca_places 6 ca_at terms 4 with_ca (λ c. c.cas) (λ x rows. ca_row x)
 puts = record {
@@ -55,8 +56,8 @@ columns = col 1 0 ∷ col 1 2 ∷ col 1 3 ∷ []
 
 every_is : IsSelect whole EVERY_CA.now (on_table 9 [] columns ((col 1 0, ascending Binary) ∷ []))
     (codes "number" ∷ codes "ca" ∷ codes "since" ∷ []) 0
-unfolding understood everything
-every_is = (refl, refl, (refl, refl), (refl, refl))
+unfolding everything
+every_is = query whole EVERY_CA.now _ _ 0 refl refl
 
 pub every : FindSorted EVERY_CA.now ([]) ca_cells (λ c. c.cas) (λ a. a.number) nat_cmp
 every = select_all tree every_is (λ v. column v 0 ∷ column v 1 ∷ column v 2 ∷ []) (λ x. refl) (λ r. refl) refl
@@ -88,15 +89,18 @@ ca_clash a s c means (i, here, on, other, there, same) =
     let blob : column other 2 ≡ Blob it.0.ca = ap (λ v. column v 1) it.2 in
     let both = all_has (λ j. guards j ca_at ≡ true → agree j.order j.columns other j.columns (ca_row a) ≡ true
     → (equal Binary (column other 2) (Blob a.ca) && true) ≡ true) whole.indexes i
-    ((λ e. cc), ((λ e. cc), ((λ e. cc), ((λ e same. same), tt)))) here on same in
+    ((λ e. never e refl), ((λ e. never e refl), ((λ e. never e refl), ((λ e same. same), tt)))) here on same in
     let first = and_parts (equal Binary (column other 2) (Blob a.ca)) true both in
     (it.0, it.1, inr (same_blob it.0.ca a.ca (subst (λ v. equal Binary v (Blob a.ca) ≡ true) blob first.0)))
+
+ca_long : (x : CaRow) → 10 ^ 9 < size (ca_row x) → IsTooLong (ca_cells x)
+ca_long x long = omega (arith, long)
 
 pub ca_fails : {X : Type 0} (x : CaRow) → x.number < 2 ^ 63 → (old new : State) (r : Result X Fault)
     → FailsBy (HasWriteCause INSERT_CA.now (ca_cells x)) old new r → RefusedFor (RefusesCa x) old new r
 ca_fails x below = insert_fails puts x (RefusesCa x) (λ s. ca_put x)
-    (λ s c means out. absurd (let wrong : true ≡ false = sym (lt-ltb x.number (2 ^ 63) below) ∙ out in cc))
+    (λ s c means out. never (lt-ltb x.number (2 ^ 63) below) out)
     (λ s c means taken. let it = taken_number (λ y. y.number) x.number
     (drop 1 (ca_row x)) (λ y r is. ap (λ v. column v 0) is) means.kept.holds.cas taken in inl (it.0, it.1, inl it.2))
-    (λ s c means clash. inl (ca_clash x s c means clash)) (λ s c long. inr (omega (arith, long)))
-    (λ s c next means did broken. absurd (broken (refers_still means did (λ e. cc) (λ e. cc))))
+    (λ s c means clash. inl (ca_clash x s c means clash)) (λ s c long. inr (ca_long x long))
+    (λ s c next means did broken. absurd (broken (refers_still means did refl refl)))

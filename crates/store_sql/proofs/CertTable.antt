@@ -7,7 +7,7 @@ use Rattle.store_sql.proofs.Words.{all_has, and-true, ap, ap₂, are_typed, arit
 use Rattle.store_sql.proofs.Words.{cert_cells, cert_places, codes, col, column, department_cells, department_places}
 use Rattle.store_sql.proofs.Words.{drop, equal, everything, false, first_key, has_null, has_rowid, inl, inr, is_true}
 use Rattle.store_sql.proofs.Words.{list_any, lit, lt-ltb, nat_cmp, not, op2, or_null, or_right, plain, pos, refl}
-use Rattle.store_sql.proofs.Words.{signed, some_from, stamped, subst, sym, true, understood, whole, without_rowid, ℕ}
+use Rattle.store_sql.proofs.Words.{signed, some_from, stamped, subst, sym, true, whole, without_rowid, ℕ}
 use Rattle.store_sql.proofs.Words.{◌&&◌, ◌<◌, ◌^◌, ◌||◌, ◌∙◌, ◌∷◌, ◌≡◌}
 use Rattle.store_sql.proofs.Selects.{IsTreeOf, select, number_cmp, FindSorted, select_sorted}
 use Rattle.store_sql.proofs.FaultLemmas.{IsStatement, HasWriteCause}
@@ -21,10 +21,12 @@ use Rattle.store_sql.proofs.Queries.{on_table, int_test, int_le_test, int_ge_tes
 use Rattle.store_sql.proofs.Rows.{cast_int, cast_null, same_number, le_number, ge_number, own_text}
 use Rattle.store_sql.proofs.NumberUpdates.{IsUpdate, update, update_fails}
 use Rattle.sqlite_trees.proofs.ListLemmas.{all-filter}
-use Rattle.store_sql.specs.Refusals.{RefusesCert, RefusesSignature}
+use Rattle.store_sql.specs.Refusals.{IsTooLong, RefusesCert, RefusesSignature}
 use Rattle.sqlite_trees.proofs.TreeLemmas.{all-put_row}
-use Rattle.store_sql.proofs.Reasons.{IsPut, is_exact, one, storable, unclashed}
+use Rattle.store_sql.proofs.Reasons.{IsPut, is_exact, never, one, size, storable, unclashed}
+use Rattle.std.proofs.lemmas.Bool.{eqb-false}
 use Rattle.store_sql.proofs.Edits.{of_row}
+use Rattle.store_sql.proofs.Texts.{query, statement}
 
 pub tree : IsTreeOf Holds cert_cells cert_places 3 (λ c. c.certs)
 tree = record { stored = λ trees. refl; held = λ trees c h. h.certs; apart = cert_apart }
@@ -38,8 +40,8 @@ abbrev pub cert_row : CertRow → Row
 cert_row x = Int (pos x.serial) ∷ Null ∷ Text x.department ∷ Text x.key_id ∷ Blob x.body ∷ or_null Blob x.signature ∷ []
 
 insert_is : IsStatement INSERT_CERT.now (Insert 2 (Values terms 6)) 5
-unfolding understood everything
-insert_is = (refl, (refl, refl), (refl, refl))
+unfolding everything
+insert_is = statement whole INSERT_CERT.now _ 5 refl refl
 
 pub puts : IsInsert INSERT_CERT.now cert_cells cert_places 2 cert_at terms 6 with_cert (λ c. c.certs)
     (λ x rows. cert_row x)
@@ -73,8 +75,8 @@ names = codes "serial" ∷ codes "department" ∷ codes "keyid" ∷ codes "body"
 
 find_is : IsSelect whole FIND_CERT.now
     (on_table 3 (op2 (Compare Eq Binary) (col 1 0) (col 0 0) ∷ []) columns []) names 1
-unfolding understood everything
-find_is = (refl, refl, (refl, refl), (refl, refl))
+unfolding everything
+find_is = query whole FIND_CERT.now _ _ 1 refl refl
 
 pub find : (serial : ℕ) → Find FIND_CERT.now (Int (pos serial) ∷ []) cert_cells (certs_numbered serial)
 find serial = select tree find_is (has_serial serial)
@@ -88,8 +90,8 @@ abbrev within_tests : List Term
 within_tests = op2 (Compare Ge Binary) (col 1 0) (col 0 0) ∷ op2 (Compare Le Binary) (col 1 0) (col 0 1) ∷ []
 
 within_is : IsSelect whole CERTS_WITHIN.now (on_table 3 within_tests columns ((col 1 0, ascending Binary) ∷ [])) names 2
-unfolding understood everything
-within_is = (refl, refl, (refl, refl), (refl, refl))
+unfolding everything
+within_is = query whole CERTS_WITHIN.now _ _ 2 refl refl
 
 module _ (lo hi : ℕ) where
   abbrev ends : Row
@@ -116,8 +118,8 @@ abbrev pub sign_project : List Term
 sign_project = col 1 0 ∷ col 1 0 ∷ lit Null ∷ col 1 2 ∷ col 1 3 ∷ col 1 4 ∷ col 0 1 ∷ []
 
 sign_is : IsStatement SIGN_CERT.now (Update 2 (record { lets = []; body = on_table 3 sign_test sign_project [] })) 2
-unfolding understood everything
-sign_is = (refl, (refl, refl), (refl, refl))
+unfolding everything
+sign_is = statement whole SIGN_CERT.now _ 2 refl refl
 
 module _ (serial : ℕ) (signature : List ℕ) where
   abbrev pub sign_params : Row
@@ -189,7 +191,7 @@ module _ (x : CertRow) where
       (one s.now.trees cert_at [] its_row) next → Refers All whole next
   referred s c next means named did =
       let db = s.now.trees in
-      let departments : next 1 ≡ db 1 = did.tables.1.0 (λ e. cc) in
+      let departments : next 1 ≡ db 1 = did.tables.1.0 (eqb-false 1 3 refl) in
       let was = each_refers db (means.kept.sound.obeys.rules ForeignKey) in
       all_refer next (subst (λ ds. AllByRecursion (λ r. (has_null (2 ∷ []) r || list_any (λ d. agree plain (1 ∷ []) d (2 ∷ []) r) ds) ≡ true) (next 3))
       (sym departments) (subst (AllByRecursion (λ r. has_department db r ≡ true)) (sym did.rows)
@@ -210,7 +212,7 @@ module _ (serial : ℕ) (signature : List ℕ) where
       (one s.now.trees cert_at (pos serial ∷ []) (cert_row (signed signature x))) next → Refers All whole next
   still_refers s c x r next means here is did =
       let db = s.now.trees in
-      let departments : next 1 ≡ db 1 = did.tables.1.0 (λ e. cc) in
+      let departments : next 1 ≡ db 1 = did.tables.1.0 (eqb-false 1 3 refl) in
       let was = each_refers db (means.kept.sound.obeys.rules ForeignKey) in
       let own = own_department db x r is (all_has (λ r. has_department db r ≡ true) (db 3) r was here) in
       all_refer next (subst (λ ds. AllByRecursion (λ r. (has_null (2 ∷ []) r || list_any (λ d. agree plain (1 ∷ []) d (2 ∷ []) r) ds) ≡ true) (next 3))
@@ -221,15 +223,18 @@ module _ (serial : ℕ) (signature : List ℕ) where
 
 -- ---- the calls
 
+cert_long : (x : CertRow) → 10 ^ 9 < size (cert_row x) → IsTooLong (cert_cells x)
+cert_long x long = omega (arith, long)
+
 pub cert_fails : {X : Type 0} (x : CertRow) → x.serial < 2 ^ 63 → (old new : State) (r : Result X Fault)
     → FailsBy (HasWriteCause INSERT_CERT.now (cert_cells x)) old new r → RefusedFor (RefusesCert x) old new r
 cert_fails x below = insert_fails puts x (RefusesCert x) (λ s. is_put x)
-    (λ s c means out. absurd (let wrong : true ≡ false = sym (lt-ltb x.serial (2 ^ 63) below) ∙ out in cc))
+    (λ s c means out. never (lt-ltb x.serial (2 ^ 63) below) out)
     (λ s c means taken. inl (taken_number (λ y. y.serial) x.serial
     (drop 1 (cert_row x)) (λ y r is. ap (λ v. column v 0) is) means.kept.holds.certs taken))
     (λ s c means clash. absurd (unclashed s.now.trees cert_at [] (cert_row x)
-    ((λ e. cc), ((λ e. cc), ((λ e. cc), ((λ e. cc), tt)))) clash))
-    (λ s c long. inr (inr (omega (arith, long))))
+    ((λ e. never e refl), ((λ e. never e refl), ((λ e. never e refl), ((λ e. never e refl), tt)))) clash))
+    (λ s c long. inr (inr (cert_long x long)))
     (λ s c next means did broken. inr (inl (λ named. broken (referred x s c next means named did))))
 
 pub signature_fails : {X : Type 0} (serial : ℕ) (signature : List ℕ) → serial < 2 ^ 63 → (old new : State) (r : Result X Fault)
@@ -237,5 +242,5 @@ pub signature_fails : {X : Type 0} (serial : ℕ) (signature : List ℕ) → ser
     → RefusedFor (RefusesSignature serial signature) old new r
 signature_fails serial signature below =
     update_fails (signs serial signature) (inr (inr (inl refl))) (lt-ltb serial (2 ^ 63) below) (λ x. refl) (λ x. refl)
-    (λ x h. omega (arith, h)) ((λ e. cc), ((λ e. cc), ((λ e. cc), ((λ e. cc), tt))))
+    cert_long ((λ e. never e refl), ((λ e. never e refl), ((λ e. never e refl), ((λ e. never e refl), tt))))
     is_put (still_refers serial signature)

@@ -11,8 +11,10 @@ use Rattle.store_sql.proofs.Words.{ltb-false, map, next_rowid, not, or_right, pl
 use Rattle.store_sql.proofs.Words.{some_has, statement_of, subst, sym, true, understood, value_cmp, whole}
 use Rattle.store_sql.proofs.Words.{without_rowid, ℕ, ℤ, ◌&&◌, ◌++◌, ◌^◌, ◌∙◌, ◌∷◌, ◌≡◌}
 use Rattle.sqlite_trees.specs.View.{IsStorable}
-use Rattle.store_sql.proofs.Reasons.{is_exact, HasClash, IsPut, halted, one, storable}
-use Rattle.std.proofs.lemmas.Bool.{or_cases, or_left}
+use Rattle.store_sql.proofs.Reasons.{is_exact, HasClash, IsPut, halted, never, one, size, storable}
+use Rattle.std.proofs.lemmas.Bool.{eqb-false, or_cases, or_left}
+use Rattle.std.proofs.Common.{◌<◌}
+use Rattle.store_sql.specs.Refusals.{IsTooLong}
 use Rattle.sqlite_rules.proofs.TableLemmas.{put_all_adds, put_all_keeps}
 use Rattle.store_sql.specs.Refusals.{RefusesDepartment}
 use Rattle.store_sql.proofs.DepartmentUpsert.{conflict_is, fresh_row, has_id, name_is, named, next_row, none_named}
@@ -61,6 +63,9 @@ module _ (d : DepartmentRow) where
         ((λ e. key), ((λ e. cc), ((λ e. cc), ((λ e. cc), tt))));
   }
 
+  too_long : (id : ℤ) → 10 ^ 9 < size (row_at id) → IsTooLong (department_cells d)
+  too_long id long = omega (arith, long)
+
   well_judged : (id : ℤ) (why : Refusal) → IsJudged department_at (row_at id) (Some why) → ⊥
   well_judged id Mismatch h = let wrong : true ≡ false = h in cc
   well_judged id NoRowid h = h
@@ -81,7 +86,7 @@ module _ (d : DepartmentRow) where
     other,
     there,
     all_has (λ j. guards j department_at ≡ true → agree j.order j.columns other j.columns (row_at id) ≡ true → named d.name other ≡ true)
-        whole.indexes i ((λ e same. same), ((λ e. cc), ((λ e. cc), ((λ e. cc), tt)))) here on same,
+        whole.indexes i ((λ e same. same), ((λ e. never e refl), ((λ e. never e refl), ((λ e. never e refl), tt)))) here on same,
   )
 
   -- ---- where no department has the name
@@ -101,9 +106,9 @@ module _ (d : DepartmentRow) where
       (λ out. inr (full department_cells department_places (db 1) c.departments h.departments h.departments_numbered out))
       (λ taken. free (db 1) (department_cells d) h.departments_numbered h.departments.apart taken)
       (λ clash. let it = clash_named db [] (next_rowid (db 1)) clash in
-      absurd (let wrong : true ≡ false = sym it.2 ∙ none_named d (db 1) none it.0 it.1 in cc))
-      (λ long. inl (omega (arith, long)))
-      (λ next did broken. absurd (broken (names_stay db next (did.tables.1.1.0 (λ e. cc))
+      never it.2 (none_named d (db 1) none it.0 it.1))
+      (λ long. inl (too_long (next_rowid (db 1)) long))
+      (λ next did broken. absurd (broken (names_stay db next (did.tables.1.1.0 (eqb-false 3 1 refl))
       (λ p alike held. let found = some_has p (db 1) held in
       some_from p (next 1) found.0 (subst (λ l. Has l found.0) (sym did.rows) (put_all_keeps (new ∷ []) (db 1) found.0 did.fresh found.1)) found.2)
       (each_refers db (means.kept.sound.obeys.rules ForeignKey))))) stopped
@@ -168,8 +173,8 @@ module _ (d : DepartmentRow) where
         let same = unique d c db means.kept r0 here0 hit0 it.0 left.0 it.2 in
         let tie : has_rowid (pos k.0) it.0 ≡ true = subst (λ v. is_eq (value_cmp (rowid it.0) v) ≡ true) id same in
         let wrong = rw tie at left.1 in cc))
-        (λ long. inl (omega (arith, long)))
-        (λ next did broken. absurd (broken (names_stay db next (did.tables.1.1.0 (λ e. cc)) (renamed k.0 next id did)
+        (λ long. inl (too_long (pos k.0) long))
+        (λ next did broken. absurd (broken (names_stay db next (did.tables.1.1.0 (eqb-false 3 1 refl)) (renamed k.0 next id did)
         (each_refers db (means.kept.sound.obeys.rules ForeignKey))))) stopped
 
   put_typed : (s : State) (c : Contents) → Means s.now c → (there : Row) (more : List Row)

@@ -29,6 +29,7 @@ use Rattle.store_sql.proofs.Queries.{on_table, selected, lists_left, text_test}
 use Rattle.store_sql.proofs.Statements.{mode}
 use Rattle.store_sql.proofs.FaultLemmas.{IsStatement}
 use Rattle.store_sql.proofs.Selects.{IsTreeOf, select, text_cmp, FindSorted, select_all}
+use Rattle.store_sql.proofs.Texts.{query, statement}
 
 abbrev pub put_sql : List ℕ
 put_sql = PUT_DEPARTMENT.now
@@ -48,8 +49,8 @@ abbrev pub put_command : Command
 put_command = InsertOr 1 Abort (Values terms 9) (record { target = Some (1 ∷ []); update = Some put_program } ∷ [])
 
 pub put_is : IsStatement put_sql put_command 8
-unfolding understood everything
-put_is = (refl, (refl, refl), (refl, refl))
+unfolding everything
+put_is = statement whole put_sql _ 8 refl refl
 
 -- whether the row has the name
 abbrev pub named : List ℕ → Row → Bool
@@ -263,8 +264,8 @@ tree = record { stored = λ trees. refl; held = λ trees c h. h.departments; apa
 
 find_is : IsSelect whole FIND_DEPARTMENT.now
     (on_table 1 (op2 (Compare Eq Binary) (col 1 1) (col 0 0) ∷ []) columns []) names 1
-unfolding understood everything
-find_is = (refl, refl, (refl, refl), (refl, refl))
+unfolding everything
+find_is = query whole FIND_DEPARTMENT.now _ _ 1 refl refl
 
 pub find : (name : List ℕ) → Find FIND_DEPARTMENT.now (Text name ∷ []) department_cells (departments_named name)
 find name = select tree find_is (has_name name)
@@ -274,8 +275,8 @@ find name = select tree find_is (has_name name)
 -- ---- SELECT of all
 
 every_is : IsSelect whole EVERY_DEPARTMENT.now (on_table 1 [] columns ((col 1 1, ascending Binary) ∷ [])) names 0
-unfolding understood everything
-every_is = (refl, refl, (refl, refl), (refl, refl))
+unfolding everything
+every_is = query whole EVERY_DEPARTMENT.now _ _ 0 refl refl
 
 pub every : FindSorted EVERY_DEPARTMENT.now ([]) department_cells (λ c. c.departments) (λ d. d.name) (slice_cmp nat_cmp)
 every = select_all tree every_is columns_shown (λ x. refl) (λ r. refl) refl (λ r. refl) (λ x y. text_cmp x.name y.name)

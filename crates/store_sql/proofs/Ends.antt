@@ -10,6 +10,7 @@ use Rattle.std.specs.Prelude.{MatchBool}
 use Rattle.sqlite.specs.declared.error.Error.TheVariants.{ExecuteReturnedResults}
 use Rattle.store_sql.proofs.Statements.{stopped}
 use Rattle.store_sql.proofs.FaultLemmas.{IsWhole, failed, not_run}
+use Rattle.store_sql.proofs.Texts.{statement}
 
 -- the text is that command, whatever the tables are
 abbrev IsText : List ℕ → Command → Type 0
@@ -20,22 +21,22 @@ abbrev pub begin_text : List ℕ
 begin_text = codes "BEGIN"
 
 begin_is : IsText begin_text Begin
-unfolding understood everything
-begin_is schema = (refl, (refl, refl), (refl, refl))
+unfolding everything
+begin_is schema = statement schema begin_text _ 0 refl refl
 
 abbrev pub commit_text : List ℕ
 commit_text = codes "COMMIT"
 
 commit_is : IsText commit_text Commit
-unfolding understood everything
-commit_is schema = (refl, (refl, refl), (refl, refl))
+unfolding everything
+commit_is schema = statement schema commit_text _ 0 refl refl
 
 abbrev pub rollback_text : List ℕ
 rollback_text = codes "ROLLBACK"
 
 rollback_is : IsText rollback_text Rollback
-unfolding understood everything
-rollback_is schema = (refl, (refl, refl), (refl, refl))
+unfolding everything
+rollback_is schema = statement schema rollback_text _ 0 refl refl
 
 pub begins : (old new : State) (r : Result ℕ Error) → Executes begin_text [] old new r → Begins old new r
 begins old new (Err e) h = stopped begin_text [] old new e h

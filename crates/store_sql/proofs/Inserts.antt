@@ -7,7 +7,7 @@ use Rattle.store_sql.proofs.Words.{at_places, cast_row, cert_at, edit_of, eqb-tr
 use Rattle.store_sql.proofs.Words.{if◌then◌else◌, inl, inr, is_eq, is_taken, joined, length, list_any, plain, pos, refl}
 use Rattle.store_sql.proofs.Words.{rowid, same_name, slice_get, some_has, stamped, statement_of, subst, sym, test_has}
 use Rattle.store_sql.proofs.Words.{true, understood, value_cmp, value_cmp-Int, value_rows, whole, with_rowid, works, ℕ}
-use Rattle.store_sql.proofs.Words.{◌/◌, ◌<◌, ◌==◌, ◌^◌, ◌||◌, ◌∙◌, ◌∷◌, ◌≡◌, ◌≢◌}
+use Rattle.store_sql.proofs.Words.{◌/◌, ◌<◌, ◌==◌, ◌^◌, ◌||◌, ◌∙◌, ◌∷◌, ◌≡◌}
 use Rattle.sqlite_schema.specs.declared.schema.Action.TheVariants.{NoAction}
 use Rattle.sqlite_rules.specs.Action.{deed_of}
 use Rattle.store_sql.proofs.Selects.{IsTreeOf}
@@ -22,6 +22,7 @@ use Rattle.sqlite_rules.proofs.RuleLemmas.{refers_from}
 use Rattle.store_sql.proofs.Reasons.{HasClash, IsPut, halted, size, one}
 use Rattle.store_sql.specs.Schema.{to_department}
 use Rattle.store_sql.proofs.Edits.{of_record}
+use Rattle.std.proofs.lemmas.Bool.{eqb-false}
 use Rattle.store_sql.proofs.Stops.{IsHalted, insert_halts}
 
 idle : (b : Bool) → deed_of Enforced b (if b then NoAction else NoAction) ≡ None
@@ -124,10 +125,11 @@ each_refers trees keeps = all_from (λ r. has_department trees r ≡ true) (tree
 
 -- an edit of another table breaks none
 pub refers_still : {now : Database} {c : Contents} {next : Trees} {edit : Edit} → Means now c
-    → Applies whole Enforced now.trees edit next → 1 ≢ edit.table.tree → 3 ≢ edit.table.tree → Refers All whole next
-refers_still {now = now} {next = next} means did one three =
-    let departments : next 1 ≡ now.trees 1 = did.tables.1.0 one in
-    let certs : next 3 ≡ now.trees 3 = did.tables.1.1.0 three in
+    → Applies whole Enforced now.trees edit next → (1 == edit.table.tree) ≡ false
+    → (3 == edit.table.tree) ≡ false → Refers All whole next
+refers_still {now = now} {next = next} {edit = edit} means did one three =
+    let departments : next 1 ≡ now.trees 1 = did.tables.1.0 (eqb-false 1 edit.table.tree one) in
+    let certs : next 3 ≡ now.trees 3 = did.tables.1.1.0 (eqb-false 3 edit.table.tree three) in
     let was = each_refers now.trees (means.kept.sound.obeys.rules ForeignKey) in
     all_refer next (rw certs (subst (λ ds. AllByRecursion (λ r. (has_null (2 ∷ []) r
     || list_any (λ d. agree plain (1 ∷ []) d (2 ∷ []) r) ds) ≡ true) (now.trees 3)) (sym departments) was))

@@ -7,10 +7,12 @@ use Rattle.store_sql.proofs.Words.{all_from, all_has, and-true, and_parts, ap, a
 use Rattle.store_sql.proofs.Words.{bytes_eq-Decides, codes, col, column, equal, everything, false, first_key, fits_i64}
 use Rattle.store_sql.proofs.Words.{guards, inl, inr, is_true, joined, key_id_cells, key_id_places, length, length-map}
 use Rattle.store_sql.proofs.Words.{length_permutation, lit, ltb-false, nat_cmp, next_rowid, op2, pos, refl, request_at}
-use Rattle.store_sql.proofs.Words.{request_cells, request_places, revoked_at, slice_cmp, subst, sym, true, understood}
+use Rattle.store_sql.proofs.Words.{request_cells, request_places, revoked_at, slice_cmp, subst, sym, true}
 use Rattle.store_sql.proofs.Words.{whole, ℕ, ◌&&◌, ◌^◌, ◌∙◌, ◌∷◌, ◌≡◌, ◌≤◌}
 use Rattle.sqlite_trees.specs.View.{IsStorable}
-use Rattle.store_sql.proofs.Reasons.{is_exact, HasClash, IsPut, storable}
+use Rattle.store_sql.proofs.Reasons.{is_exact, HasClash, IsPut, never, size, storable}
+use Rattle.std.proofs.Common.{◌<◌}
+use Rattle.store_sql.specs.Refusals.{IsTooLong}
 use Rattle.store_sql.proofs.Selects.{IsTreeOf, select, text_cmp, FindSorted, select_all}
 use Rattle.store_sql.proofs.FaultLemmas.{IsStatement, HasWriteCause}
 use Rattle.store_sql.specs.Changes.{is_for, requests_for, with_request, is_key_id, revoked_as, with_revoked}
@@ -23,6 +25,7 @@ use Rattle.store_sql.proofs.Rows.{more_numbered, next_number, cast_null, ints_of
 use Rattle.sqlite_rules.proofs.PlaceLemmas.{next_is_free}
 use Rattle.store_sql.specs.Refusals.{IsFull, RefusesKeyId, RefusesRequest}
 use Rattle.store_sql.proofs.Edits.{of_record}
+use Rattle.store_sql.proofs.Texts.{query, statement}
 
 pub request_tree : IsTreeOf Holds request_cells request_places 4 (λ c. c.requests)
 request_tree = record { stored = λ trees. refl; held = λ trees c h. h.requests; apart = request_apart }
@@ -36,8 +39,8 @@ abbrev pub request_row : RequestRow → List Row → Row
 request_row x rows = Int (next_rowid rows) ∷ request_cells x
 
 insert_request_is : IsStatement INSERT_REQUEST.now (Insert 3 (Values request_terms 5)) 4
-unfolding understood everything
-insert_request_is = (refl, (refl, refl), (refl, refl))
+unfolding everything
+insert_request_is = statement whole INSERT_REQUEST.now _ 4 refl refl
 
 pub request_puts : IsInsert INSERT_REQUEST.now request_cells request_places 3 request_at request_terms 5 with_request
     (λ c. c.requests) request_row
@@ -63,8 +66,8 @@ find_request_query = on_table 4 (op2 (Compare Eq Binary) (col 1 1) (col 0 0)
 
 find_request_is : IsSelect whole FIND_REQUEST.now find_request_query
     (codes "caller" ∷ codes "key" ∷ codes "message" ∷ codes "reply" ∷ []) 2
-unfolding understood everything
-find_request_is = (refl, refl, (refl, refl), (refl, refl))
+unfolding everything
+find_request_is = query whole FIND_REQUEST.now _ _ 2 refl refl
 
 pub find_request : (caller : List ℕ) (key : List ℕ) → Find FIND_REQUEST.now (Text caller ∷ Text key ∷ []) request_cells
     (requests_for caller key)
@@ -89,8 +92,8 @@ abbrev pub revoked_row : (List ℕ) → List Row → Row
 revoked_row x rows = Int (next_rowid rows) ∷ key_id_cells x
 
 insert_revoked_is : IsStatement INSERT_REVOKED.now (Insert 5 (Values revoked_terms 2)) 1
-unfolding understood everything
-insert_revoked_is = (refl, (refl, refl), (refl, refl))
+unfolding everything
+insert_revoked_is = statement whole INSERT_REVOKED.now _ 1 refl refl
 
 pub revoked_puts : IsInsert INSERT_REVOKED.now key_id_cells key_id_places 5 revoked_at revoked_terms 2 with_revoked
     (λ c. c.revoked) revoked_row
@@ -112,8 +115,8 @@ put_revoked = insert revoked_puts
 
 find_revoked_is : IsSelect whole FIND_REVOKED.now
     (on_table 7 (op2 (Compare Eq Binary) (col 1 1) (col 0 0) ∷ []) (col 1 1 ∷ []) []) (codes "keyid" ∷ []) 1
-unfolding understood everything
-find_revoked_is = (refl, refl, (refl, refl), (refl, refl))
+unfolding everything
+find_revoked_is = query whole FIND_REVOKED.now _ _ 1 refl refl
 
 pub find_revoked : (key_id : List ℕ) → Find FIND_REVOKED.now (Text key_id ∷ []) key_id_cells (revoked_as key_id)
 find_revoked key_id = select revoked_tree find_revoked_is (is_key_id key_id)
@@ -124,8 +127,8 @@ find_revoked key_id = select revoked_tree find_revoked_is (is_key_id key_id)
 
 every_revoked_is : IsSelect whole EVERY_REVOKED.now (on_table 7 [] (col 1 1 ∷ []) ((col 1 1, ascending Binary) ∷ []))
     (codes "keyid" ∷ []) 0
-unfolding understood everything
-every_revoked_is = (refl, refl, (refl, refl), (refl, refl))
+unfolding everything
+every_revoked_is = query whole EVERY_REVOKED.now _ _ 0 refl refl
 
 pub every_revoked : FindSorted EVERY_REVOKED.now ([]) key_id_cells (λ c. c.revoked) (λ k. k) (slice_cmp nat_cmp)
 every_revoked = select_all revoked_tree every_revoked_is (λ v. column v 0 ∷ []) (λ x. refl) (λ r. refl) refl
@@ -189,12 +192,15 @@ request_clash r s c means (i, here, on, other, there, same) =
     let key : column other 2 ≡ Text it.0.key = ap (λ v. column v 1) it.2 in
     let both = all_has (λ j. guards j request_at ≡ true → agree j.order j.columns other j.columns (request_row r (s.now.trees 4)) ≡ true
     → (equal Binary (column other 1) (Text r.caller) && (equal Binary (column other 2) (Text r.key) && true)) ≡ true) whole.indexes i
-    ((λ e. cc), ((λ e same. same), ((λ e. cc), ((λ e. cc), tt)))) here on same in
+    ((λ e. never e refl), ((λ e same. same), ((λ e. never e refl), ((λ e. never e refl), tt)))) here on same in
     let first = and_parts (equal Binary (column other 1) (Text r.caller)) (equal Binary (column other 2) (Text r.key) && true) both in
     let second = and_parts (equal Binary (column other 2) (Text r.key)) true first.1 in
     let callers = same_text it.0.caller r.caller (subst (λ v. equal Binary v (Text r.caller) ≡ true) caller first.0) in
     let keys = same_text it.0.key r.key (subst (λ v. equal Binary v (Text r.key) ≡ true) key second.0) in
     (it.0, it.1, (callers, keys))
+
+request_long : (x : RequestRow) (rows : List Row) → 10 ^ 9 < size (request_row x rows) → IsTooLong (request_cells x)
+request_long x rows long = omega (arith, long)
 
 pub request_fails : {X : Type 0} (x : RequestRow) (old new : State) (r : Result X Fault)
     → FailsBy (HasWriteCause INSERT_REQUEST.now (request_cells x)) old new r → RefusedFor (RefusesRequest x) old new r
@@ -203,8 +209,9 @@ request_fails x = insert_fails request_puts x (RefusesRequest x) (λ s. request_
     means.kept.holds.requests_numbered out)))
     (λ s c means taken. free (s.now.trees 4) (request_cells x) means.kept.holds.requests_numbered
     means.kept.holds.requests.apart taken)
-    (λ s c means clash. inl (request_clash x s c means clash)) (λ s c long. inr (inl (omega (arith, long))))
-    (λ s c next means did broken. absurd (broken (refers_still means did (λ e. cc) (λ e. cc))))
+    (λ s c means clash. inl (request_clash x s c means clash))
+    (λ s c long. inr (inl (request_long x (s.now.trees 4) long)))
+    (λ s c next means did broken. absurd (broken (refers_still means did refl refl)))
 
 -- ---- why a revoked key id is refused
 
@@ -230,9 +237,12 @@ revoked_clash k s c means (i, here, on, other, there, same) =
     let text : column other 1 ≡ Text it.0 = ap (λ v. column v 0) it.2 in
     let both = all_has (λ j. guards j revoked_at ≡ true → agree j.order j.columns other j.columns (revoked_row k (s.now.trees 7)) ≡ true
     → (equal Binary (column other 1) (Text k) && true) ≡ true) whole.indexes i
-    ((λ e. cc), ((λ e. cc), ((λ e same. same), ((λ e. cc), tt)))) here on same in
+    ((λ e. never e refl), ((λ e. never e refl), ((λ e same. same), ((λ e. never e refl), tt)))) here on same in
     let first = and_parts (equal Binary (column other 1) (Text k)) true both in
     (it.0, it.1, same_text it.0 k (subst (λ v. equal Binary v (Text k) ≡ true) text first.0))
+
+revoked_long : (k : List ℕ) (rows : List Row) → 10 ^ 9 < size (revoked_row k rows) → IsTooLong (key_id_cells k)
+revoked_long k rows long = omega (arith, long)
 
 pub key_id_fails : {X : Type 0} (x : (List ℕ)) (old new : State) (r : Result X Fault)
     → FailsBy (HasWriteCause INSERT_REVOKED.now (key_id_cells x)) old new r → RefusedFor (RefusesKeyId x) old new r
@@ -241,5 +251,6 @@ key_id_fails x = insert_fails revoked_puts x (RefusesKeyId x) (λ s. revoked_put
     means.kept.holds.revoked_numbered out)))
     (λ s c means taken. free (s.now.trees 7) (key_id_cells x) means.kept.holds.revoked_numbered
     means.kept.holds.revoked.apart taken)
-    (λ s c means clash. inl (revoked_clash x s c means clash)) (λ s c long. inr (inl (omega (arith, long))))
-    (λ s c next means did broken. absurd (broken (refers_still means did (λ e. cc) (λ e. cc))))
+    (λ s c means clash. inl (revoked_clash x s c means clash))
+    (λ s c long. inr (inl (revoked_long x (s.now.trees 7) long)))
+    (λ s c next means did broken. absurd (broken (refers_still means did refl refl)))

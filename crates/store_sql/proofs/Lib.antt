@@ -29,5 +29,6 @@ pub mod Selects
 pub mod Statements
 pub mod Staying
 pub mod Stops
+pub mod Texts
 pub mod Upserts
 pub mod Words

@@ -9,20 +9,21 @@ use Rattle.store_sql.proofs.Words.{is_pragma, is_query, is_reserved, is_used, la
 use Rattle.store_sql.proofs.Words.{mode_of, nat_lt, next_tree, not, refl, runs_as, same_name, statement_of, subst}
 use Rattle.store_sql.proofs.Words.{subst₂, sym, table_defined_by, table_reals, test_has, text_of, true, understood}
 use Rattle.store_sql.proofs.Words.{value_cmp, ℕ, ◌*◌, ◌+◌, ◌^◌, ◌||◌, ◌∙◌, ◌≡◌, ◌≤◌}
-use Rattle.store_sql.specs.declared.sql.TheConstants.{CREATE_OFFICE, CREATE_DEPARTMENT, CREATE_CERT, CREATE_REQUEST}
-use Rattle.store_sql.specs.declared.sql.TheConstants.{CREATE_RUN, CREATE_REVOKED, CREATE_CA}
-use Rattle.store_sql.specs.Schema.{office, department, cert, request, run, revoked_keyid}
 use Rattle.sqlite.specs.Change.{next_tree as new_tree}
 use Rattle.store_sql.specs.Making.{text_of as sql_of}
 use Rattle.store_sql.proofs.Commands.{closes}
 use Rattle.store_sql.proofs.Forms.{ends_nowhere, is_compiled}
 use Rattle.store_sql.proofs.Staying.{stays_done}
 use Rattle.store_sql.proofs.Statements.{went, same_value, stopped, commits_as}
+use Rattle.store_sql.proofs.Texts.{one_of, statement, understood_as}
+use Rattle.sqlite_resolve.specs.Compile.{compiled}
 use Rattle.std.specs.Str.{is_utf8, chars}
 use Rattle.sqlite_value.specs.declared.value.Value.TheVariants.{Text}
 use Rattle.sqlite_trees.specs.Sound.{begins, fits_kind, is_free_name, same_name as same_letters}
 use Rattle.store_sql.proofs.FaultLemmas.{IsWhole, failed, not_run}
 use Rattle.std.specs.Prelude.{IsUtf8}
+use Rattle.std.proofs.Math.Seq.{take-length}
+use native.Mathlib.Numerals.{unary_clauses}
 use Rattle.std.proofs.lemmas.Bool.{ltb-true}
 use Rattle.std.proofs.lemmas.Str.{IsUtf8-from_is_utf8}
 use Rattle.sqlite_catalog.specs.Calls.{RefusesTable, IsLongTable}
@@ -80,44 +81,42 @@ module _ {text : List ℕ} {before : Schema} {table : Table} (t : Create text be
   creates_left old trees h has = (commits_as text [] old before has CreateTable t.told.0 t.told.2 tt trees h).0
 
 -- each CREATE text defines its table
-pub office_defined : table_defined_by CREATE_OFFICE.now ≡ Ok office
+pub defines : (n : TableName) → table_defined_by (sql_of n) ≡ Ok (made n)
 unfolding everything
-office_defined = refl
+defines name.Office = refl
+defines name.Department = refl
+defines name.Cert = refl
+defines name.Request = refl
+defines name.Run = refl
+defines name.RevokedKeyId = refl
+defines name.Ca = refl
 
-pub department_defined : table_defined_by CREATE_DEPARTMENT.now ≡ Ok department
+-- and is one statement, which makes a table
+compiles : (n : TableName) → compiled (before n) (sql_of n) ≡ Ok (one_of (sql_of n) CreateTable 0)
 unfolding everything
-department_defined = refl
+compiles name.Office = refl
+compiles name.Department = refl
+compiles name.Cert = refl
+compiles name.Request = refl
+compiles name.Run = refl
+compiles name.RevokedKeyId = refl
+compiles name.Ca = refl
 
-pub cert_defined : table_defined_by CREATE_CERT.now ≡ Ok cert
-unfolding everything
-cert_defined = refl
-
-pub request_defined : table_defined_by CREATE_REQUEST.now ≡ Ok request
-unfolding everything
-request_defined = refl
-
-pub run_defined : table_defined_by CREATE_RUN.now ≡ Ok run
-unfolding everything
-run_defined = refl
-
-pub revoked_keyid_defined : table_defined_by CREATE_REVOKED.now ≡ Ok revoked_keyid
-unfolding everything
-revoked_keyid_defined = refl
-
-pub ca_defined : table_defined_by CREATE_CA.now ≡ Ok ca
-unfolding everything
-ca_defined = refl
+uncounted : (n : TableName) → lacks_sequence (created (before n) (made n)) ≡ false
+uncounted name.Office = refl
+uncounted name.Department = refl
+uncounted name.Cert = refl
+uncounted name.Request = refl
+uncounted name.Run = refl
+uncounted name.RevokedKeyId = refl
+uncounted name.Ca = refl
 
 -- each of the office's tables
 pub makes : (n : TableName) → Create (sql_of n) (before n) (made n)
-unfolding understood everything
-makes name.Office = record { told = (refl, refl, (refl, refl), refl); defined = office_defined }
-makes name.Department = record { told = (refl, refl, (refl, refl), refl); defined = department_defined }
-makes name.Cert = record { told = (refl, refl, (refl, refl), refl); defined = cert_defined }
-makes name.Request = record { told = (refl, refl, (refl, refl), refl); defined = request_defined }
-makes name.Run = record { told = (refl, refl, (refl, refl), refl); defined = run_defined }
-makes name.RevokedKeyId = record { told = (refl, refl, (refl, refl), refl); defined = revoked_keyid_defined }
-makes name.Ca = record { told = (refl, refl, (refl, refl), refl); defined = ca_defined }
+makes n =
+    let is = statement (before n) (sql_of n) CreateTable 0 refl (compiles n) in
+    let text = ap (statement_of (sql_of n)) (understood_as (before n) (sql_of n) _ (compiles n)) in
+    record { told = (is.0, text ∙ simp unary_clauses (take-length (sql_of n)), is.1, uncounted n); defined = defines n }
 
 -- ---- tables that no rule refuses
 
@@ -151,22 +150,25 @@ all_of : {text : List ℕ} {before : Schema} {table : Table} → Create text bef
     → IsMakeable text before table
 all_of create one free formed small = record { create = create; one = one; free = free; formed = formed; small = small }
 
+one : (n : TableName) → IsWhole (sql_of n) 0 (understood (before n) (sql_of n))
+one n = (statement (before n) (sql_of n) CreateTable 0 refl (compiles n)).2
+
 -- so is each of the office's tables
 pub makeable : (n : TableName) → IsMakeable (sql_of n) (before n) (made n)
-unfolding understood everything same_name same_letters fits_kind is_free_name value_cmp begins lib.Ieee.is_nan lib.Ieee.lt is_utf8 chars lib.Utf8.encode
-makeable name.Office = all_of (makes name.Office) (refl, refl) (refl, refl, refl)
+unfolding everything same_name same_letters fits_kind is_free_name value_cmp begins lib.Ieee.is_nan lib.Ieee.lt is_utf8 chars lib.Utf8.encode
+makeable name.Office = all_of (makes name.Office) (one name.Office) (refl, refl, refl)
     (refl, refl, refl, refl) (refl, refl, refl, refl)
-makeable name.Department = all_of (makes name.Department) (refl, refl) (refl, refl, refl)
+makeable name.Department = all_of (makes name.Department) (one name.Department) (refl, refl, refl)
     (refl, refl, refl, refl) (refl, refl, refl, refl)
-makeable name.Cert = all_of (makes name.Cert) (refl, refl) (refl, refl, refl)
+makeable name.Cert = all_of (makes name.Cert) (one name.Cert) (refl, refl, refl)
     (refl, refl, refl, refl) (refl, refl, refl, refl)
-makeable name.Request = all_of (makes name.Request) (refl, refl) (refl, refl, refl)
+makeable name.Request = all_of (makes name.Request) (one name.Request) (refl, refl, refl)
     (refl, refl, refl, refl) (refl, refl, refl, refl)
-makeable name.Run = all_of (makes name.Run) (refl, refl) (refl, refl, refl)
+makeable name.Run = all_of (makes name.Run) (one name.Run) (refl, refl, refl)
     (refl, refl, refl, refl) (refl, refl, refl, refl)
-makeable name.RevokedKeyId = all_of (makes name.RevokedKeyId) (refl, refl) (refl, refl, refl)
+makeable name.RevokedKeyId = all_of (makes name.RevokedKeyId) (one name.RevokedKeyId) (refl, refl, refl)
     (refl, refl, refl, refl) (refl, refl, refl, refl)
-makeable name.Ca = all_of (makes name.Ca) (refl, refl) (refl, refl, refl)
+makeable name.Ca = all_of (makes name.Ca) (one name.Ca) (refl, refl, refl)
     (refl, refl, refl, refl) (refl, refl, refl, refl)
 
 -- ---- why a table can't be made

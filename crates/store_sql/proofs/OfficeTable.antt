@@ -5,10 +5,10 @@ use Rattle.store_sql.proofs.Words.{Eq, Err, Error, FailsBy, FailsIn, FailsToQuer
 use Rattle.store_sql.proofs.Words.{HasOffices, HasOne, Holds, INSERT_OFFICE, IfErr, IfOk, Insert, Int, IsRead}
 use Rattle.store_sql.proofs.Words.{IsTooLong, List, Lists, NUMBER_OFFICE, Null, OfficeRow, Ok, RefusedFor, Result, Row}
 use Rattle.store_sql.proofs.Words.{Schema, Shown, State, Table, Term, Text, Trees, Update, Values, Vec, [], ap, arith}
-use Rattle.store_sql.proofs.Words.{ascending, codes, col, column, counter_cells, drop, everything, false, inl, inr, lit}
-use Rattle.store_sql.proofs.Words.{lt-ltb, nat_cmp, office_at, office_cells, office_places, op2, pos, refl, sym, true}
-use Rattle.store_sql.proofs.Words.{understood, whole, ℕ, ◌<◌, ◌^◌, ◌∙◌, ◌∷◌, ◌≡◌}
-use Rattle.store_sql.proofs.Reasons.{is_exact, IsPut, storable, unclashed}
+use Rattle.store_sql.proofs.Words.{ascending, codes, col, column, counter_cells, drop, everything, inl, inr, lit}
+use Rattle.store_sql.proofs.Words.{lt-ltb, nat_cmp, office_at, office_cells, office_places, op2, pos, refl, true}
+use Rattle.store_sql.proofs.Words.{whole, ℕ, ◌<◌, ◌^◌, ◌∷◌, ◌≡◌}
+use Rattle.store_sql.proofs.Reasons.{is_exact, IsPut, never, size, storable, unclashed}
 use Rattle.store_sql.proofs.Selects.{IsTreeOf, select, number_cmp, FindSorted, select_all}
 use Rattle.store_sql.proofs.FaultLemmas.{IsStatement, HasWriteCause}
 use Rattle.store_sql.proofs.Rows.{cast_null, cast_int}
@@ -22,6 +22,7 @@ use Rattle.store_sql.proofs.Inserts.{IsInsert, insert, insert_fails, refers_stil
 use Rattle.store_sql.proofs.Queries.{on_table}
 use Rattle.store_sql.proofs.NumberUpdates.{IsUpdate, update, update_fails}
 use Rattle.store_sql.specs.Refusals.{RefusesCounters, RefusesNumber, RefusesOffice}
+use Rattle.store_sql.proofs.Texts.{query, statement}
 
 pub tree : IsTreeOf Holds office_cells office_places 0 (λ c. c.offices)
 tree = record { stored = λ trees. refl; held = λ trees c h. h.offices; apart = office_apart }
@@ -37,8 +38,8 @@ office_row x = Int (pos x.id) ∷ Null ∷ Int (pos x.schema) ∷ Blob x.ca ∷ 
     ∷ Int (pos x.last) ∷ Int (pos x.next) ∷ Int (pos x.version) ∷ Int (pos x.date) ∷ []
 
 insert_is : IsStatement INSERT_OFFICE.now (Insert 0 (Values terms 11)) 10
-unfolding understood everything
-insert_is = (refl, (refl, refl), (refl, refl))
+unfolding everything
+insert_is = statement whole INSERT_OFFICE.now _ 10 refl refl
 
 pub puts : IsInsert INSERT_OFFICE.now office_cells office_places 0 office_at terms 11 with_office (λ c. c.offices)
     (λ x rows. office_row x)
@@ -77,8 +78,8 @@ beginning s others = record s { tables = office_at ∷ others }
 
 every_is : (s : Schema) (others : List Table)
     → IsSelect (beginning s others) every_sql (on_table 0 [] columns ((col 1 0, ascending Binary) ∷ [])) names 0
-unfolding understood everything
-every_is s others = (refl, refl, (refl, refl), (refl, refl))
+unfolding everything
+every_is s others = query (beginning s others) every_sql _ _ 0 refl refl
 
 abbrev HoldsOffices : Trees → List OfficeRow → Type 0
 HoldsOffices trees xs = Lists office_cells office_places (trees 0) xs
@@ -138,8 +139,8 @@ count_project = col 1 0 ∷ col 1 0 ∷ lit Null ∷ col 1 2 ∷ col 1 3 ∷ col
 
 count_is : IsStatement COUNT_OFFICE.now
     (Update 0 (record { lets = []; body = on_table 0 first_test count_project [] })) 3
-unfolding understood everything
-count_is = (refl, (refl, refl), (refl, refl))
+unfolding everything
+count_is = statement whole COUNT_OFFICE.now _ 3 refl refl
 
 module _ (k : Counters) where
   abbrev count_row : Row → Row
@@ -174,8 +175,8 @@ number_project = col 1 0 ∷ col 1 0 ∷ lit Null ∷ col 0 0 ∷ col 1 3 ∷ co
 
 number_is : IsStatement NUMBER_OFFICE.now
     (Update 0 (record { lets = []; body = on_table 0 first_test number_project [] })) 1
-unfolding understood everything
-number_is = (refl, (refl, refl), (refl, refl))
+unfolding everything
+number_is = statement whole NUMBER_OFFICE.now _ 1 refl refl
 
 module _ (n : ℕ) where
   abbrev number_row : Row → Row
@@ -215,15 +216,18 @@ office_put o = record {
   entries = λ fits. ((λ e. cc), ((λ e. cc), ((λ e. cc), ((λ e. cc), tt))));
 }
 
+office_long : (x : OfficeRow) → 10 ^ 9 < size (office_row x) → IsTooLong (office_cells x)
+office_long x long = omega (arith, long)
+
 pub office_fails : {X : Type 0} (x : OfficeRow) → x.id < 2 ^ 63 → (old new : State) (r : Result X Fault)
     → FailsBy (HasWriteCause INSERT_OFFICE.now (office_cells x)) old new r → RefusedFor (RefusesOffice x) old new r
 office_fails x below = insert_fails puts x (RefusesOffice x) (λ s. office_put x)
-    (λ s c means out. absurd (let wrong : true ≡ false = sym (lt-ltb x.id (2 ^ 63) below) ∙ out in cc))
+    (λ s c means out. never (lt-ltb x.id (2 ^ 63) below) out)
     (λ s c means taken. inl (taken_number (λ y. y.id) x.id
     (drop 1 (office_row x)) (λ y r is. ap (λ v. column v 0) is) means.kept.holds.offices taken))
     (λ s c means clash. absurd (unclashed s.now.trees office_at [] (office_row x)
-    ((λ e. cc), ((λ e. cc), ((λ e. cc), ((λ e. cc), tt)))) clash))
-    (λ s c long. inr (omega (arith, long))) (λ s c next means did broken. absurd (broken (refers_still means did (λ e. cc) (λ e. cc))))
+    ((λ e. never e refl), ((λ e. never e refl), ((λ e. never e refl), ((λ e. never e refl), tt)))) clash))
+    (λ s c long. inr (office_long x long)) (λ s c next means did broken. absurd (broken (refers_still means did refl refl)))
 
 -- ---- its counters, and the number of its schema
 
@@ -234,9 +238,9 @@ module _ {sql : List ℕ} {params : Row} {project : List Term} {after : Contents
     (same : (x : OfficeRow) → (u x).id ≡ x.id) where
   change_fails : {X : Type 0} (old new : State) (r : Result X Fault) → FailsBy (HasWriteCause sql params) old new r
       → RefusedFor (λ c. HasOne (λ o. (o.id ≡ 1) × IsTooLong (office_cells (u o))) c.offices) old new r
-  change_fails = update_fails it (inl refl) refl same (λ x. refl) (λ x h. omega (arith, h))
-      ((λ e. cc), ((λ e. cc), ((λ e. cc), ((λ e. cc), tt)))) office_put
-      (λ s c x r next means here is did. refers_still means did (λ e. cc) (λ e. cc))
+  change_fails = update_fails it (inl refl) refl same (λ x. refl) office_long
+      ((λ e. never e refl), ((λ e. never e refl), ((λ e. never e refl), ((λ e. never e refl), tt)))) office_put
+      (λ s c x r next means here is did. refers_still means did refl refl)
 
 -- ---- the calls
 

@@ -67,6 +67,10 @@ storable reals row none exact columns short = record {
   short = short;
 }
 
+-- a test that passes does not fail
+pub never : {R : Type 0} {b : Bool} → b ≡ true → b ≡ false → R
+never passed failed = absurd (let wrong : true ≡ false = sym passed ∙ failed in cc)
+
 -- ---- the tables are apart
 
 apart : IsAscending (λ a b. a.tree ≡ b.tree → ⊥) whole.tables

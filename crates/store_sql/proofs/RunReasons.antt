@@ -3,7 +3,7 @@ use Rattle.store_sql.proofs.Words.{AllByRecursion, Bool, Contents, Damaged, Dele
 use Rattle.store_sql.proofs.Words.{HasCause, HasCauseOr, INSERT_RUN, Index, Keeps, List, Means, NoMemory, Ok}
 use Rattle.store_sql.proofs.Words.{RefusedFor, Result, Row, RunRow, State, Trees, Unique, [], accepts_program, all_has}
 use Rattle.store_sql.proofs.Words.{ap, arith, cases_eq, clashes, column, drop, false, guards, ids_of, inl, inr, joined}
-use Rattle.store_sql.proofs.Words.{lt-ltb, not, refl, run_at, run_cells, statement_of, subst, sym, true, understood}
+use Rattle.store_sql.proofs.Words.{lt-ltb, not, refl, run_at, run_cells, statement_of, subst, true, understood}
 use Rattle.store_sql.proofs.Words.{whole, with_tree, without_all, ℕ, ◌&&◌, ◌<◌, ◌==◌, ◌^◌, ◌∙◌, ◌≡◌}
 use Rattle.sqlite_rules.proofs.ListLemmas.{test_from}
 use Rattle.sqlite_rules.proofs.RuleLemmas.{keeps_at, keeps_from}
@@ -11,7 +11,7 @@ use Rattle.store_sql.specs.Refusals.{RefusesRun}
 use Rattle.store_sql.proofs.RunTable.{puts, run_row}
 use Rattle.store_sql.proofs.FaultLemmas.{HasWriteCause, none_overflows, Stops, refused_for}
 use Rattle.store_sql.proofs.Inserts.{no_works, insert_fails, refers_still, taken_number}
-use Rattle.store_sql.proofs.Reasons.{IsPut, other_tree, storable, unclashed}
+use Rattle.store_sql.proofs.Reasons.{IsPut, never, other_tree, size, storable, unclashed}
 use Rattle.store_sql.proofs.Stops.{delete_halts}
 use Rattle.store_sql.proofs.NumberUpdates.{removal_halts}
 use Rattle.store_sql.proofs.RunTable as run
@@ -27,16 +27,20 @@ run_put r = record {
   entries = λ fits. ((λ e. cc), ((λ e. cc), ((λ e. cc), ((λ e. cc), tt))));
 }
 
+-- a run is never too long
+run_short : (x : RunRow) → 10 ^ 9 < size (run_row x) → ⊥
+run_short x long = omega (arith, long)
+
 pub run_fails : {X : Type 0} (x : RunRow) → x.lo < 2 ^ 63 → (old new : State) (r : Result X Fault)
     → FailsBy (HasWriteCause INSERT_RUN.now (run_cells x)) old new r → RefusedFor (RefusesRun x) old new r
 run_fails x below = insert_fails puts x (RefusesRun x) (λ s. run_put x)
-    (λ s c means out. absurd (let wrong : true ≡ false = sym (lt-ltb x.lo (2 ^ 63) below) ∙ out in cc))
+    (λ s c means out. never (lt-ltb x.lo (2 ^ 63) below) out)
     (λ s c means taken. taken_number (λ y. y.lo) x.lo (drop 1 (run_row x))
     (λ y r is. ap (λ v. column v 0) is) means.kept.holds.runs taken)
     (λ s c means clash. absurd (unclashed s.now.trees run_at [] (run_row x)
-    ((λ e. cc), ((λ e. cc), ((λ e. cc), ((λ e. cc), tt)))) clash))
-    (λ s c long. absurd (omega (arith, long)))
-    (λ s c next means did broken. absurd (broken (refers_still means did (λ e. cc) (λ e. cc))))
+    ((λ e. never e refl), ((λ e. never e refl), ((λ e. never e refl), ((λ e. never e refl), tt)))) clash))
+    (λ s c long. absurd (run_short x long))
+    (λ s c next means did broken. absurd (broken (refers_still means did refl refl)))
 
 -- ---- DELETE of runs
 
@@ -71,7 +75,7 @@ deletes_runs ends s c means stops =
     let ids = ids_of kept.0 in
     removal_halts db run_at ids (inr (inr (inr (inr (inl refl)))))
     (kept_apart db 6 (without_all (db 6) ids) (refl, (refl, (refl, (refl, tt)))) (means.kept.sound.obeys.rules Unique))
-    (λ next did. refers_still means did (λ e. cc) (λ e. cc)) kept.2
+    (λ next did. refers_still means did refl refl) kept.2
 
 -- ---- the calls
 

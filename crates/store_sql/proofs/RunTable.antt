@@ -22,6 +22,7 @@ use Rattle.store_sql.proofs.Queries.{on_table, in_order, selected, chosen, lists
 use Rattle.store_sql.proofs.Statements.{mode, deletes}
 use Rattle.store_sql.proofs.LastRun.{falls, first_is_last, listed}
 use Rattle.store_sql.proofs.FoundLemmas.{unmapped}
+use Rattle.store_sql.proofs.Texts.{query, statement}
 
 pub tree : IsTreeOf Holds run_cells run_places 6 (λ c. c.runs)
 tree = record { stored = λ trees. refl; held = λ trees c h. h.runs; apart = run_apart }
@@ -35,8 +36,8 @@ abbrev pub run_row : RunRow → Row
 run_row x = Int (pos x.lo) ∷ Null ∷ Int (pos x.hi) ∷ []
 
 insert_is : IsStatement INSERT_RUN.now (Insert 4 (Values terms 3)) 2
-unfolding understood everything
-insert_is = (refl, (refl, refl), (refl, refl))
+unfolding everything
+insert_is = statement whole INSERT_RUN.now _ 2 refl refl
 
 pub puts : IsInsert INSERT_RUN.now run_cells run_places 4 run_at terms 3 with_run (λ c. c.runs) (λ x rows. run_row x)
 puts = record {
@@ -59,8 +60,8 @@ columns = col 1 0 ∷ col 1 2 ∷ []
 
 every_is : IsSelect whole EVERY_RUN.now (on_table 6 [] columns ((col 1 0, ascending Binary) ∷ []))
     (codes "lo" ∷ codes "hi" ∷ []) 0
-unfolding understood everything
-every_is = (refl, refl, (refl, refl), (refl, refl))
+unfolding everything
+every_is = query whole EVERY_RUN.now _ _ 0 refl refl
 
 pub every : FindSorted EVERY_RUN.now ([]) run_cells (λ c. c.runs) (λ r. r.lo) nat_cmp
 every = select_all tree every_is (λ v. column v 0 ∷ column v 1 ∷ []) (λ x. refl) (λ r. refl) refl (λ r. refl)
@@ -97,8 +98,8 @@ abbrev last_query : Query
 last_query = record low_query { limit = lit (Int (pos 1)) }
 
 last_is : IsSelect whole last_sql last_query (codes "lo" ∷ codes "hi" ∷ []) 1
-unfolding understood everything
-last_is = (refl, refl, (refl, refl), (refl, refl))
+unfolding everything
+last_is = query whole last_sql _ _ 1 refl refl
 
 low_passes : (n : ℕ) (r : RunRow)
     → (is_true (binary (Compare Le Binary) (column (run_cells r) 0) (Int (pos n))) && true) ≡ nat_le r.lo n
@@ -177,8 +178,8 @@ abbrev pub delete_program : Program
 delete_program = record { lets = []; body = delete_query }
 
 pub delete_is : IsStatement delete_sql (Delete 4 delete_program) 2
-unfolding understood everything
-delete_is = (refl, (refl, refl), (refl, refl))
+unfolding everything
+delete_is = statement whole delete_sql _ 2 refl refl
 
 abbrev pub hit : RunRow → Row → Bool
 hit ends r = passes ends (at_places run_places r)

@@ -15,7 +15,7 @@ use std::alloc::Global;
 use text::{NoMemory, Text};
 
 /// What a column may hold.
-#[derive(Clone, Copy, PartialEq, Eq)]
+#[derive(Clone, Copy)]
 pub(crate) enum Kind {
     Number,
     Text,
