@@ -43,13 +43,11 @@ fn put_option(out: &mut Vec<u8>, option: &Pair) -> Result<(), NoMemory>
 {
     put_string(out, option.name.as_slice())?;
     if is_flag(option.name.as_slice()) {
-        put_u32(out, 0)?;
-    } else {
-        let value = option.value.as_slice();
-        put_u32(out, 4 + value.len() as u32)?;
-        put_string(out, value)?;
+        return put_u32(out, 0);
     }
-    Ok(())
+    let value = option.value.as_slice();
+    put_u32(out, 4 + value.len() as u32)?;
+    put_string(out, value)
 }
 
 fn options_bytes(alloc: Global, options: &[Pair]) -> Result<Vec<u8>, NoMemory>
