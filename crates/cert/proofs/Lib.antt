@@ -1,4 +1,5 @@
 pub mod Words
+pub mod Steps
 pub mod Appends
 pub mod Ascending
 pub mod Elements

@@ -199,6 +199,28 @@ ca_at bytes = do
   key ← or_fault BadCa (key_of text.0)
   Ok (key, text.1)
 
+-- the key id and the principals
+abbrev pub names_at : List ℕ → Result ((List ℕ × List (List ℕ)) × List ℕ) CertFault
+names_at bytes = do
+  key_id ← key_id_at bytes
+  principals ← principals_at key_id.1
+  Ok ((key_id.0, principals.0), principals.1)
+
+-- both fields of options
+abbrev pub both_options_at : Kind → List ℕ → Result ((List Pair × List Pair) × List ℕ) CertFault
+both_options_at kind bytes = do
+  options ← options_at CriticalOptions kind bytes
+  extensions ← options_at Extensions kind options.1
+  Ok ((options.0, extensions.0), extensions.1)
+
+-- the key of the CA behind the reserved field, with which a body ends
+abbrev pub end_at : List ℕ → Result (List ℕ) CertFault
+end_at bytes = do
+  reserved ← reserved_at bytes
+  ca ← ca_at reserved.1
+  _ ← check TrailingBytes (length ca.1 == 0)
+  Ok ca.0
+
 -- the fields from the key id on, with those before it
 unfoldable pub from_key_id_at : (nonce key : List ℕ) → ℕ → Kind → List ℕ → Result CertFields CertFault
 from_key_id_at nonce key serial kind bytes = do

@@ -18,6 +18,9 @@ ghost use Rattle.cert.specs.Reading.{
   options_at,
   reserved_at,
   ca_at,
+  names_at,
+  both_options_at,
+  end_at,
   from_key_id_at,
   body_at,
 };
@@ -167,8 +170,41 @@ fn read_ca(cursor: &mut Cursor) -> Result<[u8; 32], CertFault>
     Ok(key)
 }
 
+// The key id and the principals.
+fn read_names(alloc: Global, cursor: &mut Cursor) -> Result<(Text, Texts), CertFault>
+    ensures { GivesRest result cursor.new (names_at cursor.old) }
+{
+    let key_id = read_key_id(alloc, cursor)?;
+    let principals = read_principals(alloc, cursor)?;
+    Ok((key_id, principals))
+}
+
+// Both fields of options.
+fn read_both_options(
+    alloc: Global,
+    cursor: &mut Cursor,
+    kind: Kind,
+) -> Result<(Options, Options), CertFault>
+    ensures { GivesRest result cursor.new (both_options_at kind cursor.old) }
+{
+    let options = read_options(alloc, cursor, OptionField::CriticalOptions, kind)?;
+    let extensions = read_options(alloc, cursor, OptionField::Extensions, kind)?;
+    Ok((options, extensions))
+}
+
+// The reserved field and the CA's key, with which a body ends.
+fn read_end(cursor: &mut Cursor) -> Result<[u8; 32], CertFault>
+    ensures { Gives result (end_at cursor.old) }
+{
+    read_reserved(cursor)?;
+    let ca = read_ca(cursor)?;
+    if !cursor.at_end() {
+        return Err(CertFault::TrailingBytes);
+    }
+    Ok(ca)
+}
+
 // The fields from the key id on, with those before it.
-#[tactic(auto, unfolding(crate::specs::Reading::from_key_id_at))]
 fn read_from_key_id(
     alloc: Global,
     cursor: &mut Cursor,
@@ -179,16 +215,10 @@ fn read_from_key_id(
 ) -> Result<CertFields, CertFault>
     ensures { Gives result (from_key_id_at nonce key serial kind cursor.old) }
 {
-    let key_id = read_key_id(alloc, cursor)?;
-    let principals = read_principals(alloc, cursor)?;
+    let (key_id, principals) = read_names(alloc, cursor)?;
     let (after, before) = read_validity(cursor)?;
-    let options = read_options(alloc, cursor, OptionField::CriticalOptions, kind)?;
-    let extensions = read_options(alloc, cursor, OptionField::Extensions, kind)?;
-    read_reserved(cursor)?;
-    let ca = read_ca(cursor)?;
-    if !cursor.at_end() {
-        return Err(CertFault::TrailingBytes);
-    }
+    let (options, extensions) = read_both_options(alloc, cursor, kind)?;
+    let ca = read_end(cursor)?;
     Ok(CertFields {
         nonce,
         key,

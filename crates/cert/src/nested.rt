@@ -1,9 +1,11 @@
 //! Lists inside a field of a body.
 
-ghost use Rattle.std.specs.Prelude.{◌≡◌, ◌==◌, [], length, if◌then◌else◌, option_and_then, option_copied};
+ghost use Rattle.std.specs.Prelude.{◌≡◌, ◌==◌, ◌&&◌, [], ◌∷◌, ◌++◌, length, nat_le, if◌then◌else◌};
+ghost use Rattle.std.specs.Prelude.{OnOk, option_and_then, option_copied};
 ghost use Rattle.std.specs.Option.{option_map};
 ghost use Rattle.wire.specs.Reading.{string_at};
 ghost use Rattle.values.specs.Names.{is_principal};
+ghost use Rattle.values.specs.Lists.{are_distinct};
 ghost use Rattle.cert.specs.declared.cert_fault.CertFault.TheVariants.{BadPrincipals};
 ghost use Rattle.cert.specs.Options.{is_option};
 ghost use Rattle.text.specs.Results.{or_fault};
@@ -24,7 +26,7 @@ ghost use Rattle.cert.specs.Reading.{
 use crate::cert_fault::CertFault;
 use crate::options::comes_before;
 use std::alloc::Global;
-use text::{Pair, Pairs, Text, Texts};
+use text::{NoMemory, Pair, Pairs, Text, Texts};
 use values::{
     Kind, MOST_PRINCIPALS, OptionField, are_distinct, is_flag, is_known, is_option_value,
     is_principal,
@@ -55,12 +57,18 @@ fn listed_principals(alloc: Global, text: &[u8]) -> Result<Texts, CertFault>
     Ok(principals)
 }
 
+fn are_lawful(principals: &Texts) -> bool
+    ensures { result ≡ (nat_le 1 (length principals.now) && are_distinct principals.now) }
+{
+    !principals.is_empty() && are_distinct(principals.as_slice())
+}
+
 /// The principals of a field's text.
 pub(crate) fn principals_in(alloc: Global, text: &[u8]) -> Result<Texts, CertFault>
     ensures { Gives result (or_fault BadPrincipals (principals_of text.now)) }
 {
     let principals = listed_principals(alloc, text)?;
-    if principals.is_empty() || !are_distinct(principals.as_slice()) {
+    if !are_lawful(&principals) {
         return Err(CertFault::BadPrincipals);
     }
     Ok(principals)
@@ -128,6 +136,14 @@ fn comes_next(field: OptionField, previous: &[u8], name: &[u8], value: &[u8]) ->
     is_option(field, name, value) && comes_before(previous, name)
 }
 
+fn push_pair(alloc: Global, options: &mut Pairs, name: &[u8], value: &[u8]) -> Result<(), NoMemory>
+    ensures { OnOk result (options.new ≡ options.old ++ pair_of name.now value.now ∷ []) }
+{
+    let name = Text::from_slice(alloc, name)?;
+    let value = Text::from_slice(alloc, value)?;
+    options.push(Pair { name, value })
+}
+
 // As many options as there are extensions.
 fn listed_options(alloc: Global, field: OptionField, text: &[u8]) -> Result<Pairs, CertFault>
     ensures { Gives result (or_fault (field_fault field) (options_within 6 field [] text.now)) }
@@ -146,10 +162,7 @@ fn listed_options(alloc: Global, field: OptionField, text: &[u8]) -> Result<Pair
         if !comes_next(field, previous, name, value) {
             return Err(fault_of(field));
         }
-        options.push(Pair {
-            name: Text::from_slice(alloc, name)?,
-            value: Text::from_slice(alloc, value)?,
-        })?;
+        push_pair(alloc, &mut options, name, value)?;
         previous = name;
     }
     if !inner.at_end() {

@@ -4,9 +4,11 @@ ghost use Rattle.std.specs.Prelude.{◌≡◌, ◌<◌, ◌+◌, ◌^◌, ◌++�
 ghost use Rattle.cert.specs.Options.{option_text, options_text};
 ghost use Rattle.cert.specs.declared.fields.CertFields.{CertFields};
 ghost use Rattle.cert.specs.Reading.{body_at};
-ghost use Rattle.cert.specs.Bodies.{IsCertFields, body_text, kind_number, principals_text};
+ghost use Rattle.cert.specs.Bodies.{IsCertFields, body_text, front, kind_number, principals_text};
+ghost use Rattle.wire.specs.Texts.{string_text};
 
 use crate::fields::CertFields;
+use crate::options::Options;
 use lines::key_blob_of;
 use std::alloc::Global;
 use text::{NoMemory, Pair, Text};
@@ -41,13 +43,11 @@ fn put_option(out: &mut Vec<u8>, option: &Pair) -> Result<(), NoMemory>
 {
     put_string(out, option.name.as_slice())?;
     if is_flag(option.name.as_slice()) {
-        put_u32(out, 0)?;
-    } else {
-        let value = option.value.as_slice();
-        put_u32(out, 4 + value.len() as u32)?;
-        put_string(out, value)?;
+        return put_u32(out, 0);
     }
-    Ok(())
+    let value = option.value.as_slice();
+    put_u32(out, 4 + value.len() as u32)?;
+    put_string(out, value)
 }
 
 fn options_bytes(alloc: Global, options: &[Pair]) -> Result<Vec<u8>, NoMemory>
@@ -59,6 +59,81 @@ fn options_bytes(alloc: Global, options: &[Pair]) -> Result<Vec<u8>, NoMemory>
         put_option(&mut out, option)?;
     }
     Ok(out)
+}
+
+fn put_options(alloc: Global, out: &mut Vec<u8>, options: &Options) -> Result<(), NoMemory>
+    requires pairs { All (λ p. (length p.name < 2 ^ 32) × (length p.value + 4 < 2 ^ 32)) options.now }
+    requires all { length (options_text options.now) < 2 ^ 32 }
+    ensures { OnOk result (out.new.items ≡ out.old.items ++ string_text (options_text options.now)) }
+{
+    let text = options_bytes(alloc, options.pairs())?;
+    put_string(out, text.as_slice())
+}
+
+// The fields are put one after another. What stands before a call are the fields before its own.
+
+fn put_key(out: &mut Vec<u8>, fields: &CertFields) -> Result<(), NoMemory>
+    requires { out.old.items ≡ front 0 fields.now }
+    ensures { OnOk result (out.new.items ≡ front 3 fields.now) }
+{
+    put_string(out, b"ssh-ed25519-cert-v01@openssh.com")?;
+    put_string(out, &fields.nonce)?;
+    put_string(out, &fields.key)
+}
+
+fn put_kind(out: &mut Vec<u8>, fields: &CertFields) -> Result<(), NoMemory>
+    requires { out.old.items ≡ front 3 fields.now }
+    ensures { OnOk result (out.new.items ≡ front 5 fields.now) }
+{
+    put_u64(out, fields.serial)?;
+    put_u32(out, number_of(fields.kind))
+}
+
+fn put_names(alloc: Global, out: &mut Vec<u8>, fields: &CertFields) -> Result<(), NoMemory>
+    requires lawful { IsCertFields fields.now }
+    requires before { out.old.items ≡ front 5 fields.now }
+    ensures { OnOk result (out.new.items ≡ front 7 fields.now) }
+{
+    let principals = principals_bytes(alloc, fields.principals.as_slice())?;
+    put_string(out, fields.key_id.as_slice())?;
+    put_string(out, principals.as_slice())
+}
+
+fn put_validity(out: &mut Vec<u8>, fields: &CertFields) -> Result<(), NoMemory>
+    requires { out.old.items ≡ front 7 fields.now }
+    ensures { OnOk result (out.new.items ≡ front 8 fields.now) }
+{
+    put_u64(out, fields.after)?;
+    put_u64(out, fields.before)
+}
+
+fn put_ca(out: &mut Vec<u8>, fields: &CertFields) -> Result<(), NoMemory>
+    requires { out.old.items ≡ front 10 fields.now }
+    ensures { OnOk result (out.new.items ≡ front 12 fields.now) }
+{
+    put_string(out, b"")?;
+    put_string(out, &key_blob_of(&fields.ca))
+}
+
+fn put_upto_names(alloc: Global, out: &mut Vec<u8>, fields: &CertFields) -> Result<(), NoMemory>
+    requires lawful { IsCertFields fields.now }
+    requires before { out.old.items ≡ front 0 fields.now }
+    ensures { OnOk result (out.new.items ≡ front 7 fields.now) }
+{
+    put_key(out, fields)?;
+    put_kind(out, fields)?;
+    put_names(alloc, out, fields)
+}
+
+fn put_from_validity(alloc: Global, out: &mut Vec<u8>, fields: &CertFields) -> Result<(), NoMemory>
+    requires lawful { IsCertFields fields.now }
+    requires before { out.old.items ≡ front 7 fields.now }
+    ensures { OnOk result (out.new.items ≡ front 12 fields.now) }
+{
+    put_validity(out, fields)?;
+    put_options(alloc, out, &fields.options)?;
+    put_options(alloc, out, &fields.extensions)?;
+    put_ca(out, fields)
 }
 
 /// The body of a certificate with these fields, which is what its CA signs (PROTOCOL.certkeys).
@@ -76,22 +151,8 @@ pub fn write_body(alloc: Global, fields: &CertFields) -> Result<Vec<u8>, NoMemor
     ensures again { IfOk result (λ v. body_at v.items ≡ Ok fields.now) }
     ensures only { (c : CertFields) → IsCertFields c → IfOk result (λ v. v.items ≡ body_text c → c ≡ fields.now) }
 {
-    let principals = principals_bytes(alloc, fields.principals.as_slice())?;
-    let options = options_bytes(alloc, fields.options.pairs())?;
-    let extensions = options_bytes(alloc, fields.extensions.pairs())?;
     let mut out = Vec::new(alloc);
-    put_string(&mut out, b"ssh-ed25519-cert-v01@openssh.com")?;
-    put_string(&mut out, &fields.nonce)?;
-    put_string(&mut out, &fields.key)?;
-    put_u64(&mut out, fields.serial)?;
-    put_u32(&mut out, number_of(fields.kind))?;
-    put_string(&mut out, fields.key_id.as_slice())?;
-    put_string(&mut out, principals.as_slice())?;
-    put_u64(&mut out, fields.after)?;
-    put_u64(&mut out, fields.before)?;
-    put_string(&mut out, options.as_slice())?;
-    put_string(&mut out, extensions.as_slice())?;
-    put_string(&mut out, b"")?;
-    put_string(&mut out, &key_blob_of(&fields.ca))?;
+    put_upto_names(alloc, &mut out, fields)?;
+    put_from_validity(alloc, &mut out, fields)?;
     Ok(out)
 }

@@ -1,5 +1,5 @@
 use Rattle.cert.proofs.Words.{CertFault, CriticalOptions, Err, Extensions, Gives, List, None, Option, OptionField, Pair}
-use Rattle.cert.proofs.Words.{[], ap, arith, or_fault, pair_of, refl, subst, sym, ℕ, ◌++◌, ◌∙◌, ◌∷◌, ◌≡◌}
+use Rattle.cert.proofs.Words.{[], ap, arith, or_fault, pair_of, subst, sym, ◌++◌, ◌∙◌, ◌∷◌, ◌≡◌}
 use Rattle.cert.specs.Reading.{field_fault}
 use Rattle.cert.proofs.Elements.{option_goes_on, option_cut, option_fails, options_left}
 use Rattle.cert.proofs.nested.listed_options.Goals as goal
@@ -15,11 +15,6 @@ gives_fault field e total is none =
         → Gives {X = List Pair} (Err (field_fault field)) (or_fault (field_fault field) total)
     at CriticalOptions e = e
     at Extensions e = e
-
--- a pair of copies
-pushed_as : (front : List Pair) (m n v w : List ℕ) → m ≡ n → v ≡ w
-    → front ++ pair_of m v ∷ [] ≡ front ++ pair_of n w ∷ []
-pushed_as front m n v w e f = rw (e, f) refl
 
 pub returns-in_default : goal.returns-in_default
 returns-in_default c =
@@ -40,8 +35,7 @@ loop-preserved c =
     let front = c.loop.options in
     let name = c.in-Some.found.0.now in
     let value = c.in-Some.found.1.now in
-    let pushed : c.push.new.self ≡ front ++ pair_of name value ∷ [] = c.in_ok-push.ensures.ok
-    ∙ pushed_as front _ name _ value c.in_ok-from_slice.ensures c.in_ok-from_slice-2.ensures in
+    let pushed : c.push_pair.new.options ≡ front ++ pair_of name value ∷ [] = c.in_ok-push_pair.ensures in
     rw pushed (option_goes_on c.args.field c.loop.previous.now front c.loop.counter c.loop.inner
     (pair_of name value) c.pair_in.new.cursor _ (omega arith) c.in-Some.ensures
     (sym c.comes_next.ensures ∙ c.if-not-comes_next.false) c.loop.invariant)
