@@ -1,7 +1,7 @@
 -- A decision is the plain machine's step.
 use Rattle.std.proofs.Common.{◌≡◌, ℕ, ◌+◌, ◌-◌, ◌<◌, ◌≤◌, List, [], ◌∷◌, ltb, Option, Some, None, Ok, Err}
-use Rattle.std.proofs.Common.{refl, sym, ap, ◌∙◌, inl, inr, arith, length-append}
-use Rattle.std.specs.Prelude.{IsSome, slice_get}
+use Rattle.std.proofs.Common.{Result, refl, sym, ap, subst, ◌∙◌, inl, inr, arith, length-append}
+use Rattle.std.specs.Prelude.{IfOk, IsSome, slice_get}
 use Rattle.std.proofs.lemmas.Bool.{cases_Bool, cond-true, cond-false, ltb-false}
 use Rattle.std.proofs.lemmas.Option.{slice_get_within}
 use Rattle.values.specs.declared.refusal.Refusal.{Refusal}
@@ -11,7 +11,10 @@ use Rattle.message.specs.declared.renewal.Renewal.{Renewal}
 use Rattle.message.specs.declared.kinds.Message.{Message}
 use Rattle.message.specs.declared.kinds.Message.TheVariants as message
 use Rattle.office.specs.declared.certificate.Certificate.{Certificate}
+use Rattle.office.specs.declared.opening.Opening.{Opening}
 use Rattle.office.specs.declared.view.Decision.{Decision}
+use Rattle.office.specs.declared.view.Stop.{Stop}
+use Rattle.office.specs.declared.view.Stop.TheVariants as stop
 use Rattle.office.specs.declared.view.View.{View}
 use Rattle.office.specs.declared.view.Change.{Change}
 use Rattle.office.specs.declared.view.Change.TheVariants as change
@@ -19,11 +22,31 @@ use Rattle.office.specs.Replies.{issue_reply}
 use Rattle.office.specs.Certificates.{kind_or_user, certificate_for, renewed_certificate}
 use Rattle.office.specs.Machine.{State, refusals, first_holding, after, reply_to, step, next_serial}
 use Rattle.office.specs.Machine.{certificate_of, department_named, newest_key, issued, with_certificate}
-use Rattle.office.specs.Decided.{Agrees, Decided, changed, written}
+use Rattle.office.specs.Decided.{Agrees, Decided, IsMade, certified, changed, written}
 
 pub step_refused : (s : State) (caller : List ℕ) (m : Message) (moment : ℕ) (nonce : List ℕ) (r : Refusal)
     → first_holding (refusals s caller m moment) ≡ Some r → step s caller m moment nonce ≡ Err r
 step_refused s caller m moment nonce r e = rw e refl
+
+-- what holds of the decision that was made, unless memory was refused
+pub made_so : (P : Decision → Type 0) (r : Result Decision Stop) (x : Decision) → IsMade r x → P x → IfOk r P
+made_so P (Ok d) x is so = subst P (sym is) so
+made_so P (Err (stop.Refused f)) x is so = tt
+made_so P (Err stop.NoMemory) x is so = tt
+
+pub made_decides : (s : State) (caller : List ℕ) (m : Message) (moment : ℕ) (nonce : List ℕ)
+    (r : Result Decision Stop) (x : Decision) → IsMade r x → Decided (Ok x) s caller m moment nonce
+    → Decided r s caller m moment nonce
+made_decides s caller m moment nonce (Ok d) x is so =
+    subst (λ (y : Decision). Decided (Ok y) s caller m moment nonce) (sym is) so
+made_decides s caller m moment nonce (Err (stop.Refused f)) x is so = absurd is
+made_decides s caller m moment nonce (Err stop.NoMemory) x is so = tt
+
+-- where a serial is left over the view, one is left over the state
+pub serial_left : (v : View) (s : State) (m : Message) → Agrees v s m → v.next ≤ v.opening.now.last
+    → next_serial s ≤ s.opening.last
+serial_left v s m a left =
+    subst (λ (n : ℕ). n ≤ s.opening.last) a.next (subst (λ (o : Opening). v.next ≤ o.last) a.opening left)
 
 module _ (v : View) (s : State) (m : Message) (caller : List ℕ) (moment : ℕ) (nonce : List ℕ) (a : Agrees v s m)
     (allowed : first_holding (refusals s caller m moment) ≡ None) where
@@ -45,18 +68,15 @@ module _ (v : View) (s : State) (m : Message) (caller : List ℕ) (moment : ℕ)
       (rw (version, date) state) replied (a.next ∙ next))
 
   -- the same where a certificate is made, as the machine makes it
-  pub made_decided : (made c : Certificate) (reply body : List ℕ) (x : Decision) → let ch = change.Certificate made in
-      x ≡ record { reply = reply; next = v.next + 1; version = v.version; date = v.date; change = ch }
-      → made ≡ c → after s m moment nonce ≡ with_certificate s c
-      → reply_to s m moment nonce ≡ issue_reply (next_serial s) c.body
-      → reply ≡ issue_reply v.next body → body ≡ made.body → Decided (Ok x) s caller m moment nonce
-  made_decided made c reply body x is same state replied wrote of =
+  pub certified_decided : (r : Result Decision Stop) (made c : Certificate) → IsMade r (certified v made) → made ≡ c
+      → after s m moment nonce ≡ with_certificate s c
+      → reply_to s m moment nonce ≡ issue_reply (next_serial s) c.body → Decided r s caller m moment nonce
+  certified_decided r made c is same state replied =
       let version = a.version in
       let date = a.date in
       let next = a.next in
-      rw is (decided
-      (record { reply = reply; next = v.next + 1; version = v.version; date = v.date; change = change.Certificate made })
-      (rw (state, same, version, date) refl) (wrote ∙ rw (of, same, next, replied) refl)
+      made_decides s caller m moment nonce r (certified v made) is (decided (certified v made)
+      (rw (state, same, version, date) refl) (rw (same, next, replied) refl)
       (rw (state, next) (omega (arith, length-append s.certificates (c ∷ [])))))
 
 -- what is issued over a view is what is issued over the state

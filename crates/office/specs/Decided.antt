@@ -1,5 +1,5 @@
 -- What a decision says of the plain office.
-use Rattle.std.specs.Prelude.{◌≡◌, ℕ, ◌<◌, ◌≤◌, List, length, Bool, IsTrue, IsSome, Option, None, option_copied, Result}
+use Rattle.std.specs.Prelude.{◌≡◌, ℕ, ◌+◌, ◌<◌, ◌≤◌, List, length, Bool, IsTrue, IsSome, Option, None, option_copied, Result}
 use Rattle.std.specs.Prelude.{Ok, Err}
 use Rattle.std.specs.Option.{option_and_then}
 use Rattle.values.specs.Names.{department_of, is_key_id}
@@ -17,6 +17,7 @@ use Rattle.office.specs.declared.view.Decision.{Decision}
 use Rattle.office.specs.declared.view.Stop.{Stop}
 use Rattle.office.specs.declared.view.Stop.TheVariants as stop
 use Rattle.office.specs.Concerns.{named_serial}
+use Rattle.office.specs.Replies.{issue_reply}
 use Rattle.office.specs.Certificates.{IsCertificate}
 use Rattle.office.specs.Machine.{
   State,
@@ -125,6 +126,32 @@ Decided (Ok d) s caller m moment nonce =
     (step s caller m moment nonce ≡ Ok (stepped_by d s)) × (d.next ≡ next_serial (written d s))
 Decided (Err (stop.Refused r)) s caller m moment nonce = step s caller m moment nonce ≡ Err r
 Decided (Err stop.NoMemory) s caller m moment nonce = Unit {0}
+
+-- this decision was made, unless memory was refused
+abbrev pub IsMade : Result Decision Stop → Decision → Type 0
+IsMade (Ok d) x = d ≡ x
+IsMade (Err (stop.Refused r)) x = ⊥
+IsMade (Err stop.NoMemory) x = Unit {0}
+
+-- the decision that a certificate is made, under the next serial
+abbrev pub certified : View → Certificate → Decision
+certified v c = record {
+  reply = issue_reply v.next c.body;
+  next = v.next + 1;
+  version = v.version;
+  date = v.date;
+  change = change.Certificate c;
+}
+
+-- the decision that leaves the published list as it is
+abbrev pub unpublished : View → List ℕ → Change → Decision
+unpublished v reply change =
+    record { reply = reply; next = v.next; version = v.version; date = v.date; change = change }
+
+-- the decision with which the published list has its next version, of this moment
+abbrev pub published : View → List ℕ → Change → ℕ → Decision
+published v reply change moment =
+    record { reply = reply; next = v.next; version = v.version + 1; date = moment; change = change }
 
 -- ---- what is known of a change
 

@@ -2,10 +2,10 @@
 
 ghost use Rattle.std.specs.Prelude.{◌≡◌, IfOk};
 
-use cert::CertFields;
+use cert::{CertFields, Options};
 use lines::Signature;
 use std::alloc::Global;
-use text::{NoMemory, Text};
+use text::{NoMemory, Text, Texts};
 
 /// A certificate that was issued. It is kept for good.
 #[derive(Drop)]
@@ -20,22 +20,57 @@ pub struct Certificate {
     pub signature: Option<Signature>,
 }
 
-fn copied_fields(fields: &CertFields, alloc: Global) -> Result<CertFields, NoMemory>
+/// Copies of a key id and of principals.
+pub(crate) fn copied_names(
+    alloc: Global,
+    key_id: &Text,
+    principals: &Texts,
+) -> Result<(Text, Texts), NoMemory>
+    ensures { IfOk result (λ copies. copies ≡ (key_id.now, principals.now)) }
+{
+    let key_id = key_id.copied(alloc)?;
+    Ok((key_id, principals.copied(alloc)?))
+}
+
+/// Copies of critical options and of extensions.
+fn copied_options(
+    alloc: Global,
+    options: &Options,
+    extensions: &Options,
+) -> Result<(Options, Options), NoMemory>
+    ensures { IfOk result (λ copies. copies ≡ (options.now, extensions.now)) }
+{
+    let options = options.copied(alloc)?;
+    Ok((options, extensions.copied(alloc)?))
+}
+
+/// A copy of the fields.
+pub(crate) fn copied_fields(alloc: Global, fields: &CertFields) -> Result<CertFields, NoMemory>
     ensures { IfOk result (λ copy. copy ≡ fields.now) }
 {
+    let (key_id, principals) = copied_names(alloc, &fields.key_id, &fields.principals)?;
+    let (options, extensions) = copied_options(alloc, &fields.options, &fields.extensions)?;
     Ok(CertFields {
         nonce: fields.nonce,
         key: fields.key,
         serial: fields.serial,
         kind: fields.kind,
-        key_id: fields.key_id.copied(alloc)?,
-        principals: fields.principals.copied(alloc)?,
+        key_id,
+        principals,
         after: fields.after,
         before: fields.before,
-        options: fields.options.copied(alloc)?,
-        extensions: fields.extensions.copied(alloc)?,
+        options,
+        extensions,
         ca: fields.ca,
     })
+}
+
+/// Copies of a department's name and of a body.
+fn copied_texts(alloc: Global, department: &Text, body: &Text) -> Result<(Text, Text), NoMemory>
+    ensures { IfOk result (λ copies. copies ≡ (department.now, body.now)) }
+{
+    let department = department.copied(alloc)?;
+    Ok((department, body.copied(alloc)?))
 }
 
 impl Certificate {
@@ -43,10 +78,11 @@ impl Certificate {
     pub fn copied(&self, alloc: Global) -> Result<Certificate, NoMemory>
         ensures { IfOk result (λ copy. copy ≡ self.now) }
     {
+        let (department, body) = copied_texts(alloc, &self.department, &self.body)?;
         Ok(Certificate {
-            department: self.department.copied(alloc)?,
-            fields: copied_fields(&self.fields, alloc)?,
-            body: self.body.copied(alloc)?,
+            department,
+            fields: copied_fields(alloc, &self.fields)?,
+            body,
             signature: self.signature,
         })
     }

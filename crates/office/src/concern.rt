@@ -18,6 +18,47 @@ pub struct Concern<'a> {
     pub key_id: Option<&'a [u8]>,
 }
 
+fn named_department(message: &Message) -> Option<&[u8]>
+    ensures { option_copied result ≡ named_department message.now }
+{
+    match message {
+        Message::Department(department) => Some(department.name.as_slice()),
+        Message::Issue(issue) => Some(issue.department.as_slice()),
+        Message::RevokeKeyId(key_id) => Some(department_of(key_id.as_slice())),
+        _ => None,
+    }
+}
+
+fn named_serial(message: &Message) -> Option<u64>
+    ensures { result ≡ named_serial message.now }
+{
+    match message {
+        Message::Renew(renewal) => Some(renewal.serial),
+        Message::Deliver(delivery) => Some(delivery.serial),
+        Message::RevokeSerial(serial) => Some(*serial),
+        _ => None,
+    }
+}
+
+fn named_range(message: &Message) -> Option<SerialRange>
+    ensures { result ≡ named_range message.now }
+{
+    match message {
+        Message::RevokeRange(range) => Some(*range),
+        _ => None,
+    }
+}
+
+fn named_key_id(message: &Message) -> Option<&[u8]>
+    ensures { option_copied result ≡ named_key_id message.now }
+{
+    match message {
+        Message::Issue(issue) => Some(issue.key_id.as_slice()),
+        Message::RevokeKeyId(key_id) => Some(key_id.as_slice()),
+        _ => None,
+    }
+}
+
 /// What the message concerns. It takes no memory.
 pub fn concerned(message: &Message) -> Concern<'_>
     ensures department { option_copied result.department ≡ named_department message.now }
@@ -25,43 +66,10 @@ pub fn concerned(message: &Message) -> Concern<'_>
     ensures range { result.range ≡ named_range message.now }
     ensures key_id { option_copied result.key_id ≡ named_key_id message.now }
 {
-    let nothing = Concern {
-        department: None,
-        serial: None,
-        range: None,
-        key_id: None,
-    };
-    match message {
-        Message::Department(department) => Concern {
-            department: Some(department.name.as_slice()),
-            ..nothing
-        },
-        Message::Issue(issue) => Concern {
-            department: Some(issue.department.as_slice()),
-            key_id: Some(issue.key_id.as_slice()),
-            ..nothing
-        },
-        Message::Renew(renewal) => Concern {
-            serial: Some(renewal.serial),
-            ..nothing
-        },
-        Message::Deliver(delivery) => Concern {
-            serial: Some(delivery.serial),
-            ..nothing
-        },
-        Message::RevokeSerial(serial) => Concern {
-            serial: Some(*serial),
-            ..nothing
-        },
-        Message::RevokeRange(range) => Concern {
-            range: Some(*range),
-            ..nothing
-        },
-        Message::RevokeKeyId(key_id) => Concern {
-            department: Some(department_of(key_id.as_slice())),
-            key_id: Some(key_id.as_slice()),
-            ..nothing
-        },
-        Message::Rollover(_) => nothing,
+    Concern {
+        department: named_department(message),
+        serial: named_serial(message),
+        range: named_range(message),
+        key_id: named_key_id(message),
     }
 }

@@ -12,7 +12,7 @@ use crate::delivering::decide_delivery;
 use crate::issuing::issued;
 use crate::refusing::{refusal_of_department, refusal_of_issue};
 use crate::renewing::decide_renewal;
-use crate::replies::{to_department, to_issue};
+use crate::replies::to_department;
 use crate::revoking::{decide_key_id, decide_range, decide_serial};
 use crate::rolling::decide_rollover;
 use crate::view::{Change, Decision, Stop, View};
@@ -66,14 +66,7 @@ fn decide_issue(
     let Some(department) = view.department else {
         return Err(Stop::Refused(Refusal::NoDepartment));
     };
-    let certificate = issued(alloc, view, department, issue, nonce)?;
-    Ok(Decision {
-        reply: to_issue(alloc, view.next, certificate.body.as_slice())?,
-        next: view.next + 1,
-        version: view.version,
-        date: view.date,
-        change: Change::Certificate(certificate),
-    })
+    issued(alloc, view, department, issue, nonce)
 }
 
 /// What the office answers and does: the refusal with the least number, or the reply and what is to be written.

@@ -1,19 +1,21 @@
-//! What a decision does to the published list.
+//! The decisions of messages that are accepted.
 
-ghost use Rattle.std.specs.Prelude.{◌≡◌, ◌+◌, ◌<◌};
+ghost use Rattle.std.specs.Prelude.{◌≡◌, ◌+◌, ◌<◌, IfOk};
+ghost use Rattle.office.specs.Replies.{issue_reply};
+ghost use Rattle.office.specs.Certificates.{IsCertificate, certificate_with};
+ghost use Rattle.cert.specs.Bodies.{body_text, IsCertFields};
+ghost use Rattle.office.specs.Decided.{IsLawfulChange, IsMade, certified, published, unpublished};
 
-use crate::view::{Change, Decision, View};
-use text::Text;
+use crate::certificate::Certificate;
+use crate::replies::to_issue;
+use crate::view::{Change, Decision, Stop, View};
+use cert::{CertFields, write_body};
+use std::alloc::Global;
+use text::{NoMemory, Text};
 
 /// The decision that leaves the published list as it is.
 pub(crate) fn unpublished(view: &View, reply: Text, change: Change) -> Decision
-    ensures { result ≡ record {
-      reply = reply;
-      next = view.now.next;
-      version = view.now.version;
-      date = view.now.date;
-      change = change;
-    } }
+    ensures { result ≡ unpublished view.now reply change }
 {
     Decision {
         reply,
@@ -27,13 +29,7 @@ pub(crate) fn unpublished(view: &View, reply: Text, change: Change) -> Decision
 /// The decision with which the published list has its next version, of this moment.
 pub(crate) fn published(view: &View, reply: Text, change: Change, moment: u64) -> Decision
     requires { view.now.version < 9223372036854775807 }
-    ensures { result ≡ record {
-      reply = reply;
-      next = view.now.next;
-      version = view.now.version + 1;
-      date = moment;
-      change = change;
-    } }
+    ensures { result ≡ published view.now reply change moment }
 {
     Decision {
         reply,
@@ -42,4 +38,48 @@ pub(crate) fn published(view: &View, reply: Text, change: Change, moment: u64) -
         date: moment,
         change,
     }
+}
+
+/// The department's name, the body of these fields, and the reply that names both serial and body.
+fn made_texts(
+    alloc: Global,
+    serial: u64,
+    department: &Text,
+    fields: &CertFields,
+) -> Result<(Text, Text, Text), NoMemory>
+    requires { IsCertFields fields.now }
+    ensures { IfOk result (λ made. made ≡
+        (department.now, body_text fields.now, issue_reply serial (body_text fields.now))) }
+{
+    let department = department.copied(alloc)?;
+    let body = Text::from_vec(write_body(alloc, fields)?);
+    let reply = to_issue(alloc, serial, body.as_slice())?;
+    Ok((department, body, reply))
+}
+
+/// The decision that a certificate of these fields is made, under the next serial. It isn't signed yet.
+pub(crate) fn certified(
+    alloc: Global,
+    view: &View,
+    department: &Text,
+    fields: CertFields,
+) -> Result<Decision, Stop>
+    requires lawful { IsCertificate (certificate_with department.now fields) }
+    requires left { view.now.next < 9223372036854775807 }
+    ensures made { IsMade result (certified view.now (certificate_with department.now fields)) }
+    ensures change { IfOk result (λ d. IsLawfulChange d.change) }
+{
+    let (department, body, reply) = made_texts(alloc, view.next, department, &fields)?;
+    Ok(Decision {
+        reply,
+        next: view.next + 1,
+        version: view.version,
+        date: view.date,
+        change: Change::Certificate(Certificate {
+            department,
+            fields,
+            body,
+            signature: None,
+        }),
+    })
 }

@@ -67,9 +67,10 @@ pub(crate) fn decide_delivery(
     if let Some(refusal) = refusal_of_delivery(view, caller, delivery) {
         return Err(Stop::Refused(refusal));
     }
+    let reply = to_delivery(alloc, delivery.serial)?;
     let change = Change::Signature {
         serial: delivery.serial,
         signature: delivery.signature,
     };
-    Ok(unpublished(view, to_delivery(alloc, delivery.serial)?, change))
+    Ok(unpublished(view, reply, change))
 }

@@ -1,15 +1,18 @@
 //! The certificate that an issue makes.
 
-ghost use Rattle.std.specs.Prelude.{◌≡◌, None, IsTrue, IfOk, take};
-ghost use Rattle.cert.specs.Options.{listing, is_options};
+ghost use Rattle.std.specs.Prelude.{◌≡◌, List, [], None, IfOk, take};
+ghost use Rattle.cert.specs.Options.{listing};
 ghost use Rattle.cert.specs.OptionFaults.{options_fault};
+ghost use Rattle.values.specs.declared.option_field.OptionField.TheVariants.{CriticalOptions, Extensions};
 ghost use Rattle.office.specs.State.{newest_key};
-ghost use Rattle.office.specs.Certificates.{IsCertificate, certificate_for, flags};
+ghost use Rattle.office.specs.Certificates.{certificate_for, flags};
 ghost use Rattle.office.specs.Views.{IsIssuable};
+ghost use Rattle.office.specs.Decided.{IsLawfulChange, IsMade, certified};
 
-use crate::certificate::Certificate;
-use crate::view::View;
-use cert::{CertFields, OptionFault, Options, write_body};
+use crate::certificate::copied_names;
+use crate::decision::certified;
+use crate::view::{Decision, Stop, View};
+use cert::{CertFields, OptionFault, Options};
 use message::{Department, Issue};
 use std::alloc::Global;
 use text::{NoMemory, Pair, Text};
@@ -23,8 +26,7 @@ fn options_of(
     pairs: &[Pair],
 ) -> Result<Options, NoMemory>
     requires { options_fault field kind pairs.now ≡ None }
-    ensures ok { IfOk result (λ o. o ≡ listing pairs.now) }
-    ensures lawful { IfOk result (λ o. IsTrue (is_options field kind o)) }
+    ensures { IfOk result (λ o. o ≡ listing pairs.now) }
 {
     match Options::build(alloc, kind, field, pairs) {
         Ok(options) => Ok(options),
@@ -33,17 +35,47 @@ fn options_of(
     }
 }
 
+/// An extension as a flag, without a value.
+fn flag_of(alloc: Global, name: &Text) -> Result<Pair, NoMemory>
+    ensures { IfOk result (λ p. p ≡ record { name = name.now; value = [] }) }
+{
+    Ok(Pair {
+        name: name.copied(alloc)?,
+        value: Text::new(alloc),
+    })
+}
+
 fn flags_of(alloc: Global, names: &[Text]) -> Result<Vec<Pair>, NoMemory>
     ensures { IfOk result (λ v. v.items ≡ flags names.now) }
 {
     let mut flags = Vec::with_capacity(alloc, names.len())?;
     for name in names {
-        flags.push(Pair {
-            name: name.copied(alloc)?,
-            value: Text::new(alloc),
-        })?;
+        flags.push(flag_of(alloc, name)?)?;
     }
     Ok(flags)
+}
+
+/// Names as extensions.
+fn extensions_of(alloc: Global, kind: Kind, names: &[Text]) -> Result<Options, NoMemory>
+    requires { options_fault Extensions kind (flags names.now) ≡ None }
+    ensures { IfOk result (λ o. o ≡ listing (flags names.now)) }
+{
+    let flags = flags_of(alloc, names)?;
+    options_of(alloc, kind, OptionField::Extensions, flags.as_slice())
+}
+
+/// Critical options and extensions, as an issue asks for them.
+fn both_options(alloc: Global, kind: Kind, issue: &Issue) -> Result<(Options, Options), NoMemory>
+    requires options { options_fault CriticalOptions kind issue.now.options ≡ None }
+    requires extensions { options_fault Extensions kind (flags issue.now.extensions) ≡ None }
+    ensures { IfOk result (λ both. both ≡ (listing issue.now.options, listing (flags issue.now.extensions))) }
+{
+    let pairs = issue.options.as_slice();
+    let options = options_of(alloc, kind, OptionField::CriticalOptions, pairs)?;
+    Ok((
+        options,
+        extensions_of(alloc, kind, issue.extensions.as_slice())?,
+    ))
 }
 
 /// The key of the CA with the greatest number.
@@ -63,37 +95,26 @@ pub(crate) fn issued(
     department: &Department,
     issue: &Issue,
     nonce: &[u8; 32],
-) -> Result<Certificate, NoMemory>
+) -> Result<Decision, Stop>
     requires { IsIssuable view.now department.now issue.now }
-    ensures made { IfOk result (λ c. c ≡ certificate_for issue.now view.now.next department.now.kind
-        (newest_key view.now.opening.now view.now.cas.now) nonce.now) }
-    ensures lawful { IfOk result (λ c. IsCertificate c) }
+    ensures made { IsMade result (certified view.now (certificate_for issue.now view.now.next department.now.kind
+        (newest_key view.now.opening.now view.now.cas.now) nonce.now)) }
+    ensures change { IfOk result (λ d. IsLawfulChange d.change) }
 {
-    let kind = department.kind;
-    let flags = flags_of(alloc, issue.extensions.as_slice())?;
+    let (key_id, principals) = copied_names(alloc, &issue.key_id, &issue.principals)?;
+    let (options, extensions) = both_options(alloc, department.kind, issue)?;
     let fields = CertFields {
         nonce: *nonce,
         key: issue.key.key,
         serial: view.next,
-        kind,
-        key_id: issue.key_id.copied(alloc)?,
-        principals: issue.principals.copied(alloc)?,
+        kind: department.kind,
+        key_id,
+        principals,
         after: issue.after,
         before: issue.before,
-        options: options_of(
-            alloc,
-            kind,
-            OptionField::CriticalOptions,
-            issue.options.as_slice(),
-        )?,
-        extensions: options_of(alloc, kind, OptionField::Extensions, flags.as_slice())?,
+        options,
+        extensions,
         ca: newest_key(view),
     };
-    let body = write_body(alloc, &fields)?;
-    Ok(Certificate {
-        department: issue.department.copied(alloc)?,
-        fields,
-        body: Text::from_vec(body),
-        signature: None,
-    })
+    certified(alloc, view, &issue.department, fields)
 }

@@ -5,19 +5,18 @@ ghost use Rattle.message.specs.Values.{is_renewal};
 ghost use Rattle.message.specs.declared.kinds.Message.TheVariants as message;
 ghost use Rattle.office.specs.State.{State, newest_key};
 ghost use Rattle.office.specs.Refusals.{first_holding, renewal_refusals};
-ghost use Rattle.office.specs.Certificates.{IsCertificate, renewed_certificate};
+ghost use Rattle.office.specs.Certificates.{renewed_certificate};
 ghost use Rattle.office.specs.Views.{IsRenewable, IsView};
-ghost use Rattle.office.specs.Decided.{Agrees, Decided, HasRoom, IsLawfulChange};
+ghost use Rattle.office.specs.Decided.{Agrees, Decided, HasRoom, IsLawfulChange, IsMade, certified};
 
-use crate::certificate::Certificate;
+use crate::certificate::{Certificate, copied_fields};
+use crate::decision::certified;
 use crate::issuing::newest_key;
 use crate::permission::{is_renewal_permitted, may_administer};
-use crate::replies::to_issue;
-use crate::view::{Change, Decision, Stop, View};
-use cert::{CertFields, write_body};
+use crate::view::{Decision, Stop, View};
+use cert::CertFields;
 use message::Renewal;
 use std::alloc::Global;
-use text::{NoMemory, Text};
 use values::Refusal;
 
 /// The refusal of a renewal with the least number.
@@ -65,32 +64,21 @@ fn renewed(
     old: &Certificate,
     renewal: &Renewal,
     nonce: &[u8; 32],
-) -> Result<Certificate, NoMemory>
+) -> Result<Decision, Stop>
     requires { IsRenewable view.now old.now renewal.now }
-    ensures made { IfOk result (λ c. c ≡ renewed_certificate old.now renewal.now view.now.next
-        (newest_key view.now.opening.now view.now.cas.now) nonce.now) }
-    ensures lawful { IfOk result (λ c. IsCertificate c) }
+    ensures made { IsMade result (certified view.now (renewed_certificate old.now renewal.now view.now.next
+        (newest_key view.now.opening.now view.now.cas.now) nonce.now)) }
+    ensures change { IfOk result (λ d. IsLawfulChange d.change) }
 {
     let fields = CertFields {
         nonce: *nonce,
-        key: old.fields.key,
         serial: view.next,
-        kind: old.fields.kind,
-        key_id: old.fields.key_id.copied(alloc)?,
-        principals: old.fields.principals.copied(alloc)?,
         after: renewal.after,
         before: renewal.before,
-        options: old.fields.options.copied(alloc)?,
-        extensions: old.fields.extensions.copied(alloc)?,
         ca: newest_key(view),
+        ..copied_fields(alloc, &old.fields)?
     };
-    let body = write_body(alloc, &fields)?;
-    Ok(Certificate {
-        department: old.department.copied(alloc)?,
-        fields,
-        body: Text::from_vec(body),
-        signature: None,
-    })
+    certified(alloc, view, &old.department, fields)
 }
 
 /// A certificate once more.
@@ -116,12 +104,5 @@ pub(crate) fn decide_renewal(
     let Some(old) = view.certificate else {
         return Err(Stop::Refused(Refusal::UnknownSerial));
     };
-    let certificate = renewed(alloc, view, old, renewal, nonce)?;
-    Ok(Decision {
-        reply: to_issue(alloc, view.next, certificate.body.as_slice())?,
-        next: view.next + 1,
-        version: view.version,
-        date: view.date,
-        change: Change::Certificate(certificate),
-    })
+    renewed(alloc, view, old, renewal, nonce)
 }

@@ -1,6 +1,6 @@
 //! The texts of replies.
 
-ghost use Rattle.std.specs.Prelude.{◌≡◌, IfOk};
+ghost use Rattle.std.specs.Prelude.{◌≡◌, ◌++◌, ◌∷◌, [], decimal, IfOk, OnOk};
 ghost use Rattle.office.specs.Replies.{delivery_reply, department_reply, issue_reply, revocation_reply, rollover_reply};
 
 use lines::body_digest;
@@ -8,14 +8,32 @@ use std::alloc::Global;
 use text::{NoMemory, Text};
 use values::put_decimal;
 
+/// A line of these words and this text, at the end of the reply.
+fn put_text(reply: &mut Vec<u8>, words: &[u8], text: &[u8]) -> Result<(), NoMemory>
+    ensures { OnOk result (reply.new.items ≡ reply.old.items ++ words.now ++ text.now ++ 10 ∷ []) }
+{
+    reply.extend_from_slice(words)?;
+    reply.extend_from_slice(text)?;
+    reply.push(b'\n')?;
+    Ok(())
+}
+
+/// A line of these words and this number, at the end of the reply.
+fn put_number(reply: &mut Vec<u8>, words: &[u8], number: u64) -> Result<(), NoMemory>
+    ensures { OnOk result (reply.new.items ≡ reply.old.items ++ words.now ++ decimal number ++ 10 ∷ []) }
+{
+    reply.extend_from_slice(words)?;
+    put_decimal(reply, number)?;
+    reply.push(b'\n')?;
+    Ok(())
+}
+
 /// `department NAME`.
 pub(crate) fn to_department(alloc: Global, name: &[u8]) -> Result<Text, NoMemory>
     ensures { IfOk result (λ t. t ≡ department_reply name.now) }
 {
     let mut reply = Vec::new(alloc);
-    reply.extend_from_slice(b"department ".as_slice())?;
-    reply.extend_from_slice(name)?;
-    reply.push(b'\n')?;
+    put_text(&mut reply, b"department ".as_slice(), name)?;
     Ok(Text::from_vec(reply))
 }
 
@@ -23,14 +41,9 @@ pub(crate) fn to_department(alloc: Global, name: &[u8]) -> Result<Text, NoMemory
 pub(crate) fn to_issue(alloc: Global, serial: u64, body: &[u8]) -> Result<Text, NoMemory>
     ensures { IfOk result (λ t. t ≡ issue_reply serial body.now) }
 {
-    let digest = body_digest(body);
     let mut reply = Vec::new(alloc);
-    reply.extend_from_slice(b"issued ".as_slice())?;
-    put_decimal(&mut reply, serial)?;
-    reply.push(b'\n')?;
-    reply.extend_from_slice(b"digest ".as_slice())?;
-    reply.extend_from_slice(&digest)?;
-    reply.push(b'\n')?;
+    put_number(&mut reply, b"issued ".as_slice(), serial)?;
+    put_text(&mut reply, b"digest ".as_slice(), &body_digest(body))?;
     Ok(Text::from_vec(reply))
 }
 
@@ -39,9 +52,7 @@ pub(crate) fn to_delivery(alloc: Global, serial: u64) -> Result<Text, NoMemory>
     ensures { IfOk result (λ t. t ≡ delivery_reply serial) }
 {
     let mut reply = Vec::new(alloc);
-    reply.extend_from_slice(b"signed ".as_slice())?;
-    put_decimal(&mut reply, serial)?;
-    reply.push(b'\n')?;
+    put_number(&mut reply, b"signed ".as_slice(), serial)?;
     Ok(Text::from_vec(reply))
 }
 
@@ -50,10 +61,7 @@ pub(crate) fn to_revocation(alloc: Global, version: u64) -> Result<Text, NoMemor
     ensures { IfOk result (λ t. t ≡ revocation_reply version) }
 {
     let mut reply = Vec::new(alloc);
-    reply.extend_from_slice(b"revoked\n".as_slice())?;
-    reply.extend_from_slice(b"version ".as_slice())?;
-    put_decimal(&mut reply, version)?;
-    reply.push(b'\n')?;
+    put_number(&mut reply, b"revoked\nversion ".as_slice(), version)?;
     Ok(Text::from_vec(reply))
 }
 
@@ -62,11 +70,7 @@ pub(crate) fn to_rollover(alloc: Global, number: u64, since: u64) -> Result<Text
     ensures { IfOk result (λ t. t ≡ rollover_reply number since) }
 {
     let mut reply = Vec::new(alloc);
-    reply.extend_from_slice(b"rollover ".as_slice())?;
-    put_decimal(&mut reply, number)?;
-    reply.push(b'\n')?;
-    reply.extend_from_slice(b"since ".as_slice())?;
-    put_decimal(&mut reply, since)?;
-    reply.push(b'\n')?;
+    put_number(&mut reply, b"rollover ".as_slice(), number)?;
+    put_number(&mut reply, b"since ".as_slice(), since)?;
     Ok(Text::from_vec(reply))
 }

@@ -9,7 +9,7 @@ ghost use Rattle.office.specs.State.{State};
 ghost use Rattle.office.specs.Replies.{revocation_reply};
 ghost use Rattle.office.specs.Refusals.{first_holding, key_id_refusals, range_refusals, serial_refusals};
 ghost use Rattle.office.specs.Views.{IsView};
-ghost use Rattle.office.specs.Decided.{Agrees, Decided, HasRoom, IsLawfulChange};
+ghost use Rattle.office.specs.Decided.{Agrees, Decided, HasRoom, IsLawfulChange, IsMade, published, unpublished};
 ghost use Rattle.office.specs.declared.view.Change.TheVariants as change;
 
 use crate::decision::{published, unpublished};
@@ -18,7 +18,7 @@ use crate::replies::to_revocation;
 use crate::view::{Change, Decision, Stop, View};
 use message::SerialRange;
 use std::alloc::Global;
-use text::{NoMemory, Text};
+use text::Text;
 use values::Refusal;
 
 fn refusal_of_serial(view: &View, caller: &[u8], serial: u64) -> Option<Refusal>
@@ -62,32 +62,32 @@ fn refusal_of_key_id(view: &View, caller: &[u8], key_id: &Text) -> Option<Refusa
 }
 
 /// All that is to be revoked is.
-fn unchanged(alloc: Global, view: &View) -> Result<Decision, NoMemory>
-    ensures { IfOk result (λ d. d ≡ record {
-      reply = revocation_reply view.now.version;
-      next = view.now.next;
-      version = view.now.version;
-      date = view.now.date;
-      change = change.Nothing;
-    }) }
+fn unchanged(alloc: Global, view: &View) -> Result<Decision, Stop>
+    ensures { IsMade result (unpublished view.now (revocation_reply view.now.version) change.Nothing) }
 {
     let reply = to_revocation(alloc, view.version)?;
     Ok(unpublished(view, reply, Change::Nothing))
 }
 
-/// More is revoked.
-fn changed(alloc: Global, view: &View, change: Change, moment: u64) -> Result<Decision, NoMemory>
+/// More serials are revoked.
+fn with_range(alloc: Global, view: &View, range: SerialRange, moment: u64) -> Result<Decision, Stop>
     requires { view.now.version < 9223372036854775807 }
-    ensures { IfOk result (λ d. d ≡ record {
-      reply = revocation_reply (view.now.version + 1);
-      next = view.now.next;
-      version = view.now.version + 1;
-      date = moment;
-      change = change;
-    }) }
+    ensures { IsMade result
+        (published view.now (revocation_reply (view.now.version + 1)) (change.Range range) moment) }
 {
     let reply = to_revocation(alloc, view.version + 1)?;
-    Ok(published(view, reply, change, moment))
+    Ok(published(view, reply, Change::Range(range), moment))
+}
+
+/// One more key id is revoked.
+fn with_key_id(alloc: Global, view: &View, key_id: &Text, moment: u64) -> Result<Decision, Stop>
+    requires { view.now.version < 9223372036854775807 }
+    ensures { IsMade result
+        (published view.now (revocation_reply (view.now.version + 1)) (change.KeyId key_id.now) moment) }
+{
+    let key_id = key_id.copied(alloc)?;
+    let reply = to_revocation(alloc, view.version + 1)?;
+    Ok(published(view, reply, Change::KeyId(key_id), moment))
 }
 
 /// The revocation of a serial.
@@ -111,13 +111,13 @@ pub(crate) fn decide_serial(
         return Err(Stop::Refused(refusal));
     }
     if view.is_revoked {
-        return Ok(unchanged(alloc, view)?);
+        return unchanged(alloc, view);
     }
     let range = SerialRange {
         lo: serial,
         hi: serial,
     };
-    Ok(changed(alloc, view, Change::Range(range), moment)?)
+    with_range(alloc, view, range, moment)
 }
 
 /// The revocation of the serials of a range.
@@ -140,9 +140,9 @@ pub(crate) fn decide_range(
         return Err(Stop::Refused(refusal));
     }
     if view.is_revoked {
-        return Ok(unchanged(alloc, view)?);
+        return unchanged(alloc, view);
     }
-    Ok(changed(alloc, view, Change::Range(range), moment)?)
+    with_range(alloc, view, range, moment)
 }
 
 /// The revocation of a key id.
@@ -166,8 +166,7 @@ pub(crate) fn decide_key_id(
         return Err(Stop::Refused(refusal));
     }
     if view.is_key_id_revoked {
-        return Ok(unchanged(alloc, view)?);
+        return unchanged(alloc, view);
     }
-    let change = Change::KeyId(key_id.copied(alloc)?);
-    Ok(changed(alloc, view, change, moment)?)
+    with_key_id(alloc, view, key_id, moment)
 }

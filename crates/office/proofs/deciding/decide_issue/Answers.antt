@@ -1,8 +1,9 @@
 use Rattle.std.proofs.Common.{◌≡◌, Some, refl, sym, ap, ◌∙◌}
 use Rattle.std.specs.Prelude.{option_copied}
 use Rattle.message.specs.declared.kinds.Message.TheVariants as message
+use Rattle.office.specs.Decided.{HasRoom}
 use Rattle.office.specs.Machine.{department_named, issued}
-use Rattle.office.proofs.Decisions.{issued_by_view, made_decided}
+use Rattle.office.proofs.Decisions.{certified_decided, issued_by_view, made_so, serial_left}
 use Rattle.office.proofs.deciding.decide_issue.Goals as goal
 
 pub returns-clause-decided : goal.returns-clause-decided
@@ -13,8 +14,16 @@ returns-clause-decided c s agrees =
     let d = c.in-Some-department.department.now in
     let is : department_named s i.department ≡ Some d =
     sym agrees.department ∙ ap option_copied c.in-Some-department.is in
-    made_decided v s (message.Issue i) c.args.caller.now c.args.moment nonce agrees
+    certified_decided v s (message.Issue i) c.args.caller.now c.args.moment nonce agrees
     (sym (c.refusal_of_issue.ensures.least s agrees) ∙ c.in_default.is)
-    c.in_ok-certificate.certificate (issued s i nonce) _ _ _ refl
-    (c.in_ok-certificate.ensures.made ∙ issued_by_view v s i d nonce agrees is) refl refl
-    c.in_ok-to_issue.ensures c.as_slice.ensures
+    c.issued.result _ (issued s i nonce) c.issued.ensures.made (issued_by_view v s i d nonce agrees is) refl refl
+
+pub returns-clause-room : goal.returns-clause-room
+returns-clause-room c s agrees =
+    made_so (λ d. HasRoom d.change s) c.issued.result _ c.issued.ensures.made
+    (serial_left c.args.view.now s (message.Issue c.args.issue.now) agrees
+    (c.refusal_of_issue.ensures.left c.in_default.is))
+
+pub returns-clause-version : goal.returns-clause-version
+returns-clause-version c =
+    made_so (λ d. d.version ≡ c.args.view.now.version) c.issued.result _ c.issued.ensures.made refl

@@ -1,51 +1,35 @@
-use Rattle.std.proofs.Common.{rules, refl}
+use Rattle.std.proofs.Common.{◌≡◌, rules}
+use Rattle.cert.specs.Options.{listing}
+use Rattle.office.specs.Certificates.{flags}
 use Rattle.office.proofs.Issuable.{issuable_options, issuable_extensions, issuable_certificate}
 use Rattle.office.proofs.issuing.issued.Goals as goal
 
-pub options_of-requires : goal.options_of-requires
-options_of-requires c =
-    rw c.as_slice-2.ensures (issuable_options c.args.view.now c.args.department.now c.args.issue.now c.requires)
+pub both_options-requires-clause-options : goal.both_options-requires-clause-options
+both_options-requires-clause-options c =
+    issuable_options c.args.view.now c.args.department.now c.args.issue.now c.requires
 
-pub options_of-requires-2 : goal.options_of-requires-2
-options_of-requires-2 c =
-    rw (c.as_slice-3.ensures.value, c.in_ok-flags.ensures, c.as_slice.ensures)
-    (issuable_extensions c.args.view.now c.args.department.now c.args.issue.now c.requires)
+pub both_options-requires-clause-extensions : goal.both_options-requires-clause-extensions
+both_options-requires-clause-extensions c =
+    issuable_extensions c.args.view.now c.args.department.now c.args.issue.now c.requires
 
-pub write_body-requires : goal.write_body-requires
-write_body-requires c =
-    rw (
-      c.in_ok-copied.ensures,
-      c.in_ok-copied-2.ensures,
-      c.in_ok-options_of.ensures.ok,
-      c.as_slice-2.ensures,
-      c.in_ok-options_of-2.ensures.ok,
-      c.as_slice-3.ensures.value,
-      c.in_ok-flags.ensures,
-      c.as_slice.ensures,
-    )
-    (issuable_certificate c.args.view.now c.args.department.now c.args.issue.now c.newest_key.result
-    c.args.nonce.now c.requires (search rules) (search rules)).fields
+pub certified-requires-clause-lawful : goal.certified-requires-clause-lawful
+certified-requires-clause-lawful c =
+    let i = c.args.issue.now in
+    let key_id : c.in_ok-key_id.key_id ≡ i.key_id = λ j. (c.in_ok-key_id.ensures j).0 in
+    let principals : c.in_ok-key_id.principals ≡ i.principals = λ j. (c.in_ok-key_id.ensures j).1 in
+    let options : c.in_ok-options.options ≡ listing i.options = λ j. (c.in_ok-options.ensures j).0 in
+    let extensions : c.in_ok-options.extensions ≡ listing (flags i.extensions) =
+    λ j. (c.in_ok-options.ensures j).1 in
+    rw (key_id, principals, options, extensions)
+    (issuable_certificate c.args.view.now c.args.department.now i c.newest_key.result c.args.nonce.now c.requires
+    (search rules) (search rules))
 
 pub returns-clause-made : goal.returns-clause-made
 returns-clause-made c =
-    rw (
-      c.from_vec.ensures,
-      c.in_ok-body.ensures.text,
-      c.in_ok-copied-3.ensures,
-      c.in_ok-copied.ensures,
-      c.in_ok-copied-2.ensures,
-      c.in_ok-options_of.ensures.ok,
-      c.as_slice-2.ensures,
-      c.in_ok-options_of-2.ensures.ok,
-      c.as_slice-3.ensures.value,
-      c.in_ok-flags.ensures,
-      c.as_slice.ensures,
-      c.newest_key.ensures,
-    ) refl
-
-pub returns-clause-lawful : goal.returns-clause-lawful
-returns-clause-lawful c =
-    let made = returns-clause-made c in
-    rw (made, ← c.newest_key.ensures)
-    (issuable_certificate c.args.view.now c.args.department.now c.args.issue.now c.newest_key.result
-    c.args.nonce.now c.requires (search rules) (search rules))
+    let i = c.args.issue.now in
+    let key_id : c.in_ok-key_id.key_id ≡ i.key_id = λ j. (c.in_ok-key_id.ensures j).0 in
+    let principals : c.in_ok-key_id.principals ≡ i.principals = λ j. (c.in_ok-key_id.ensures j).1 in
+    let options : c.in_ok-options.options ≡ listing i.options = λ j. (c.in_ok-options.ensures j).0 in
+    let extensions : c.in_ok-options.extensions ≡ listing (flags i.extensions) =
+    λ j. (c.in_ok-options.ensures j).1 in
+    rw (key_id, principals, options, extensions, c.newest_key.ensures) at c.certified.ensures.made
