@@ -1,5 +1,6 @@
 -- Texts put at the end.
-use Rattle.cert.proofs.Words.{List, Result, ap, append_assoc, length, string_text, u32_text, ℕ, ◌++◌, ◌<◌, ◌^◌, ◌∙◌, ◌≡◌}
+use Rattle.cert.proofs.Words.{List, Result, ap, append_assoc, length, string_text, u32_text, ℕ, ◌++◌, ◌<◌, ◌^◌, ◌∙◌}
+use Rattle.cert.proofs.Words.{◌≡◌}
 use Rattle.std.proofs.Common.{OnOk}
 use Rattle.std.proofs.lemmas.Result.{on_ok_weaker}
 

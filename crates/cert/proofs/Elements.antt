@@ -32,6 +32,33 @@ string_goes_on test front i bytes name after total lt h t so_far =
     sym (one_string test front (16 - (i + 1)) bytes name after h t)
     ∙ ap (λ (n : ℕ). with_front front (strings_within n test bytes)) (sym k) ∙ so_far
 
+-- what is left begins with no string
+pub string_cut : (test : List ℕ → Bool) (front : List (List ℕ)) (i : ℕ) (bytes : List ℕ)
+    (total : Option (List (List ℕ))) → i < 16 → ¬ (bytes ≡ []) → string_at bytes ≡ None
+    → with_front front (strings_within (16 - i) test bytes) ≡ total → total ≡ None
+string_cut test front i [] total lt some h so_far = absurd (some refl)
+string_cut test front i (b ∷ bytes) total lt some h so_far =
+    let k : 16 - i ≡ suc (16 - (i + 1)) = omega arith in
+    sym so_far ∙ ap (λ (n : ℕ). with_front front (strings_within n test (b ∷ bytes))) k ∙ rw h refl
+
+-- what is left begins with a string that fails the test
+pub string_fails : (test : List ℕ → Bool) (front : List (List ℕ)) (i : ℕ) (bytes name after : List ℕ)
+    (total : Option (List (List ℕ))) → i < 16 → string_at bytes ≡ Some (name, after) → test name ≡ false
+    → with_front front (strings_within (16 - i) test bytes) ≡ total → total ≡ None
+string_fails test front i [] name after total lt h t so_far = absurd cc
+string_fails test front i (b ∷ bytes) name after total lt h t so_far =
+    let k : 16 - i ≡ suc (16 - (i + 1)) = omega arith in
+    sym so_far ∙ ap (λ (n : ℕ). with_front front (strings_within n test (b ∷ bytes))) k ∙ rw (h, t) refl
+
+-- more is left than so many strings
+pub strings_left : (test : List ℕ → Bool) (front : List (List ℕ)) (i : ℕ) (bytes : List ℕ)
+    (total : Option (List (List ℕ))) → 16 ≤ i → ¬ (bytes ≡ [])
+    → with_front front (strings_within (16 - i) test bytes) ≡ total → total ≡ None
+strings_left test front i [] total le some so_far = absurd (some refl)
+strings_left test front i (b ∷ bytes) total le some so_far =
+    let k : 16 - i ≡ 0 = omega arith in
+    sym so_far ∙ ap (λ (n : ℕ). with_front front (strings_within n test (b ∷ bytes))) k
+
 -- ---- options
 
 one_option : (field : OptionField) (previous : List ℕ) (front : List Pair) (k : ℕ) (bytes : List ℕ) (p : Pair)

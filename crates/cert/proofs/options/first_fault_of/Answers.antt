@@ -1,5 +1,6 @@
-use Rattle.cert.proofs.Words.{List, None, Option, OptionFault, OptionField, Pair, Some, [], ap, drop, false, first_fault}
-use Rattle.cert.proofs.Words.{is_some, length, pair_fault, refl, suc, sym, take, true, ℕ, ◌++◌, ◌+◌, ◌<◌, ◌∙◌, ◌∷◌, ◌≡◌}
+use Rattle.cert.proofs.Words.{List, None, Option, OptionFault, OptionField, Pair, Some, [], ap, drop, false}
+use Rattle.cert.proofs.Words.{first_fault, is_some, length, pair_fault, refl, suc, sym, take, true, ℕ, ◌++◌, ◌+◌}
+use Rattle.cert.proofs.Words.{◌<◌, ◌∙◌, ◌∷◌, ◌≡◌}
 use Rattle.std.proofs.Common.{add-one, drop-cons, get_or}
 use Rattle.std.proofs.lemmas.List.{take_more}
 use Rattle.std.specs.Option.{option_or}
@@ -14,7 +15,7 @@ next field ps i p lt is =
     (sym is)) in
     let more : take (i + 1) ps ≡ take i ps ++ p ∷ [] = take_more ps i p lt ∙ ap (λ q. take i ps ++ q ∷ []) (sym is) in
     ap (first_fault field (take i ps)) left
-    ∙ ap (λ earlier. option_or (pair_fault field (take i ps) p) (first_fault field earlier (drop (i + 1) ps))) (sym more)
+    ∙ ap (λ so_far. option_or (pair_fault field (take i ps) p) (first_fault field so_far (drop (i + 1) ps))) (sym more)
 
 later : (found rest : Option OptionFault) → is_some found ≡ false → option_or found rest ≡ rest
 later None rest e = refl
