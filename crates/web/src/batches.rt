@@ -16,12 +16,25 @@ use std::alloc::Global;
 use text::NoMemory;
 
 /// A report with something to say of certificates, one after the other.
-#[derive(Clone, Copy, Debug)]
+#[derive(Clone, Copy)]
 pub(crate) enum Report {
     /// A line for each that waits for its signature.
     Pending,
     /// A line for each.
     Table,
+}
+
+fn put_waiting(
+    out: &mut Vec<u8>,
+    certificate: &Certificate,
+    is_revoked: bool,
+) -> Result<(), NoMemory>
+    ensures { OnOk result (out.new.items ≡ out.old.items ++ line_as Report.Pending is_revoked certificate.now) }
+{
+    if certificate.signature.is_none() && !is_revoked {
+        return put_pending(out, &certificate.pending_row());
+    }
+    Ok(())
 }
 
 fn put_line(
@@ -35,12 +48,7 @@ fn put_line(
 {
     match report {
         Report::Table => put_entry(out, &certificate.entry(alloc, is_revoked)?),
-        Report::Pending => {
-            if certificate.signature.is_none() && !is_revoked {
-                put_pending(out, &certificate.pending_row())?;
-            }
-            Ok(())
-        }
+        Report::Pending => put_waiting(out, certificate, is_revoked),
     }
 }
 
