@@ -5,3 +5,5 @@ pub mod Answered
 pub mod Reported
 pub mod Taken
 pub mod Stores
+pub mod Items
+pub mod Shown

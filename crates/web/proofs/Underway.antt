@@ -43,7 +43,7 @@ starts means is_open all = λ o l m. record {
 }
 
 -- the next was answered
-pub goes_on : (before now new : Opening → List Arrival → Type 0) (was_open is_open : Type 0) (all rest : List Exchange) (x : Exchange)
+goes_on : (before now new : Opening → List Arrival → Type 0) (was_open is_open : Type 0) (all rest : List Exchange) (x : Exchange)
     (given : List Given) (response : List ℕ)
     → IsAnswered now new (λ o l. new o l × is_open) x.request x.moment x.nonce response → (was_open → is_open)
     → IsUnderway before now was_open all (x ∷ rest) given → IsUnderway before new is_open all rest (given ++ Answer response ∷ [])
@@ -69,7 +69,7 @@ goes_on before now new was_open is_open all rest x given response answers stays 
     }
 
 -- the next met a fault
-pub goes_by : (before now new : Opening → List Arrival → Type 0) (was_open is_open : Type 0) (all rest : List Exchange) (x : Exchange)
+goes_by : (before now new : Opening → List Arrival → Type 0) (was_open is_open : Type 0) (all rest : List Exchange) (x : Exchange)
     (given : List Given) → ((o : Opening) (l : List Arrival) → now o l → new o l)
     → IsUnderway before now was_open all (x ∷ rest) given → IsUnderway before new is_open all rest (given ++ Fault ∷ [])
 goes_by before now new was_open is_open all rest x given same u = λ o l m.
@@ -83,6 +83,19 @@ goes_by before now new was_open is_open all rest x given same u = λ o l m.
           answered_still ⊥ is_open rest more (λ none. absurd none) (r.answered (Fault ∷ more)
           (subst (λ (g : List Given). HasAnswered ⊥ all g) (append_assoc given (Fault ∷ []) more) answered));
     }
+
+-- the next was given one of both
+pub goes_with : (before now new : Opening → List Arrival → Type 0) (was_open is_open : Type 0) (all rest : List Exchange) (x : Exchange)
+    (given : List Given) (one : Given)
+    → ((response : List ℕ) → one ≡ Answer response
+    → IsAnswered now new (λ o l. new o l × is_open) x.request x.moment x.nonce response × (was_open → is_open))
+    → (one ≡ Fault → (o : Opening) (l : List Arrival) → now o l → new o l)
+    → IsUnderway before now was_open all (x ∷ rest) given → IsUnderway before new is_open all rest (given ++ one ∷ [])
+goes_with before now new was_open is_open all rest x given (Answer response) answers same =
+    let answered = answers response refl in
+    goes_on before now new was_open is_open all rest x given response answered.0 answered.1
+goes_with before now new was_open is_open all rest x given Fault answers same =
+    goes_by before now new was_open is_open all rest x given (same refl)
 
 -- nothing is left
 pub is_done : (before now : Opening → List Arrival → Type 0) (is_open : Type 0) (all : List Exchange) (given : List Given)

@@ -1,11 +1,12 @@
 //! Arrivals answered.
 
-ghost use Rattle.std.specs.Prelude.{◌≡◌, ◌≤◌, ◌<◌, ◌++◌, [], ◌∷◌, IfOk, OnOk, OnErr, IfErr, length, vec_capacity};
+ghost use Rattle.std.specs.Prelude.{◌≡◌, ◌≤◌, ◌++◌, [], ◌∷◌, IfOk, OnOk, OnErr, IfErr, length, vec_capacity};
 ghost use Rattle.http_requests.specs.declared.response.MediaType.TheVariants.{PlainText};
 ghost use Rattle.http_requests.specs.Responses.{response_text};
 ghost use Rattle.office.specs.declared.arrival.Arrival.{Arrival};
 ghost use Rattle.office.specs.History.{due};
 ghost use Rattle.office.specs.Faults.{HasCause};
+ghost use Rattle.office.specs.Laws.{ReplyFits};
 ghost use Rattle.office.specs.Registers.{AnswersBy, FailsAsARegister, MeansOneMore, MeansTheSame};
 ghost use Rattle.web.specs.Answers.{outcome_response};
 
@@ -23,13 +24,27 @@ fn to_reply(room: Vec<u8>, reply: &Text) -> Result<Vec<u8>, StoreFault>
     requires empty { room.items ≡ [] }
     requires space { ROOM ≤ vec_capacity room }
     ensures ok { IfOk result (λ v. v.items ≡ response_text 200 PlainText reply.now) }
-    ensures err { IfErr result (λ e. (e ≡ StoreFault.Damaged) × (MAX_REPLY < length reply.now)) }
+    ensures err { IfErr result (λ e. (e ≡ StoreFault.Damaged) × (length reply.now ≤ MAX_REPLY → ⊥)) }
 {
     let reply = reply.as_slice();
     if MAX_REPLY < reply.len() {
         return Err(StoreFault::Damaged);
     }
     Ok(respond(room, MediaType::PlainText, reply))
+}
+
+/// The response with what an arrival is answered.
+fn to_outcome(room: Vec<u8>, outcome: &Outcome) -> Result<Vec<u8>, StoreFault>
+    requires empty { room.items ≡ [] }
+    requires space { ROOM ≤ vec_capacity room }
+    ensures ok { IfOk result (λ v. v.items ≡ outcome_response outcome.now) }
+    ensures err { IfErr result (λ e. (e ≡ StoreFault.Damaged) × (ReplyFits MAX_REPLY outcome.now → ⊥)) }
+{
+    match outcome {
+        Outcome::Accepted(reply) => to_reply(room, reply),
+        Outcome::Repeated(reply) => to_reply(room, reply),
+        Outcome::Refused(refusal) => Ok(refuse(room, *refusal)),
+    }
 }
 
 /// The response to an arrival.
@@ -49,9 +64,6 @@ pub(crate) fn to_arrival<R: Registry>(
     ensures only { R.is_honest registry.new → FailsAsARegister R.means registry.old result }
 {
     let room = room(alloc, ROOM)?;
-    match registry.apply(alloc, arrival)? {
-        Outcome::Accepted(reply) => to_reply(room, &reply),
-        Outcome::Repeated(reply) => to_reply(room, &reply),
-        Outcome::Refused(refusal) => Ok(refuse(room, refusal)),
-    }
+    let outcome = registry.apply(alloc, arrival)?;
+    to_outcome(room, &outcome)
 }

@@ -24,6 +24,19 @@ pub(crate) enum Report {
     Table,
 }
 
+fn put_waiting(
+    out: &mut Vec<u8>,
+    certificate: &Certificate,
+    is_revoked: bool,
+) -> Result<(), NoMemory>
+    ensures { OnOk result (out.new.items ≡ out.old.items ++ line_as Report.Pending is_revoked certificate.now) }
+{
+    if certificate.signature.is_none() && !is_revoked {
+        return put_pending(out, &certificate.pending_row());
+    }
+    Ok(())
+}
+
 fn put_line(
     out: &mut Vec<u8>,
     alloc: Global,
@@ -35,12 +48,7 @@ fn put_line(
 {
     match report {
         Report::Table => put_entry(out, &certificate.entry(alloc, is_revoked)?),
-        Report::Pending => {
-            if certificate.signature.is_none() && !is_revoked {
-                put_pending(out, &certificate.pending_row())?;
-            }
-            Ok(())
-        }
+        Report::Pending => put_waiting(out, certificate, is_revoked),
     }
 }
 

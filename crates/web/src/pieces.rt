@@ -2,10 +2,11 @@
 
 ghost use Rattle.std.specs.Prelude.{◌≡◌, ◌++◌, length, drop, decimal, OnOk};
 ghost use Rattle.std.specs.List.{flat_map};
-ghost use Rattle.web.specs.Reports.{right_in};
+ghost use Rattle.web.specs.Reports.{gap, right_in};
 
 use itoa::Buffer;
 use text::NoMemory;
+use values::put_decimal;
 
 /// Puts the pieces, one after the other.
 pub(crate) fn put_pieces(out: &mut Vec<u8>, pieces: &[&[u8]]) -> Result<(), NoMemory>
@@ -15,6 +16,14 @@ pub(crate) fn put_pieces(out: &mut Vec<u8>, pieces: &[&[u8]]) -> Result<(), NoMe
         out.extend_from_slice(piece)?;
     }
     Ok(())
+}
+
+/// Puts a word and a number in decimal.
+pub(crate) fn put_number(out: &mut Vec<u8>, word: &[u8], number: u64) -> Result<(), NoMemory>
+    ensures { OnOk result (out.new.items ≡ out.old.items ++ (word.now ++ decimal number)) }
+{
+    out.extend_from_slice(word)?;
+    put_decimal(out, number)
 }
 
 /// What is left of the places before a text at their right end.
@@ -27,13 +36,11 @@ fn places_before<'a>(places: &'a [u8], text: &[u8]) -> &'a [u8]
     &places[text.len()..]
 }
 
-/// Puts a number in decimal, at the right end of these places where it is shorter.
-pub(crate) fn put_right(out: &mut Vec<u8>, places: &[u8], number: u64) -> Result<(), NoMemory>
-    ensures { OnOk result (out.new.items ≡ out.old.items ++ right_in places.now (decimal number)) }
+/// Puts a number in decimal, at the right end of these places where it is shorter, and the gap before the next column.
+pub(crate) fn put_column(out: &mut Vec<u8>, places: &[u8], number: u64) -> Result<(), NoMemory>
+    ensures { OnOk result (out.new.items ≡ out.old.items ++ (right_in places.now (decimal number) ++ gap)) }
 {
     let mut buffer = Buffer::new();
     let digits = buffer.format(number).as_bytes();
-    out.extend_from_slice(places_before(places, digits))?;
-    out.extend_from_slice(digits)?;
-    Ok(())
+    put_pieces(out, &[places_before(places, digits), digits, b"  "])
 }

@@ -15,7 +15,7 @@ ghost use Rattle.web.specs.Causes.{FailsWithin, IsOfAList};
 ghost use Rattle.web.specs.Reports.{ca_line, ca_lines, ca_report, is_signing, signer_row, signer_rows, signer_rows_of};
 ghost use Rattle.web.specs.Reports.{signers_report};
 
-use crate::pieces::put_pieces;
+use crate::pieces::{put_number, put_pieces};
 use crate::room::{around, room};
 use http_requests::{MAX_RESPONSE_HEAD, MediaType, begin_response};
 use krl::{krl_len, write_krl};
@@ -129,6 +129,21 @@ fn signers_text(alloc: Global, rows: &[SignerRow]) -> Result<Vec<u8>, NoMemory>
     }
 }
 
+/// The response with the rows of these departments and CAs.
+fn signers_response(
+    alloc: Global,
+    departments: &[Department],
+    cas: &[Ca],
+) -> Result<Vec<u8>, StoreFault>
+    ensures ok { IfOk result (λ v. v.items ≡ response_text 200 PlainText
+        (signers_text (signer_rows departments.now cas.now))) }
+    ensures err { IfErr result (λ e. e ≡ StoreFault.NoMemory) }
+{
+    let rows = signer_rows(alloc, departments, cas)?;
+    let report = signers_text(alloc, &rows)?;
+    around(report, MediaType::PlainText)
+}
+
 /// The response with the allowed signers.
 pub(crate) fn to_signers<R: Registry>(
     registry: &mut R,
@@ -146,9 +161,7 @@ pub(crate) fn to_signers<R: Registry>(
 {
     let departments = registry.departments(alloc)?;
     let cas = registry.cas(alloc)?;
-    let rows = signer_rows(alloc, &departments, &cas)?;
-    let report = signers_text(alloc, &rows)?;
-    around(report, MediaType::PlainText)
+    signers_response(alloc, &departments, &cas)
 }
 
 fn fingerprint_of(ca: &Ca) -> [u8; 50]
@@ -164,12 +177,9 @@ fn put_ca(out: &mut Vec<u8>, number: u64, ca: &Ca) -> Result<(), NoMemory>
     ensures { OnOk result (out.new.items ≡ out.old.items ++ ca_line number ca.now) }
 {
     put_decimal(out, number)?;
-    put_pieces(out, &[b" "])?;
-    put_decimal(out, ca.since)?;
-    put_pieces(
-        out,
-        &[b" ".as_slice(), fingerprint_of(ca).as_slice(), b"\n"],
-    )
+    put_number(out, b" ", ca.since)?;
+    let fingerprint = fingerprint_of(ca);
+    put_pieces(out, &[b" ", fingerprint.as_slice(), b"\n"])
 }
 
 fn ca_lines(alloc: Global, cas: &[Ca]) -> Result<Vec<u8>, NoMemory>

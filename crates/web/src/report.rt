@@ -8,17 +8,17 @@ ghost use Rattle.office.specs.Faults.{HasCause};
 ghost use Rattle.office.specs.Registers.{AnswersBy, FailsAsARegister, MeansTheSame};
 ghost use Rattle.web.specs.Causes.{FailsWithin};
 ghost use Rattle.message.specs.Texts.{kind_text};
-ghost use Rattle.web.specs.Reports.{entry_line, moment_places, serial_places, standing_word, table_report, total_line};
+ghost use Rattle.web.specs.Reports.{entry_line, gap, moment_places, serial_places, standing_word, table_report, total_line};
 ghost use Rattle.web.specs.Batches.{table_among};
 
 use crate::batches::{Report, put_all};
-use crate::pieces::{put_pieces, put_right};
+use crate::pieces::{put_column, put_number, put_pieces};
 use crate::room::around;
 use http_requests::MediaType;
 use office::{Entry, Registry, Revocations, Standing, StoreFault};
 use std::alloc::Global;
 use text::NoMemory;
-use values::{Kind, put_decimal};
+use values::Kind;
 
 fn serial_places() -> &'static [u8]
     ensures { result.now ≡ serial_places }
@@ -51,32 +51,30 @@ fn standing_word(standing: Standing) -> &'static [u8]
     }
 }
 
+fn put_words(out: &mut Vec<u8>, kind: Kind, standing: Standing) -> Result<(), NoMemory>
+    ensures { OnOk result (out.new.items ≡ out.old.items
+        ++ (kind_text kind ++ (gap ++ (standing_word standing ++ gap)))) }
+{
+    let standing = standing_word(standing);
+    put_pieces(out, &[kind_word(kind), b"  ", standing, b"  "])
+}
+
 /// Puts the line of a certificate.
 pub(crate) fn put_entry(out: &mut Vec<u8>, entry: &Entry) -> Result<(), NoMemory>
     ensures { OnOk result (out.new.items ≡ out.old.items ++ entry_line entry.now) }
 {
-    put_right(out, serial_places(), entry.serial)?;
-    let words = [
-        b"  ".as_slice(),
-        kind_word(entry.kind),
-        b"  ",
-        standing_word(entry.standing),
-        b"  ",
-    ];
-    put_pieces(out, &words)?;
-    put_right(out, moment_places(), entry.after)?;
-    put_pieces(out, &[b"  "])?;
-    put_right(out, moment_places(), entry.before)?;
-    put_pieces(out, &[b"  ".as_slice(), entry.key_id.as_slice(), b"\n"])
+    put_column(out, serial_places(), entry.serial)?;
+    put_words(out, entry.kind, entry.standing)?;
+    put_column(out, moment_places(), entry.after)?;
+    put_column(out, moment_places(), entry.before)?;
+    put_pieces(out, &[entry.key_id.as_slice(), b"\n"])
 }
 
 fn put_total(out: &mut Vec<u8>, count: u64, version: u64) -> Result<(), NoMemory>
     ensures { OnOk result (out.new.items ≡ out.old.items ++ total_line count version) }
 {
-    put_pieces(out, &[b"total "])?;
-    put_decimal(out, count)?;
-    put_pieces(out, &[b" version "])?;
-    put_decimal(out, version)?;
+    put_number(out, b"total ", count)?;
+    put_number(out, b" version ", version)?;
     put_pieces(out, &[b"\n"])
 }
 

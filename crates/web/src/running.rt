@@ -1,7 +1,8 @@
 //! Exchanges one after the other.
 
-ghost use Rattle.std.specs.Prelude.{◌≡◌, IfOk, OnErr};
-ghost use Rattle.web.specs.Answers.{Keeps};
+ghost use Rattle.std.specs.Prelude.{◌≡◌, ℕ, List, IfOk, OnErr};
+ghost use Rattle.office.specs.Registers.{MeansTheSame};
+ghost use Rattle.web.specs.Answers.{IsAnswered, Keeps};
 ghost use Rattle.web.specs.Runs.{Serves};
 
 use crate::exchange::{Exchange, Given};
@@ -10,6 +11,36 @@ use http_requests::Routes;
 use office::Registry;
 use std::alloc::Global;
 use text::{NoMemory, Text};
+
+/// What one exchange is given.
+fn given_by<R: Registry>(
+    routes: &Routes,
+    registry: &mut R,
+    alloc: Global,
+    exchange: &Exchange,
+) -> Given
+    ensures honest { R.is_honest registry.new → R.is_honest registry.old }
+    ensures was_open { R.is_honest registry.new → R.is_open registry.new → R.is_open registry.old }
+    ensures answered { R.is_honest registry.new → (response : List ℕ) → result ≡ Given.Answer response
+        → IsAnswered (R.means registry.old) (R.means registry.new) (Keeps R.means R.is_open registry.new)
+        exchange.now.request exchange.now.moment exchange.now.nonce response
+        × (R.is_open registry.old → R.is_open registry.new) }
+    ensures fault { R.is_honest registry.new → result ≡ Given.Fault → MeansTheSame R.means registry.old registry.new }
+{
+    let request = exchange.request.as_slice();
+    let answered = answer_by(
+        routes,
+        registry,
+        alloc,
+        request,
+        exchange.moment,
+        &exchange.nonce,
+    );
+    match answered {
+        Ok(response) => Given::Answer(Text::from_vec(response)),
+        Err(_) => Given::Fault,
+    }
+}
 
 /// What each exchange is given, one after the other. After a fault it goes on with the next.
 ///
@@ -32,19 +63,9 @@ pub fn run<R: Registry>(
     let mut given = Vec::with_capacity(alloc, exchanges.len())?;
     let routes = Routes::new(alloc)?;
     for exchange in exchanges {
-        let request = exchange.request.as_slice();
-        let one = match answer_by(
-            &routes,
-            registry,
-            alloc,
-            request,
-            exchange.moment,
-            &exchange.nonce,
-        ) {
-            Ok(response) => Given::Answer(Text::from_vec(response)),
-            Err(_) => Given::Fault,
-        };
-        given.push(one).unwrap();
+        given
+            .push(given_by(&routes, registry, alloc, exchange))
+            .unwrap();
     }
     Ok(given)
 }

@@ -2,6 +2,7 @@ use Rattle.std.proofs.Common.{ap}
 use Rattle.krl.specs.declared.krl_head.KrlHead.{KrlHead}
 use Rattle.office.specs.History.{state}
 use Rattle.web.specs.Reports.{table_report}
+use Rattle.web.proofs.Shown.{memory_cause, memory_only}
 use Rattle.web.proofs.Reported.{shows_report, whole_table}
 use Rattle.web.proofs.report.to_table.Goals as goal
 
@@ -18,3 +19,9 @@ returns-clause-row g c h =
     c.in_ok-report.report.items version
     (c.in_ok-report.ensures.row h o l (c.revocations.ensures.same second o l found)))
     c.around.ensures.ok
+
+pub returns-clause-cause : goal.returns-clause-cause
+returns-clause-cause g c h = memory_cause c.around.result _ c.around.ensures.err
+
+pub returns-clause-only : goal.returns-clause-only
+returns-clause-only g c h = memory_only c.around.result _ c.around.ensures.err

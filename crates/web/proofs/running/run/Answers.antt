@@ -3,10 +3,7 @@ use Rattle.std.proofs.lemmas.Grind.{common_steps}
 use Rattle.std.proofs.Math.ListN.{drop_of_length-le}
 use Rattle.web.specs.declared.exchange.Exchange.{Exchange}
 use Rattle.web.specs.declared.exchange.Given.{Given}
-use Rattle.web.specs.declared.exchange.Given.TheVariants.{Answer}
-use Rattle.web.specs.Answers.{IsAnswered}
-use Rattle.web.proofs.Underway.{IsUnderway, goes_on, goes_by, is_done, starts}
-use Rattle.web.proofs.running.run.Goals.{in-Ok, in-Err}
+use Rattle.web.proofs.Underway.{IsUnderway, goes_with, is_done, starts}
 use Rattle.web.proofs.running.run.Goals as goal
 
 pub loop-exchange-preserved : goal.loop-exchange-preserved
@@ -15,31 +12,24 @@ loop-exchange-preserved g c =
     let i = c.loop-exchange.exchange-index in
     let before = g.R.Registry.means c.args.registry.now in
     let now = g.R.Registry.means c.loop-exchange.registry in
-    let new = g.R.Registry.means c.answer_by.new.registry in
+    let new = g.R.Registry.means c.given_by.new.registry in
     let was_open = g.R.Registry.is_open c.loop-exchange.registry in
-    let is_open = g.R.Registry.is_open c.answer_by.new.registry in
+    let is_open = g.R.Registry.is_open c.given_by.new.registry in
     let all = c.args.exchanges.now in
     let given = c.loop-exchange.given.items in
     let rest : List Exchange = drop (i + 1) all in
-    let pushed : c.push.new.self.items ≡ given ++ c.match-answer_by.one ∷ [] = grind (arith, common_steps) in
+    let pushed : c.push.new.self.items ≡ given ++ c.given_by.result ∷ [] = grind (arith, common_steps) in
     let left : drop i all ≡ x ∷ rest =
     rw (add-one, drop-cons all i x c.loop-exchange-test.true) (ap (λ (y : Exchange). y ∷ drop (suc i) all) (sym c.exchange-item.is)) in
     record {
-      honest = λ h. c.loop-exchange.invariant.honest (c.answer_by.ensures.honest h);
-      was_open = λ h is. c.loop-exchange.invariant.was_open (c.answer_by.ensures.honest h) (c.answer_by.ensures.was_open h is);
+      honest = λ h. c.loop-exchange.invariant.honest (c.given_by.ensures.honest h);
+      was_open = λ h is. c.loop-exchange.invariant.was_open (c.given_by.ensures.honest h) (c.given_by.ensures.was_open h is);
       underway = λ h.
           let u : IsUnderway before now was_open all (x ∷ rest) given =
-          subst (λ (r : List Exchange). IsUnderway before now was_open all r given) left (c.loop-exchange.invariant.underway (c.answer_by.ensures.honest h)) in
-          elim c.match-answer_by.branch [
-            | in-Ok w ↦ subst (λ (g : List Given). IsUnderway before new is_open all rest g)
-                (ap (λ (y : Given). given ++ y ∷ []) (ap (λ (t : List ℕ). Answer t) (sym w.from_vec.ensures) ∙ sym w.one-is) ∙ sym pushed)
-                (goes_on before now new was_open is_open all rest x given w.in-Ok.response.items
-                (subst (λ (t : List ℕ). IsAnswered now new (λ o l. new o l × is_open) t x.moment x.nonce w.in-Ok.response.items)
-                c.as_slice-request.ensures (w.in-Ok.ensures.answered h)) (w.in-Ok.ensures.stays_open h) u)
-            | in-Err w ↦ subst (λ (g : List Given). IsUnderway before new is_open all rest g)
-                (ap (λ (y : Given). given ++ y ∷ []) (sym w.one-is) ∙ sym pushed)
-                (goes_by before now new was_open is_open all rest x given (w.in-Err.ensures.fault h) u)
-          ];
+          subst (λ (r : List Exchange). IsUnderway before now was_open all r given) left (c.loop-exchange.invariant.underway (c.given_by.ensures.honest h)) in
+          subst (λ (g : List Given). IsUnderway before new is_open all rest g) (sym pushed)
+          (goes_with before now new was_open is_open all rest x given c.given_by.result (c.given_by.ensures.answered h)
+          (c.given_by.ensures.fault h) u);
       room = grind (arith, common_steps);
     }
 

@@ -1,0 +1,12 @@
+-- A text that grows item by item.
+use Rattle.std.proofs.Common.{◌≡◌, ℕ, ◌+◌, ◌<◌, List, [], ◌∷◌, ◌++◌, length, get_or, take, sym, ap, ◌∙◌}
+use Rattle.std.specs.List.{flat_map}
+use Rattle.std.proofs.lemmas.List.{flat_map_more, take_more}
+
+pub one_item_more : {X A : Type 0} (f : X → List A) (xs : List X) (i : ℕ) (x : X) (before so_far now : List A) → i < length xs
+    → x ≡ get_or xs i x → so_far ≡ before ++ flat_map f (take i xs) → now ≡ so_far ++ f x
+    → now ≡ before ++ flat_map f (take (i + 1) xs)
+one_item_more {X} {A} f xs i x before so_far now lt is said more =
+    more ∙ ap (λ (t : List A). t ++ f x) said ∙ flat_map_more f before (take i xs) x
+    ∙ ap (λ (y : X). before ++ flat_map f (take i xs ++ y ∷ [])) is
+    ∙ ap (λ (ys : List X). before ++ flat_map f ys) (sym (take_more xs i x lt))

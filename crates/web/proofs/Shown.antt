@@ -1,0 +1,55 @@
+-- What is shown of a register, and a fault for want of memory.
+use Rattle.std.proofs.Common.{◌≡◌, ℕ, List, ap, sym, subst, ◌∙◌}
+use Rattle.std.specs.Prelude.{Result, Ok, Err, Vec, IfOk, IfErr}
+use Rattle.std.specs.declared.alloc.Global.{Global}
+use Rattle.office.specs.declared.opening.Opening.{Opening}
+use Rattle.office.specs.declared.arrival.Arrival.{Arrival}
+use Rattle.office.specs.declared.store_fault.StoreFault.{StoreFault}
+use Rattle.office.specs.declared.store_fault.StoreFault.TheVariants.{AlreadyAnOffice, NotAnOffice, WrongSchema, Damaged}
+use Rattle.office.specs.declared.store_fault.StoreFault.TheVariants.{Device, NoMemory}
+use Rattle.office.specs.Faults.{HasCause, IsOfARegister}
+use Rattle.web.specs.Causes.{FailsWithin}
+
+-- a response with what is found is one with what the histories show
+pub shows : {X E : Type 0} (r : Result (Vec ℕ Global) E) (text : X → List ℕ) (found : X) (shown : Opening → List Arrival → X)
+    (means : Opening → List Arrival → Type 0) → ((o : Opening) (l : List Arrival) → means o l → found ≡ shown o l)
+    → IfOk r (λ v. v.items ≡ text found)
+    → IfOk r (λ v. (o : Opening) (l : List Arrival) → means o l → v.items ≡ text (shown o l))
+shows (Ok v) text found shown means same is = λ o l m. is ∙ ap text (same o l m)
+shows (Err e) text found shown means same is = tt
+
+-- a register may lack memory
+pub memory_only : {T : Type 0} (r : Result T StoreFault) (means : Opening → List Arrival → Type 0) → IfErr r (λ e. e ≡ NoMemory)
+    → IfErr r (λ e. (o : Opening) (l : List Arrival) → means o l → IsOfARegister e)
+memory_only (Ok x) means is = tt
+memory_only (Err e) means is = λ o l m. subst IsOfARegister (sym is) tt
+
+pub memory_cause : {T : Type 0} (r : Result T StoreFault) (failed : Type 0) → IfErr r (λ e. e ≡ NoMemory)
+    → IfErr r (λ e. HasCause e failed)
+memory_cause (Ok x) failed is = tt
+memory_cause (Err e) failed is = subst (λ (f : StoreFault). HasCause f failed) (sym is) tt
+
+-- a failure of the database has what follows from it
+caused : (e : StoreFault) (A B : Type 0) → (A → B) → HasCause e A → HasCause e B
+caused Device A B f a = f a
+caused NoMemory A B f a = tt
+caused AlreadyAnOffice A B f a = tt
+caused NotAnOffice A B f a = tt
+caused WrongSchema A B f a = tt
+caused Damaged A B f a = tt
+
+pub cause_as : {T : Type 0} (r : Result T StoreFault) (A B : Type 0) → (A → B) → IfErr r (λ e. HasCause e A)
+    → IfErr r (λ e. HasCause e B)
+cause_as (Ok x) A B f is = tt
+cause_as (Err e) A B f is = caused e A B f is
+
+-- and was met by a register that meant what it had meant
+pub cause_within : {T S : Type 0} (means : S → Opening → List Arrival → Type 0) (fails : S → S → Type 0) (old new : S)
+    (r : Result T StoreFault) → IfErr r (λ e. HasCause e (fails old new))
+    → IfErr r (λ e. HasCause e (FailsWithin means fails old new))
+cause_within means fails old new r is =
+    cause_as r (fails old new) (FailsWithin means fails old new) (λ f. record {
+      before = old;
+      same = λ o l m. m;
+      failed = f;
+    }) is

@@ -1,0 +1,8 @@
+use Rattle.web.proofs.Shown.{memory_cause, memory_only}
+use Rattle.web.proofs.publishing.to_signers.Goals as goal
+
+pub returns-clause-cause : goal.returns-clause-cause
+returns-clause-cause g c h = memory_cause c.signers_response.result _ c.signers_response.ensures.err
+
+pub returns-clause-only : goal.returns-clause-only
+returns-clause-only g c h = memory_only c.signers_response.result _ c.signers_response.ensures.err

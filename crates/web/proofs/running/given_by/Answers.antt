@@ -1,0 +1,22 @@
+use Rattle.std.proofs.Common.{◌≡◌, ◌∙◌, ℕ, List, subst, sym}
+use Rattle.web.specs.declared.exchange.Given.{Given}
+use Rattle.web.specs.declared.exchange.Given.TheVariants.{Answer}
+use Rattle.web.specs.Answers.{IsAnswered, Keeps}
+use Rattle.web.proofs.running.given_by.Goals as goal
+
+same_text : (x y : List ℕ) → Answer x ≡ Answer y → x ≡ y
+same_text x y same = cc
+
+pub returns-in-Ok-clause-answered : goal.returns-in-Ok-clause-answered
+returns-in-Ok-clause-answered g c honest response is =
+    let registry = g.R.Registry in
+    let exchange = c.args.exchange.now in
+    let same = sym c.from_vec.ensures ∙ same_text c.from_vec.result response is in (
+      subst (λ (request : List ℕ). IsAnswered (registry.means c.args.registry.now) (registry.means c.answer_by-answered.new.registry)
+          (Keeps registry.means registry.is_open c.answer_by-answered.new.registry) request exchange.moment exchange.nonce response)
+          c.as_slice-request.ensures
+          (subst (λ (text : List ℕ). IsAnswered (registry.means c.args.registry.now) (registry.means c.answer_by-answered.new.registry)
+          (Keeps registry.means registry.is_open c.answer_by-answered.new.registry) c.as_slice-request.result.now exchange.moment
+          exchange.nonce text) same (c.in-Ok.ensures.answered honest)),
+      c.in-Ok.ensures.stays_open honest,
+    )
