@@ -17,7 +17,6 @@ use Rattle.office.specs.declared.view.Stop.{Stop}
 use Rattle.office.specs.declared.view.Stop.TheVariants as stop
 use Rattle.office.specs.declared.view.View.{View}
 use Rattle.office.specs.declared.view.Change.{Change}
-use Rattle.office.specs.declared.view.Change.TheVariants as change
 use Rattle.office.specs.Replies.{issue_reply}
 use Rattle.office.specs.Certificates.{kind_or_user, certificate_for, renewed_certificate}
 use Rattle.office.specs.Machine.{State, refusals, first_holding, after, reply_to, step, next_serial}

@@ -1,6 +1,6 @@
 //! Signatures that are delivered.
 
-ghost use Rattle.std.specs.Prelude.{◌≡◌, ◌≤◌, ◌+◌, ℕ, List, IfOk, IsTrue};
+ghost use Rattle.std.specs.Prelude.{◌≡◌, ℕ, List, IfOk, IsTrue};
 ghost use Rattle.std.specs.Option.{option_copied};
 ghost use Rattle.message.specs.Values.{is_delivery};
 ghost use Rattle.message.specs.declared.kinds.Message.TheVariants as message;

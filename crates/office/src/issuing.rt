@@ -1,6 +1,6 @@
 //! The certificate that an issue makes.
 
-ghost use Rattle.std.specs.Prelude.{◌≡◌, List, [], None, IfOk, take};
+ghost use Rattle.std.specs.Prelude.{◌≡◌, [], None, IfOk, take};
 ghost use Rattle.cert.specs.Options.{listing};
 ghost use Rattle.cert.specs.OptionFaults.{options_fault};
 ghost use Rattle.values.specs.declared.option_field.OptionField.TheVariants.{CriticalOptions, Extensions};
