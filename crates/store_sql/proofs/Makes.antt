@@ -9,6 +9,9 @@ use Rattle.store_sql.proofs.Words.{is_pragma, is_query, is_reserved, is_used, la
 use Rattle.store_sql.proofs.Words.{mode_of, nat_lt, next_tree, not, refl, runs_as, same_name, statement_of, subst}
 use Rattle.store_sql.proofs.Words.{subst₂, sym, table_defined_by, table_reals, test_has, text_of, true, understood}
 use Rattle.store_sql.proofs.Words.{value_cmp, ℕ, ◌*◌, ◌+◌, ◌^◌, ◌||◌, ◌∙◌, ◌≡◌, ◌≤◌}
+use Rattle.store_sql.specs.declared.sql.TheConstants.{CREATE_OFFICE, CREATE_DEPARTMENT, CREATE_CERT, CREATE_REQUEST}
+use Rattle.store_sql.specs.declared.sql.TheConstants.{CREATE_RUN, CREATE_REVOKED, CREATE_CA}
+use Rattle.store_sql.specs.Schema.{office, department, cert, request, run, revoked_keyid}
 use Rattle.sqlite.specs.Change.{next_tree as new_tree}
 use Rattle.store_sql.specs.Making.{text_of as sql_of}
 use Rattle.store_sql.proofs.Commands.{closes}
@@ -81,15 +84,42 @@ module _ {text : List ℕ} {before : Schema} {table : Table} (t : Create text be
   creates_left old trees h has = (commits_as text [] old before has CreateTable t.told.0 t.told.2 tt trees h).0
 
 -- each CREATE text defines its table
-pub defines : (n : TableName) → table_defined_by (sql_of n) ≡ Ok (made n)
+pub office_defined : table_defined_by CREATE_OFFICE.now ≡ Ok office
 unfolding everything
-defines name.Office = refl
-defines name.Department = refl
-defines name.Cert = refl
-defines name.Request = refl
-defines name.Run = refl
-defines name.RevokedKeyId = refl
-defines name.Ca = refl
+office_defined = refl
+
+pub department_defined : table_defined_by CREATE_DEPARTMENT.now ≡ Ok department
+unfolding everything
+department_defined = refl
+
+pub cert_defined : table_defined_by CREATE_CERT.now ≡ Ok cert
+unfolding everything
+cert_defined = refl
+
+pub request_defined : table_defined_by CREATE_REQUEST.now ≡ Ok request
+unfolding everything
+request_defined = refl
+
+pub run_defined : table_defined_by CREATE_RUN.now ≡ Ok run
+unfolding everything
+run_defined = refl
+
+pub revoked_keyid_defined : table_defined_by CREATE_REVOKED.now ≡ Ok revoked_keyid
+unfolding everything
+revoked_keyid_defined = refl
+
+pub ca_defined : table_defined_by CREATE_CA.now ≡ Ok ca
+unfolding everything
+ca_defined = refl
+
+defines : (n : TableName) → table_defined_by (sql_of n) ≡ Ok (made n)
+defines name.Office = office_defined
+defines name.Department = department_defined
+defines name.Cert = cert_defined
+defines name.Request = request_defined
+defines name.Run = run_defined
+defines name.RevokedKeyId = revoked_keyid_defined
+defines name.Ca = ca_defined
 
 -- and is one statement, which makes a table
 compiles : (n : TableName) → compiled (before n) (sql_of n) ≡ Ok (one_of (sql_of n) CreateTable 0)
@@ -102,6 +132,7 @@ compiles name.Run = refl
 compiles name.RevokedKeyId = refl
 compiles name.Ca = refl
 
+-- without a count
 uncounted : (n : TableName) → lacks_sequence (created (before n) (made n)) ≡ false
 uncounted name.Office = refl
 uncounted name.Department = refl
@@ -145,31 +176,22 @@ pub record IsMakeable (text : List ℕ) (before : Schema) (table : Table) : Type
   pub formed : IsFormed text table
   pub small : IsSmall text before table
 
-all_of : {text : List ℕ} {before : Schema} {table : Table} → Create text before table
-    → IsWhole text 0 (understood before text) → AreFree before table → IsFormed text table → IsSmall text before table
-    → IsMakeable text before table
-all_of create one free formed small = record { create = create; one = one; free = free; formed = formed; small = small }
-
-one : (n : TableName) → IsWhole (sql_of n) 0 (understood (before n) (sql_of n))
-one n = (statement (before n) (sql_of n) CreateTable 0 refl (compiles n)).2
+all_of : (n : TableName) → AreFree (before n) (made n) → IsFormed (sql_of n) (made n)
+    → IsSmall (sql_of n) (before n) (made n) → IsMakeable (sql_of n) (before n) (made n)
+all_of n free formed small =
+    let is = statement (before n) (sql_of n) CreateTable 0 refl (compiles n) in
+    record { create = makes n; one = is.2; free = free; formed = formed; small = small }
 
 -- so is each of the office's tables
 pub makeable : (n : TableName) → IsMakeable (sql_of n) (before n) (made n)
 unfolding everything same_name same_letters fits_kind is_free_name value_cmp begins lib.Ieee.is_nan lib.Ieee.lt is_utf8 chars lib.Utf8.encode
-makeable name.Office = all_of (makes name.Office) (one name.Office) (refl, refl, refl)
-    (refl, refl, refl, refl) (refl, refl, refl, refl)
-makeable name.Department = all_of (makes name.Department) (one name.Department) (refl, refl, refl)
-    (refl, refl, refl, refl) (refl, refl, refl, refl)
-makeable name.Cert = all_of (makes name.Cert) (one name.Cert) (refl, refl, refl)
-    (refl, refl, refl, refl) (refl, refl, refl, refl)
-makeable name.Request = all_of (makes name.Request) (one name.Request) (refl, refl, refl)
-    (refl, refl, refl, refl) (refl, refl, refl, refl)
-makeable name.Run = all_of (makes name.Run) (one name.Run) (refl, refl, refl)
-    (refl, refl, refl, refl) (refl, refl, refl, refl)
-makeable name.RevokedKeyId = all_of (makes name.RevokedKeyId) (one name.RevokedKeyId) (refl, refl, refl)
-    (refl, refl, refl, refl) (refl, refl, refl, refl)
-makeable name.Ca = all_of (makes name.Ca) (one name.Ca) (refl, refl, refl)
-    (refl, refl, refl, refl) (refl, refl, refl, refl)
+makeable name.Office = all_of name.Office (refl, refl, refl) (refl, refl, refl, refl) (refl, refl, refl, refl)
+makeable name.Department = all_of name.Department (refl, refl, refl) (refl, refl, refl, refl) (refl, refl, refl, refl)
+makeable name.Cert = all_of name.Cert (refl, refl, refl) (refl, refl, refl, refl) (refl, refl, refl, refl)
+makeable name.Request = all_of name.Request (refl, refl, refl) (refl, refl, refl, refl) (refl, refl, refl, refl)
+makeable name.Run = all_of name.Run (refl, refl, refl) (refl, refl, refl, refl) (refl, refl, refl, refl)
+makeable name.RevokedKeyId = all_of name.RevokedKeyId (refl, refl, refl) (refl, refl, refl, refl) (refl, refl, refl, refl)
+makeable name.Ca = all_of name.Ca (refl, refl, refl) (refl, refl, refl, refl) (refl, refl, refl, refl)
 
 -- ---- why a table can't be made
 
