@@ -115,6 +115,10 @@ pub record IsAccepted (a : Arrival) (d : Decision) (serving : List Ca) (p : Past
   pub cas : serving ≡ (state_at p).cas
   pub version : d.version < 9223372036854775807
 
+-- it is so where the version isn't past the last
+abbrev pub IsDecided : Arrival → Decision → List Ca → Past → Type 0
+IsDecided a d serving p = d.version < 9223372036854775807 → IsAccepted a d serving p
+
 -- ---- why it fails
 
 -- A row of the change is too long, or there is no room for one more. Runs, key ids and CAs are short, and whatever is

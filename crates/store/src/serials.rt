@@ -43,7 +43,11 @@ fn issued_in(alloc: Global, found: Option<Certificate>) -> Result<Option<Issued>
     ensures { IfOk result (λ issued. issued ≡ option_map issued_row found) }
 {
     match found {
-        Some(certificate) => Ok(Some(certificate.issued_row(alloc)?)),
+        Some(certificate) => {
+            let issued = certificate.issued_row(alloc);
+            drop(certificate);
+            Ok(Some(issued?))
+        }
         None => Ok(None),
     }
 }

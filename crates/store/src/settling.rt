@@ -1,14 +1,17 @@
 //! What an arrival is answered, inside a transaction.
+//!
+//! Large values are dropped by name: the proof of a function that ends with one takes each of its fields apart.
 
-ghost use Rattle.std.specs.Prelude.{◌≡◌, IsTrue, length};
+ghost use Rattle.std.specs.Prelude.{◌≡◌, IsTrue, Some, length};
 ghost use Rattle.store_sql.specs.Calls.{Stays};
 ghost use Rattle.store_sql.specs.Honest.{On, OnOpen, OutlivesBy};
 ghost use Rattle.message.specs.Values.{is_message};
 ghost use Rattle.office.specs.Decided.{IsLawfulChange};
+ghost use Rattle.office.specs.Messages.{message_with_text};
 ghost use Rattle.store_rows.specs.Transactions.{Waits};
 ghost use Rattle.store_reads.specs.Concerning.{AreLawful};
-ghost use Rattle.store.specs.Arriving.{FailsAt, IsAccepted, IsAfter, IsAny, IsAsked, IsFound, IsNew, IsWeighed};
-ghost use Rattle.store.specs.Arriving.{Settles, stopped};
+ghost use Rattle.store.specs.Arriving.{FailsAt, IsAccepted, IsAfter, IsAny, IsAsked, IsDecided, IsFound, IsNew};
+ghost use Rattle.store.specs.Arriving.{IsWeighed, Settles, stopped};
 
 use message::{Message, MessageFault, read_message};
 use office::{Arrival, Ca, Decision, Kept, Outcome, Stop, decide};
@@ -45,6 +48,30 @@ fn accept<S: Alter>(
     Ok(Outcome::Accepted(reply))
 }
 
+/// Accepts what was decided. A version past the last counts as a refused growth.
+fn accept_version<S: Alter>(
+    alloc: Global,
+    conn: &mut Connection<S>,
+    arrival: &Arrival,
+    decision: &Decision,
+    cas: &[Ca],
+) -> Result<Outcome, Fault>
+    requires lawful { IsLawfulChange decision.now.change }
+    requires nonce { length arrival.now.nonce ≡ 32 }
+    ensures settles { On S.Store (Settles arrival.now (IsDecided arrival.now decision.now cas.now))
+        conn.old conn.new result }
+    ensures fails { On S.Store (FailsAt arrival.now (IsDecided arrival.now decision.now cas.now))
+        conn.old conn.new result }
+    ensures stays { On S.Store Stays conn.old conn.new result }
+    ensures survives { OutlivesBy S.Store (Waits (IsAfter (IsDecided arrival.now decision.now cas.now)))
+        conn.old conn.new }
+{
+    if LAST_VERSION < decision.version {
+        return Err(Fault::NoMemory);
+    }
+    accept(alloc, conn, arrival, decision, cas)
+}
+
 fn stopped(stop: Stop) -> Result<Outcome, Fault>
     ensures { result ≡ stopped stop }
 {
@@ -54,7 +81,7 @@ fn stopped(stop: Stop) -> Result<Outcome, Fault>
     }
 }
 
-/// Decides on the rows that a message concerns. A version past the last counts as a refused growth.
+/// Decides on the rows that a message concerns, of which a version past the last counts as a refused growth.
 fn weigh<S: Alter>(
     alloc: Global,
     conn: &mut Connection<S>,
@@ -86,10 +113,9 @@ fn weigh<S: Alter>(
         &arrival.nonce,
     ) {
         Ok(decision) => {
-            if LAST_VERSION < decision.version {
-                return Err(Fault::NoMemory);
-            }
-            accept(alloc, conn, arrival, &decision, view.cas)
+            let outcome = accept_version(alloc, conn, arrival, &decision, view.cas);
+            drop(decision);
+            outcome
         }
         Err(stop) => stopped(stop),
     }
@@ -110,7 +136,34 @@ fn consider<S: Alter>(
     ensures survives { OutlivesBy S.Store (Waits (IsAfter (IsNew arrival.now message.now))) conn.old conn.new }
 {
     let rows = concerned_rows(alloc, conn, message)?;
-    weigh(alloc, conn, arrival, message, &rows)
+    let outcome = weigh(alloc, conn, arrival, message, &rows);
+    drop(rows);
+    outcome
+}
+
+/// Refuses a message that comes too late or under a key that was used, and considers another.
+fn admit<S: Alter>(
+    alloc: Global,
+    conn: &mut Connection<S>,
+    arrival: &Arrival,
+    message: &Message,
+    is_known: bool,
+) -> Result<Outcome, Fault>
+    requires message { IsTrue (is_message message.now) }
+    requires read { message_with_text arrival.now.bytes ≡ Some message.now }
+    requires nonce { length arrival.now.nonce ≡ 32 }
+    ensures settles { OnOpen S.Store (Settles arrival.now (IsAsked arrival.now is_known)) conn.old conn.new result }
+    ensures fails { On S.Store (FailsAt arrival.now (IsAsked arrival.now is_known)) conn.old conn.new result }
+    ensures stays { On S.Store Stays conn.old conn.new result }
+    ensures survives { OutlivesBy S.Store (Waits (IsAfter (IsAsked arrival.now is_known))) conn.old conn.new }
+{
+    if LATEST_MOMENT < arrival.moment {
+        return Ok(Outcome::Refused(Refusal::BadMoment));
+    }
+    if is_known {
+        return Ok(Outcome::Refused(Refusal::KeyReused));
+    }
+    consider(alloc, conn, arrival, message)
 }
 
 /// Reads the message of an arrival that is no repeat.
@@ -126,18 +179,15 @@ fn judge<S: Alter>(
     ensures stays { On S.Store Stays conn.old conn.new result }
     ensures survives { OutlivesBy S.Store (Waits (IsAfter (IsAsked arrival.now is_known))) conn.old conn.new }
 {
-    let message = match read_message(alloc, arrival.bytes.as_slice()) {
-        Ok(message) => message,
-        Err(MessageFault::BadLine(_)) => return Ok(Outcome::Refused(Refusal::BadMessage)),
-        Err(MessageFault::NoMemory) => return Err(Fault::NoMemory),
-    };
-    if LATEST_MOMENT < arrival.moment {
-        return Ok(Outcome::Refused(Refusal::BadMoment));
+    match read_message(alloc, arrival.bytes.as_slice()) {
+        Ok(message) => {
+            let outcome = admit(alloc, conn, arrival, &message, is_known);
+            drop(message);
+            outcome
+        }
+        Err(MessageFault::BadLine(_)) => Ok(Outcome::Refused(Refusal::BadMessage)),
+        Err(MessageFault::NoMemory) => Err(Fault::NoMemory),
     }
-    if is_known {
-        return Ok(Outcome::Refused(Refusal::KeyReused));
-    }
-    consider(alloc, conn, arrival, &message)
 }
 
 /// Answers the reply that is kept, if the message is the same.

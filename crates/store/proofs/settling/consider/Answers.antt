@@ -11,11 +11,11 @@ returns g c =
     let m = c.args.message.now in
     let rows = c.in_ok-rows.rows in
     let one = c.in_ok-rows.ensures in
-    let rest = c.weigh.ensures in
+    let rest = c.weigh-outcome.ensures in
     let w = read_then (of_past c.concerned_rows.ensures.survives (Ok rows) (λ s kept rows. AreConcerned rows s m)
     one.shows one.reads) {Known = IsNew a m} {Later = IsWeighed a m rows}
     (λ p history is found. record { new = is; rows = found })
-    (settling rest.survives a c.weigh.result rest.settles rest.fails rest.stays) in
+    (settling rest.survives a c.weigh-outcome.result rest.settles rest.fails rest.stays) in
     record { settles = λ clean. w.settles clean tt; fails = w.fails; stays = w.stays; survives = w.survives }
 
 pub returns-in_err-rows : goal.returns-in_err-rows

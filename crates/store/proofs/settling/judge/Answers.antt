@@ -1,13 +1,8 @@
-use Rattle.std.proofs.Common.{◌≡◌, ℕ, List, true, false, Some, None, refl, subst, ◌∙◌}
-use Rattle.std.specs.Prelude.{nat_lt}
-use Rattle.std.proofs.lemmas.Bool.{le-ltb, lt-ltb}
-use Rattle.values.specs.declared.limits.TheConstants.{LATEST_MOMENT}
+use Rattle.std.proofs.Common.{◌≡◌, ℕ, List, Some, None, refl, subst}
 use Rattle.sqlite.specs.Held.{state}
 use Rattle.office.specs.Messages.{message_with_text}
 use Rattle.office.proofs.Texts.{read_is}
-use Rattle.store.specs.Meaning.{IsHistory}
-use Rattle.store.specs.Arriving.{IsAsked, IsNew, Past}
-use Rattle.store.proofs.Settled.{bad_line, settles_refused, settling, settling_weaker}
+use Rattle.store.proofs.Settled.{bad_line, settles_refused}
 use Rattle.store.proofs.settling.judge.Goals as goal
 
 pub returns-in-Err-BadLine-clause-settles : goal.returns-in-Err-BadLine-clause-settles
@@ -20,42 +15,13 @@ returns-in-Err-BadLine-clause-settles g c clean is_open =
     settles_refused a c.args.is_known (state g.S.Store c.args.conn.now) _ c.requires is_open
     (λ p asked. rw is refl)
 
-pub returns-then-arrival-gt-LATEST_MOMENT-clause-settles : goal.returns-then-arrival-gt-LATEST_MOMENT-clause-settles
-returns-then-arrival-gt-LATEST_MOMENT-clause-settles g c clean is_open =
-    let a = c.args.arrival.now in
+pub admit-outcome-requires-clause-read : goal.admit-outcome-requires-clause-read
+admit-outcome-requires-clause-read g c =
     let m = c.in-Ok.message in
-    let is : message_with_text a.bytes ≡ Some m =
     subst (λ (b : List ℕ). message_with_text b ≡ Some m) c.as_slice.ensures
-    (read_is c.as_slice.result.now m c.in-Ok.ensures.exact c.in-Ok.ensures.found.0 c.in-Ok.ensures.found.1) in
-    let late : nat_lt LATEST_MOMENT a.moment ≡ true = lt-ltb _ _ c.if-arrival-gt-LATEST_MOMENT.true in
-    settles_refused a c.args.is_known (state g.S.Store c.args.conn.now) _ c.requires is_open
-    (λ p asked. rw (is, late) refl)
+    (read_is c.as_slice.result.now m c.in-Ok.ensures.exact c.in-Ok.ensures.found.0 c.in-Ok.ensures.found.1)
 
-pub returns-then-is_known-clause-settles : goal.returns-then-is_known-clause-settles
-returns-then-is_known-clause-settles g c clean is_open =
-    let a = c.args.arrival.now in
-    let m = c.in-Ok.message in
-    let is : message_with_text a.bytes ≡ Some m =
-    subst (λ (b : List ℕ). message_with_text b ≡ Some m) c.as_slice.ensures
-    (read_is c.as_slice.result.now m c.in-Ok.ensures.exact c.in-Ok.ensures.found.0 c.in-Ok.ensures.found.1) in
-    let in_time : nat_lt LATEST_MOMENT a.moment ≡ false = le-ltb _ _ c.if-arrival-gt-LATEST_MOMENT.false in
-    settles_refused a c.args.is_known (state g.S.Store c.args.conn.now) _ c.requires is_open
-    (λ p asked. rw (is, in_time, asked.known ∙ c.if-is_known.true) refl)
-
-pub returns : goal.returns
-returns g c =
-    let a = c.args.arrival.now in
-    let m = c.in-Ok.message in
-    let is : message_with_text a.bytes ≡ Some m =
-    subst (λ (b : List ℕ). message_with_text b ≡ Some m) c.as_slice.ensures
-    (read_is c.as_slice.result.now m c.in-Ok.ensures.exact c.in-Ok.ensures.found.0 c.in-Ok.ensures.found.1) in
-    let q = c.consider.ensures in
-    let less : (p : Past) → IsHistory p.0 p.1 → IsAsked a c.args.is_known p → IsNew a m p = λ p history asked. record {
-      new = asked.new;
-      message = is;
-      in_time = le-ltb _ _ c.if-arrival-gt-LATEST_MOMENT.false;
-      unknown = asked.known ∙ c.if-is_known.false;
-    } in
-    let w = settling_weaker less
-    (settling q.survives a c.consider.result (λ clean (_ : Unit {0}). q.settles clean) q.fails q.stays) in
-    record { settles = λ clean _. w.settles clean tt; fails = w.fails; stays = w.stays; survives = w.survives }
+pub returns-in-Ok : goal.returns-in-Ok
+returns-in-Ok g c =
+    let q = c.admit-outcome.ensures in
+    record { settles = q.settles; fails = q.fails; stays = q.stays; survives = q.survives }

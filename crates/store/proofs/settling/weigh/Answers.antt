@@ -1,28 +1,28 @@
-use Rattle.std.proofs.Common.{ℕ, List, Ok, Err, arith, subst}
+use Rattle.std.proofs.Common.{ℕ, List, Ok, Err, subst}
 use Rattle.sqlite.specs.Held.{state}
 use Rattle.office.specs.Decided.{Decided}
 use Rattle.store.specs.Meaning.{IsHistory}
-use Rattle.store.specs.Arriving.{IsAccepted, IsWeighed, Past, state_at}
+use Rattle.store.specs.Arriving.{IsDecided, IsWeighed, Past, state_at}
 use Rattle.store.proofs.Accepted.{decided_accepted}
 use Rattle.store.proofs.Settled.{settling, settling_weaker, stopped_settles}
 use Rattle.store.proofs.settling.weigh.Goals as goal
 
-pub returns-else-decision-gt-LAST_VERSION : goal.returns-else-decision-gt-LAST_VERSION
-returns-else-decision-gt-LAST_VERSION g c =
+pub returns-in-Ok : goal.returns-in-Ok
+returns-in-Ok g c =
     let a = c.args.arrival.now in
     let m = c.args.message.now in
     let d = c.in-Ok.decision in
     let v = c.view-view.result in
-    let q = c.accept.ensures in
-    let less : (p : Past) → IsHistory p.0 p.1 → IsWeighed a m c.args.rows.now p → IsAccepted a d v.cas.now p =
-    λ p history is.
+    let q = c.accept_version-outcome.ensures in
+    let less : (p : Past) → IsHistory p.0 p.1 → IsWeighed a m c.args.rows.now p → IsDecided a d v.cas.now p =
+    λ p history is small.
     let agrees = c.view-view.ensures.agrees (state_at p) m is.rows in
     decided_accepted p a m d v is.new
     (subst (λ (x : List ℕ). Decided (Ok d) (state_at p) x m a.moment a.nonce) c.as_slice.ensures
     (c.in-Ok.ensures.decided (state_at p) agrees))
-    (c.in-Ok.ensures.room (state_at p) agrees) agrees (omega (arith, c.if-decision-gt-LAST_VERSION.false)) in
+    (c.in-Ok.ensures.room (state_at p) agrees) agrees small in
     let w = settling_weaker less
-    (settling q.survives a c.accept.result (λ clean (_ : Unit {0}). q.settles clean) q.fails q.stays) in
+    (settling q.survives a c.accept_version-outcome.result (λ clean (_ : Unit {0}). q.settles clean) q.fails q.stays) in
     record { settles = λ clean _. w.settles clean tt; fails = w.fails; stays = w.stays; survives = w.survives }
 
 pub returns-in-Err-clause-settles : goal.returns-in-Err-clause-settles
