@@ -1,5 +1,4 @@
-use Rattle.std.proofs.Common.{inl, inr, subst}
-use Rattle.office.specs.declared.arrival.Arrival.{Arrival}
+use Rattle.std.proofs.Common.{inl}
 use Rattle.web.proofs.Shown.{cause_as, memory_cause, memory_only}
 use Rattle.web.proofs.Answered.{of_arrival, of_refusal, of_resource}
 use Rattle.web.specs.Answers.{Keeps}
@@ -33,14 +32,6 @@ returns-in-Refused-clause-cause g c honest = memory_cause c.to_refusal.result _ 
 pub returns-in-Get-clause-cause : goal.returns-in-Get-clause-cause
 returns-in-Get-clause-cause g c honest =
     cause_as c.to_resource.result _ _ (λ f. inl f) (c.to_resource.ensures.cause honest)
-
-pub returns-in_ok-arrival-in-Post-clause-cause : goal.returns-in_ok-arrival-in-Post-clause-cause
-returns-in_ok-arrival-in-Post-clause-cause g c honest =
-    let stops : Arrival → Type 0 = g.R.Registry.stops c.args.registry.now c.to_arrival.new.registry in
-    cause_as c.to_arrival.result _ _
-    (λ s. inr (c.in-Post.caller.now, c.in-Post.key.now, c.in-Post.message.now, c.in-Post.ensures.asked,
-    subst stops c.in_ok-arrival-in-Post.ensures s))
-    c.to_arrival.ensures.cause
 
 pub returns-in-Refused-clause-only : goal.returns-in-Refused-clause-only
 returns-in-Refused-clause-only g c honest = memory_only c.to_refusal.result _ c.to_refusal.ensures.err

@@ -1,5 +1,4 @@
 use Rattle.std.proofs.Common.{◌≡◌, ◌∙◌, ℕ, List, subst, sym}
-use Rattle.web.specs.declared.exchange.Given.{Given}
 use Rattle.web.specs.declared.exchange.Given.TheVariants.{Answer}
 use Rattle.web.specs.Answers.{IsAnswered, Keeps}
 use Rattle.web.proofs.running.given_by.Goals as goal

@@ -1,4 +1,4 @@
-use Rattle.std.proofs.Common.{arith, ℕ, suc, ◌≡◌, ◌+◌, ◌++◌, [], ◌∷◌, List, drop, sym, ap, subst, ◌∙◌, add-one, drop-cons}
+use Rattle.std.proofs.Common.{arith, suc, ◌≡◌, ◌+◌, ◌++◌, [], ◌∷◌, List, drop, sym, ap, subst, add-one, drop-cons}
 use Rattle.std.proofs.lemmas.Grind.{common_steps}
 use Rattle.std.proofs.Math.ListN.{drop_of_length-le}
 use Rattle.web.specs.declared.exchange.Exchange.{Exchange}
