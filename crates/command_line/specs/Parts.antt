@@ -1,6 +1,7 @@
 -- The parts that a job's command is made of.
-use Rattle.clap.specs.Words.{Rule}
-use Rattle.command_line.specs.Command.{number, number_word, optional, required, word}
+use Rattle.std.specs.Prelude.{codes}
+use Rattle.clap.specs.Words.{App, Rule, with_subcommand}
+use Rattle.command_line.specs.Command.{number, number_word, on_database, optional, required, word}
 use Rattle.command_line.specs.declared.command.Part.{Part}
 use Rattle.command_line.specs.declared.command.Part.TheVariants as part
 
@@ -11,3 +12,9 @@ rule_of_part (part.Required name value help) = required name.now
 rule_of_part (part.Number name value low high help) = number name.now low high
 rule_of_part (part.Word name help) = word name.now
 rule_of_part (part.NumberWord name low high help) = number_word name.now low high
+
+-- a command with the subcommands that read an office
+abbrev pub with_readings : App → App
+with_readings app =
+    let with_krl = with_subcommand app (on_database (codes "krl")) in
+    with_subcommand (with_subcommand with_krl (on_database (codes "signers"))) (on_database (codes "table"))

@@ -5,7 +5,7 @@ ghost use Rattle.clap.specs.Words.{App, Shape, app_of, with_subcommand};
 ghost use Rattle.command_line.specs.Command.{IsArgument, IsSubcommand, apply_command, check_command, init_command};
 ghost use Rattle.command_line.specs.Command.{number, number_word, office_command, on_database, optional, required};
 ghost use Rattle.command_line.specs.Command.{selftest_command, serve_command, subcommand, top_command, word};
-ghost use Rattle.command_line.specs.Parts.{rule_of_part};
+ghost use Rattle.command_line.specs.Parts.{rule_of_part, with_readings};
 
 use crate::help;
 use clap::builder::ValueParser;
@@ -196,7 +196,34 @@ fn with_job<'a>(
     ensures { (app : App) (shape : Shape) → IfOk office.entry (λ c. app_of c ≡ app)
         → IfOk job.entry (IsSubcommand shape) → IfOk result (λ c. app_of c ≡ with_subcommand app shape) }
 {
-    office?.subcommand(job?)
+    match (office, job) {
+        (Ok(office), Ok(job)) => office.subcommand(job),
+        (Err(refused), job) => {
+            drop(job);
+            Err(refused)
+        }
+        (Ok(office), Err(refused)) => {
+            drop(office);
+            Err(refused)
+        }
+    }
+}
+
+// The same with the jobs that read an office.
+fn with_readings<'a>(
+    alloc: Global,
+    office: Result<Command<'a>, AllocError>,
+) -> Result<Command<'a>, AllocError>
+    ensures { (app : App) → IfOk office.entry (λ c. app_of c ≡ app)
+        → IfOk result (λ c. app_of c ≡ with_readings app) }
+{
+    let office = with_job(office, on_database(alloc, "krl", help::KRL, help::KRL_MORE));
+    let signers = on_database(alloc, "signers", help::SIGNERS, help::SIGNERS_MORE);
+    let office = with_job(office, signers);
+    with_job(
+        office,
+        on_database(alloc, "table", help::TABLE, help::TABLE_MORE),
+    )
 }
 
 /// The whole command, whose meaning to clap is that of `specs/Command.antt`.
@@ -210,15 +237,7 @@ pub fn office_command<'a>(alloc: Global) -> Result<Command<'a>, AllocError>
     let office = with_job(Ok(top_command(alloc)), init_command(alloc));
     let office = with_job(office, apply_command(alloc));
     let office = with_job(office, serve_command(alloc));
-    let office = with_job(office, on_database(alloc, "krl", help::KRL, help::KRL_MORE));
-    let office = with_job(
-        office,
-        on_database(alloc, "signers", help::SIGNERS, help::SIGNERS_MORE),
-    );
-    let office = with_job(
-        office,
-        on_database(alloc, "table", help::TABLE, help::TABLE_MORE),
-    );
+    let office = with_readings(alloc, office);
     let office = with_job(office, check_command(alloc));
     let office = with_job(
         office,

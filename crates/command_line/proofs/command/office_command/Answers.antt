@@ -8,9 +8,7 @@ returns c =
     let init = c.with_job-office.ensures _ init_command c.top_command.ensures c.init_command.ensures in
     let apply = c.with_job-office-2.ensures _ apply_command init c.apply_command.ensures in
     let serve = c.with_job-office-3.ensures _ serve_command apply c.serve_command.ensures in
-    let krl = c.with_job-office-4.ensures _ (on_database (codes "krl")) serve c.on_database.ensures in
-    let signers = c.with_job-office-5.ensures _ (on_database (codes "signers")) krl c.on_database-2.ensures in
-    let table = c.with_job-office-6.ensures _ (on_database (codes "table")) signers c.on_database-3.ensures in
-    let check = c.with_job-office-7.ensures _ check_command table c.check_command.ensures in
-    let migrate = c.with_job-office-8.ensures _ (on_database (codes "migrate")) check c.on_database-4.ensures in
+    let readings = c.with_readings-office.ensures _ serve in
+    let check = c.with_job-office-4.ensures _ check_command readings c.check_command.ensures in
+    let migrate = c.with_job-office-5.ensures _ (on_database (codes "migrate")) check c.on_database.ensures in
     c.with_job.ensures _ selftest_command migrate c.selftest_command.ensures
