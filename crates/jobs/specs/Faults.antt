@@ -1,5 +1,7 @@
 -- The fault of a job by the fault that it met.
 use Rattle.std.specs.Prelude.{◌≡◌, Result, Ok, Err}
+use Rattle.std.specs.declared.io.ErrorKind.{ErrorKind}
+use Rattle.std.specs.declared.io.ErrorKind.TheVariants.{OutOfMemory}
 use Rattle.lines.specs.declared.key_line.LineFault.{LineFault}
 use Rattle.lines.specs.declared.key_line.LineFault.TheVariants as line
 use Rattle.office.specs.declared.opening.Opening.{Opening as Begun}
@@ -65,6 +67,11 @@ of_listening listening.Write = Write
 abbrev pub of_selftest : SelftestFault → JobFault
 of_selftest (selftest.Unserved fault) = Connection fault
 of_selftest selftest.Mismatch = Mismatch
+
+-- of a file that can't be opened or read, by the kind of the error
+abbrev pub of_file : ErrorKind → JobFault
+of_file OutOfMemory = NoMemory
+of_file other = File
 
 -- What is met where a file is read.
 abbrev pub IsOfAFile : JobFault → Type 0

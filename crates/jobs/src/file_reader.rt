@@ -1,8 +1,9 @@
 //! What files hold.
 
+ghost use Rattle.std.specs.IoError.{error_kind};
 ghost use Rattle.std.specs.Prelude.{◌≡◌, ◌<◌, ◌≤◌, ℕ, Err, IfErr, IfOk, IfSome, take, vec_len};
 ghost use Rattle.exchanges.specs.Exchanges.{AreExchanges, IsBadRecord, TellsOf, exchanges_text};
-ghost use Rattle.jobs.specs.Faults.{IsOfAFile, IsOfAKey, IsOfExchanges};
+ghost use Rattle.jobs.specs.Faults.{IsOfAFile, IsOfAKey, IsOfExchanges, of_file};
 ghost use Rattle.jobs.specs.Reading.{IsKeyText};
 
 use crate::job_fault::JobFault;
@@ -21,12 +22,12 @@ const MAX_LIST: u64 = 4_294_967_344;
 
 /// The fault of a file that can't be opened or read.
 pub fn file_fault(error: &io::Error) -> JobFault
-    ensures { IsOfAFile result }
+    ensures value { result ≡ of_file (error_kind error.now) }
+    ensures only { IsOfAFile result }
 {
-    if error.kind() == ErrorKind::OutOfMemory {
-        JobFault::NoMemory
-    } else {
-        JobFault::File
+    match error.kind() {
+        ErrorKind::OutOfMemory => JobFault::NoMemory,
+        _ => JobFault::File,
     }
 }
 
