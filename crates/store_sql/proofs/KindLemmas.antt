@@ -68,6 +68,15 @@ fits kinds row h =
     let many : length row ≡ length kinds = grind (arith, nat_tests) in
     columns_of row (length kinds) many ∙ all_kept kinds 0 row parts.1
 
+-- the value of a number
+abbrev pub number : ℕ → Value
+number n = value.Int (pos n)
+
+-- a row whose first cell holds this value, as it holds an equal one
+pub cell : {A : Type 0} (made : A → Value) {read shown : A} {rest others : Row} → read ≡ shown → others ≡ rest
+    → made shown ∷ others ≡ made read ∷ rest
+cell made is same = ap₂ ◌∷◌ (ap made (sym is)) same
+
 pub same_names : (columns : List Column) (names : List (Bor (List ℕ)))
     → list_all (λ p. bytes_eq p.0.name p.1.now) (zip columns names) ≡ list_all (λ p. bytes_eq p.0.name p.1)
     (zip columns (map (λ n. n.now) names))
