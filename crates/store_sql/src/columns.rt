@@ -57,8 +57,9 @@ pub(crate) fn read_all<T: Columns>(alloc: Global, rows: &[Row]) -> Result<Vec<T>
             Ok(columns) => columns,
             Err(fault) => return Err(fault),
         };
-        if all.push(columns).is_err() {
-            return Err(Fault::NoMemory);
+        match all.push(columns) {
+            Ok(()) => {}
+            Err(_) => return Err(Fault::NoMemory),
         }
     }
     Ok(all)
