@@ -31,7 +31,7 @@ pub fn has_any_table<S: Alter>(conn: &Connection<S>) -> bool
         .tables
         .as_slice()
         .iter()
-        .any(|table| has_office_name(table))
+        .any(has_office_name)
 }
 
 fn are_named(columns: &[Column], names: &[&str]) -> bool
@@ -69,7 +69,7 @@ pub fn has_office<S: Alter>(conn: &Connection<S>) -> bool
         .tables
         .as_slice()
         .iter()
-        .any(|table| is_office(table))
+        .any(is_office)
 }
 
 fn has_ca_name(table: &Table) -> bool
@@ -86,5 +86,5 @@ pub fn has_ca_table<S: Alter>(conn: &Connection<S>) -> bool
         .tables
         .as_slice()
         .iter()
-        .any(|table| has_ca_name(table))
+        .any(has_ca_name)
 }
