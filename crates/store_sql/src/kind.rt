@@ -39,10 +39,12 @@ fn is_held(kind: Kind, row: &Row, at: usize) -> bool
 fn are_held(kinds: &[Kind], row: &Row) -> bool
     ensures { result ≡ list_all (λ p. holds p.1 (column row.now p.0)) (enumerate_from 0 kinds.now) }
 {
-    kinds
-        .iter()
-        .enumerate()
-        .all(|(at, kind)| is_held(*kind, row, at))
+    for at in 0..kinds.len() {
+        if !is_held(kinds[at], row, at) {
+            return false;
+        }
+    }
+    true
 }
 
 /// Whether the row has just these columns, each holding what it may.
