@@ -1,4 +1,4 @@
-use Rattle.store_sql.proofs.Words.{ap, arith, length, refl, sym, ◌&&◌, ◌+◌, ◌<◌, ◌∙◌, ◌≡◌, ◌≤◌}
+use Rattle.store_sql.proofs.Words.{ap, arith, length, refl, sym, ◌&&◌, ◌+◌, ◌<◌, ◌∙◌, ◌≤◌}
 use Rattle.store_sql.proofs.KindLemmas.{named_end, named_from, named_next, same_or_not}
 use Rattle.store_sql.proofs.look.are_named.Goals as goal
 
