@@ -27,12 +27,12 @@ pub(crate) enum Kind {
 fn is_held(kind: Kind, row: &Row, at: usize) -> bool
     ensures { result ≡ holds kind (column row.now at) }
 {
-    match (kind, row.get_ref(at)) {
-        (Kind::Number, Ok(ValueRef::Int(number))) => number >= 0,
-        (Kind::Text, Ok(ValueRef::Text(_))) => true,
-        (Kind::Blob, Ok(ValueRef::Blob(_))) => true,
-        (Kind::OptionalBlob, Ok(ValueRef::Blob(_) | ValueRef::Null) | Err(_)) => true,
-        _ => false,
+    match row.get_ref(at) {
+        Ok(ValueRef::Int(number)) => matches!(kind, Kind::Number) && number >= 0,
+        Ok(ValueRef::Text(_)) => matches!(kind, Kind::Text),
+        Ok(ValueRef::Blob(_)) => matches!(kind, Kind::Blob | Kind::OptionalBlob),
+        Ok(ValueRef::Null) | Err(_) => matches!(kind, Kind::OptionalBlob),
+        Ok(ValueRef::Real(_)) => false,
     }
 }
 
