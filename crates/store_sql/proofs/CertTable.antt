@@ -5,7 +5,7 @@ use Rattle.store_sql.proofs.Words.{Insert, Int, Le, List, Lists, Means, None, Nu
 use Rattle.store_sql.proofs.Words.{SIGN_CERT, Some, State, Term, Text, Trees, Update, Values, [], accepts_terms, agree}
 use Rattle.store_sql.proofs.Words.{all_has, and-true, ap, ap₂, are_typed, arith, ascending, at_places, binary, cert_at}
 use Rattle.store_sql.proofs.Words.{cert_cells, cert_places, codes, col, column, department_cells, department_places}
-use Rattle.store_sql.proofs.Words.{drop, equal, everything, false, first_key, has_null, has_rowid, inl, inr, is_true}
+use Rattle.store_sql.proofs.Words.{drop, equal, everything, first_key, has_null, has_rowid, inl, inr, is_true}
 use Rattle.store_sql.proofs.Words.{list_any, lit, lt-ltb, nat_cmp, not, op2, or_null, or_right, plain, pos, refl}
 use Rattle.store_sql.proofs.Words.{signed, some_from, stamped, subst, sym, true, whole, without_rowid, ℕ}
 use Rattle.store_sql.proofs.Words.{◌&&◌, ◌<◌, ◌^◌, ◌||◌, ◌∙◌, ◌∷◌, ◌≡◌}

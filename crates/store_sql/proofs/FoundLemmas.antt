@@ -4,15 +4,17 @@ use Rattle.store_sql.proofs.Words.{Executes, FailsToQuery, Fault, FindsIn, Finds
 use Rattle.store_sql.proofs.Words.{IfOk, IsAnswer, IsDone, IsFirstRead, IsOneOf, IsPermutation, IsPlain, IsRead}
 use Rattle.store_sql.proofs.Words.{IsSound, IsUnchanged, IsWrite, Kept, Leaves, List, Means, Misread, NoMemory, None}
 use Rattle.store_sql.proofs.Words.{Null, Ok, OnOk, OnlyReads, Option, Query, Result, Row, Runs, Schema, Select, Shown}
-use Rattle.store_sql.proofs.Words.{Some, State, Tally, Trees, Vec, Writes, [], ap, arith, command_of, false, fault_of}
+use Rattle.store_sql.proofs.Words.{Some, State, Tally, Trees, Vec, Writes, [], ap, ap₂, arith, command_of, false, fault_of}
 use Rattle.store_sql.proofs.Words.{get_or, if◌then◌else◌, inl, is_out_of_memory, length, length-map, length_permutation}
 use Rattle.store_sql.proofs.Words.{map, overlay, reads_as, reads_listing, refl, runs_as, statement_of, subst, suc, sym}
-use Rattle.store_sql.proofs.Words.{true, understood, whole, zero, ℕ, ◌<◌, ◌∙◌, ◌∷◌, ◌≡◌, ◌≢◌}
+use Rattle.store_sql.proofs.Words.{take, true, understood, whole, zero, ℕ, ◌+◌, ◌++◌, ◌<◌, ◌∙◌, ◌∷◌, ◌≡◌, ◌≢◌}
 use Rattle.store_sql.specs.Done.{IsFirst}
 use Rattle.std.proofs.Common.{set}
 use Rattle.std.specs.List.{swap}
 use Rattle.std.specs.List.Sorted.{SwapsInRange, apply_swaps}
-use Rattle.std.proofs.lemmas.List.{map-set}
+use Rattle.std.proofs.Common.{add-one}
+use Rattle.std.proofs.Math.Seq.{take-suc}
+use Rattle.std.proofs.lemmas.List.{map-append, map-set}
 use Rattle.store_sql.specs.Calls.{Fails}
 use Rattle.store_sql.proofs.Statements.{mode, stopped, commits_as}
 use Rattle.store_sql.proofs.Queries.{query_stopped, shown_unchanged}
@@ -247,3 +249,10 @@ pub misread_one : {X : Type 0} (cells : X → Row) (rows : List Row) (i : ℕ) (
 misread_one cells rows i row fault low is =
     misread_more _ _ fault (λ none all same. let one = row_of_one cells rows all i row low same in none one.0
     (is ∙ one.1))
+
+-- the structs of the first rows, with that of the row after them
+pub one_more_read : {X : Type 0} (cells : X → Row) (rows : List Row) (i : ℕ) (all : List X) (x : X) (d : Row)
+    → i < length rows → map cells all ≡ take i rows → get_or rows i d ≡ cells x
+    → map cells (all ++ (x ∷ [])) ≡ take (i + 1) rows
+one_more_read cells rows i all x d inside first is =
+    map-append cells all (x ∷ []) ∙ ap₂ ◌++◌ first (ap (λ r. r ∷ []) (sym is)) ∙ sym (rw add-one (take-suc rows i d inside))

@@ -131,6 +131,12 @@ module _ (names : List TableName) (i : ℕ) (first : TableName) (inside : i < le
         );
   }
 
+  -- it isn't made, and what was committed before all stays
+  pub none_committed : (f : Fault) → (HasCleanDisk c → Stays {X = Unit {0}} b c (Err f))
+      → HasCleanDisk c → Stays {X = Unit {0}} a c (Err f)
+  none_committed f stays clean =
+      stays_then {X = Unit {0}} {Y = Unit {0}} a b c tt (Err f) (at.stays (omega (arith, lives.clean))) (stays clean)
+
   -- why it isn't made
   pub none_more : (f : Fault) → (HasCleanDisk c → b.now.schema ≡ before name → HasCause b c f)
       → HasCleanDisk c → IsBare no_schema a.now → HasCause a c f

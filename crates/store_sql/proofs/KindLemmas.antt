@@ -1,9 +1,9 @@
 -- A row that has just these kinds of columns is made of what is read from them; and names of columns.
-use Rattle.store_sql.proofs.Words.{Bool, List, Row, Value, [], ap, ap₂, arith, blob_in, bytes_eq, column, false, length}
-use Rattle.store_sql.proofs.Words.{list_all, map, nat_tests, negsuc, number_in, optional_blob_in, or_null, pos, refl}
-use Rattle.store_sql.proofs.Words.{sym, text_in, true, ℕ, ◌&&◌, ◌+◌, ◌==◌, ◌∙◌, ◌∷◌, ◌≡◌}
+use Rattle.store_sql.proofs.Words.{Bool, List, Row, Value, [], ap, ap₂, arith, blob_in, bytes_eq, column, drop, false, get_or, length}
+use Rattle.store_sql.proofs.Words.{list_all, map, nat_tests, negsuc, not, number_in, optional_blob_in, or_null, pos, refl}
+use Rattle.store_sql.proofs.Words.{sym, text_in, true, ℕ, ◌&&◌, ◌+◌, ◌<◌, ◌==◌, ◌∙◌, ◌∷◌, ◌≡◌, ◌≤◌}
 use Rattle.std.specs.List.{enumerate_from, range_with_len, zip}
-use Rattle.std.proofs.lemmas.List.{ext_get_or}
+use Rattle.std.proofs.lemmas.List.{drop_all, drop_more, ext_get_or}
 use Rattle.std.proofs.lemmas.List.FromFn.{length-map-range_with_len, get_or-map-range_with_len}
 use Rattle.store_sql.specs.declared.kind.Kind.{Kind}
 use Rattle.store_sql.specs.declared.kind.Kind.TheVariants.{Number, Text, Blob, OptionalBlob}
@@ -68,9 +68,57 @@ fits kinds row h =
     let many : length row ≡ length kinds = grind (arith, nat_tests) in
     columns_of row (length kinds) many ∙ all_kept kinds 0 row parts.1
 
+-- the value of a number
+abbrev pub number : ℕ → Value
+number n = value.Int (pos n)
+
+-- a row whose first cell holds this value, as it holds an equal one
+pub cell : {A : Type 0} (made : A → Value) {read shown : A} {rest others : Row} → read ≡ shown → others ≡ rest
+    → made shown ∷ others ≡ made read ∷ rest
+cell made is same = ap₂ ◌∷◌ (ap made (sym is)) same
+
 pub same_names : (columns : List Column) (names : List (Bor (List ℕ)))
     → list_all (λ p. bytes_eq p.0.name p.1.now) (zip columns names) ≡ list_all (λ p. bytes_eq p.0.name p.1)
     (zip columns (map (λ n. n.now) names))
 same_names [] names = refl
 same_names (c ∷ columns) [] = refl
 same_names (c ∷ columns) (n ∷ names) = ap (λ b. bytes_eq c.name n.now && b) (same_names columns names)
+
+-- ---- the kinds and the names from one place on
+
+abbrev pub held_from : List Kind → Row → ℕ → Bool
+held_from kinds row at = list_all (λ p. holds p.1 (column row p.0)) (enumerate_from at (drop at kinds))
+
+pub held_next : (kinds : List Kind) (row : Row) (at : ℕ) (k : Kind) → at < length kinds
+    → held_from kinds row at ≡ (holds (get_or kinds at k) (column row at) && held_from kinds row (at + 1))
+held_next kinds row at k inside =
+    ap (λ ks. list_all (λ p. holds p.1 (column row p.0)) (enumerate_from at ks)) (drop_more kinds at k inside)
+
+pub held_end : (kinds : List Kind) (row : Row) (at : ℕ) → length kinds ≤ at → held_from kinds row at ≡ true
+held_end kinds row at end =
+    ap (λ ks. list_all (λ p. holds p.1 (column row p.0)) (enumerate_from at ks)) (drop_all at kinds end)
+
+abbrev named : List (Column × Bor (List ℕ)) → Bool
+named both = list_all (λ p. bytes_eq p.0.name p.1.now) both
+
+abbrev pub named_from : List Column → List (Bor (List ℕ)) → ℕ → Bool
+named_from columns names at = named (zip (drop at columns) (drop at names))
+
+pub named_next : (columns : List Column) (names : List (Bor (List ℕ))) (at : ℕ) (c : Column) (n : Bor (List ℕ))
+    → at < length columns → at < length names → named_from columns names at
+    ≡ (bytes_eq (get_or columns at c).name (get_or names at n).now && named_from columns names (at + 1))
+named_next columns names at c n inside within =
+    ap₂ (λ cs ns. named (zip cs ns)) (drop_more columns at c inside) (drop_more names at n within)
+
+pub named_end : (columns : List Column) (names : List (Bor (List ℕ))) (at : ℕ) → length columns ≤ at
+    → named_from columns names at ≡ true
+named_end columns names at end = ap (λ cs. named (zip cs (drop at names))) (drop_all at columns end)
+
+negated : (b r : Bool) → r ≡ not b → b ≡ not r
+negated true r is = sym (ap not is)
+negated false r is = sym (ap not is)
+
+-- what a test of copies says of the names
+pub same_or_not : (copy other name wanted : List ℕ) (differ : Bool) → copy ≡ name → other ≡ wanted
+    → differ ≡ not (bytes_eq copy other) → bytes_eq name wanted ≡ not differ
+same_or_not copy other name wanted differ is are test = sym (ap₂ bytes_eq is are) ∙ negated _ differ test

@@ -9,5 +9,6 @@ pub mod Honest
 pub mod Calls
 pub mod Runs
 pub mod Done
+pub mod Granted
 pub mod Look
 pub mod Refusals

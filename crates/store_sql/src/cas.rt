@@ -11,13 +11,14 @@ ghost use Rattle.store_sql.specs.Refusals.{RefusedFor, RefusesCa};
 
 use crate::columns::{Columns, found};
 use crate::kind::{Kind, blob_at, is_row_of, number_at};
+use crate::memory::Memory;
 use crate::number::Number;
 use crate::sql::{EVERY_CA, INSERT_CA};
 use crate::table_fault::{Fault, done};
 use sqlite::types::ValueRef;
 use sqlite::{Alter, Connection, Row};
 use std::alloc::Global;
-use text::{NoMemory, Text};
+use text::Text;
 
 /// A CA.
 #[derive(Drop)]
@@ -62,12 +63,12 @@ impl Columns for CaRow {
         is_row_of(row, &[Kind::Number, Kind::Blob, Kind::Number])
     }
 
-    fn copied_from(alloc: Global, row: &Row) -> Result<CaRow, NoMemory> {
-        Ok(CaRow {
+    fn copied_from(memory: &mut Memory, row: &Row) -> CaRow {
+        CaRow {
             number: number_at(row, 0),
-            ca: blob_at(alloc, row, 1)?,
+            ca: blob_at(memory, row, 1),
             since: number_at(row, 2),
-        })
+        }
     }
 }
 

@@ -12,13 +12,14 @@ ghost use Rattle.store_sql.specs.Refusals.{RefusedFor, RefusesCert, RefusesSigna
 
 use crate::columns::{Columns, found, found_first};
 use crate::kind::{Kind, blob_at, is_row_of, number_at, optional_blob, optional_blob_at, text_at};
+use crate::memory::Memory;
 use crate::number::Number;
 use crate::sql::{CERTS_WITHIN, FIND_CERT, INSERT_CERT, SIGN_CERT};
 use crate::table_fault::{Fault, done};
 use sqlite::types::ValueRef;
 use sqlite::{Alter, Connection, Row};
 use std::alloc::Global;
-use text::{NoMemory, Text};
+use text::Text;
 
 /// A certificate.
 #[derive(Drop)]
@@ -77,14 +78,14 @@ impl Columns for CertRow {
         )
     }
 
-    fn copied_from(alloc: Global, row: &Row) -> Result<CertRow, NoMemory> {
-        Ok(CertRow {
+    fn copied_from(memory: &mut Memory, row: &Row) -> CertRow {
+        CertRow {
             serial: number_at(row, 0),
-            department: text_at(alloc, row, 1)?,
-            key_id: text_at(alloc, row, 2)?,
-            body: blob_at(alloc, row, 3)?,
-            signature: optional_blob_at(alloc, row, 4)?,
-        })
+            department: text_at(memory, row, 1),
+            key_id: text_at(memory, row, 2),
+            body: blob_at(memory, row, 3),
+            signature: optional_blob_at(memory, row, 4),
+        }
     }
 }
 

@@ -1,14 +1,14 @@
 //! Rows as structs of their columns.
 
-ghost use Rattle.std.specs.Prelude.{◌≡◌, ◌≢◌, List, Bool, true, map, IfOk, IfErr};
+ghost use Rattle.std.specs.Prelude.{◌≡◌, ◌≢◌, List, Bool, true, false, map, IfOk, IfErr};
 ghost use Rattle.sqlite_value.specs.Order.{Row as SqlRow};
 ghost use Rattle.store_sql.specs.Faults.{Misread};
 ghost use Rattle.store_sql.specs.Done.{IsFirst, IsRead, IsFirstRead};
 
+use crate::memory::Memory;
 use crate::table_fault::Fault;
 use sqlite::{Error, Row};
 use std::alloc::Global;
-use text::NoMemory;
 
 /// A struct of the columns of a row.
 pub(crate) trait Columns: Sized + Drop {
@@ -21,8 +21,8 @@ pub(crate) trait Columns: Sized + Drop {
     fn is_row(row: &Row) -> bool
         ensures { result ≡ is_row row.now };
 
-    fn copied_from(alloc: Global, row: &Row) -> Result<Self, NoMemory>
-        ensures { IfOk result (λ x. is_row row.now ≡ true → row.now ≡ cells x) };
+    fn copied_from(memory: &mut Memory, row: &Row) -> Self
+        ensures { memory.new.is_refused ≡ false → is_row row.now ≡ true → row.now ≡ cells result };
 
     ghost fits: { (x : Self) → is_row (cells x) ≡ true };
 }
@@ -35,10 +35,12 @@ pub(crate) fn read<T: Columns>(alloc: Global, row: &Row) -> Result<T, Fault>
     if !T::is_row(row) {
         return Err(Fault::Damaged);
     }
-    match T::copied_from(alloc, row) {
-        Ok(columns) => Ok(columns),
-        Err(NoMemory) => Err(Fault::NoMemory),
+    let mut memory = Memory::new(alloc);
+    let columns = T::copied_from(&mut memory, row);
+    if memory.is_refused() {
+        return Err(Fault::NoMemory);
     }
+    Ok(columns)
 }
 
 /// The columns of each row.
@@ -55,8 +57,9 @@ pub(crate) fn read_all<T: Columns>(alloc: Global, rows: &[Row]) -> Result<Vec<T>
             Ok(columns) => columns,
             Err(fault) => return Err(fault),
         };
-        if all.push(columns).is_err() {
-            return Err(Fault::NoMemory);
+        match all.push(columns) {
+            Ok(()) => {}
+            Err(_) => return Err(Fault::NoMemory),
         }
     }
     Ok(all)

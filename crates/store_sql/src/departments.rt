@@ -12,13 +12,14 @@ ghost use Rattle.store_sql.specs.Refusals.{RefusedFor, RefusesDepartment};
 
 use crate::columns::{Columns, found, found_first};
 use crate::kind::{Kind, is_row_of, number_at, text_at};
+use crate::memory::Memory;
 use crate::number::Number;
 use crate::sql::{EVERY_DEPARTMENT, FIND_DEPARTMENT, PUT_DEPARTMENT};
 use crate::table_fault::{Fault, done};
 use sqlite::types::ValueRef;
 use sqlite::{Alter, Connection, Row};
 use std::alloc::Global;
-use text::{NoMemory, Text};
+use text::Text;
 
 /// A department. Lists are texts joined by commas, in the order given.
 #[derive(Drop)]
@@ -83,17 +84,17 @@ impl Columns for DepartmentRow {
         )
     }
 
-    fn copied_from(alloc: Global, row: &Row) -> Result<DepartmentRow, NoMemory> {
-        Ok(DepartmentRow {
-            name: text_at(alloc, row, 0)?,
+    fn copied_from(memory: &mut Memory, row: &Row) -> DepartmentRow {
+        DepartmentRow {
+            name: text_at(memory, row, 0),
             kind: number_at(row, 1),
-            admins: text_at(alloc, row, 2)?,
-            rules: text_at(alloc, row, 3)?,
-            options: text_at(alloc, row, 4)?,
-            extensions: text_at(alloc, row, 5)?,
+            admins: text_at(memory, row, 2),
+            rules: text_at(memory, row, 3),
+            options: text_at(memory, row, 4),
+            extensions: text_at(memory, row, 5),
             max_life: number_at(row, 6),
-            namespaces: text_at(alloc, row, 7)?,
-        })
+            namespaces: text_at(memory, row, 7),
+        }
     }
 }
 

@@ -1,18 +1,19 @@
 //! What a column may hold, and single columns of a row.
 
-ghost use Rattle.std.specs.Prelude.{◌≡◌, IfOk};
+ghost use Rattle.std.specs.Prelude.{◌≡◌};
 ghost use Rattle.std.specs.List.{list_all, enumerate_from};
 ghost use Rattle.sqlite_value.specs.Order.{column};
 ghost use Rattle.sqlite_value.specs.Value.{owned};
 ghost use Rattle.sqlite.specs.Values.{or_null};
 ghost use Rattle.sqlite.specs.declared.types.Value.TheVariants.{Blob};
+ghost use Rattle.store_sql.specs.Granted.{IfGranted};
 ghost use Rattle.store_sql.specs.Kinds.{holds, has_kinds, text_in, blob_in, optional_blob_in, number_in};
 
+use crate::memory::Memory;
 use crate::number::Number;
 use sqlite::Row;
 use sqlite::types::ValueRef;
-use std::alloc::Global;
-use text::{NoMemory, Text};
+use text::Text;
 
 /// What a column may hold.
 #[derive(Clone, Copy)]
@@ -26,22 +27,24 @@ pub(crate) enum Kind {
 fn is_held(kind: Kind, row: &Row, at: usize) -> bool
     ensures { result ≡ holds kind (column row.now at) }
 {
-    match (kind, row.get_ref(at)) {
-        (Kind::Number, Ok(ValueRef::Int(number))) => number >= 0,
-        (Kind::Text, Ok(ValueRef::Text(_))) => true,
-        (Kind::Blob, Ok(ValueRef::Blob(_))) => true,
-        (Kind::OptionalBlob, Ok(ValueRef::Blob(_) | ValueRef::Null) | Err(_)) => true,
-        _ => false,
+    match row.get_ref(at) {
+        Ok(ValueRef::Int(number)) => matches!(kind, Kind::Number) && number >= 0,
+        Ok(ValueRef::Text(_)) => matches!(kind, Kind::Text),
+        Ok(ValueRef::Blob(_)) => matches!(kind, Kind::Blob | Kind::OptionalBlob),
+        Ok(ValueRef::Null) | Err(_) => matches!(kind, Kind::OptionalBlob),
+        Ok(ValueRef::Real(_)) => false,
     }
 }
 
 fn are_held(kinds: &[Kind], row: &Row) -> bool
     ensures { result ≡ list_all (λ p. holds p.1 (column row.now p.0)) (enumerate_from 0 kinds.now) }
 {
-    kinds
-        .iter()
-        .enumerate()
-        .all(|(at, kind)| is_held(*kind, row, at))
+    for at in 0..kinds.len() {
+        if !is_held(kinds[at], row, at) {
+            return false;
+        }
+    }
+    true
 }
 
 /// Whether the row has just these columns, each holding what it may.
@@ -52,36 +55,32 @@ pub(crate) fn is_row_of(row: &Row, kinds: &[Kind]) -> bool
 }
 
 /// The text in a column, or no byte where there is none.
-pub(crate) fn text_at(alloc: Global, row: &Row, at: usize) -> Result<Text, NoMemory>
-    ensures { IfOk result (λ t. t ≡ text_in (column row.now at)) }
+pub(crate) fn text_at(memory: &mut Memory, row: &Row, at: usize) -> Text
+    ensures { IfGranted memory.old memory.new (result ≡ text_in (column row.now at)) }
 {
     match row.get_ref(at) {
-        Ok(ValueRef::Text(bytes)) => Text::from_slice(alloc, bytes),
-        _ => Ok(Text::new(alloc)),
+        Ok(ValueRef::Text(bytes)) => memory.copied(bytes),
+        _ => memory.copied(b""),
     }
 }
 
 /// The bytes in a column, or no byte where there are none.
-pub(crate) fn blob_at(alloc: Global, row: &Row, at: usize) -> Result<Text, NoMemory>
-    ensures { IfOk result (λ b. b ≡ blob_in (column row.now at)) }
+pub(crate) fn blob_at(memory: &mut Memory, row: &Row, at: usize) -> Text
+    ensures { IfGranted memory.old memory.new (result ≡ blob_in (column row.now at)) }
 {
     match row.get_ref(at) {
-        Ok(ValueRef::Blob(bytes)) => Text::from_slice(alloc, bytes),
-        _ => Ok(Text::new(alloc)),
+        Ok(ValueRef::Blob(bytes)) => memory.copied(bytes),
+        _ => memory.copied(b""),
     }
 }
 
 /// The bytes in a column that may be NULL.
-pub(crate) fn optional_blob_at(
-    alloc: Global,
-    row: &Row,
-    at: usize,
-) -> Result<Option<Text>, NoMemory>
-    ensures { IfOk result (λ b. b ≡ optional_blob_in (column row.now at)) }
+pub(crate) fn optional_blob_at(memory: &mut Memory, row: &Row, at: usize) -> Option<Text>
+    ensures { IfGranted memory.old memory.new (result ≡ optional_blob_in (column row.now at)) }
 {
     match row.get_ref(at) {
-        Ok(ValueRef::Blob(bytes)) => Ok(Some(Text::from_slice(alloc, bytes)?)),
-        _ => Ok(None),
+        Ok(ValueRef::Blob(bytes)) => Some(memory.copied(bytes)),
+        _ => None,
     }
 }
 

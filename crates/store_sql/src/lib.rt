@@ -16,6 +16,7 @@ mod creation;
 mod departments;
 mod kind;
 mod look;
+mod memory;
 mod number;
 mod offices;
 mod requests;

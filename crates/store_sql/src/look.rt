@@ -1,6 +1,6 @@
 //! A look at the schema, before anything is asked of the tables.
 
-ghost use Rattle.std.specs.Prelude.{◌≡◌};
+ghost use Rattle.std.specs.Prelude.{◌≡◌, length};
 ghost use Rattle.std.specs.Str.{bytes_eq};
 ghost use Rattle.std.specs.List.{list_any, list_all, zip};
 ghost use Rattle.store_sql.specs.Look.{has_columns, is_ca_name, is_office_name, is_office_table};
@@ -27,20 +27,19 @@ fn has_office_name(table: &Table) -> bool
 pub fn has_any_table<S: Alter>(conn: &Connection<S>) -> bool
     ensures { result ≡ list_any is_office_name (tables_of S.Store conn.now) }
 {
-    conn.schema()
-        .tables
-        .as_slice()
-        .iter()
-        .any(|table| has_office_name(table))
+    conn.schema().tables.as_slice().iter().any(has_office_name)
 }
 
 fn are_named(columns: &[Column], names: &[&str]) -> bool
+    requires { length columns.now ≡ length names.now }
     ensures { result ≡ list_all (λ p. bytes_eq p.0.name p.1.now) (zip columns.now names.now) }
 {
-    columns
-        .iter()
-        .zip(names)
-        .all(|(column, name)| column.name.as_slice() == name.as_bytes())
+    for at in 0..names.len() {
+        if columns[at].name.as_slice() != names[at].as_bytes() {
+            return false;
+        }
+    }
+    true
 }
 
 fn has_office_columns(table: &Table) -> bool
@@ -65,11 +64,7 @@ fn is_office(table: &Table) -> bool
 pub fn has_office<S: Alter>(conn: &Connection<S>) -> bool
     ensures { result ≡ list_any is_office_table (tables_of S.Store conn.now) }
 {
-    conn.schema()
-        .tables
-        .as_slice()
-        .iter()
-        .any(|table| is_office(table))
+    conn.schema().tables.as_slice().iter().any(is_office)
 }
 
 fn has_ca_name(table: &Table) -> bool
@@ -82,9 +77,5 @@ fn has_ca_name(table: &Table) -> bool
 pub fn has_ca_table<S: Alter>(conn: &Connection<S>) -> bool
     ensures { result ≡ list_any is_ca_name (tables_of S.Store conn.now) }
 {
-    conn.schema()
-        .tables
-        .as_slice()
-        .iter()
-        .any(|table| has_ca_name(table))
+    conn.schema().tables.as_slice().iter().any(has_ca_name)
 }

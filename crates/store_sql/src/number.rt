@@ -8,7 +8,7 @@ use sqlite::types::ValueRef;
 use std::marker::Model;
 
 /// A number below 2^63, which an INTEGER column holds as it is. Contracts see it as that number.
-#[derive(Clone, Copy, PartialEq, Eq)]
+#[derive(Clone, Copy)]
 pub struct Number {
     value: u64,
 }

@@ -13,13 +13,14 @@ ghost use Rattle.store_sql.specs.Refusals.{RefusedFor, RefusesCounters, RefusesN
 
 use crate::columns::{Columns, found};
 use crate::kind::{Kind, blob_at, is_row_of, number_at, text_at};
+use crate::memory::Memory;
 use crate::number::Number;
 use crate::sql::{COUNT_OFFICE, EVERY_OFFICE, INSERT_OFFICE, NUMBER_OFFICE};
 use crate::table_fault::{Fault, done};
 use sqlite::types::ValueRef;
 use sqlite::{Alter, Connection, Row};
 use std::alloc::Global;
-use text::{NoMemory, Text};
+use text::Text;
 
 /// The one row of the office.
 #[derive(Drop)]
@@ -47,7 +48,7 @@ pub struct OfficeRow {
 }
 
 /// What moves as the office works.
-#[derive(Clone, Copy, PartialEq, Eq)]
+#[derive(Clone, Copy)]
 pub struct Counters {
     /// The serial that is handed out next.
     pub next: Number,
@@ -121,19 +122,19 @@ impl Columns for OfficeRow {
         )
     }
 
-    fn copied_from(alloc: Global, row: &Row) -> Result<OfficeRow, NoMemory> {
-        Ok(OfficeRow {
+    fn copied_from(memory: &mut Memory, row: &Row) -> OfficeRow {
+        OfficeRow {
             id: number_at(row, 0),
             schema: number_at(row, 1),
-            ca: blob_at(alloc, row, 2)?,
-            root: text_at(alloc, row, 3)?,
-            station: text_at(alloc, row, 4)?,
+            ca: blob_at(memory, row, 2),
+            root: text_at(memory, row, 3),
+            station: text_at(memory, row, 4),
             first: number_at(row, 5),
             last: number_at(row, 6),
             next: number_at(row, 7),
             version: number_at(row, 8),
             date: number_at(row, 9),
-        })
+        }
     }
 }
 

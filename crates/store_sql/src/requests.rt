@@ -10,12 +10,13 @@ ghost use Rattle.store_sql.specs.Refusals.{RefusedFor, RefusesRequest};
 
 use crate::columns::{Columns, found_first};
 use crate::kind::{Kind, blob_at, is_row_of, text_at};
+use crate::memory::Memory;
 use crate::sql::{FIND_REQUEST, INSERT_REQUEST};
 use crate::table_fault::{Fault, done};
 use sqlite::types::ValueRef;
 use sqlite::{Alter, Connection, Row};
 use std::alloc::Global;
-use text::{NoMemory, Text};
+use text::Text;
 
 /// A request that was accepted.
 #[derive(Drop)]
@@ -58,13 +59,13 @@ impl Columns for RequestRow {
         is_row_of(row, &[Kind::Text, Kind::Text, Kind::Blob, Kind::Text])
     }
 
-    fn copied_from(alloc: Global, row: &Row) -> Result<RequestRow, NoMemory> {
-        Ok(RequestRow {
-            caller: text_at(alloc, row, 0)?,
-            key: text_at(alloc, row, 1)?,
-            message: blob_at(alloc, row, 2)?,
-            reply: text_at(alloc, row, 3)?,
-        })
+    fn copied_from(memory: &mut Memory, row: &Row) -> RequestRow {
+        RequestRow {
+            caller: text_at(memory, row, 0),
+            key: text_at(memory, row, 1),
+            message: blob_at(memory, row, 2),
+            reply: text_at(memory, row, 3),
+        }
     }
 }
 

@@ -11,12 +11,13 @@ ghost use Rattle.store_sql.specs.Refusals.{RefusedFor, RefusesKeyId};
 
 use crate::columns::{Columns, found, found_first};
 use crate::kind::{Kind, is_row_of, text_at};
+use crate::memory::Memory;
 use crate::sql::{EVERY_REVOKED, FIND_REVOKED, INSERT_REVOKED};
 use crate::table_fault::{Fault, done};
 use sqlite::types::ValueRef;
 use sqlite::{Alter, Connection, Row};
 use std::alloc::Global;
-use text::{NoMemory, Text};
+use text::Text;
 
 impl Columns for Text {
     ghost use Rattle.std.specs.Prelude.{refl};
@@ -33,8 +34,8 @@ impl Columns for Text {
         is_row_of(row, &[Kind::Text])
     }
 
-    fn copied_from(alloc: Global, row: &Row) -> Result<Text, NoMemory> {
-        text_at(alloc, row, 0)
+    fn copied_from(memory: &mut Memory, row: &Row) -> Text {
+        text_at(memory, row, 0)
     }
 }
 

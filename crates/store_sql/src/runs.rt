@@ -12,16 +12,16 @@ ghost use Rattle.store_sql.specs.Refusals.{RefusedFor, RefusesRun};
 
 use crate::columns::{Columns, found, found_first};
 use crate::kind::{Kind, is_row_of, number_at};
+use crate::memory::Memory;
 use crate::number::Number;
 use crate::sql::{DELETE_RUNS, EVERY_RUN, INSERT_RUN, LAST_RUN};
 use crate::table_fault::{Fault, done};
 use sqlite::types::ValueRef;
 use sqlite::{Alter, Connection, Row};
 use std::alloc::Global;
-use text::NoMemory;
 
 /// A run of revoked serials, both ends included.
-#[derive(Clone, Copy, PartialEq, Eq)]
+#[derive(Clone, Copy)]
 pub struct RunRow {
     pub lo: Number,
     pub hi: Number,
@@ -55,11 +55,11 @@ impl Columns for RunRow {
         is_row_of(row, &[Kind::Number, Kind::Number])
     }
 
-    fn copied_from(_alloc: Global, row: &Row) -> Result<RunRow, NoMemory> {
-        Ok(RunRow {
+    fn copied_from(_memory: &mut Memory, row: &Row) -> RunRow {
+        RunRow {
             lo: number_at(row, 0),
             hi: number_at(row, 1),
-        })
+        }
     }
 }
 
