@@ -1,4 +1,6 @@
 //! Departments as rows, and rows as departments.
+//!
+//! Large values are dropped by name: the proof of a function that ends with one takes each of its fields apart.
 
 ghost use Rattle.std.specs.Prelude.{◌≡◌, ◌<◌, ◌^◌, IfOk, IsTrue, Some, map};
 ghost use Rattle.message.specs.declared.department.Department.{Department};
@@ -7,7 +9,7 @@ ghost use Rattle.cert.specs.Bodies.{kind_number};
 ghost use Rattle.store_rows.specs.Rows.{department_row, joined};
 ghost use Rattle.store_rows.specs.Reading.{IsRead};
 ghost use Rattle.cert.specs.Reading.{kind_of};
-ghost use Rattle.store_rows.specs.Departments.{department_in, parted, parts_of};
+ghost use Rattle.store_rows.specs.Departments.{department_in, if_lawful, parted, parts_of};
 
 use crate::both::both;
 use crate::numbers::number;
@@ -150,17 +152,25 @@ fn parts_of(alloc: Global, row: &DepartmentRow, kind: Kind) -> Result<Department
     }
 }
 
+fn if_lawful(department: Department) -> Result<Department, Fault>
+    ensures { IsRead (if_lawful department) result }
+{
+    if is_department(&department) {
+        return Ok(department);
+    }
+    drop(department);
+    Err(Fault::Damaged)
+}
+
 fn lawful_in(alloc: Global, row: &DepartmentRow) -> Result<Department, Fault>
     ensures { IsRead (department_in row.now) result }
 {
     let Some(kind) = kind_of(row.kind) else {
         return Err(Fault::Damaged);
     };
-    let department = parts_of(alloc, row, kind)?;
-    if is_department(&department) {
-        Ok(department)
-    } else {
-        Err(Fault::Damaged)
+    match parts_of(alloc, row, kind) {
+        Ok(department) => if_lawful(department),
+        Err(_) => Err(Fault::NoMemory),
     }
 }
 
