@@ -1,4 +1,6 @@
 //! The certificate of a serial.
+//!
+//! Large values are dropped by name: the proof of a function that ends with one takes each of its fields apart.
 
 ghost use Rattle.std.specs.Prelude.{◌≡◌, IfOk, IfSome};
 ghost use Rattle.store_sql.specs.Calls.{Never, OnlyReads};
@@ -31,10 +33,14 @@ fn read_found(alloc: Global, found: Option<CertRow>) -> Result<Option<Certificat
     ensures exact { IsRead (value_in certificate_in found) result }
     ensures lawful { IfOk result (λ found. IfSome found IsCertificate) }
 {
-    let Some(row) = found else {
-        return Ok(None);
-    };
-    Ok(Some(read_certificate(alloc, &row)?))
+    match found {
+        Some(row) => {
+            let certificate = read_certificate(alloc, &row);
+            drop(row);
+            Ok(Some(certificate?))
+        }
+        None => Ok(None),
+    }
 }
 
 fn find_numbered<S: Alter>(

@@ -1,4 +1,6 @@
 //! The certificate and the department that a message concerns.
+//!
+//! Large values are dropped by name: the proof of a function that ends with one takes each of its fields apart.
 
 ghost use Rattle.std.specs.Prelude.{◌≡◌, IfOk, IfSome, IsTrue, option_copied};
 ghost use Rattle.message.specs.Values.{is_department};
@@ -77,11 +79,16 @@ fn with_department<S: Alter>(
     ensures reads { OnOpen S.Store OnlyReads conn.old conn.new result }
     ensures survives { Outlives S.Store Never conn.old conn.new }
 {
-    let department = department_of(alloc, conn, message, certificate.as_ref())?;
-    Ok(Subject {
-        certificate,
-        department,
-    })
+    match department_of(alloc, conn, message, certificate.as_ref()) {
+        Ok(department) => Ok(Subject {
+            certificate,
+            department,
+        }),
+        Err(fault) => {
+            drop(certificate);
+            Err(fault)
+        }
+    }
 }
 
 /// The certificate and the department that a message concerns.
