@@ -43,20 +43,6 @@ fn read_found(alloc: Global, found: Option<CertRow>) -> Result<Option<Certificat
     }
 }
 
-fn find_numbered<S: Alter>(
-    alloc: Global,
-    conn: &mut Connection<S>,
-    serial: Number,
-) -> Result<Option<Certificate>, Fault>
-    ensures shows { On S.Store (Shows (λ s kept found. found ≡ certificate_of s serial)) conn.old conn.new result }
-    ensures lawful { IfOk result (λ found. IfSome found IsCertificate) }
-    ensures reads { On S.Store OnlyReads conn.old conn.new result }
-    ensures survives { Outlives S.Store Never conn.old conn.new }
-{
-    let found = find_cert(alloc, conn, serial)?;
-    read_found(alloc, found)
-}
-
 /// The certificate of this serial, or `None` where it wasn't issued. What is read is lawful, or told damaged.
 pub fn find_certificate<S: Alter>(
     alloc: Global,
@@ -69,5 +55,6 @@ pub fn find_certificate<S: Alter>(
     ensures reads { On S.Store OnlyReads conn.old conn.new result }
     ensures survives { Outlives S.Store Never conn.old conn.new }
 {
-    find_numbered(alloc, conn, asked_serial(serial))
+    let found = find_cert(alloc, conn, asked_serial(serial))?;
+    read_found(alloc, found)
 }
