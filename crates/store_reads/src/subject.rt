@@ -66,31 +66,6 @@ fn department_of<S: Alter>(
     }
 }
 
-fn with_department<S: Alter>(
-    alloc: Global,
-    conn: &mut Connection<S>,
-    message: &Message,
-    certificate: Option<Certificate>,
-) -> Result<Subject, Fault>
-    requires { IfSome certificate IsCertificate }
-    ensures shows { OnOpen S.Store (Shows (λ s kept subject. certificate ≡ certificate_concerned s message.now
-        → IsSubject subject s message.now)) conn.old conn.new result }
-    ensures lawful { IfOk result IsLawfulSubject }
-    ensures reads { OnOpen S.Store OnlyReads conn.old conn.new result }
-    ensures survives { Outlives S.Store Never conn.old conn.new }
-{
-    match department_of(alloc, conn, message, certificate.as_ref()) {
-        Ok(department) => Ok(Subject {
-            certificate,
-            department,
-        }),
-        Err(fault) => {
-            drop(certificate);
-            Err(fault)
-        }
-    }
-}
-
 /// The certificate and the department that a message concerns.
 pub(crate) fn subject_of<S: Alter>(
     alloc: Global,
@@ -104,5 +79,14 @@ pub(crate) fn subject_of<S: Alter>(
     ensures survives { Outlives S.Store Never conn.old conn.new }
 {
     let certificate = certificate_of(alloc, conn, message)?;
-    with_department(alloc, conn, message, certificate)
+    match department_of(alloc, conn, message, certificate.as_ref()) {
+        Ok(department) => Ok(Subject {
+            certificate,
+            department,
+        }),
+        Err(fault) => {
+            drop(certificate);
+            Err(fault)
+        }
+    }
 }
