@@ -1,27 +1,18 @@
 -- The flags of what is revoked, read one after the other.
-use Rattle.std.proofs.Common.{◌≡◌, List, Bool, Option, Ok, Result, IsTrue}
+use Rattle.std.proofs.Common.{List, Bool, Option, Ok, Result, IsTrue}
 use Rattle.sqlite.specs.State.{State as Connection}
 use Rattle.message.specs.declared.kinds.Message.{Message}
 use Rattle.office.specs.declared.arrival.Kept.{Kept}
 use Rattle.office.specs.declared.certificate.Certificate.{Certificate}
-use Rattle.office.specs.Decided.{SaysKeyIdRevoked, SaysRevoked, certificate_concerned}
+use Rattle.office.specs.Decided.{SaysRevoked}
 use Rattle.office.specs.State.{State}
 use Rattle.store_sql.specs.declared.table_fault.Fault.{Fault}
 use Rattle.store_reads.specs.declared.marks.Marks.{Marks}
-use Rattle.store_reads.specs.Concerning.{AreMarks, AreMarksOf, SaysKeyIdBeside}
+use Rattle.store_reads.specs.Concerning.{AreMarksBeside, AreMarksOf, AreMarksWith, SaysKeyIdBeside}
 use Rattle.store_reads.specs.Histories.{IsOfHistory}
 use Rattle.store_reads.proofs.Showing.{Asks, asks_both}
 
--- if these two flags are the state's, all are
-abbrev pub AreMarksBeside : (is_revoked is_key_id_revoked : Bool) → Message → State → List Kept → Marks → Type 0
-AreMarksBeside is_revoked is_key_id_revoked m s kept marks =
-    SaysRevoked is_revoked s m → SaysKeyIdRevoked is_key_id_revoked s m → AreMarks marks s m
-
--- if the message concerns this certificate and the first flag is the state's, all are
-abbrev pub AreMarksWith : Option Certificate → (is_revoked : Bool) → Message → State → List Kept → Marks → Type 0
-AreMarksWith certificate is_revoked m s kept marks =
-    certificate ≡ certificate_concerned s m → SaysRevoked is_revoked s m → AreMarks marks s m
-
+-- after a history, the first flag is the state's
 abbrev pub SaysFirst : Message → State → List Kept → Bool → Type 0
 SaysFirst m s kept is = IsOfHistory s kept → SaysRevoked is s m
 

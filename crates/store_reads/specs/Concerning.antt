@@ -63,6 +63,16 @@ IsDepartmentBeside certificate m s kept found =
 abbrev pub SaysKeyIdBeside : Option Certificate → Message → State → List Kept → Bool → Type 0
 SaysKeyIdBeside certificate m s kept is = certificate ≡ certificate_concerned s m → SaysKeyIdRevoked is s m
 
+-- if these two flags are the state's, all are
+abbrev pub AreMarksBeside : (is_revoked is_key_id_revoked : Bool) → Message → State → List Kept → Marks → Type 0
+AreMarksBeside is_revoked is_key_id_revoked m s kept marks =
+    SaysRevoked is_revoked s m → SaysKeyIdRevoked is_key_id_revoked s m → AreMarks marks s m
+
+-- if the message concerns this certificate and the first flag is the state's, all are
+abbrev pub AreMarksWith : Option Certificate → (is_revoked : Bool) → Message → State → List Kept → Marks → Type 0
+AreMarksWith certificate is_revoked m s kept marks =
+    certificate ≡ certificate_concerned s m → SaysRevoked is_revoked s m → AreMarks marks s m
+
 -- after a history, if the message concerns this certificate, the flags are the state's
 abbrev pub AreMarksOf : Option Certificate → Message → State → List Kept → Marks → Type 0
 AreMarksOf certificate m s kept marks =
