@@ -1,14 +1,17 @@
 -- What is found of what a message concerns.
-use Rattle.std.proofs.Common.{◌≡◌, ℕ, List, Bool, Option, Some, None, sym, ap, ◌∙◌, IsTrue, true}
+use Rattle.std.proofs.Common.{◌≡◌, ℕ, List, Bool, Option, Some, None, refl, sym, ap, ◌∙◌, IsTrue, true, false}
 use Rattle.std.specs.Prelude.{◌↔◌}
 use Rattle.std.specs.Option.{option_and_then}
 use Rattle.krl.specs.Sets.{HasAll}
+use Rattle.lines.specs.declared.key_line.KeyLine.{KeyLine}
 use Rattle.message.specs.declared.serial_range.SerialRange.{SerialRange}
 use Rattle.message.specs.declared.kinds.Message.{Message}
+use Rattle.message.specs.declared.kinds.Message.TheVariants as message
 use Rattle.message.specs.Values.{is_message}
 use Rattle.office.specs.declared.certificate.Certificate.{Certificate}
 use Rattle.office.specs.Concerns.{named_department, named_range, named_serial}
-use Rattle.office.specs.Decided.{SaysRevoked, certificate_concerned, department_concerned}
+use Rattle.office.specs.Decided.{SaysAnyKeyIdRevoked, SaysRevoked, certificate_concerned}
+use Rattle.office.specs.Decided.{department_concerned}
 use Rattle.office.specs.State.{State, certificate_of, department_named}
 use Rattle.office.proofs.Agreeing.{department_of_named, range_order, range_says, says_of_one, serial_says}
 use Rattle.office.proofs.Ranges.{range_flag}
@@ -31,3 +34,16 @@ pub all_say : (flag : Bool) (s : State) (m : Message) (r : SerialRange) → is_m
     → named_range m ≡ Some r → (IsTrue flag ↔ HasAll s.revoked r.lo r.hi) → SaysRevoked flag s m
 all_say flag s m r lawful none is says =
     range_says flag s m r none is (range_flag flag s r (range_order m r lawful is) says)
+
+-- where neither a serial nor a range is named, and where the message asks for no key id
+pub none_says : (s : State) (m : Message) → named_serial m ≡ None → named_range m ≡ None → SaysRevoked false s m
+none_says s (message.Renew r) serial range = absurd cc
+none_says s (message.Deliver d) serial range = absurd cc
+none_says s (message.RevokeSerial n) serial range = absurd cc
+none_says s (message.RevokeRange r) serial range = absurd cc
+none_says s m serial range = tt
+
+pub none_asks : (s : State) (m : Message) → ((k : KeyLine) → m ≡ message.Rollover k → ⊥)
+    → SaysAnyKeyIdRevoked false s m
+none_asks s (message.Rollover k) not = absurd (not k refl)
+none_asks s m not = tt

@@ -8,3 +8,4 @@ pub mod Named
 pub mod Keeping
 pub mod OfHistory
 pub mod Gathered
+pub mod Marking

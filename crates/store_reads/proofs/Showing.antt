@@ -76,6 +76,10 @@ pub handed_on : {X : Type 0} (Whole : State → List Kept → X → Type 0) (a b
     → Shows Whole a b r
 handed_on Whole a b r f told shows = let p = err_from_is_err_and r told in rw (p.1, p.2) shows
 
+pub asks_fault : {X : Type 0} (Given : Type 0) (Shown : State → List Kept → X → Type 0) (a b : Connection) (f : Fault)
+    (r : Result X Fault) → IsErrAnd r (λ e. e ≡ f) → Asks Given Shown a b (Err f) → Asks Given Shown a b r
+asks_fault Given Shown a b f r told asks = let p = err_from_is_err_and r told in rw (p.1, p.2) asks
+
 -- ---- crashes
 
 pub survives_still : (a : Connection) (P : Trees → Type 0) → Survives a a P

@@ -1,4 +1,6 @@
 //! The certificate of a serial.
+//!
+//! Large values are dropped by name: the proof of a function that ends with one takes each of its fields apart.
 
 ghost use Rattle.std.specs.Prelude.{◌≡◌, IfOk, IfSome};
 ghost use Rattle.store_sql.specs.Calls.{Never, OnlyReads};
@@ -31,24 +33,14 @@ fn read_found(alloc: Global, found: Option<CertRow>) -> Result<Option<Certificat
     ensures exact { IsRead (value_in certificate_in found) result }
     ensures lawful { IfOk result (λ found. IfSome found IsCertificate) }
 {
-    let Some(row) = found else {
-        return Ok(None);
-    };
-    Ok(Some(read_certificate(alloc, &row)?))
-}
-
-fn find_numbered<S: Alter>(
-    alloc: Global,
-    conn: &mut Connection<S>,
-    serial: Number,
-) -> Result<Option<Certificate>, Fault>
-    ensures shows { On S.Store (Shows (λ s kept found. found ≡ certificate_of s serial)) conn.old conn.new result }
-    ensures lawful { IfOk result (λ found. IfSome found IsCertificate) }
-    ensures reads { On S.Store OnlyReads conn.old conn.new result }
-    ensures survives { Outlives S.Store Never conn.old conn.new }
-{
-    let found = find_cert(alloc, conn, serial)?;
-    read_found(alloc, found)
+    match found {
+        Some(row) => {
+            let certificate = read_certificate(alloc, &row);
+            drop(row);
+            Ok(Some(certificate?))
+        }
+        None => Ok(None),
+    }
 }
 
 /// The certificate of this serial, or `None` where it wasn't issued. What is read is lawful, or told damaged.
@@ -63,5 +55,6 @@ pub fn find_certificate<S: Alter>(
     ensures reads { On S.Store OnlyReads conn.old conn.new result }
     ensures survives { Outlives S.Store Never conn.old conn.new }
 {
-    find_numbered(alloc, conn, asked_serial(serial))
+    let found = find_cert(alloc, conn, asked_serial(serial))?;
+    read_found(alloc, found)
 }

@@ -1,4 +1,6 @@
 //! The rows that a message concerns, read together.
+//!
+//! Large values are dropped by name: the proof of a function that ends with one takes each of its fields apart.
 
 ghost use Rattle.std.specs.Prelude.{◌<◌, ◌≤◌, IfOk, IsTrue};
 ghost use Rattle.message.specs.declared.kinds.Message.{Message};
@@ -59,10 +61,10 @@ fn if_lawful(office: Office) -> Result<Office, Fault>
     ensures lawful { IfOk result IsLawfulOffice }
 {
     if is_opening(&office.opening) && office.opening.first <= office.next {
-        Ok(office)
-    } else {
-        Err(Fault::Damaged)
+        return Ok(office);
     }
+    drop(office);
+    Err(Fault::Damaged)
 }
 
 fn lawful_office<S: Alter>(alloc: Global, conn: &mut Connection<S>) -> Result<Office, Fault>
@@ -92,13 +94,20 @@ fn with_subject<S: Alter>(
     ensures reads { OnOpen S.Store OnlyReads conn.old conn.new result }
     ensures survives { Outlives S.Store Never conn.old conn.new }
 {
-    let marks = marks_of(alloc, conn, message, subject.certificate.as_ref())?;
-    Ok(Concerned {
-        office,
-        cas,
-        subject,
-        marks,
-    })
+    match marks_of(alloc, conn, message, subject.certificate.as_ref()) {
+        Ok(marks) => Ok(Concerned {
+            office,
+            cas,
+            subject,
+            marks,
+        }),
+        Err(fault) => {
+            drop(office);
+            drop(cas);
+            drop(subject);
+            Err(fault)
+        }
+    }
 }
 
 fn with_cas<S: Alter>(
@@ -115,8 +124,14 @@ fn with_cas<S: Alter>(
     ensures reads { OnOpen S.Store OnlyReads conn.old conn.new result }
     ensures survives { Outlives S.Store Never conn.old conn.new }
 {
-    let subject = subject_of(alloc, conn, message)?;
-    with_subject(alloc, conn, message, office, cas, subject)
+    match subject_of(alloc, conn, message) {
+        Ok(subject) => with_subject(alloc, conn, message, office, cas, subject),
+        Err(fault) => {
+            drop(office);
+            drop(cas);
+            Err(fault)
+        }
+    }
 }
 
 fn with_office<S: Alter>(
@@ -132,8 +147,13 @@ fn with_office<S: Alter>(
     ensures reads { On S.Store OnlyReads conn.old conn.new result }
     ensures survives { Outlives S.Store Never conn.old conn.new }
 {
-    let cas = read_cas(alloc, conn)?;
-    with_cas(alloc, conn, message, office, cas)
+    match read_cas(alloc, conn) {
+        Ok(cas) => with_cas(alloc, conn, message, office, cas),
+        Err(fault) => {
+            drop(office);
+            Err(fault)
+        }
+    }
 }
 
 /// The rows that a lawful message concerns: the office's own row, the CAs, the certificate and the department, and what

@@ -1,4 +1,6 @@
 //! The department of a name.
+//!
+//! Large values are dropped by name: the proof of a function that ends with one takes each of its fields apart.
 
 ghost use Rattle.std.specs.Prelude.{◌≡◌, IfOk, IfSome, IsTrue};
 ghost use Rattle.store_sql.specs.Calls.{Never, OnlyReads};
@@ -20,10 +22,14 @@ fn read_found(alloc: Global, found: Option<DepartmentRow>) -> Result<Option<Depa
     ensures exact { IsRead (value_in department_in found) result }
     ensures lawful { IfOk result (λ found. IfSome found (λ d. IsTrue (is_department d))) }
 {
-    let Some(row) = found else {
-        return Ok(None);
-    };
-    Ok(Some(read_department(alloc, &row)?))
+    match found {
+        Some(row) => {
+            let department = read_department(alloc, &row);
+            drop(row);
+            Ok(Some(department?))
+        }
+        None => Ok(None),
+    }
 }
 
 /// The department of this name, if it is there. What is read is lawful, or told damaged.

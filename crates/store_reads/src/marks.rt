@@ -4,7 +4,7 @@ ghost use Rattle.std.specs.Prelude.{IsTrue, option_copied};
 ghost use Rattle.message.specs.Values.{is_message};
 ghost use Rattle.office.specs.Decided.{SaysAnyKeyIdRevoked, SaysRevoked};
 ghost use Rattle.store_sql.specs.Calls.{Never, OnlyReads};
-ghost use Rattle.store_reads.specs.Concerning.{AreMarksBeside, AreMarksOf, AreMarksWith, SaysKeyIdBeside};
+ghost use Rattle.store_reads.specs.Concerning.{AreMarksOf, SaysKeyIdBeside};
 ghost use Rattle.store_sql.specs.Honest.{OnOpen, Outlives};
 ghost use Rattle.store_rows.specs.Showing.{Shows};
 ghost use Rattle.store_reads.specs.Histories.{IsOfHistory};
@@ -83,42 +83,6 @@ fn is_any_key_id_revoked<S: Alter>(
     }
 }
 
-fn with_any_key_id<S: Alter>(
-    alloc: Global,
-    conn: &mut Connection<S>,
-    message: &Message,
-    is_revoked: bool,
-    is_key_id_revoked: bool,
-) -> Result<Marks, Fault>
-    ensures shows { OnOpen S.Store (Shows (AreMarksBeside is_revoked is_key_id_revoked message.now))
-        conn.old conn.new result }
-    ensures reads { OnOpen S.Store OnlyReads conn.old conn.new result }
-    ensures survives { Outlives S.Store Never conn.old conn.new }
-{
-    let has_revoked_key_ids = is_any_key_id_revoked(alloc, conn, message)?;
-    Ok(Marks {
-        is_revoked,
-        is_key_id_revoked,
-        has_revoked_key_ids,
-    })
-}
-
-fn with_key_ids<S: Alter>(
-    alloc: Global,
-    conn: &mut Connection<S>,
-    message: &Message,
-    certificate: Option<&Certificate>,
-    is_revoked: bool,
-) -> Result<Marks, Fault>
-    ensures shows { OnOpen S.Store (Shows (AreMarksWith (option_copied certificate.entry) is_revoked message.now))
-        conn.old conn.new result }
-    ensures reads { OnOpen S.Store OnlyReads conn.old conn.new result }
-    ensures survives { Outlives S.Store Never conn.old conn.new }
-{
-    let is_key_id_revoked = is_concerned_key_id_revoked(alloc, conn, message, certificate)?;
-    with_any_key_id(alloc, conn, message, is_revoked, is_key_id_revoked)
-}
-
 /// What is revoked of what a message concerns, where it concerns this certificate.
 pub(crate) fn marks_of<S: Alter>(
     alloc: Global,
@@ -133,5 +97,11 @@ pub(crate) fn marks_of<S: Alter>(
     ensures survives { Outlives S.Store Never conn.old conn.new }
 {
     let is_revoked = is_revoked(alloc, conn, message)?;
-    with_key_ids(alloc, conn, message, certificate, is_revoked)
+    let is_key_id_revoked = is_concerned_key_id_revoked(alloc, conn, message, certificate)?;
+    let has_revoked_key_ids = is_any_key_id_revoked(alloc, conn, message)?;
+    Ok(Marks {
+        is_revoked,
+        is_key_id_revoked,
+        has_revoked_key_ids,
+    })
 }

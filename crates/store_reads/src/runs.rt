@@ -4,7 +4,6 @@ ghost use Rattle.std.specs.Prelude.{◌≡◌, ◌↔◌, ◌<◌, ◌≤◌, �
 ghost use Rattle.krl.specs.Sets.{HasAll};
 ghost use Rattle.store_sql.specs.Calls.{Never, OnlyReads};
 ghost use Rattle.store_sql.specs.Honest.{On, Outlives};
-ghost use Rattle.store_rows.specs.Rows.{revoked_runs};
 ghost use Rattle.store_rows.specs.Showing.{Shows};
 ghost use Rattle.store_reads.specs.Histories.{IsOfHistory};
 ghost use Rattle.store_reads.specs.RunRows.{AreRead, AreRevokedRuns, reaches, run_of, runs_of};
@@ -49,22 +48,14 @@ fn read_runs(alloc: Global, rows: &[RunRow]) -> Result<Runs, Fault>
     }
 }
 
-fn every_revoked_run<S: Alter>(alloc: Global, conn: &mut Connection<S>) -> Result<Runs, Fault>
-    ensures shows { On S.Store (Shows (λ s kept runs. runs ≡ revoked_runs s)) conn.old conn.new result }
-    ensures reads { On S.Store OnlyReads conn.old conn.new result }
-    ensures survives { Outlives S.Store Never conn.old conn.new }
-{
-    let rows = every_run(alloc, conn)?;
-    read_runs(alloc, rows.as_slice())
-}
-
 /// The maximal runs of the revoked serials. `Damaged` where the rows are no such runs.
 pub fn revoked_runs<S: Alter>(alloc: Global, conn: &mut Connection<S>) -> Result<Runs, Fault>
     ensures shows { On S.Store (Shows (λ s kept runs. AreRevokedRuns runs s kept)) conn.old conn.new result }
     ensures reads { On S.Store OnlyReads conn.old conn.new result }
     ensures survives { Outlives S.Store Never conn.old conn.new }
 {
-    every_revoked_run(alloc, conn)
+    let rows = every_run(alloc, conn)?;
+    read_runs(alloc, rows.as_slice())
 }
 
 fn reaches(found: Option<RunRow>, hi: u64) -> bool

@@ -1,4 +1,6 @@
 //! The certificate and the department that a message concerns.
+//!
+//! Large values are dropped by name: the proof of a function that ends with one takes each of its fields apart.
 
 ghost use Rattle.std.specs.Prelude.{◌≡◌, IfOk, IfSome, IsTrue, option_copied};
 ghost use Rattle.message.specs.Values.{is_department};
@@ -64,26 +66,6 @@ fn department_of<S: Alter>(
     }
 }
 
-fn with_department<S: Alter>(
-    alloc: Global,
-    conn: &mut Connection<S>,
-    message: &Message,
-    certificate: Option<Certificate>,
-) -> Result<Subject, Fault>
-    requires { IfSome certificate IsCertificate }
-    ensures shows { OnOpen S.Store (Shows (λ s kept subject. certificate ≡ certificate_concerned s message.now
-        → IsSubject subject s message.now)) conn.old conn.new result }
-    ensures lawful { IfOk result IsLawfulSubject }
-    ensures reads { OnOpen S.Store OnlyReads conn.old conn.new result }
-    ensures survives { Outlives S.Store Never conn.old conn.new }
-{
-    let department = department_of(alloc, conn, message, certificate.as_ref())?;
-    Ok(Subject {
-        certificate,
-        department,
-    })
-}
-
 /// The certificate and the department that a message concerns.
 pub(crate) fn subject_of<S: Alter>(
     alloc: Global,
@@ -97,5 +79,14 @@ pub(crate) fn subject_of<S: Alter>(
     ensures survives { Outlives S.Store Never conn.old conn.new }
 {
     let certificate = certificate_of(alloc, conn, message)?;
-    with_department(alloc, conn, message, certificate)
+    match department_of(alloc, conn, message, certificate.as_ref()) {
+        Ok(department) => Ok(Subject {
+            certificate,
+            department,
+        }),
+        Err(fault) => {
+            drop(certificate);
+            Err(fault)
+        }
+    }
 }

@@ -1,7 +1,7 @@
 -- The row of a certificate is that of no other, and it is read again.
 use Rattle.std.proofs.Common.{◌≡◌, ℕ, suc, ◌<◌, true, List, [], ◌∷◌, length, map, filter, arith}
 use Rattle.std.proofs.Common.{Less, nat_cmp, refl, sym, ap, subst, ◌∙◌, eqb, eq-eqb, inl, inr, Option, Some, None}
-use Rattle.std.specs.Prelude.{IfSome, Result}
+use Rattle.std.specs.Prelude.{IfOk, IfSome, Result, Ok, Err}
 use Rattle.std.specs.Cmp.{nat_cmp_is}
 use Rattle.std.specs.List.{AllByRecursion}
 use Rattle.std.specs.Option.{option_map}
@@ -56,7 +56,7 @@ row_is : (row : CertRow) (serial : ℕ) (key_id : List ℕ) (signature : Option 
 row_is row serial key_id signature s k g = rw (sym s, sym k, sym g) refl
 
 -- what is made of a row has this row
-pub with_row : (row : CertRow) (fields : CertFields) (signature : Option Signature) → IsCertFields fields
+with_row : (row : CertRow) (fields : CertFields) (signature : Option Signature) → IsCertFields fields
     → row.body ≡ body_text fields → fits row fields ≡ true → signature_in row.signature ≡ Some signature
     → IsCertificate (certificate_with row fields signature) × (row ≡ cert_row (certificate_with row fields signature))
 with_row row fields signature lawful text same signed =
@@ -67,6 +67,15 @@ with_row row fields signature lawful text same signed =
           (sym ((bytes_eq-Decides fields.key_id row.key_id).0 second.0))
           (signature_found row.signature signature signed),
     )
+
+pub found_with : (row : CertRow) (fields : CertFields) (signature : Option Signature) (r : Result Certificate Fault)
+    → IsRead (Some (certificate_with row fields signature)) r → IsCertFields fields
+    → row.body ≡ body_text fields → fits row fields ≡ true → signature_in row.signature ≡ Some signature
+    → IfOk r (λ c. IsCertificate c × (row ≡ cert_row c))
+found_with row fields signature (Ok c) h lawful text same signed =
+    subst (λ x. IsCertificate x × (row ≡ cert_row x)) (same_Some _ _ h)
+    (with_row row fields signature lawful text same signed)
+found_with row fields signature (Err f) h lawful text same signed = tt
 
 pub reads_certificate : (row : CertRow) (r : Result Certificate Fault) → IsRead (certificate_in row) r
     → (c : Certificate) → IsCertificate c → IsSigned c → row ≡ cert_row c → IsRead (Some c) r

@@ -1,11 +1,12 @@
 -- The row of a department is that of no other, and it is read again.
 use Rattle.std.proofs.Common.{◌≡◌, ℕ, Bool, true, false, inl, inr, List, [], ◌∷◌, ◌++◌, eqb, refl, sym, ap, ap₂, subst}
-use Rattle.std.proofs.Common.{◌∙◌, Option, Some, None, append-nil, map}
+use Rattle.std.proofs.Common.{◌∙◌, Option, Some, None, append-nil, append_assoc, map, ◌+◌, ◌<◌, ◌≤◌, length, drop, get_or}
 use Rattle.std.specs.Prelude.{Result, Ok, Err, IfOk, IsTrue}
 use Rattle.std.specs.List.{AllByRecursion, list_all, slice_split}
 use Rattle.std.specs.Option.{option_and_then, option_map}
 use Rattle.std.proofs.lemmas.Bool.{and_parts, cases_Bool, cond-true}
 use Rattle.std.proofs.lemmas.Option.{none-some, same_Some}
+use Rattle.std.proofs.lemmas.List.{drop_all, drop_more}
 use Rattle.std.proofs.lemmas.List.Splits.{join_with_byte-slice_split}
 use Rattle.values.specs.declared.kind.Kind.{Kind}
 use Rattle.values.specs.declared.option_field.OptionField.TheVariants.{CriticalOptions, Extensions}
@@ -35,6 +36,22 @@ following (t ∷ ts) = 44 ∷ (t ++ following ts)
 pub joined_first : (t : List ℕ) (ts : List (List ℕ)) → t ++ following ts ≡ joined (t ∷ ts)
 joined_first t [] = append-nil t
 joined_first t (u ∷ ts) = ap (λ (x : List ℕ). t ++ 44 ∷ x) (joined_first u ts)
+
+-- one text more stands behind a comma
+pub following_more : (texts : List (List ℕ)) (k : ℕ) (text bytes comma more : List ℕ) → k < length texts
+    → text ≡ get_or texts k text → comma ≡ bytes ++ 44 ∷ [] → more ≡ comma ++ text
+    → more ++ following (drop (k + 1) texts) ≡ bytes ++ following (drop k texts)
+following_more texts k text bytes comma more within is pushed longer =
+    let others = following (drop (k + 1) texts) in
+    let parts : drop k texts ≡ text ∷ drop (k + 1) texts =
+    drop_more texts k text within ∙ ap (λ (t : List ℕ). t ∷ drop (k + 1) texts) (sym is) in
+    rw (longer, pushed) (append_assoc (bytes ++ 44 ∷ []) text others ∙ append_assoc bytes (44 ∷ []) (text ++ others)
+    ∙ ap (λ (ts : List (List ℕ)). bytes ++ following ts) (sym parts))
+
+pub following_none : (texts : List (List ℕ)) (k : ℕ) (bytes : List ℕ) → length texts ≤ k
+    → bytes ≡ bytes ++ following (drop k texts)
+following_none texts k bytes past =
+    sym (ap (λ (ts : List (List ℕ)). bytes ++ following ts) (drop_all k texts past) ∙ append-nil bytes)
 
 joined_parted : (t : List ℕ) → joined (parted t) ≡ t
 joined_parted [] = refl

@@ -10,3 +10,4 @@ pub mod Causes
 pub mod Parts
 pub mod RunsApart
 pub mod Before
+pub mod Each

@@ -1,6 +1,6 @@
 -- The row of the office is read again.
 use Rattle.std.proofs.Common.{◌≡◌, List, [], ◌∷◌, length, true, false, Some, Result, refl, sym, ap, subst, ◌∙◌, arith}
-use Rattle.std.proofs.Common.{IsPermutation}
+use Rattle.std.proofs.Common.{IsPermutation, get_or, ◌≤◌, ◌<◌}
 use Rattle.std.specs.Prelude.{nat_lt}
 use Rattle.std.specs.Str.{bytes_eq}
 use Rattle.std.proofs.lemmas.Bool.{and_parts, le-ltb, not-true}
@@ -15,7 +15,7 @@ use Rattle.store_sql.specs.declared.offices.OfficeRow.{OfficeRow}
 use Rattle.store_sql.specs.declared.table_fault.Fault.{Fault}
 use Rattle.store_rows.specs.declared.office_rows.Office.{Office}
 use Rattle.store_rows.specs.Lawful.{IsLawful}
-use Rattle.store_rows.specs.Offices.{IsOfficeOf, if_office, is_opening, only_office}
+use Rattle.store_rows.specs.Offices.{IsOfficeOf, if_office, is_opening, office_in, only_office}
 use Rattle.store_rows.specs.Reading.{IsRead}
 use Rattle.store_rows.specs.Rows.{contents_of, office_row}
 use Rattle.store_rows.specs.Showing.{Shows}
@@ -43,6 +43,13 @@ only_again : (s : State) (rows : List OfficeRow) → IsLawful s → IsPermutatio
 only_again s rows lawful same =
     ap only_office (one_permutation (office_row s) rows same)
     ∙ rw (key_of_again s.opening.ca lawful.opening.ca) (office_passes s (office_of_state s) lawful (of_state s))
+
+-- of one row is read what is read of it
+pub only_one : (rows : List OfficeRow) (row : OfficeRow) (r : Result Office Fault) → 1 ≤ length rows → length rows < 2
+    → row ≡ get_or rows 0 row → IsRead (office_in row) r → IsRead (only_office rows) r
+only_one [] row r some few is read = absurd (omega (arith, some))
+only_one (x ∷ []) row r some few is read = subst (λ o. IsRead (office_in o) r) is read
+only_one (x ∷ y ∷ rows) row r some few is read = absurd (omega (arith, few))
 
 pub shows_office : (old new : Connection) (rows : List OfficeRow) (r : Result Office Fault)
     → ((c : Contents) → Means old.now c → IsUnchanged old new × IsPermutation c.offices rows)

@@ -1,4 +1,6 @@
 //! Certificates of rows.
+//!
+//! Large values are dropped by name: the proof of a function that ends with one takes each of its fields apart.
 
 ghost use Rattle.std.specs.Prelude.{◌≡◌, IfOk, Some};
 ghost use Rattle.std.specs.Result.{result_ok};
@@ -8,8 +10,10 @@ ghost use Rattle.office.specs.declared.certificate.Certificate.{Certificate};
 ghost use Rattle.office.specs.Certificates.{IsCertificate};
 ghost use Rattle.store_rows.specs.Reading.{IsRead};
 ghost use Rattle.store_rows.specs.Rows.{cert_row};
-ghost use Rattle.store_rows.specs.Certificates.{IsSigned, certificate_in, fits, signature_in};
+ghost use Rattle.store_rows.specs.Certificates.{IsSigned, certificate_in, certificate_of, certificate_with, fits};
+ghost use Rattle.store_rows.specs.Certificates.{signature_in};
 
+use crate::both::both;
 use cert::{CertFault, CertFields, read_body};
 use lines::Signature;
 use office::Certificate;
@@ -49,23 +53,51 @@ fn fields_in(alloc: Global, body: &Text) -> Result<CertFields, Fault>
     }
 }
 
+fn certificate_with(
+    alloc: Global,
+    row: &CertRow,
+    fields: CertFields,
+    signature: Option<Signature>,
+) -> Result<Certificate, Fault>
+    ensures { IsRead (Some (certificate_with row.now fields signature)) result }
+{
+    match both(row.department.copied(alloc), row.body.copied(alloc)) {
+        Ok((department, body)) => Ok(Certificate {
+            department,
+            fields,
+            body,
+            signature,
+        }),
+        Err(_) => {
+            drop(fields);
+            Err(Fault::NoMemory)
+        }
+    }
+}
+
+fn certificate_of(alloc: Global, row: &CertRow, fields: CertFields) -> Result<Certificate, Fault>
+    requires lawful { IsCertFields fields }
+    requires body { row.now.body ≡ body_text fields }
+    ensures exact { IsRead (certificate_of row.now fields) result }
+    ensures found { IfOk result (λ c. IsCertificate c × (row.now ≡ cert_row c)) }
+{
+    match signature_in(&row.signature) {
+        Some(signature) if fits(row, &fields) => certificate_with(alloc, row, fields, signature),
+        _ => {
+            drop(fields);
+            Err(Fault::Damaged)
+        }
+    }
+}
+
 fn certificate_in(alloc: Global, row: &CertRow) -> Result<Certificate, Fault>
     ensures exact { IsRead (certificate_in row.now) result }
     ensures found { IfOk result (λ c. IsCertificate c × (row.now ≡ cert_row c)) }
 {
-    let fields = fields_in(alloc, &row.body)?;
-    let Some(signature) = signature_in(&row.signature) else {
-        return Err(Fault::Damaged);
-    };
-    if !fits(row, &fields) {
-        return Err(Fault::Damaged);
+    match fields_in(alloc, &row.body) {
+        Ok(fields) => certificate_of(alloc, row, fields),
+        Err(fault) => Err(fault),
     }
-    Ok(Certificate {
-        department: row.department.copied(alloc)?,
-        fields,
-        body: row.body.copied(alloc)?,
-        signature,
-    })
 }
 
 /// The lawful certificate of a row, `Damaged` where there is none, `NoMemory` where a growth was refused.

@@ -1,4 +1,6 @@
 //! Departments as rows, and rows as departments.
+//!
+//! Large values are dropped by name: the proof of a function that ends with one takes each of its fields apart.
 
 ghost use Rattle.std.specs.Prelude.{◌≡◌, ◌<◌, ◌^◌, IfOk, IsTrue, Some, map};
 ghost use Rattle.message.specs.declared.department.Department.{Department};
@@ -7,8 +9,9 @@ ghost use Rattle.cert.specs.Bodies.{kind_number};
 ghost use Rattle.store_rows.specs.Rows.{department_row, joined};
 ghost use Rattle.store_rows.specs.Reading.{IsRead};
 ghost use Rattle.cert.specs.Reading.{kind_of};
-ghost use Rattle.store_rows.specs.Departments.{department_in, parted, parts_of};
+ghost use Rattle.store_rows.specs.Departments.{department_in, if_lawful, parted, parts_of};
 
+use crate::both::both;
 use crate::numbers::number;
 use message::{
     Department, are_administrators, are_extension_names, are_namespaces, are_option_names,
@@ -99,31 +102,64 @@ pub fn department_row(alloc: Global, department: &Department) -> Result<Departme
     requires { department.now.longest_life < 2 ^ 63 }
     ensures { IfOk result (λ row. row ≡ department_row department.now) }
 {
-    Ok(DepartmentRow {
-        name: department.name.copied(alloc)?,
-        kind: kind_number(department.kind),
-        admins: joined(alloc, department.administrators.as_slice())?,
-        rules: joined(alloc, department.rules.as_slice())?,
-        options: joined(alloc, department.options.as_slice())?,
-        extensions: joined(alloc, department.extensions.as_slice())?,
-        max_life: number(department.longest_life),
-        namespaces: joined(alloc, department.namespaces.as_slice())?,
-    })
+    let people = both(
+        joined(alloc, department.administrators.as_slice()),
+        joined(alloc, department.rules.as_slice()),
+    );
+    let contents = both(
+        joined(alloc, department.options.as_slice()),
+        joined(alloc, department.extensions.as_slice()),
+    );
+    let names = both(
+        department.name.copied(alloc),
+        joined(alloc, department.namespaces.as_slice()),
+    );
+    match both(names, both(people, contents)) {
+        Ok(((name, namespaces), ((admins, rules), (options, extensions)))) => Ok(DepartmentRow {
+            name,
+            kind: kind_number(department.kind),
+            admins,
+            rules,
+            options,
+            extensions,
+            max_life: number(department.longest_life),
+            namespaces,
+        }),
+        Err(fault) => Err(fault),
+    }
 }
 
 fn parts_of(alloc: Global, row: &DepartmentRow, kind: Kind) -> Result<Department, NoMemory>
     ensures { IfOk result (λ d. d ≡ parts_of row.now kind) }
 {
-    Ok(Department {
-        name: row.name.copied(alloc)?,
-        kind,
-        administrators: parted(alloc, &row.admins)?,
-        rules: parted(alloc, &row.rules)?,
-        options: parted(alloc, &row.options)?,
-        extensions: parted(alloc, &row.extensions)?,
-        longest_life: row.max_life.get(),
-        namespaces: parted(alloc, &row.namespaces)?,
-    })
+    let people = both(parted(alloc, &row.admins), parted(alloc, &row.rules));
+    let contents = both(parted(alloc, &row.options), parted(alloc, &row.extensions));
+    let names = both(row.name.copied(alloc), parted(alloc, &row.namespaces));
+    match both(names, both(people, contents)) {
+        Ok(((name, namespaces), ((administrators, rules), (options, extensions)))) => {
+            Ok(Department {
+                name,
+                kind,
+                administrators,
+                rules,
+                options,
+                extensions,
+                longest_life: row.max_life.get(),
+                namespaces,
+            })
+        }
+        Err(fault) => Err(fault),
+    }
+}
+
+fn if_lawful(department: Department) -> Result<Department, Fault>
+    ensures { IsRead (if_lawful department) result }
+{
+    if is_department(&department) {
+        return Ok(department);
+    }
+    drop(department);
+    Err(Fault::Damaged)
 }
 
 fn lawful_in(alloc: Global, row: &DepartmentRow) -> Result<Department, Fault>
@@ -132,11 +168,9 @@ fn lawful_in(alloc: Global, row: &DepartmentRow) -> Result<Department, Fault>
     let Some(kind) = kind_of(row.kind) else {
         return Err(Fault::Damaged);
     };
-    let department = parts_of(alloc, row, kind)?;
-    if is_department(&department) {
-        Ok(department)
-    } else {
-        Err(Fault::Damaged)
+    match parts_of(alloc, row, kind) {
+        Ok(department) => if_lawful(department),
+        Err(_) => Err(Fault::NoMemory),
     }
 }
 

@@ -4,6 +4,7 @@
 //! the state's, and a transaction ends whole or undone.
 #![tactic(auto)]
 
+mod both;
 mod cas;
 mod cert_rows;
 mod certificate_rows;

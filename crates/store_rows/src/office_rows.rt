@@ -1,18 +1,22 @@
 //! The row of the office.
+//!
+//! Large values are dropped by name: the proof of a function that ends with one takes each of its fields apart.
 
-ghost use Rattle.std.specs.Prelude.{◌≡◌, IsTrue, length};
+ghost use Rattle.std.specs.Prelude.{◌≡◌, IfOk, IsTrue, length};
 ghost use Rattle.store_sql.specs.Calls.{Never, OnlyReads};
 ghost use Rattle.store_sql.specs.Honest.{On, Outlives};
 ghost use Rattle.office.specs.Openings.{IsOpening};
 ghost use Rattle.store_rows.specs.Reading.{IsRead};
-ghost use Rattle.store_rows.specs.Offices.{IsOfficeOf, is_opening, office_in, only_office};
+ghost use Rattle.store_rows.specs.Offices.{IsOfficeOf, if_office, is_opening, office_in, office_of, only_office};
 ghost use Rattle.store_rows.specs.Showing.{Shows};
 
+use crate::both::both;
 use lines::read_key_blob;
 use office::Opening;
 use sqlite::{Alter, Connection};
 use std::alloc::Global;
 use store_sql::{Fault, OfficeRow, every_office};
+use text::NoMemory;
 use values::{LAST_SERIAL, is_name};
 
 /// What the row of the office says.
@@ -47,28 +51,46 @@ pub fn is_opening(opening: &Opening) -> bool
     passes(opening)
 }
 
+fn office_of(alloc: Global, row: &OfficeRow, ca: [u8; 32]) -> Result<Office, NoMemory>
+    ensures { IfOk result (λ office. office ≡ office_of row.now ca) }
+{
+    match both(row.root.copied(alloc), row.station.copied(alloc)) {
+        Ok((root, station)) => Ok(Office {
+            opening: Opening {
+                ca,
+                root,
+                station,
+                first: row.first.get(),
+                last: row.last.get(),
+            },
+            next: row.next.get(),
+            version: row.version.get(),
+            date: row.date.get(),
+        }),
+        Err(fault) => Err(fault),
+    }
+}
+
+fn if_office(office: Office) -> Result<Office, Fault>
+    ensures { IsRead (if_office office) result }
+{
+    if is_opening(&office.opening) && office.opening.first <= office.next {
+        return Ok(office);
+    }
+    drop(office);
+    Err(Fault::Damaged)
+}
+
 fn office_in(alloc: Global, row: &OfficeRow) -> Result<Office, Fault>
     ensures { IsRead (office_in row.now) result }
 {
     let Some(ca) = read_key_blob(row.ca.as_slice()) else {
         return Err(Fault::Damaged);
     };
-    let opening = Opening {
-        ca,
-        root: row.root.copied(alloc)?,
-        station: row.station.copied(alloc)?,
-        first: row.first.get(),
-        last: row.last.get(),
-    };
-    if !is_opening(&opening) || row.next.get() < row.first.get() {
-        return Err(Fault::Damaged);
+    match office_of(alloc, row, ca) {
+        Ok(office) => if_office(office),
+        Err(_) => Err(Fault::NoMemory),
     }
-    Ok(Office {
-        opening,
-        next: row.next.get(),
-        version: row.version.get(),
-        date: row.date.get(),
-    })
 }
 
 fn only_office(alloc: Global, rows: &[OfficeRow]) -> Result<Office, Fault>

@@ -1,15 +1,15 @@
 use Rattle.std.proofs.Common.{◌≡◌}
 use Rattle.store_reads.specs.Concerning.{AreConcernedAt}
-use Rattle.store_reads.proofs.Showing.{asks_both, handed_on}
+use Rattle.store_reads.proofs.Showing.{asks_both}
 use Rattle.store_reads.proofs.concerning.with_office.Goals as goal
 
-pub returns : goal.returns
-returns g c =
+pub returns-in-Ok : goal.returns-in-Ok
+returns-in-Ok g c =
     let m = c.args.message.now in
-    let one = c.in_ok-cas.ensures in
+    let one = c.in-Ok.ensures in
     let rest = c.with_cas.ensures in
     let w = asks_both (Unit {0}) (λ s kept cas. cas.items ≡ s.cas) _
-    (AreConcernedAt c.args.office m) _ _ _ c.in_ok-cas.cas c.with_cas.result
+    (AreConcernedAt c.args.office m) _ _ _ c.in-Ok.cas c.with_cas.result
     (λ clean _. one.shows clean) (λ clean _. one.reads clean) c.read_cas.ensures.survives
     rest.shows rest.reads rest.survives
     (λ s kept y lawful first rest history office. rest history office first) in
@@ -20,6 +20,5 @@ returns g c =
       survives = w.survives;
     }
 
-pub returns-in_err-cas-clause-shows : goal.returns-in_err-cas-clause-shows
-returns-in_err-cas-clause-shows g c clean =
-    handed_on _ _ _ c.from_residual.result _ c.from_residual.ensures.1 (c.in_err-cas.ensures.shows clean)
+pub returns-in-Err-clause-shows : goal.returns-in-Err-clause-shows
+returns-in-Err-clause-shows g c = c.in-Err.ensures.shows

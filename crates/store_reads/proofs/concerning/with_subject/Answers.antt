@@ -1,10 +1,9 @@
 use Rattle.std.proofs.Common.{◌∙◌}
-use Rattle.store_reads.proofs.Showing.{handed_on}
 use Rattle.store_reads.proofs.concerning.with_subject.Goals as goal
 
-pub returns-clause-shows : goal.returns-clause-shows
-returns-clause-shows g c clean is_open s kept lawful means =
-    let p = c.in_ok-marks.ensures.shows clean is_open s kept lawful means in (
+pub returns-in-Ok-clause-shows : goal.returns-in-Ok-clause-shows
+returns-in-Ok-clause-shows g c clean is_open s kept lawful means =
+    let p = c.in-Ok.ensures.shows clean is_open s kept lawful means in (
       λ history office cas subject. record {
         office = office;
         cas = cas;
@@ -14,6 +13,14 @@ returns-clause-shows g c clean is_open s kept lawful means =
       p.1,
     )
 
-pub returns-in_err-marks-clause-shows : goal.returns-in_err-marks-clause-shows
-returns-in_err-marks-clause-shows g c clean is_open =
-    handed_on _ _ _ c.from_residual.result _ c.from_residual.ensures.1 (c.in_err-marks.ensures.shows clean is_open)
+pub returns-in-Ok-clause-lawful : goal.returns-in-Ok-clause-lawful
+returns-in-Ok-clause-lawful g c = record { office = c.requires.office; subject = c.requires.subject }
+
+pub returns-in-Ok-clause-reads : goal.returns-in-Ok-clause-reads
+returns-in-Ok-clause-reads g c = c.in-Ok.ensures.reads
+
+pub returns-in-Err-clause-shows : goal.returns-in-Err-clause-shows
+returns-in-Err-clause-shows g c = c.in-Err.ensures.shows
+
+pub returns-in-Err-clause-reads : goal.returns-in-Err-clause-reads
+returns-in-Err-clause-reads g c = c.in-Err.ensures.reads

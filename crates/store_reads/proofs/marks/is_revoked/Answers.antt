@@ -1,5 +1,6 @@
 use Rattle.std.proofs.Common.{sym, ◌∙◌}
-use Rattle.store_reads.proofs.Gathered.{all_say, one_says}
+use Rattle.sqlite.proofs.StateLemmas.{unchanged}
+use Rattle.store_reads.proofs.Gathered.{all_say, none_says, one_says}
 use Rattle.store_reads.proofs.Showing.{shows_weaker}
 use Rattle.store_reads.proofs.marks.is_revoked.Goals as goal
 
@@ -17,3 +18,10 @@ returns-in-None-Some-clause-shows g c clean is_open =
     (sym c.concerned-concern.ensures.serial ∙ c.in-None-Some.is-0)
     (sym c.concerned-concern.ensures.range ∙ c.in-None-Some.is-1) (says history))
     (c.are_revoked-in-None-Some.ensures.shows clean)
+
+pub returns-in-None-None-clause-shows : goal.returns-in-None-None-clause-shows
+returns-in-None-None-clause-shows g c clean is_open s kept lawful means = (
+  λ history. none_says s c.args.message.now (sym c.concerned-concern.ensures.serial ∙ c.in-None-None.is-0)
+      (sym c.concerned-concern.ensures.range ∙ c.in-None-None.is-1),
+  unchanged _ is_open,
+)
