@@ -1,4 +1,6 @@
 //! Departments in the order of their names.
+//!
+//! The department that gives way is dropped by name: the proof of a function that ends with one takes its fields apart.
 
 ghost use Rattle.std.specs.Prelude.{◌≡◌, OnOk, OnErr, find, option_copied};
 ghost use Rattle.std.specs.List.{slice_get};
@@ -8,6 +10,7 @@ ghost use Rattle.std.specs.Ordering.{nat_cmp};
 ghost use Rattle.memory_store.specs.Departments.{entries, is_before, place_of, is_named, has_name};
 
 use message::Department;
+use std::mem::replace;
 use text::NoMemory;
 
 fn is_before(department: &Department, name: &[u8]) -> bool
@@ -59,7 +62,7 @@ pub(crate) fn put_department(
 {
     let place = place_of(departments, department.name.as_slice());
     if is_at(departments, place, department.name.as_slice()) {
-        departments[place] = department;
+        drop(replace(&mut departments[place], department));
     } else {
         departments.insert(place, department)?;
     }

@@ -1,9 +1,13 @@
 //! What an arrival is answered.
+//!
+//! Large values are dropped by name: the proof of a function that ends with one takes each of its fields apart.
 
-ghost use Rattle.std.specs.Prelude.{◌≡◌, ◌≤◌, IfOk, IsTrue};
+ghost use Rattle.std.specs.Prelude.{◌≡◌, ◌≤◌, IfOk, IfErr, IsTrue, Some};
 ghost use Rattle.std.specs.List.{list_any};
 ghost use Rattle.std.specs.Option.{option_copied};
 ghost use Rattle.message.specs.Values.{is_message};
+ghost use Rattle.office.specs.Messages.{message_with_text};
+ghost use Rattle.office.specs.declared.view.Stop.TheVariants.{NoMemory};
 ghost use Rattle.office.specs.History.{has_key, is_repeat, reply_kept};
 ghost use Rattle.office.specs.Decided.{Decided, HasRoom, IsLawfulChange};
 ghost use Rattle.memory_store.specs.Contents.{Judges, state_of};
@@ -54,18 +58,33 @@ impl PlainStore {
         ensures change { IfOk result (λ d. IsLawfulChange d.change) }
         ensures version { IfOk result (λ d. d.version ≤ LAST_VERSION) }
     {
-        let message = match read_message(alloc, arrival.bytes.as_slice()) {
-            Ok(message) => message,
-            Err(MessageFault::BadLine(_)) => return Err(Stop::Refused(Refusal::BadMessage)),
-            Err(MessageFault::NoMemory) => return Err(Stop::NoMemory),
-        };
+        match read_message(alloc, arrival.bytes.as_slice()) {
+            Ok(message) => {
+                let verdict = self.admit(alloc, arrival, &message);
+                drop(message);
+                verdict
+            }
+            Err(MessageFault::BadLine(_)) => Err(Stop::Refused(Refusal::BadMessage)),
+            Err(MessageFault::NoMemory) => Err(Stop::NoMemory),
+        }
+    }
+
+    /// Refuses a message that comes too late or under a key that was used, and decides on another.
+    fn admit(&self, alloc: Global, arrival: &Arrival, message: &Message) -> Result<Decision, Stop>
+        requires message { IsTrue (is_message message.now) }
+        requires read { message_with_text arrival.now.bytes ≡ Some message.now }
+        ensures judges { Judges result self.now arrival.now }
+        ensures room { IfOk result (λ d. HasRoom d.change (state_of self.now)) }
+        ensures change { IfOk result (λ d. IsLawfulChange d.change) }
+        ensures version { IfOk result (λ d. d.version ≤ LAST_VERSION) }
+    {
         if LATEST_MOMENT < arrival.moment {
             return Err(Stop::Refused(Refusal::BadMoment));
         }
         if is_known(self.kept.as_slice(), arrival) {
             return Err(Stop::Refused(Refusal::KeyReused));
         }
-        self.decided(alloc, arrival, &message)
+        self.decided(alloc, arrival, message)
     }
 
     /// What a message gives.
@@ -82,17 +101,29 @@ impl PlainStore {
             return Err(Stop::NoMemory);
         }
         let view = self.view(message);
-        let decision = decide(
+        match decide(
             alloc,
             &view,
             arrival.caller.as_slice(),
             message,
             arrival.moment,
             &arrival.nonce,
-        )?;
-        if LAST_VERSION < decision.version {
-            return Err(Stop::NoMemory);
+        ) {
+            Ok(decision) => in_versions(decision),
+            Err(stop) => Err(stop),
         }
-        Ok(decision)
     }
+}
+
+/// The decision, unless its version is past the last: that counts as a refused growth.
+fn in_versions(decision: Decision) -> Result<Decision, Stop>
+    ensures same { IfOk result (λ d. d ≡ decision) }
+    ensures version { IfOk result (λ d. d.version ≤ LAST_VERSION) }
+    ensures err { IfErr result (λ stop. stop ≡ NoMemory) }
+{
+    if LAST_VERSION < decision.version {
+        drop(decision);
+        return Err(Stop::NoMemory);
+    }
+    Ok(decision)
 }

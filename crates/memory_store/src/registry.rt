@@ -1,4 +1,6 @@
 //! The plain store is a register.
+//!
+//! Large values are dropped by name: the proof of a function that ends with one takes each of its fields apart.
 
 ghost use Rattle.std.specs.Prelude.{◌≡◌, IfOk};
 ghost use Rattle.office.specs.Shows.{Shows};
@@ -31,16 +33,20 @@ impl Registry for PlainStore {
 
     fn apply(&mut self, alloc: Global, arrival: Arrival) -> Result<Outcome, StoreFault> {
         if let Some(reply) = kept_reply(self.kept.as_slice(), &arrival) {
-            return Ok(Outcome::Repeated(reply.copied(alloc)?));
+            let copy = reply.copied(alloc);
+            drop(arrival);
+            return Ok(Outcome::Repeated(copy?));
         }
         match self.judge(alloc, &arrival) {
-            Ok(decision) => {
-                let reply = decision.reply.copied(alloc)?;
-                self.write(alloc, arrival, decision)?;
-                Ok(Outcome::Accepted(reply))
+            Ok(decision) => Ok(Outcome::Accepted(self.accept(alloc, arrival, decision)?)),
+            Err(Stop::Refused(refusal)) => {
+                drop(arrival);
+                Ok(Outcome::Refused(refusal))
             }
-            Err(Stop::Refused(refusal)) => Ok(Outcome::Refused(refusal)),
-            Err(Stop::NoMemory) => Err(StoreFault::NoMemory),
+            Err(Stop::NoMemory) => {
+                drop(arrival);
+                Err(StoreFault::NoMemory)
+            }
         }
     }
 

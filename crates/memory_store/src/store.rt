@@ -1,6 +1,9 @@
 //! The plain store.
+//!
+//! An opening is dropped by name: the proof of a function that ends with one takes its fields apart.
 
-ghost use Rattle.std.specs.Prelude.{◌≡◌, [], IfOk, OnOk, OnErr};
+ghost use Rattle.std.specs.Prelude.{◌≡◌, ◌∷◌, [], ℕ, false, IfOk};
+ghost use Rattle.krl.specs.Sets.{contains};
 ghost use Rattle.office.specs.declared.opening.Opening.{Opening};
 ghost use Rattle.office.specs.Openings.{IsOpening};
 ghost use Rattle.office.specs.Shows.{Shows};
@@ -70,18 +73,31 @@ impl PlainStore {
     {
         let key = opening.ca;
         let since = opening.first;
-        let mut cas = Vec::with_capacity(alloc, 1)?;
-        cas.push(Ca { key, since })?;
-        Ok(PlainStore {
-            opening,
-            cas,
-            departments: Vec::new(alloc),
-            certificates: Vec::new(alloc),
-            revoked: runs_of(alloc, &[])?,
-            revoked_key_ids: Vec::new(alloc),
-            kept: Vec::new(alloc),
-            version: 0,
-            date: 0,
-        })
+        match first_lists(alloc, Ca { key, since }) {
+            Ok((cas, revoked)) => Ok(PlainStore {
+                opening,
+                cas,
+                departments: Vec::new(alloc),
+                certificates: Vec::new(alloc),
+                revoked,
+                revoked_key_ids: Vec::new(alloc),
+                kept: Vec::new(alloc),
+                version: 0,
+                date: 0,
+            }),
+            Err(refused) => {
+                drop(opening);
+                Err(refused)
+            }
+        }
     }
+}
+
+/// The first CA alone, and no serial.
+fn first_lists(alloc: Global, ca: Ca) -> Result<(Vec<Ca>, Runs), NoMemory>
+    ensures cas { IfOk result (λ lists. lists.0.items ≡ ca ∷ []) }
+    ensures runs { IfOk result (λ lists. (n : ℕ) → contains lists.1 n ≡ false) }
+{
+    let cas = Vec::from_slice(alloc, &[ca])?;
+    Ok((cas, runs_of(alloc, &[])?))
 }

@@ -1,8 +1,10 @@
 //! What was decided is written.
+//!
+//! Large values are dropped by name: the proof of a function that ends with one takes each of its fields apart.
 
-ghost use Rattle.std.specs.Prelude.{◌≡◌, OnOk, OnErr};
+ghost use Rattle.std.specs.Prelude.{◌≡◌, ◌++◌, ◌∷◌, [], IfOk, OnOk, OnErr};
 ghost use Rattle.office.specs.Decided.{HasRoom, IsLawfulChange, changed};
-ghost use Rattle.memory_store.specs.Contents.{Writes, state_of};
+ghost use Rattle.memory_store.specs.Contents.{Writes, row_of, state_of};
 
 use crate::departments::put_department;
 use crate::issued::sign;
@@ -10,7 +12,7 @@ use crate::key_ids::put_key_id;
 use crate::store::PlainStore;
 use office::{Arrival, Change, Decision, Kept};
 use std::alloc::Global;
-use text::NoMemory;
+use text::{NoMemory, Text};
 
 impl PlainStore {
     /// Makes one change. A refusal changes nothing.
@@ -38,24 +40,32 @@ impl PlainStore {
         Ok(())
     }
 
+    /// Makes one change, and keeps a row. A refusal changes nothing.
+    fn keep(&mut self, alloc: Global, row: Kept, change: Change) -> Result<(), NoMemory>
+        requires room { HasRoom change (state_of self.old) }
+        requires lawful { IsLawfulChange change }
+        ensures ok { OnOk result (state_of self.new ≡ changed change (state_of self.old)) }
+        ensures kept { OnOk result (self.new.kept ≡ self.old.kept ++ row ∷ []) }
+        ensures err { OnErr result (self.new ≡ self.old) }
+    {
+        if let Err(refused) = self.kept.push(row) {
+            drop(change);
+            return Err(NoMemory::from(refused));
+        }
+        let made = self.make(alloc, change);
+        if made.is_err() {
+            drop(self.kept.pop());
+        }
+        made
+    }
+
     /// Writes what was decided, and a row for the arrival. A refusal changes nothing.
-    pub(crate) fn write(
-        &mut self,
-        alloc: Global,
-        arrival: Arrival,
-        decision: Decision,
-    ) -> Result<(), NoMemory>
+    fn write(&mut self, alloc: Global, arrival: Arrival, decision: Decision) -> Result<(), NoMemory>
         requires room { HasRoom decision.change (state_of self.old) }
         requires lawful { IsLawfulChange decision.change }
         ensures ok { OnOk result (Writes self.old arrival decision self.new) }
         ensures err { OnErr result (self.new ≡ self.old) }
     {
-        let Arrival {
-            caller,
-            key,
-            bytes,
-            ..
-        } = arrival;
         let Decision {
             reply,
             change,
@@ -63,19 +73,53 @@ impl PlainStore {
             date,
             ..
         } = decision;
-        let row = Kept {
-            caller,
-            key,
-            bytes,
-            reply,
-        };
-        self.kept.push(row)?;
-        if let Err(refused) = self.make(alloc, change) {
-            self.kept.pop();
-            return Err(refused);
-        }
+        self.keep(alloc, row_of(arrival, reply), change)?;
         self.version = version;
         self.date = date;
         Ok(())
+    }
+
+    /// Writes what was decided, and gives the reply. A refusal changes nothing.
+    pub(crate) fn accept(
+        &mut self,
+        alloc: Global,
+        arrival: Arrival,
+        decision: Decision,
+    ) -> Result<Text, NoMemory>
+        requires room { HasRoom decision.change (state_of self.old) }
+        requires lawful { IsLawfulChange decision.change }
+        ensures reply { IfOk result (λ reply. reply ≡ decision.reply) }
+        ensures ok { OnOk result (Writes self.old arrival decision self.new) }
+        ensures err { OnErr result (self.new ≡ self.old) }
+    {
+        match decision.reply.copied(alloc) {
+            Ok(reply) => {
+                self.write(alloc, arrival, decision)?;
+                Ok(reply)
+            }
+            Err(refused) => {
+                drop(arrival);
+                drop(decision);
+                Err(refused)
+            }
+        }
+    }
+}
+
+/// The row that is kept of an arrival with its reply.
+fn row_of(arrival: Arrival, reply: Text) -> Kept
+    ensures { result ≡ row_of arrival reply }
+{
+    let Arrival {
+        caller,
+        key,
+        bytes,
+        ..
+    } = arrival;
+    Kept {
+        caller,
+        key,
+        bytes,
+        reply,
     }
 }

@@ -9,7 +9,7 @@ returns-then-is_at-clause-ok c =
     let place : c.place_of-place.result ≡ place_of c.args.departments.now.items c.args.department.name = c.place_of-place.ensures ∙ rw (c.deref.ensures.value, c.as_slice.ensures) in
     let is : is_named (slice_get c.args.departments.now.items c.place_of-place.result) c.args.department.name ≡ true =
     rw (c.deref-2.ensures.value, c.as_slice-2.ensures) at (sym c.is_at.ensures) ∙ c.if-is_at.true in
-    rw place (put_replaced c.args.department c.args.departments.now.items (rw place at is))
+    rw (c.replace.ensures.after, place) (put_replaced c.args.department c.args.departments.now.items (rw place at is))
 
 pub returns-in_ok-insert-clause-ok : goal.returns-in_ok-insert-clause-ok
 returns-in_ok-insert-clause-ok c =
