@@ -12,7 +12,7 @@ use std::alloc::Global;
 use text::NoMemory;
 
 /// Which route a path has.
-#[derive(Clone, Copy, PartialEq, Eq)]
+#[derive(Clone, Copy)]
 pub enum RouteKind {
     /// `/v1/callers/{caller}/requests/{key}`
     Message,
