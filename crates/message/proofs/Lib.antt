@@ -12,6 +12,7 @@ pub mod Options
 pub mod Departments
 pub mod IssueEnds
 pub mod Issues
+pub mod IssueParts
 pub mod ThreeLines
 pub mod KindsInTurn
 pub mod OneLines
