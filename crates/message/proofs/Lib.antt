@@ -10,6 +10,7 @@ pub mod Keys
 pub mod Signatures
 pub mod Options
 pub mod Departments
+pub mod DepartmentParts
 pub mod IssueEnds
 pub mod Issues
 pub mod IssueParts

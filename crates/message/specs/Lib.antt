@@ -3,5 +3,5 @@ pub mod Texts
 pub mod Belonging
 mod Kinds
 pub mod Reading
-pub mod IssueParts
+pub mod Parts
 pub mod Faults

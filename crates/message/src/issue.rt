@@ -2,9 +2,10 @@
 
 ghost use Rattle.std.specs.Prelude.{◌≡◌, ◌≤◌, IfOk, length, map, []};
 ghost use Rattle.message.specs.Reading.{Gives, issue_in, made, options_from};
-ghost use Rattle.message.specs.IssueParts.{extras_in, holder_in, issue_of, names_in, subject_in, terms_in};
+ghost use Rattle.message.specs.Parts.{extras_in, issue_of};
 ghost use Rattle.message.specs.declared.kinds.Message.TheVariants as message;
 
+use crate::both::both;
 use crate::kinds::Message;
 use crate::line::{ends_after, line};
 use crate::lists::{ListKind, TextKind, list_in};
@@ -36,23 +37,11 @@ pub struct Issue {
     pub extensions: Texts,
 }
 
-/// What the lines 1 to 4 of an issue say.
-#[derive(Drop)]
-struct Subject {
-    department: Text,
-    key_id: Text,
-    key: KeyLine,
-    principals: Texts,
-}
+/// The department and the key id, the key and the principals.
+type Subject = ((Text, Text), (KeyLine, Texts));
 
-/// What the lines of an issue from 5 on say.
-#[derive(Drop)]
-struct Terms {
-    after: u64,
-    before: u64,
-    options: Pairs,
-    extensions: Texts,
-}
+/// The validity, the options and the extensions.
+type Terms = ((u64, u64), (Pairs, Texts));
 
 /// The options of up to three lines from line 7 on.
 fn options_in(alloc: Global, pieces: &[&[u8]]) -> Result<Pairs, NoMemory>
@@ -69,43 +58,8 @@ fn options_in(alloc: Global, pieces: &[&[u8]]) -> Result<Pairs, NoMemory>
     Ok(options)
 }
 
-/// The department and the key id of lines 1 and 2.
-#[tactic(auto, unfolding(crate::specs::IssueParts::names_in))]
-fn names_in(alloc: Global, pieces: &[&[u8]]) -> Result<(Text, Text), MessageFault>
-    ensures { Gives result (names_in (map (λ x. x.now) pieces.now)) }
-{
-    let department = text_after(alloc, pieces, 1, b"issue ", TextKind::Name)?;
-    let key_id = text_after(alloc, pieces, 2, b"keyid ", TextKind::KeyId)?;
-    Ok((department, key_id))
-}
-
-/// The key and the principals of lines 3 and 4.
-#[tactic(auto, unfolding(crate::specs::IssueParts::holder_in))]
-fn holder_in(alloc: Global, pieces: &[&[u8]]) -> Result<(KeyLine, Texts), MessageFault>
-    ensures { Gives result (holder_in (map (λ x. x.now) pieces.now)) }
-{
-    let key = key_line_after(alloc, pieces, 3, b"key ")?;
-    let principals = list_in(alloc, pieces, 4, ListKind::Principals)?;
-    Ok((key, principals))
-}
-
-/// What the lines 1 to 4 say.
-#[tactic(auto, unfolding(crate::specs::IssueParts::subject_in))]
-fn subject_in(alloc: Global, pieces: &[&[u8]]) -> Result<Subject, MessageFault>
-    ensures { Gives result (subject_in (map (λ x. x.now) pieces.now)) }
-{
-    let (department, key_id) = names_in(alloc, pieces)?;
-    let (key, principals) = holder_in(alloc, pieces)?;
-    Ok(Subject {
-        department,
-        key_id,
-        key,
-        principals,
-    })
-}
-
 /// The options and the extensions of the lines from 7 on.
-#[tactic(auto, unfolding(crate::specs::IssueParts::extras_in))]
+#[tactic(auto, unfolding(crate::specs::Parts::extras_in))]
 fn extras_in(alloc: Global, pieces: &[&[u8]]) -> Result<(Pairs, Texts), MessageFault>
     ensures { Gives result (extras_in (map (λ x. x.now) pieces.now)) }
 {
@@ -118,35 +72,21 @@ fn extras_in(alloc: Global, pieces: &[&[u8]]) -> Result<(Pairs, Texts), MessageF
     Ok((options, extensions))
 }
 
-/// What the lines from 5 on say.
-#[tactic(auto, unfolding(crate::specs::IssueParts::terms_in))]
-fn terms_in(alloc: Global, pieces: &[&[u8]]) -> Result<Terms, MessageFault>
-    ensures { Gives result (terms_in (map (λ x. x.now) pieces.now)) }
+/// The issue of the lines 1 to 4 and of those from 5 on.
+fn issue_of(subject: Subject, terms: Terms) -> Issue
+    ensures { result ≡ issue_of subject terms }
 {
-    let after = end_after(pieces, 5, b"after ")?;
-    let before = end_after(pieces, 6, b"before ")?;
-    let (options, extensions) = extras_in(alloc, pieces)?;
-    Ok(Terms {
+    let ((department, key_id), (key, principals)) = subject;
+    let ((after, before), (options, extensions)) = terms;
+    Issue {
+        department,
+        key_id,
+        key,
+        principals,
         after,
         before,
         options,
         extensions,
-    })
-}
-
-/// The issue of these parts.
-fn issue_of(subject: Subject, terms: Terms) -> Issue
-    ensures { result ≡ issue_of subject terms }
-{
-    Issue {
-        department: subject.department,
-        key_id: subject.key_id,
-        key: subject.key,
-        principals: subject.principals,
-        after: terms.after,
-        before: terms.before,
-        options: terms.options,
-        extensions: terms.extensions,
     }
 }
 
@@ -154,12 +94,22 @@ fn issue_of(subject: Subject, terms: Terms) -> Issue
 pub(crate) fn issue_in(alloc: Global, pieces: &[&[u8]]) -> Result<Message, MessageFault>
     ensures { Gives result (made (λ x. message.Issue x) (issue_in (map (λ x. x.now) pieces.now))) }
 {
-    let subject = subject_in(alloc, pieces)?;
-    match terms_in(alloc, pieces) {
-        Ok(terms) => Ok(Message::Issue(issue_of(subject, terms))),
-        Err(fault) => {
-            drop(subject);
-            Err(fault)
-        }
+    let names = both(
+        text_after(alloc, pieces, 1, b"issue ", TextKind::Name),
+        text_after(alloc, pieces, 2, b"keyid ", TextKind::KeyId),
+    );
+    let holder = both(
+        key_line_after(alloc, pieces, 3, b"key "),
+        list_in(alloc, pieces, 4, ListKind::Principals),
+    );
+    let validity = both(
+        end_after(pieces, 5, b"after "),
+        end_after(pieces, 6, b"before "),
+    );
+    let subject = both(names, holder);
+    let terms = both(validity, extras_in(alloc, pieces));
+    match both(subject, terms) {
+        Ok((subject, terms)) => Ok(Message::Issue(issue_of(subject, terms))),
+        Err(fault) => Err(fault),
     }
 }
