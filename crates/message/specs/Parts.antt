@@ -11,7 +11,7 @@ use Rattle.message.specs.Values.{are_administrators, are_extension_names, are_na
 use Rattle.message.specs.Values.{are_rules, fits_kind, is_longest_life}
 
 -- two readings: the fault is that of the first that fails
-abbrev pub both : {A B : Type 0} → Result A ℕ → Result B ℕ → Result (A × B) ℕ
+abbrev pub both : {A B E : Type 0} → Result A E → Result B E → Result (A × B) E
 both a b = a >>= (λ x. b >>= (λ y. Ok (x, y)))
 
 -- a department's kind, its administrators, rules, options and extensions, its longest life and its namespaces

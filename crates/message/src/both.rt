@@ -1,17 +1,14 @@
-//! Two readings, one after the other.
+//! Two steps that may fail, one after the other.
 
-ghost use Rattle.std.specs.Prelude.{ℕ, Result};
+ghost use Rattle.std.specs.Prelude.{◌≡◌};
 ghost use Rattle.message.specs.Parts.{both};
-ghost use Rattle.message.specs.Reading.{Gives};
 
-use crate::message_fault::MessageFault;
-
-/// What both gave, or the fault of the first that gave none.
-pub(crate) fn both<A: Drop, B: Drop>(
-    one: Result<A, MessageFault>,
-    other: Result<B, MessageFault>,
-) -> Result<(A, B), MessageFault>
-    ensures { (a : Result A ℕ) (b : Result B ℕ) → Gives one a → Gives other b → Gives result (both a b) }
+/// What both gave, or the fault of the first that failed.
+pub(crate) fn both<A: Drop, B: Drop, F: Drop>(
+    one: Result<A, F>,
+    other: Result<B, F>,
+) -> Result<(A, B), F>
+    ensures { result ≡ both one other }
 {
     Ok((one?, other?))
 }

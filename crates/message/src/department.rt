@@ -41,14 +41,6 @@ pub struct Department {
 /// The kind, the four lists of people and of names, the longest life and the namespaces.
 type Profile = (Kind, (((Texts, Texts), (Texts, Texts)), (u64, Texts)));
 
-/// Copies of two lists.
-fn both_copied(alloc: Global, one: &Texts, other: &Texts) -> Result<(Texts, Texts), NoMemory>
-    ensures one { IfOk result (λ both. both.0 ≡ one.now) }
-    ensures other { IfOk result (λ both. both.1 ≡ other.now) }
-{
-    Ok((one.copied(alloc)?, other.copied(alloc)?))
-}
-
 impl Department {
     /// A copy of its own.
     ///
@@ -58,18 +50,15 @@ impl Department {
     pub fn copied(&self, alloc: Global) -> Result<Department, NoMemory>
         ensures { IfOk result (λ d. d ≡ self.now) }
     {
-        let (administrators, rules) = both_copied(alloc, &self.administrators, &self.rules)?;
-        let (options, extensions) = both_copied(alloc, &self.options, &self.extensions)?;
-        Ok(Department {
-            name: self.name.copied(alloc)?,
-            kind: self.kind,
-            administrators,
-            rules,
-            options,
-            extensions,
-            longest_life: self.longest_life,
-            namespaces: self.namespaces.copied(alloc)?,
-        })
+        let people = both(self.administrators.copied(alloc), self.rules.copied(alloc));
+        let names = both(self.options.copied(alloc), self.extensions.copied(alloc));
+        let last = both(Ok(self.longest_life), self.namespaces.copied(alloc));
+        let lists = both(people, names);
+        let profile = both(Ok(self.kind), both(lists, last));
+        match both(self.name.copied(alloc), profile) {
+            Ok((name, profile)) => Ok(department_of(name, profile)),
+            Err(refused) => Err(refused),
+        }
     }
 }
 

@@ -1,12 +1,12 @@
 use Rattle.std.proofs.Common.{refl}
-use Rattle.message.proofs.Chains.{failed}
+use Rattle.message.proofs.Chains.{both_give, failed}
 use Rattle.message.proofs.DepartmentParts.{in_parts}
 use Rattle.message.proofs.department.department_in.Goals as goal
 
 pub returns-in-Ok : goal.returns-in-Ok
 returns-in-Ok c =
-    rw (in_parts, c.in-Ok.ensures _ _ c.text_after-name.ensures c.profile_in.ensures, c.department_of.ensures) refl
+    rw (in_parts, both_give _ _ _ _ _ c.in-Ok.ensures c.text_after-name.ensures c.profile_in.ensures, c.department_of.ensures) refl
 
 pub returns-in-Err : goal.returns-in-Err
 returns-in-Err c =
-    rw in_parts (failed _ _ _ _ (c.in-Err.ensures _ _ c.text_after-name.ensures c.profile_in.ensures))
+    rw in_parts (failed _ _ _ _ (both_give _ _ _ _ _ c.in-Err.ensures c.text_after-name.ensures c.profile_in.ensures))
