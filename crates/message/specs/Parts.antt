@@ -1,14 +1,12 @@
--- Departments and issues in parts.
-use Rattle.std.specs.Prelude.{ℕ, ◌+◌, List, [], ◌∷◌, length, ◌&&◌, codes, if◌then◌else◌, Result, Ok, Err}
+-- Readings in turn, as parts of one.
+use Rattle.std.specs.Prelude.{ℕ, ◌+◌, List, [], length, ◌&&◌, codes, if◌then◌else◌, Result, Ok, Err}
 use Rattle.text.specs.Results.{◌>>=◌, or_fault}
 use Rattle.text.specs.declared.pair.Pair.{Pair}
-use Rattle.lines.specs.KeyLines.{key_line_text}
 use Rattle.lines.specs.declared.key_line.KeyLine.{KeyLine}
 use Rattle.values.specs.declared.kind.Kind.{Kind}
 use Rattle.message.specs.declared.department.Department.{Department}
 use Rattle.message.specs.declared.issue.Issue.{Issue}
 use Rattle.message.specs.Reading.{ends_after, kind_of, line_of, list_after, number_after, options_from}
-use Rattle.message.specs.Texts.{line, list_line}
 use Rattle.message.specs.Values.{are_administrators, are_extension_names, are_namespaces, are_option_names}
 use Rattle.message.specs.Values.{are_rules, fits_kind, is_longest_life}
 
@@ -82,15 +80,3 @@ issue_of subject terms = record {
   options = terms.1.0;
   extensions = terms.1.1;
 }
-
--- the lines 3 to 6 of a department's text
-abbrev pub lists_lines : Department → List (List ℕ)
-lists_lines d =
-    list_line (codes "admins") d.administrators ∷ list_line (codes "principals") d.rules
-    ∷ list_line (codes "options") d.options ∷ list_line (codes "extensions") d.extensions ∷ []
-
--- the lines 1 to 4 of an issue's text
-abbrev pub subject_lines : Issue → List (List ℕ)
-subject_lines i =
-    line (codes "issue") i.department ∷ line (codes "keyid") i.key_id ∷ line (codes "key") (key_line_text i.key)
-    ∷ list_line (codes "principals") i.principals ∷ []

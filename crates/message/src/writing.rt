@@ -2,7 +2,6 @@
 
 ghost use Rattle.std.specs.Prelude.{◌≡◌, ◌++◌, [], ◌∷◌, IfOk, OnOk, codes, decimal, map};
 ghost use Rattle.lines.specs.KeyLines.{key_line_text};
-ghost use Rattle.message.specs.Parts.{lists_lines, subject_lines};
 ghost use Rattle.message.specs.Texts.{
   delivery_lines,
   department_text,
@@ -93,22 +92,15 @@ fn put_kind(out: &mut Vec<u8>, kind: Kind) -> Result<(), NoMemory>
     }
 }
 
-/// Puts the lists of the lines 3 to 6.
-fn put_lists(out: &mut Vec<u8>, department: &Department) -> Result<(), NoMemory>
-    ensures { OnOk result (out.new.items ≡ out.old.items ++ lines_text (lists_lines department.now)) }
-{
-    put_list(out, b"admins", department.administrators.as_slice())?;
-    put_list(out, b"principals", department.rules.as_slice())?;
-    put_list(out, b"options", department.options.as_slice())?;
-    put_list(out, b"extensions", department.extensions.as_slice())
-}
-
 fn put_department(out: &mut Vec<u8>, department: &Department) -> Result<(), NoMemory>
     ensures { OnOk result (out.new.items ≡ out.old.items ++ department_text department.now) }
 {
     put_line(out, b"department ", department.name.as_slice())?;
     put_kind(out, department.kind)?;
-    put_lists(out, department)?;
+    put_list(out, b"admins", department.administrators.as_slice())?;
+    put_list(out, b"principals", department.rules.as_slice())?;
+    put_list(out, b"options", department.options.as_slice())?;
+    put_list(out, b"extensions", department.extensions.as_slice())?;
     put_number(out, b"maxlife ", department.longest_life)?;
     put_list(out, b"namespaces", department.namespaces.as_slice())
 }
@@ -122,20 +114,13 @@ fn put_key(out: &mut Vec<u8>, head: &[u8], key: &KeyLine) -> Result<(), NoMemory
     Ok(())
 }
 
-/// Puts the lines 1 to 4.
-fn put_subject(out: &mut Vec<u8>, issue: &Issue) -> Result<(), NoMemory>
-    ensures { OnOk result (out.new.items ≡ out.old.items ++ lines_text (subject_lines issue.now)) }
+fn put_issue(out: &mut Vec<u8>, issue: &Issue) -> Result<(), NoMemory>
+    ensures { OnOk result (out.new.items ≡ out.old.items ++ issue_text issue.now) }
 {
     put_line(out, b"issue ", issue.department.as_slice())?;
     put_line(out, b"keyid ", issue.key_id.as_slice())?;
     put_key(out, b"key ", &issue.key)?;
-    put_list(out, b"principals", issue.principals.as_slice())
-}
-
-fn put_issue(out: &mut Vec<u8>, issue: &Issue) -> Result<(), NoMemory>
-    ensures { OnOk result (out.new.items ≡ out.old.items ++ issue_text issue.now) }
-{
-    put_subject(out, issue)?;
+    put_list(out, b"principals", issue.principals.as_slice())?;
     put_number(out, b"after ", issue.after)?;
     put_number(out, b"before ", issue.before)?;
     put_options(out, issue.options.as_slice())?;
