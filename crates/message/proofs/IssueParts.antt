@@ -1,7 +1,7 @@
 -- Reading an issue is reading its parts.
-use Rattle.message.proofs.Words.{Bool, Err, Issue, KeyLine, List, Ok, Pair, Result, [], are_extension_names, codes, cond}
-use Rattle.message.proofs.Words.{are_principals, ends_after, false, is_end, key_id_after}
-use Rattle.message.proofs.Words.{key_line_after, length, line_of, number_after, or_fault, refl, true, ℕ, ◌+◌, ◌>>=◌, ◌≡◌}
+use Rattle.message.proofs.Words.{Bool, Err, Issue, KeyLine, List, Ok, Pair, Result, [], are_extension_names, codes}
+use Rattle.message.proofs.Words.{are_principals, cond, ends_after, false, is_end, key_id_after, key_line_after, length}
+use Rattle.message.proofs.Words.{line_of, number_after, or_fault, refl, true, ℕ, ◌+◌, ◌>>=◌, ◌≡◌}
 use Rattle.message.specs.Reading.{issue_in, list_after, name_after, options_from}
 use Rattle.message.specs.Parts.{Subject, Terms, both, extras_in, issue_of}
 
@@ -34,7 +34,8 @@ module _ (options : List Pair) (m : ℕ) where
 
   by_parts : (a b : Result (List ℕ) ℕ) (c : Result KeyLine ℕ) (d : Result (List (List ℕ)) ℕ) (e f : Result ℕ ℕ)
       (x : Result (List (List ℕ)) ℕ) (ends : Bool) → in_turn a b c d e f x ends
-      ≡ (both (both (both a b) (both c d)) (both (both e f) (extras_of x ends)) >>= (λ parts. Ok (issue_of parts.0 parts.1)))
+      ≡ (both (both (both a b) (both c d)) (both (both e f) (extras_of x ends))
+      >>= (λ parts. Ok (issue_of parts.0 parts.1)))
   by_parts (Err n) b c d e f x ends = refl
   by_parts (Ok a) (Err n) c d e f x ends = refl
   by_parts (Ok a) (Ok b) (Err n) d e f x ends = refl

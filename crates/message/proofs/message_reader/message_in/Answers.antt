@@ -8,10 +8,14 @@ pub returns-then-begins-2 : goal.returns-then-begins-2
 returns-then-begins-2 c = rw (sym c.if-begins.ensures, sym c.if-begins-2.ensures) c.issue_in.ensures
 
 pub returns-then-begins-3 : goal.returns-then-begins-3
-returns-then-begins-3 c = rw (sym c.if-begins.ensures, sym c.if-begins-2.ensures, sym c.if-begins-3.ensures) c.renewal_in.ensures
+returns-then-begins-3 c =
+    rw (sym c.if-begins.ensures, sym c.if-begins-2.ensures, sym c.if-begins-3.ensures)
+    c.renewal_in.ensures
 
 pub returns-then-begins-4 : goal.returns-then-begins-4
-returns-then-begins-4 c = rw (sym c.if-begins.ensures, sym c.if-begins-2.ensures, sym c.if-begins-3.ensures, sym c.if-begins-4.ensures) c.delivery_in.ensures
+returns-then-begins-4 c =
+    rw (sym c.if-begins.ensures, sym c.if-begins-2.ensures, sym c.if-begins-3.ensures, sym c.if-begins-4.ensures)
+    c.delivery_in.ensures
 
 pub returns : goal.returns
 returns c =

@@ -12,11 +12,15 @@ returns-then-begins-2 c = rw (sym c.if-begins.ensures, sym c.if-begins-2.ensures
 
 pub returns-then-begins-3 : goal.returns-then-begins-3
 unfolding one_line_message_in
-returns-then-begins-3 c = rw (sym c.if-begins.ensures, sym c.if-begins-2.ensures, sym c.if-begins-3.ensures) c.key_id_in.ensures
+returns-then-begins-3 c =
+    rw (sym c.if-begins.ensures, sym c.if-begins-2.ensures, sym c.if-begins-3.ensures)
+    c.key_id_in.ensures
 
 pub returns-then-begins-4 : goal.returns-then-begins-4
 unfolding one_line_message_in
-returns-then-begins-4 c = rw (sym c.if-begins.ensures, sym c.if-begins-2.ensures, sym c.if-begins-3.ensures, sym c.if-begins-4.ensures) c.key_in.ensures
+returns-then-begins-4 c =
+    rw (sym c.if-begins.ensures, sym c.if-begins-2.ensures, sym c.if-begins-3.ensures, sym c.if-begins-4.ensures)
+    c.key_in.ensures
 
 pub returns : goal.returns
 unfolding one_line_message_in
