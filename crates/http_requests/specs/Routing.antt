@@ -1,6 +1,9 @@
 -- The routes as the router keeps them.
-use Rattle.std.specs.Prelude.{ℕ, List, [], ◌∷◌, ◌++◌, codes}
-use Rattle.matchit.specs.Router.{RouteOf}
+use Rattle.std.specs.Prelude.{ℕ, List, [], ◌∷◌, ◌++◌, Result, Ok, Err, codes}
+use Rattle.matchit.specs.declared.error.InsertError.{InsertError}
+use Rattle.matchit.specs.Order.{placed}
+use Rattle.matchit.specs.Route.{Scan, parse_route}
+use Rattle.matchit.specs.Router.{RouteOf, route_from}
 use Rattle.matchit.specs.Rows.{RowsOf, param_token}
 use Rattle.http_requests.specs.declared.resource.Resource.TheVariants.{Pending, RevocationList, Signers, Table, Cas}
 use Rattle.http_requests.specs.declared.router.RouteKind.{RouteKind}
@@ -47,3 +50,11 @@ routing = rows_of kinds
 -- the rows of the routes with parameters
 abbrev pub routing_by_parameters : RowsOf (RouteOf RouteKind)
 routing_by_parameters = rows_of (Message ∷ Body ∷ Certificate ∷ [])
+
+-- the rows of a router once it has taken in the route with this text
+abbrev with_read : Result Scan InsertError → RouteKind → RowsOf (RouteOf RouteKind) → RowsOf (RouteOf RouteKind)
+with_read (Ok scan) kind rows = placed (scan.pattern, route_from scan kind) rows
+with_read (Err e) kind rows = rows
+
+abbrev pub with_route : List ℕ → RouteKind → RowsOf (RouteOf RouteKind) → RowsOf (RouteOf RouteKind)
+with_route text kind rows = with_read (parse_route text) kind rows

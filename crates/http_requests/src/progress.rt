@@ -7,7 +7,7 @@ use httparse::Status;
 use httparse::spans::{EMPTY_HEADER_SPAN, parse_request};
 
 /// What has come of a head of at most `MAX_HEADER_LINES` header lines.
-#[derive(Clone, Copy, PartialEq, Eq)]
+#[derive(Clone, Copy)]
 pub enum Progress {
     /// A whole head.
     Whole,

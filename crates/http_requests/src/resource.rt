@@ -1,7 +1,7 @@
 //! What a GET gives.
 
 /// What a GET gives. Serials are from 1 to `LAST_SERIAL`.
-#[derive(Clone, Copy, PartialEq, Eq)]
+#[derive(Clone, Copy)]
 pub enum Resource {
     /// The certificates that are neither signed nor revoked.
     Pending,

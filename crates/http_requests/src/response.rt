@@ -18,7 +18,7 @@ pub const MAX_RESPONSE_HEAD: usize = 145;
 pub const MAX_REFUSAL: usize = 28;
 
 /// The media type of a body (RFC 9110, section 8.3).
-#[derive(Clone, Copy, PartialEq, Eq)]
+#[derive(Clone, Copy)]
 pub enum MediaType {
     /// `text/plain`
     PlainText,

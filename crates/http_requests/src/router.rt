@@ -1,15 +1,18 @@
 //! The routes, kept for finding.
 
 ghost use Rattle.std.specs.Prelude.{◌≡◌, IfOk};
-ghost use Rattle.http_requests.specs.Routing.{routing, routing_by_parameters};
+ghost use Rattle.matchit.specs.Router.{RouteOf};
+ghost use Rattle.matchit.specs.Rows.{RowsOf};
+ghost use Rattle.http_requests.specs.declared.router.RouteKind.{RouteKind};
+ghost use Rattle.http_requests.specs.Routing.{routing, routing_by_parameters, with_route};
 
 use crate::resource::Resource;
-use matchit::{InsertError, Router};
+use matchit::Router;
 use std::alloc::Global;
 use text::NoMemory;
 
 /// Which route a path has.
-#[derive(Clone, Copy, PartialEq, Eq)]
+#[derive(Clone, Copy)]
 pub enum RouteKind {
     /// `/v1/callers/{caller}/requests/{key}`
     Message,
@@ -28,28 +31,50 @@ pub struct Routes {
     pub(crate) ghost whole: { router ≡ routing },
 }
 
+/// The router with one more route, unless memory was refused before.
+fn with_route(
+    router: Result<Router<RouteKind>, NoMemory>,
+    path: &str,
+    kind: RouteKind,
+) -> Result<Router<RouteKind>, NoMemory>
+    ensures { (rows : RowsOf (RouteOf RouteKind)) → IfOk router (λ r. r ≡ rows)
+        → IfOk result (λ r. r ≡ with_route path.now kind rows) }
+{
+    let mut router = router?;
+    match router.insert(path, kind) {
+        Ok(()) => Ok(router),
+        Err(_) => Err(NoMemory),
+    }
+}
+
 /// The routes of messages, certificates and bodies.
-fn router_by_parameters(alloc: Global) -> Result<Router<RouteKind>, InsertError>
+fn router_by_parameters(alloc: Global) -> Result<Router<RouteKind>, NoMemory>
     ensures { IfOk result (λ r. r ≡ routing_by_parameters) }
 {
-    let mut router = Router::new(alloc);
-    router.insert("/v1/callers/{caller}/requests/{key}", RouteKind::Message)?;
-    router.insert("/v1/certs/{serial}", RouteKind::Certificate)?;
-    router.insert("/v1/certs/{serial}/body", RouteKind::Body)?;
-    Ok(router)
+    let router = Ok(Router::new(alloc));
+    let router = with_route(
+        router,
+        "/v1/callers/{caller}/requests/{key}",
+        RouteKind::Message,
+    );
+    let router = with_route(router, "/v1/certs/{serial}", RouteKind::Certificate);
+    with_route(router, "/v1/certs/{serial}/body", RouteKind::Body)
 }
 
 /// All routes.
-fn router_of(alloc: Global) -> Result<Router<RouteKind>, InsertError>
+fn router_of(alloc: Global) -> Result<Router<RouteKind>, NoMemory>
     ensures { IfOk result (λ r. r ≡ routing) }
 {
-    let mut router = router_by_parameters(alloc)?;
-    router.insert("/v1/pending", RouteKind::Fixed(Resource::Pending))?;
-    router.insert("/v1/krl", RouteKind::Fixed(Resource::RevocationList))?;
-    router.insert("/v1/signers", RouteKind::Fixed(Resource::Signers))?;
-    router.insert("/v1/table", RouteKind::Fixed(Resource::Table))?;
-    router.insert("/v1/cas", RouteKind::Fixed(Resource::Cas))?;
-    Ok(router)
+    let router = router_by_parameters(alloc);
+    let router = with_route(router, "/v1/pending", RouteKind::Fixed(Resource::Pending));
+    let router = with_route(
+        router,
+        "/v1/krl",
+        RouteKind::Fixed(Resource::RevocationList),
+    );
+    let router = with_route(router, "/v1/signers", RouteKind::Fixed(Resource::Signers));
+    let router = with_route(router, "/v1/table", RouteKind::Fixed(Resource::Table));
+    with_route(router, "/v1/cas", RouteKind::Fixed(Resource::Cas))
 }
 
 impl Routes {
@@ -61,7 +86,7 @@ impl Routes {
     pub fn new(alloc: Global) -> Result<Routes, NoMemory> {
         match router_of(alloc) {
             Ok(router) => Ok(Routes { router }),
-            Err(_) => Err(NoMemory),
+            Err(refused) => Err(refused),
         }
     }
 }

@@ -1,5 +1,6 @@
 -- Steps that may fail, as what a function returned: where one fails, the whole fails so.
-use Rattle.message.proofs.Words.{Err, Ok, Result, ap, made, subst, sym, ℕ, ◌>>=◌, ◌≡◌}
+use Rattle.message.proofs.Words.{Err, Ok, Result, ap, made, refl, subst, sym, ℕ, ◌>>=◌, ◌≡◌}
+use Rattle.message.specs.Parts.{both}
 use Rattle.message.specs.Reading.{Gives}
 use Rattle.message.specs.declared.message_fault.MessageFault.{MessageFault}
 use Rattle.message.specs.declared.message_fault.MessageFault.TheVariants as fault
@@ -15,3 +16,18 @@ pub failed : {A B X : Type 0} (r : Result A ℕ) (f : A → Result B ℕ) (of : 
     → Gives {X = A} (Err e) r → Gives {X = X} (Err e) (made of (r >>= f))
 failed {A} r f of (fault.BadLine n) is = ap (λ (r : Result A ℕ). made of (r >>= f)) is
 failed r f of fault.NoMemory is = tt
+
+-- two steps, and the fault of the first that failed
+pub both_give : {A B : Type 0} (result : Result (A × B) MessageFault) (one : Result A MessageFault)
+    (other : Result B MessageFault) (a : Result A ℕ) (b : Result B ℕ) → result ≡ both one other → Gives one a
+    → Gives other b → Gives result (both a b)
+both_give {A} {B} result one other a b is one_gives other_gives =
+    subst (λ (r : Result (A × B) MessageFault). Gives r (both a b)) (sym is) (of_both one other one_gives other_gives)
+  where
+    of_both : (one : Result A MessageFault) (other : Result B MessageFault) → Gives one a → Gives other b
+        → Gives (both one other) (both a b)
+    of_both (Ok x) (Ok y) is are = rw (is, are) refl
+    of_both (Ok x) (Err (fault.BadLine n)) is are = rw (is, are) refl
+    of_both (Ok x) (Err fault.NoMemory) is are = tt
+    of_both (Err (fault.BadLine n)) other is are = rw is refl
+    of_both (Err fault.NoMemory) other is are = tt

@@ -10,8 +10,10 @@ pub mod Keys
 pub mod Signatures
 pub mod Options
 pub mod Departments
+pub mod DepartmentParts
 pub mod IssueEnds
 pub mod Issues
+pub mod IssueParts
 pub mod ThreeLines
 pub mod KindsInTurn
 pub mod OneLines

@@ -1,6 +1,7 @@
 -- Lines as they are put.
+use Rattle.std.proofs.Common.{add-one, drop-cons}
 use Rattle.message.proofs.Words.{List, [], ap, append-nil, append_assoc, join_with_byte, lines_text, list_line, refl}
-use Rattle.message.proofs.Words.{subst, sym, ℕ, ◌++◌, ◌∙◌, ◌∷◌, ◌≡◌}
+use Rattle.message.proofs.Words.{drop, get_or, length, ◌+◌, ◌<◌, suc, subst, sym, ℕ, ◌++◌, ◌∙◌, ◌∷◌, ◌≡◌}
 
 -- the text of lines and more lines
 pub text_append : (ls ms : List (List ℕ)) → lines_text (ls ++ ms) ≡ lines_text ls ++ lines_text ms
@@ -43,6 +44,16 @@ after_joined before t (u ∷ ts) = ap (λ (x : List ℕ). before ∷ t ++ x) (af
 pub list_put : (word : List ℕ) (ts : List (List ℕ)) → word ++ each_after 32 ts ≡ list_line word ts
 list_put word [] = append-nil word
 list_put word (t ∷ ts) = ap (λ (x : List ℕ). word ++ x) (after_joined 32 t ts)
+
+-- one more text of a list, behind its byte
+pub text_put : (out : List ℕ) (before : ℕ) (ts : List (List ℕ)) (n : ℕ) (t : List ℕ) → t ≡ get_or ts n t → n < length ts
+    → out ++ each_after before (drop n ts) ≡ ((out ++ before ∷ []) ++ t) ++ each_after 44 (drop (n + 1) ts)
+text_put out before ts n t is lt =
+    let left : drop n ts ≡ t ∷ drop (n + 1) ts =
+    rw (add-one, drop-cons ts n t lt) (ap (λ (u : List ℕ). u ∷ drop (suc n) ts) (sym is)) in
+    ap (λ (us : List (List ℕ)). out ++ each_after before us) left
+    ∙ sym (append_assoc out (before ∷ []) (t ++ each_after 44 (drop (n + 1) ts)))
+    ∙ sym (append_assoc (out ++ before ∷ []) t (each_after 44 (drop (n + 1) ts)))
 
 -- three texts put one behind the other
 pub in_turn : (start one two three a b c : List ℕ) → one ≡ start ++ a → two ≡ one ++ b → three ≡ two ++ c

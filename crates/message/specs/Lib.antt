@@ -3,4 +3,5 @@ pub mod Texts
 pub mod Belonging
 mod Kinds
 pub mod Reading
+pub mod Parts
 pub mod Faults

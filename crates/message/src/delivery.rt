@@ -11,7 +11,7 @@ use crate::value::{digest_after, serial_after, signature_after};
 use lines::Signature;
 
 /// The signature of a certificate's body.
-#[derive(Clone, Copy, PartialEq, Eq)]
+#[derive(Clone, Copy)]
 pub struct Delivery {
     /// The serial of the certificate, 1 to 9223372036854775806.
     pub serial: u64,

@@ -2,10 +2,12 @@
 
 ghost use Rattle.std.specs.Prelude.{◌≡◌, IfOk, codes, map};
 ghost use Rattle.text.specs.Results.{or_fault};
+ghost use Rattle.message.specs.Parts.{department_of, namespaces_in, profile_in};
 ghost use Rattle.message.specs.Reading.{Gives, department_in, kind_of, line_of, made, number_after};
 ghost use Rattle.message.specs.declared.kinds.Message.TheVariants as message;
 ghost use Rattle.message.specs.Values.{fits_kind, is_longest_life};
 
+use crate::both::both;
 use crate::kinds::Message;
 use crate::line::{ends_after, line, number_after};
 use crate::lists::{ListKind, TextKind, list_in};
@@ -36,13 +38,8 @@ pub struct Department {
     pub namespaces: Texts,
 }
 
-/// Copies of two lists.
-fn both_copied(alloc: Global, one: &Texts, other: &Texts) -> Result<(Texts, Texts), NoMemory>
-    ensures one { IfOk result (λ both. both.0 ≡ one.now) }
-    ensures other { IfOk result (λ both. both.1 ≡ other.now) }
-{
-    Ok((one.copied(alloc)?, other.copied(alloc)?))
-}
+/// The kind, the four lists of people and of names, the longest life and the namespaces.
+type Profile = (Kind, (((Texts, Texts), (Texts, Texts)), (u64, Texts)));
 
 impl Department {
     /// A copy of its own.
@@ -53,18 +50,15 @@ impl Department {
     pub fn copied(&self, alloc: Global) -> Result<Department, NoMemory>
         ensures { IfOk result (λ d. d ≡ self.now) }
     {
-        let (administrators, rules) = both_copied(alloc, &self.administrators, &self.rules)?;
-        let (options, extensions) = both_copied(alloc, &self.options, &self.extensions)?;
-        Ok(Department {
-            name: self.name.copied(alloc)?,
-            kind: self.kind,
-            administrators,
-            rules,
-            options,
-            extensions,
-            longest_life: self.longest_life,
-            namespaces: self.namespaces.copied(alloc)?,
-        })
+        let people = both(self.administrators.copied(alloc), self.rules.copied(alloc));
+        let names = both(self.options.copied(alloc), self.extensions.copied(alloc));
+        let last = both(Ok(self.longest_life), self.namespaces.copied(alloc));
+        let lists = both(people, names);
+        let profile = both(Ok(self.kind), both(lists, last));
+        match both(self.name.copied(alloc), profile) {
+            Ok((name, profile)) => Ok(department_of(name, profile)),
+            Err(refused) => Err(refused),
+        }
     }
 }
 
@@ -103,23 +97,44 @@ fn longest_life_in(pieces: &[&[u8]]) -> Result<u64, MessageFault>
     }
 }
 
-/// The department whose lines these are.
-#[tactic(auto, unfolding(crate::specs::Reading::department_in))]
-pub(crate) fn department_in(alloc: Global, pieces: &[&[u8]]) -> Result<Message, MessageFault>
-    ensures { Gives result (made (λ x. message.Department x) (department_in (map (λ x. x.now) pieces.now))) }
+/// The namespaces of line 8, the last.
+#[tactic(auto, unfolding(crate::specs::Parts::namespaces_in))]
+fn namespaces_in(alloc: Global, pieces: &[&[u8]], kind: Kind) -> Result<Texts, MessageFault>
+    ensures { Gives result (namespaces_in kind (map (λ x. x.now) pieces.now)) }
 {
-    let name = text_after(alloc, pieces, 1, b"department ", TextKind::Name)?;
-    let kind = kind_in(pieces)?;
-    let administrators = list_in(alloc, pieces, 3, ListKind::Administrators)?;
-    let rules = list_in(alloc, pieces, 4, ListKind::Rules)?;
-    let options = list_in(alloc, pieces, 5, ListKind::OptionsOf(kind))?;
-    let extensions = list_in(alloc, pieces, 6, ListKind::ExtensionsOf(kind))?;
-    let longest_life = longest_life_in(pieces)?;
     let namespaces = list_in(alloc, pieces, 8, ListKind::NamespacesOf(kind))?;
     if !ends_after(pieces, 8) {
         return Err(MessageFault::BadLine(9));
     }
-    Ok(Message::Department(Department {
+    Ok(namespaces)
+}
+
+/// What the lines from 2 on say.
+fn profile_in(alloc: Global, pieces: &[&[u8]]) -> Result<Profile, MessageFault>
+    ensures { Gives result (profile_in (map (λ x. x.now) pieces.now)) }
+{
+    let kind = kind_in(pieces)?;
+    let people = both(
+        list_in(alloc, pieces, 3, ListKind::Administrators),
+        list_in(alloc, pieces, 4, ListKind::Rules),
+    );
+    let names = both(
+        list_in(alloc, pieces, 5, ListKind::OptionsOf(kind)),
+        list_in(alloc, pieces, 6, ListKind::ExtensionsOf(kind)),
+    );
+    let last = both(longest_life_in(pieces), namespaces_in(alloc, pieces, kind));
+    let lists = both(people, names);
+    let profile = both(lists, last);
+    both(Ok(kind), profile)
+}
+
+/// The department of this name with this profile.
+fn department_of(name: Text, profile: Profile) -> Department
+    ensures { result ≡ department_of name profile }
+{
+    let (kind, (((administrators, rules), (options, extensions)), (longest_life, namespaces))) =
+        profile;
+    Department {
         name,
         kind,
         administrators,
@@ -128,5 +143,16 @@ pub(crate) fn department_in(alloc: Global, pieces: &[&[u8]]) -> Result<Message, 
         extensions,
         longest_life,
         namespaces,
-    }))
+    }
+}
+
+/// The department whose lines these are.
+pub(crate) fn department_in(alloc: Global, pieces: &[&[u8]]) -> Result<Message, MessageFault>
+    ensures { Gives result (made (λ x. message.Department x) (department_in (map (λ x. x.now) pieces.now))) }
+{
+    let name = text_after(alloc, pieces, 1, b"department ", TextKind::Name);
+    match both(name, profile_in(alloc, pieces)) {
+        Ok((name, profile)) => Ok(Message::Department(department_of(name, profile))),
+        Err(fault) => Err(fault),
+    }
 }

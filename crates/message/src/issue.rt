@@ -2,8 +2,10 @@
 
 ghost use Rattle.std.specs.Prelude.{◌≡◌, ◌≤◌, IfOk, length, map, []};
 ghost use Rattle.message.specs.Reading.{Gives, issue_in, made, options_from};
+ghost use Rattle.message.specs.Parts.{extras_in, issue_of};
 ghost use Rattle.message.specs.declared.kinds.Message.TheVariants as message;
 
+use crate::both::both;
 use crate::kinds::Message;
 use crate::line::{ends_after, line};
 use crate::lists::{ListKind, TextKind, list_in};
@@ -35,6 +37,12 @@ pub struct Issue {
     pub extensions: Texts,
 }
 
+/// The department and the key id, the key and the principals.
+type Subject = ((Text, Text), (KeyLine, Texts));
+
+/// The validity, the options and the extensions.
+type Terms = ((u64, u64), (Pairs, Texts));
+
 /// The options of up to three lines from line 7 on.
 fn options_in(alloc: Global, pieces: &[&[u8]]) -> Result<Pairs, NoMemory>
     ensures read { IfOk result (λ o. o ≡ options_from 3 7 [] (map (λ x. x.now) pieces.now)) }
@@ -50,24 +58,27 @@ fn options_in(alloc: Global, pieces: &[&[u8]]) -> Result<Pairs, NoMemory>
     Ok(options)
 }
 
-/// The issue whose lines these are.
-#[tactic(auto, unfolding(crate::specs::Reading::issue_in))]
-pub(crate) fn issue_in(alloc: Global, pieces: &[&[u8]]) -> Result<Message, MessageFault>
-    ensures { Gives result (made (λ x. message.Issue x) (issue_in (map (λ x. x.now) pieces.now))) }
+/// The options and the extensions of the lines from 7 on.
+#[tactic(auto, unfolding(crate::specs::Parts::extras_in))]
+fn extras_in(alloc: Global, pieces: &[&[u8]]) -> Result<(Pairs, Texts), MessageFault>
+    ensures { Gives result (extras_in (map (λ x. x.now) pieces.now)) }
 {
-    let department = text_after(alloc, pieces, 1, b"issue ", TextKind::Name)?;
-    let key_id = text_after(alloc, pieces, 2, b"keyid ", TextKind::KeyId)?;
-    let key = key_line_after(alloc, pieces, 3, b"key ")?;
-    let principals = list_in(alloc, pieces, 4, ListKind::Principals)?;
-    let after = end_after(pieces, 5, b"after ")?;
-    let before = end_after(pieces, 6, b"before ")?;
     let options = options_in(alloc, pieces)?;
     let last = 7 + options.as_slice().len();
     let extensions = list_in(alloc, pieces, last, ListKind::Extensions)?;
     if !ends_after(pieces, last) {
         return Err(MessageFault::BadLine(last as u64 + 1));
     }
-    Ok(Message::Issue(Issue {
+    Ok((options, extensions))
+}
+
+/// The issue of the lines 1 to 4 and of those from 5 on.
+fn issue_of(subject: Subject, terms: Terms) -> Issue
+    ensures { result ≡ issue_of subject terms }
+{
+    let ((department, key_id), (key, principals)) = subject;
+    let ((after, before), (options, extensions)) = terms;
+    Issue {
         department,
         key_id,
         key,
@@ -76,5 +87,29 @@ pub(crate) fn issue_in(alloc: Global, pieces: &[&[u8]]) -> Result<Message, Messa
         before,
         options,
         extensions,
-    }))
+    }
+}
+
+/// The issue whose lines these are.
+pub(crate) fn issue_in(alloc: Global, pieces: &[&[u8]]) -> Result<Message, MessageFault>
+    ensures { Gives result (made (λ x. message.Issue x) (issue_in (map (λ x. x.now) pieces.now))) }
+{
+    let names = both(
+        text_after(alloc, pieces, 1, b"issue ", TextKind::Name),
+        text_after(alloc, pieces, 2, b"keyid ", TextKind::KeyId),
+    );
+    let holder = both(
+        key_line_after(alloc, pieces, 3, b"key "),
+        list_in(alloc, pieces, 4, ListKind::Principals),
+    );
+    let validity = both(
+        end_after(pieces, 5, b"after "),
+        end_after(pieces, 6, b"before "),
+    );
+    let subject = both(names, holder);
+    let terms = both(validity, extras_in(alloc, pieces));
+    match both(subject, terms) {
+        Ok((subject, terms)) => Ok(Message::Issue(issue_of(subject, terms))),
+        Err(fault) => Err(fault),
+    }
 }

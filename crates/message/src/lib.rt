@@ -4,6 +4,7 @@
 //! answered with the number of the first line that no message has in that place after the lines before it.
 #![tactic(auto)]
 
+mod both;
 mod delivery;
 mod department;
 mod issue;

@@ -26,7 +26,6 @@ fn begins(pieces: &[&[u8]], head: &[u8]) -> bool
     after(line(pieces, 1), head).is_some()
 }
 
-#[tactic(auto, unfolding(crate::specs::Reading::one_line_message_in))]
 fn one_line_message_in(alloc: Global, pieces: &[&[u8]]) -> Result<Message, MessageFault>
     ensures { Gives result (one_line_message_in (map (λ x. x.now) pieces.now)) }
 {

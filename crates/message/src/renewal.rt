@@ -10,7 +10,7 @@ use crate::message_fault::MessageFault;
 use crate::value::{end_after, serial_after};
 
 /// A certificate once more, with another validity.
-#[derive(Clone, Copy, PartialEq, Eq)]
+#[derive(Clone, Copy)]
 pub struct Renewal {
     /// The serial of the certificate, 1 to 9223372036854775806.
     pub serial: u64,

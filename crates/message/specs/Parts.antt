@@ -1,0 +1,82 @@
+-- Readings in turn, as parts of one.
+use Rattle.std.specs.Prelude.{ℕ, ◌+◌, List, [], length, ◌&&◌, codes, if◌then◌else◌, Result, Ok, Err}
+use Rattle.text.specs.Results.{◌>>=◌, or_fault}
+use Rattle.text.specs.declared.pair.Pair.{Pair}
+use Rattle.lines.specs.declared.key_line.KeyLine.{KeyLine}
+use Rattle.values.specs.declared.kind.Kind.{Kind}
+use Rattle.message.specs.declared.department.Department.{Department}
+use Rattle.message.specs.declared.issue.Issue.{Issue}
+use Rattle.message.specs.Reading.{ends_after, kind_of, line_of, list_after, number_after, options_from}
+use Rattle.message.specs.Values.{are_administrators, are_extension_names, are_namespaces, are_option_names}
+use Rattle.message.specs.Values.{are_rules, fits_kind, is_longest_life}
+
+-- two readings: the fault is that of the first that fails
+abbrev pub both : {A B E : Type 0} → Result A E → Result B E → Result (A × B) E
+both a b = a >>= (λ x. b >>= (λ y. Ok (x, y)))
+
+-- a department's kind, its administrators, rules, options and extensions, its longest life and its namespaces
+abbrev pub Profile : Type 0
+Profile =
+    Kind × (((List (List ℕ) × List (List ℕ)) × (List (List ℕ) × List (List ℕ))) × (ℕ × List (List ℕ)))
+
+-- the namespaces of a department of this kind, on its last line
+unfoldable pub namespaces_in : Kind → List (List ℕ) → Result (List (List ℕ)) ℕ
+namespaces_in kind ps = do
+  namespaces ← or_fault 8
+      (list_after (λ ts. are_namespaces ts && fits_kind kind ts) (codes "namespaces") (line_of 8 ps))
+  if ends_after 8 ps
+      then Ok namespaces
+      else Err 9
+
+-- what the lines of a department from 2 on say
+abbrev pub profile_in : List (List ℕ) → Result Profile ℕ
+profile_in ps =
+    or_fault 2 (kind_of (line_of 2 ps)) >>= (λ kind. both (Ok kind)
+    (both (both (both (or_fault 3 (list_after are_administrators (codes "admins") (line_of 3 ps)))
+    (or_fault 4 (list_after are_rules (codes "principals") (line_of 4 ps))))
+    (both (or_fault 5 (list_after (λ ts. are_option_names ts && fits_kind kind ts) (codes "options") (line_of 5 ps)))
+    (or_fault 6
+    (list_after (λ ts. are_extension_names ts && fits_kind kind ts) (codes "extensions") (line_of 6 ps)))))
+    (both (or_fault 7 (number_after is_longest_life (codes "maxlife ") (line_of 7 ps))) (namespaces_in kind ps))))
+
+abbrev pub department_of : List ℕ → Profile → Department
+department_of name profile = record {
+  name = name;
+  kind = profile.0;
+  administrators = profile.1.0.0.0;
+  rules = profile.1.0.0.1;
+  options = profile.1.0.1.0;
+  extensions = profile.1.0.1.1;
+  longest_life = profile.1.1.0;
+  namespaces = profile.1.1.1;
+}
+
+-- the options and the extensions of an issue, its lines from 7 on
+unfoldable pub extras_in : List (List ℕ) → Result (List Pair × List (List ℕ)) ℕ
+extras_in ps = do
+  let options = options_from 3 7 [] ps
+  extensions ← or_fault (7 + length options)
+      (list_after are_extension_names (codes "extensions") (line_of (7 + length options) ps))
+  if ends_after (7 + length options) ps
+      then Ok (options, extensions)
+      else Err (8 + length options)
+
+-- an issue's department and key id, its key and its principals
+abbrev pub Subject : Type 0
+Subject = (List ℕ × List ℕ) × (KeyLine × List (List ℕ))
+
+-- an issue's validity, its options and its extensions
+abbrev pub Terms : Type 0
+Terms = (ℕ × ℕ) × (List Pair × List (List ℕ))
+
+abbrev pub issue_of : Subject → Terms → Issue
+issue_of subject terms = record {
+  department = subject.0.0;
+  key_id = subject.0.1;
+  key = subject.1.0;
+  principals = subject.1.1;
+  after = terms.0.0;
+  before = terms.0.1;
+  options = terms.1.0;
+  extensions = terms.1.1;
+}
