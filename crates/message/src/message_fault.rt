@@ -4,7 +4,7 @@ ghost use Rattle.std.specs.Prelude.{◌≡◌};
 ghost use Rattle.message.specs.declared.message_fault.MessageFault.TheVariants.{NoMemory};
 
 /// Why a message could not be read.
-#[derive(Clone, Copy)]
+#[derive(Clone, Copy, Debug, PartialEq, Eq)]
 pub enum MessageFault {
     /// The first line that its kind doesn't allow in that place after the lines before it, from 1.
     BadLine(u64),
