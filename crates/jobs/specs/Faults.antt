@@ -71,7 +71,7 @@ of_selftest selftest.Mismatch = Mismatch
 -- of a file that can't be opened or read, by the kind of the error
 abbrev pub of_file : ErrorKind → JobFault
 of_file OutOfMemory = NoMemory
-of_file other = File
+of_file _ = File
 
 -- What is met where a file is read.
 abbrev pub IsOfAFile : JobFault → Type 0
