@@ -36,11 +36,11 @@ fn is_held(kind: Kind, row: &Row, at: usize) -> bool
     }
 }
 
-fn are_held(kinds: &[Kind], row: &Row) -> bool
-    ensures { result ≡ list_all (λ p. holds p.1 (column row.now p.0)) (enumerate_from 0 kinds.now) }
+fn are_held(kinds: &[Kind], columns: &Row) -> bool
+    ensures { result ≡ list_all (λ p. holds p.1 (column columns.now p.0)) (enumerate_from 0 kinds.now) }
 {
     for at in 0..kinds.len() {
-        if !is_held(kinds[at], row, at) {
+        if !is_held(kinds[at], columns, at) {
             return false;
         }
     }

@@ -8,15 +8,15 @@ loop-at-init c = refl
 
 pub returns-then-not-is_held : goal.returns-then-not-is_held
 returns-then-not-is_held c =
-    let next = held_next c.args.kinds.now c.args.row.now c.loop-at.at Number c.loop-at-test.true in
+    let next = held_next c.args.kinds.now c.args.columns.now c.loop-at.at Number c.loop-at-test.true in
     sym (c.loop-at.invariant ∙ next
-    ∙ ap (λ b. b && held_from c.args.kinds.now c.args.row.now (c.loop-at.at + 1)) (sym c.if-not-is_held.ensures))
+    ∙ ap (λ b. b && held_from c.args.kinds.now c.args.columns.now (c.loop-at.at + 1)) (sym c.if-not-is_held.ensures))
 
 pub loop-at-preserved : goal.loop-at-preserved
 loop-at-preserved c =
-    let next = held_next c.args.kinds.now c.args.row.now c.loop-at.at Number c.loop-at-test.true in
+    let next = held_next c.args.kinds.now c.args.columns.now c.loop-at.at Number c.loop-at-test.true in
     c.loop-at.invariant ∙ next
-    ∙ ap (λ b. b && held_from c.args.kinds.now c.args.row.now (c.loop-at.at + 1)) (sym c.if-not-is_held.ensures)
+    ∙ ap (λ b. b && held_from c.args.kinds.now c.args.columns.now (c.loop-at.at + 1)) (sym c.if-not-is_held.ensures)
 
 pub returns : goal.returns
-returns c = sym (c.loop-at.invariant ∙ held_end c.args.kinds.now c.args.row.now c.loop-at.at c.loop-at-test.false)
+returns c = sym (c.loop-at.invariant ∙ held_end c.args.kinds.now c.args.columns.now c.loop-at.at c.loop-at-test.false)

@@ -4,4 +4,4 @@ use Rattle.store_sql.proofs.kind.are_held.Given as goal
 
 -- the columns up to this one hold what they may
 abbrev pub invariant-loop-at : goal.invariant-loop-at
-invariant-loop-at l = held_from l.kinds l.row 0 ≡ held_from l.kinds l.row l.at
+invariant-loop-at l = held_from l.kinds l.columns 0 ≡ held_from l.kinds l.columns l.at
