@@ -1,6 +1,5 @@
 -- Steps that may fail, as what a function returned: where one fails, the whole fails so.
-use Rattle.message.proofs.Words.{Err, Ok, Result, ap, made, refl, subst, sym, ℕ, ◌>>=◌, ◌≡◌}
-use Rattle.message.specs.Parts.{both}
+use Rattle.message.proofs.Words.{Err, Ok, Result, ap, both, made, refl, subst, sym, ℕ, ◌>>=◌, ◌≡◌}
 use Rattle.message.specs.Reading.{Gives}
 use Rattle.message.specs.declared.message_fault.MessageFault.{MessageFault}
 use Rattle.message.specs.declared.message_fault.MessageFault.TheVariants as fault

@@ -1,12 +1,12 @@
 -- Reading a department is reading its parts.
 use Rattle.message.proofs.Words.{Bool, Err, List, Ok, Result, are_administrators, are_extension_names, are_namespaces}
-use Rattle.message.proofs.Words.{are_option_names, are_rules, codes, cond, ends_after, false, is_longest_life}
+use Rattle.message.proofs.Words.{are_option_names, are_rules, both, codes, cond, ends_after, false, is_longest_life}
 use Rattle.message.proofs.Words.{line_of, number_after, or_fault, refl, true, ℕ, ◌&&◌, ◌>>=◌, ◌≡◌}
 use Rattle.values.specs.declared.kind.Kind.{Kind}
 use Rattle.message.specs.declared.department.Department.{Department}
 use Rattle.message.specs.Values.{fits_kind}
 use Rattle.message.specs.Reading.{department_in, kind_of, list_after, name_after}
-use Rattle.message.specs.Parts.{Profile, both, department_of, namespaces_in, profile_in}
+use Rattle.message.specs.Parts.{Profile, department_of, namespaces_in, profile_in}
 
 -- lists in turn
 abbrev Lists : Type 0

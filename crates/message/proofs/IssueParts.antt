@@ -1,9 +1,9 @@
 -- Reading an issue is reading its parts.
 use Rattle.message.proofs.Words.{Bool, Err, Issue, KeyLine, List, Ok, Pair, Result, [], are_extension_names, codes}
-use Rattle.message.proofs.Words.{are_principals, cond, ends_after, false, is_end, key_id_after, key_line_after, length}
+use Rattle.message.proofs.Words.{are_principals, both, cond, ends_after, false, is_end, key_id_after, key_line_after, length}
 use Rattle.message.proofs.Words.{line_of, number_after, or_fault, refl, true, ℕ, ◌+◌, ◌>>=◌, ◌≡◌}
 use Rattle.message.specs.Reading.{issue_in, list_after, name_after, options_from}
-use Rattle.message.specs.Parts.{Subject, Terms, both, extras_in, issue_of}
+use Rattle.message.specs.Parts.{Subject, Terms, extras_in, issue_of}
 
 module _ (options : List Pair) (m : ℕ) where
   -- the issue of lines in turn

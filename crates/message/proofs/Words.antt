@@ -34,7 +34,7 @@ pub use Rattle.std.specs.List.{AllByRecursion, join_with_byte, list_all, list_an
 pub use Rattle.std.specs.Option.{is_some, option_and_then}
 pub use Rattle.std.specs.Result.{result_ok}
 pub use Rattle.std.specs.Str.{bytes_eq}
-pub use Rattle.text.specs.Results.{or_fault, ◌>>=◌}
+pub use Rattle.text.specs.Results.{both, or_fault, ◌>>=◌}
 pub use Rattle.text.specs.declared.pair.Pair.{Pair}
 pub use Rattle.values.proofs.Lacking.{Lacks, lacks_from}
 pub use Rattle.values.proofs.SerialLemmas.{serial_small}

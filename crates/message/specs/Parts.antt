@@ -1,6 +1,6 @@
 -- Readings in turn, as parts of one.
 use Rattle.std.specs.Prelude.{ℕ, ◌+◌, List, [], length, ◌&&◌, codes, if◌then◌else◌, Result, Ok, Err}
-use Rattle.text.specs.Results.{◌>>=◌, or_fault}
+use Rattle.text.specs.Results.{◌>>=◌, both, or_fault}
 use Rattle.text.specs.declared.pair.Pair.{Pair}
 use Rattle.lines.specs.declared.key_line.KeyLine.{KeyLine}
 use Rattle.values.specs.declared.kind.Kind.{Kind}
@@ -9,10 +9,6 @@ use Rattle.message.specs.declared.issue.Issue.{Issue}
 use Rattle.message.specs.Reading.{ends_after, kind_of, line_of, list_after, number_after, options_from}
 use Rattle.message.specs.Values.{are_administrators, are_extension_names, are_namespaces, are_option_names}
 use Rattle.message.specs.Values.{are_rules, fits_kind, is_longest_life}
-
--- two readings: the fault is that of the first that fails
-abbrev pub both : {A B E : Type 0} → Result A E → Result B E → Result (A × B) E
-both a b = a >>= (λ x. b >>= (λ y. Ok (x, y)))
 
 -- a department's kind, its administrators, rules, options and extensions, its longest life and its namespaces
 abbrev pub Profile : Type 0

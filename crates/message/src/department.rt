@@ -7,14 +7,13 @@ ghost use Rattle.message.specs.Reading.{Gives, department_in, kind_of, line_of, 
 ghost use Rattle.message.specs.declared.kinds.Message.TheVariants as message;
 ghost use Rattle.message.specs.Values.{fits_kind, is_longest_life};
 
-use crate::both::both;
 use crate::kinds::Message;
 use crate::line::{ends_after, line, number_after};
 use crate::lists::{ListKind, TextKind, list_in};
 use crate::message_fault::MessageFault;
 use crate::value::text_after;
 use std::alloc::Global;
-use text::{NoMemory, Text, Texts};
+use text::{NoMemory, Text, Texts, both};
 use values::{Kind, LONGEST_LIFE};
 
 /// A department with its profile of what may be issued.

@@ -5,7 +5,6 @@ ghost use Rattle.message.specs.Reading.{Gives, issue_in, made, options_from};
 ghost use Rattle.message.specs.Parts.{extras_in, issue_of};
 ghost use Rattle.message.specs.declared.kinds.Message.TheVariants as message;
 
-use crate::both::both;
 use crate::kinds::Message;
 use crate::line::{ends_after, line};
 use crate::lists::{ListKind, TextKind, list_in};
@@ -14,7 +13,7 @@ use crate::option::option_after;
 use crate::value::{end_after, key_line_after, text_after};
 use lines::KeyLine;
 use std::alloc::Global;
-use text::{NoMemory, Pairs, Text, Texts};
+use text::{NoMemory, Pairs, Text, Texts, both};
 
 /// A certificate that is asked for.
 #[derive(Drop)]

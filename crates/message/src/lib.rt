@@ -4,7 +4,6 @@
 //! answered with the number of the first line that no message has in that place after the lines before it.
 #![tactic(auto)]
 
-mod both;
 mod delivery;
 mod department;
 mod issue;

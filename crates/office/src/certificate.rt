@@ -2,10 +2,10 @@
 
 ghost use Rattle.std.specs.Prelude.{◌≡◌, IfOk};
 
-use cert::{CertFields, Options};
+use cert::CertFields;
 use lines::Signature;
 use std::alloc::Global;
-use text::{NoMemory, Text, Texts};
+use text::{NoMemory, Text, both};
 
 /// A certificate that was issued. It is kept for good.
 #[derive(Drop)]
@@ -20,57 +20,31 @@ pub struct Certificate {
     pub signature: Option<Signature>,
 }
 
-/// Copies of a key id and of principals.
-pub(crate) fn copied_names(
-    alloc: Global,
-    key_id: &Text,
-    principals: &Texts,
-) -> Result<(Text, Texts), NoMemory>
-    ensures { IfOk result (λ copies. copies ≡ (key_id.now, principals.now)) }
-{
-    let key_id = key_id.copied(alloc)?;
-    Ok((key_id, principals.copied(alloc)?))
-}
-
-/// Copies of critical options and of extensions.
-fn copied_options(
-    alloc: Global,
-    options: &Options,
-    extensions: &Options,
-) -> Result<(Options, Options), NoMemory>
-    ensures { IfOk result (λ copies. copies ≡ (options.now, extensions.now)) }
-{
-    let options = options.copied(alloc)?;
-    Ok((options, extensions.copied(alloc)?))
-}
-
 /// A copy of the fields.
 pub(crate) fn copied_fields(alloc: Global, fields: &CertFields) -> Result<CertFields, NoMemory>
     ensures { IfOk result (λ copy. copy ≡ fields.now) }
 {
-    let (key_id, principals) = copied_names(alloc, &fields.key_id, &fields.principals)?;
-    let (options, extensions) = copied_options(alloc, &fields.options, &fields.extensions)?;
-    Ok(CertFields {
-        nonce: fields.nonce,
-        key: fields.key,
-        serial: fields.serial,
-        kind: fields.kind,
-        key_id,
-        principals,
-        after: fields.after,
-        before: fields.before,
-        options,
-        extensions,
-        ca: fields.ca,
-    })
-}
-
-/// Copies of a department's name and of a body.
-fn copied_texts(alloc: Global, department: &Text, body: &Text) -> Result<(Text, Text), NoMemory>
-    ensures { IfOk result (λ copies. copies ≡ (department.now, body.now)) }
-{
-    let department = department.copied(alloc)?;
-    Ok((department, body.copied(alloc)?))
+    let names = both(fields.key_id.copied(alloc), fields.principals.copied(alloc));
+    let options = both(
+        fields.options.copied(alloc),
+        fields.extensions.copied(alloc),
+    );
+    match both(names, options) {
+        Ok(((key_id, principals), (options, extensions))) => Ok(CertFields {
+            nonce: fields.nonce,
+            key: fields.key,
+            serial: fields.serial,
+            kind: fields.kind,
+            key_id,
+            principals,
+            after: fields.after,
+            before: fields.before,
+            options,
+            extensions,
+            ca: fields.ca,
+        }),
+        Err(fault) => Err(fault),
+    }
 }
 
 impl Certificate {
@@ -78,12 +52,15 @@ impl Certificate {
     pub fn copied(&self, alloc: Global) -> Result<Certificate, NoMemory>
         ensures { IfOk result (λ copy. copy ≡ self.now) }
     {
-        let (department, body) = copied_texts(alloc, &self.department, &self.body)?;
-        Ok(Certificate {
-            department,
-            fields: copied_fields(alloc, &self.fields)?,
-            body,
-            signature: self.signature,
-        })
+        let texts = both(self.department.copied(alloc), self.body.copied(alloc));
+        match both(texts, copied_fields(alloc, &self.fields)) {
+            Ok(((department, body), fields)) => Ok(Certificate {
+                department,
+                fields,
+                body,
+                signature: self.signature,
+            }),
+            Err(fault) => Err(fault),
+        }
     }
 }

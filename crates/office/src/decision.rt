@@ -11,7 +11,7 @@ use crate::replies::to_issue;
 use crate::view::{Change, Decision, Stop, View};
 use cert::{CertFields, write_body};
 use std::alloc::Global;
-use text::{NoMemory, Text};
+use text::{NoMemory, Text, both};
 
 /// The decision that leaves the published list as it is.
 pub(crate) fn unpublished(view: &View, reply: Text, change: Change) -> Decision
@@ -40,21 +40,16 @@ pub(crate) fn published(view: &View, reply: Text, change: Change, moment: u64) -
     }
 }
 
-/// The department's name, the body of these fields, and the reply that names both serial and body.
-fn made_texts(
-    alloc: Global,
-    serial: u64,
-    department: &Text,
-    fields: &CertFields,
-) -> Result<(Text, Text, Text), NoMemory>
+/// The body of these fields, and the reply that names both serial and body.
+fn made_texts(alloc: Global, serial: u64, fields: &CertFields) -> Result<(Text, Text), NoMemory>
     requires { IsCertFields fields.now }
-    ensures { IfOk result (λ made. made ≡
-        (department.now, body_text fields.now, issue_reply serial (body_text fields.now))) }
+    ensures { IfOk result (λ made. made ≡ (body_text fields.now, issue_reply serial (body_text fields.now))) }
 {
-    let department = department.copied(alloc)?;
     let body = Text::from_vec(write_body(alloc, fields)?);
-    let reply = to_issue(alloc, serial, body.as_slice())?;
-    Ok((department, body, reply))
+    match to_issue(alloc, serial, body.as_slice()) {
+        Ok(reply) => Ok((body, reply)),
+        Err(fault) => Err(fault),
+    }
 }
 
 /// The decision that a certificate of these fields is made, under the next serial. It isn't signed yet.
@@ -69,17 +64,23 @@ pub(crate) fn certified(
     ensures made { IsMade result (certified view.now (certificate_with department.now fields)) }
     ensures change { IfOk result (λ d. IsLawfulChange d.change) }
 {
-    let (department, body, reply) = made_texts(alloc, view.next, department, &fields)?;
-    Ok(Decision {
-        reply,
-        next: view.next + 1,
-        version: view.version,
-        date: view.date,
-        change: Change::Certificate(Certificate {
-            department,
-            fields,
-            body,
-            signature: None,
+    let texts = made_texts(alloc, view.next, &fields);
+    match both(department.copied(alloc), texts) {
+        Ok((department, (body, reply))) => Ok(Decision {
+            reply,
+            next: view.next + 1,
+            version: view.version,
+            date: view.date,
+            change: Change::Certificate(Certificate {
+                department,
+                fields,
+                body,
+                signature: None,
+            }),
         }),
-    })
+        Err(_) => {
+            drop(fields);
+            Err(Stop::NoMemory)
+        }
+    }
 }

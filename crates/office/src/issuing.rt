@@ -9,13 +9,12 @@ ghost use Rattle.office.specs.Certificates.{certificate_for, flags};
 ghost use Rattle.office.specs.Views.{IsIssuable};
 ghost use Rattle.office.specs.Decided.{IsLawfulChange, IsMade, certified};
 
-use crate::certificate::copied_names;
 use crate::decision::certified;
 use crate::view::{Decision, Stop, View};
 use cert::{CertFields, OptionFault, Options};
 use message::{Department, Issue};
 use std::alloc::Global;
-use text::{NoMemory, Pair, Text};
+use text::{NoMemory, Pair, Text, Texts, both};
 use values::{Kind, OptionField};
 
 /// Options of pairs that have no fault.
@@ -64,6 +63,13 @@ fn extensions_of(alloc: Global, kind: Kind, names: &[Text]) -> Result<Options, N
     options_of(alloc, kind, OptionField::Extensions, flags.as_slice())
 }
 
+/// The key id and the principals that an issue asks for.
+fn both_names(alloc: Global, issue: &Issue) -> Result<(Text, Texts), NoMemory>
+    ensures { IfOk result (λ both. both ≡ (issue.now.key_id, issue.now.principals)) }
+{
+    both(issue.key_id.copied(alloc), issue.principals.copied(alloc))
+}
+
 /// Critical options and extensions, as an issue asks for them.
 fn both_options(alloc: Global, kind: Kind, issue: &Issue) -> Result<(Options, Options), NoMemory>
     requires options { options_fault CriticalOptions kind issue.now.options ≡ None }
@@ -71,11 +77,11 @@ fn both_options(alloc: Global, kind: Kind, issue: &Issue) -> Result<(Options, Op
     ensures { IfOk result (λ both. both ≡ (listing issue.now.options, listing (flags issue.now.extensions))) }
 {
     let pairs = issue.options.as_slice();
-    let options = options_of(alloc, kind, OptionField::CriticalOptions, pairs)?;
-    Ok((
+    let options = options_of(alloc, kind, OptionField::CriticalOptions, pairs);
+    both(
         options,
-        extensions_of(alloc, kind, issue.extensions.as_slice())?,
-    ))
+        extensions_of(alloc, kind, issue.extensions.as_slice()),
+    )
 }
 
 /// The key of the CA with the greatest number.
@@ -101,7 +107,7 @@ pub(crate) fn issued(
         (newest_key view.now.opening.now view.now.cas.now) nonce.now)) }
     ensures change { IfOk result (λ d. IsLawfulChange d.change) }
 {
-    let (key_id, principals) = copied_names(alloc, &issue.key_id, &issue.principals)?;
+    let (key_id, principals) = both_names(alloc, issue)?;
     let (options, extensions) = both_options(alloc, department.kind, issue)?;
     let fields = CertFields {
         nonce: *nonce,

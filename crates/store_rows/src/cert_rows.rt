@@ -13,13 +13,12 @@ ghost use Rattle.store_rows.specs.Rows.{cert_row};
 ghost use Rattle.store_rows.specs.Certificates.{IsSigned, certificate_in, certificate_of, certificate_with, fits};
 ghost use Rattle.store_rows.specs.Certificates.{signature_in};
 
-use crate::both::both;
 use cert::{CertFault, CertFields, read_body};
 use lines::Signature;
 use office::Certificate;
 use std::alloc::Global;
 use store_sql::{CertRow, Fault};
-use text::Text;
+use text::{Text, both};
 use values::is_name;
 
 fn signature_in(bytes: &Option<Text>) -> Option<Option<Signature>>

@@ -11,7 +11,6 @@ ghost use Rattle.store_rows.specs.Reading.{IsRead};
 ghost use Rattle.cert.specs.Reading.{kind_of};
 ghost use Rattle.store_rows.specs.Departments.{department_in, if_lawful, parted, parts_of};
 
-use crate::both::both;
 use crate::numbers::number;
 use message::{
     Department, are_administrators, are_extension_names, are_namespaces, are_option_names,
@@ -19,7 +18,7 @@ use message::{
 };
 use std::alloc::Global;
 use store_sql::{DepartmentRow, Fault, Number};
-use text::{NoMemory, Text, Texts, cut};
+use text::{NoMemory, Text, Texts, both, cut};
 use values::{Kind, LONGEST_LIFE, is_name};
 
 /// The texts joined by commas.

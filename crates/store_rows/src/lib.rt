@@ -4,7 +4,6 @@
 //! the state's, and a transaction ends whole or undone.
 #![tactic(auto)]
 
-mod both;
 mod cas;
 mod cert_rows;
 mod certificate_rows;

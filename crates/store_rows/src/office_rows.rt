@@ -10,13 +10,12 @@ ghost use Rattle.store_rows.specs.Reading.{IsRead};
 ghost use Rattle.store_rows.specs.Offices.{IsOfficeOf, if_office, is_opening, office_in, office_of, only_office};
 ghost use Rattle.store_rows.specs.Showing.{Shows};
 
-use crate::both::both;
 use lines::read_key_blob;
 use office::Opening;
 use sqlite::{Alter, Connection};
 use std::alloc::Global;
 use store_sql::{Fault, OfficeRow, every_office};
-use text::NoMemory;
+use text::{NoMemory, both};
 use values::{LAST_SERIAL, is_name};
 
 /// What the row of the office says.

@@ -11,3 +11,7 @@ abbrev pub ◌>>=◌ : {A B E : Type 0} → Result A E → (A → Result B E) �
 abbrev pub or_fault : {A E : Type 0} → E → Option A → Result A E
 or_fault e (Some x) = Ok x
 or_fault e None = Err e
+
+-- two steps, of which the second is taken whatever comes of the first
+abbrev pub both : {A B E : Type 0} → Result A E → Result B E → Result (A × B) E
+both a b = a >>= (λ x. b >>= (λ y. Ok (x, y)))

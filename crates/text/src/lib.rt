@@ -10,6 +10,7 @@ mod cutting;
 mod memory;
 mod pair;
 mod pairs;
+mod steps;
 mod texts;
 
 pub use bytes::Text;
@@ -17,4 +18,5 @@ pub use cutting::cut;
 pub use memory::NoMemory;
 pub use pair::Pair;
 pub use pairs::Pairs;
+pub use steps::both;
 pub use texts::Texts;
