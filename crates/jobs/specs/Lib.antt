@@ -11,3 +11,4 @@ pub mod Serving
 pub mod Checking
 pub mod Trial
 pub mod Whole
+pub mod Tasks

@@ -1,11 +1,10 @@
 //! The jobs of the program, over any database, output, reader and listener.
 //!
-//! `do_in`, `apply_in`, `found_in` and `serve_in` are whole jobs, from the opening of a database to its closing. In
-//! between `do_on` does what is asked of the office in the database, from the connection as it is given to that which
-//! is handed back: it makes an office, applies exchanges, prints the list or a report, or moves tables. `closed` keeps
-//! a fault of the job or tells one of the closing, and `finish` then prints what is told. `serve_over` serves an
-//! office, and `check_list` asks a list about a certificate. What is left to a program is to open and to close files,
-//! databases and sockets.
+//! `run_in` does what is asked of a database, from its opening to its closing. In between `do_on` does what is asked of
+//! the office in the database, from the connection as it is given to that which is handed back: it makes an office,
+//! applies exchanges, prints the list or a report, or moves tables. `closed` keeps a fault of the job or tells one of
+//! the closing, and `finish` then prints what is told. `serve_over` serves an office, and `check_list` asks a list about
+//! a certificate. What is left to a program is to open and to close files, databases and sockets.
 #![tactic(auto)]
 
 mod applying;
@@ -22,6 +21,7 @@ mod opening;
 mod output;
 mod reporting;
 mod served;
+mod task;
 mod whole;
 
 pub use applying::{apply_over, apply_to_trial};
@@ -38,4 +38,4 @@ pub use opening::open_office;
 pub use output::write_out;
 pub use reporting::{Report, report_over};
 pub use served::{serve_at_port, serve_over};
-pub use whole::{apply_in, do_in, found_in, serve_in};
+pub use task::{Task, run_in};

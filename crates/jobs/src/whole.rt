@@ -22,7 +22,7 @@ use std::net::{Net, TcpListener, TcpStream};
 use std::time::Clock;
 
 /// Does a job in a database, closes it, and then prints what is told of the job. The output is given back.
-pub fn do_in<S: Alter, D: Database<Conn = Connection<S>>, W: Write>(
+pub(crate) fn do_in<S: Alter, D: Database<Conn = Connection<S>>, W: Write>(
     alloc: Global,
     db: &mut D,
     job: &OfficeJob<'_>,
@@ -45,7 +45,7 @@ pub fn do_in<S: Alter, D: Database<Conn = Connection<S>>, W: Write>(
 }
 
 /// Applies the exchanges of a file to the office in a database. The output is given back.
-pub fn apply_in<R: Read + Drop, S: Alter, D: Database<Conn = Connection<S>>, W: Write>(
+pub(crate) fn apply_in<R: Read + Drop, S: Alter, D: Database<Conn = Connection<S>>, W: Write>(
     alloc: Global,
     db: &mut D,
     file: R,
@@ -77,7 +77,7 @@ fn opening_from<R: Read + Drop>(
 }
 
 /// Makes an office in a new database, with the key of a file. The output is given back.
-pub fn found_in<R: Read + Drop, S: Alter, D: Database<Conn = Connection<S>>, W: Write>(
+pub(crate) fn found_in<R: Read + Drop, S: Alter, D: Database<Conn = Connection<S>>, W: Write>(
     alloc: Global,
     db: &mut D,
     ca: R,
@@ -101,7 +101,7 @@ pub fn found_in<R: Read + Drop, S: Alter, D: Database<Conn = Connection<S>>, W: 
 ///
 /// Why nobody could be served: the database can't be opened, it isn't that of an office, or nobody listens at the port.
 /// `NoMemory` or `Device` is also answered where all were served and the database couldn't be closed well.
-pub fn serve_in<
+pub(crate) fn serve_in<
     R: Net<Listener = TcpListener, Stream = TcpStream> + Clock + AllocGlobal,
     S: Alter,
     D: Database<Conn = Connection<S>>,

@@ -16,14 +16,15 @@ use trial::trial_office;
 /// The status of bad words.
 pub const BAD_WORDS: u8 = 2;
 
-fn apply<O: Write>(
+fn apply<O: Write, E: Write>(
     rt: &HostRuntime,
     db: Option<&str>,
     file: &str,
     out: &mut O,
+    err: &mut E,
 ) -> Result<(), JobFault> {
     match db {
-        Some(db) => apply_in(rt, db, file, out),
+        Some(db) => apply_in(rt, db, file, out, err),
         None => apply_to_trial(rt.alloc(), open_file(rt, file)?, out),
     }
 }
@@ -37,15 +38,23 @@ fn test_itself<O: Write>(rt: &HostRuntime, out: &mut O) -> Result<(), JobFault> 
 }
 
 // All but serving.
-fn done_by<O: Write>(rt: &HostRuntime, job: &Job, out: &mut O) -> Result<(), JobFault> {
+fn done_by<O: Write, E: Write>(
+    rt: &HostRuntime,
+    job: &Job,
+    out: &mut O,
+    err: &mut E,
+) -> Result<(), JobFault> {
     if let Some((db, asked)) = asked_of(job) {
-        return do_in(rt, db, &asked, out);
+        return do_in(rt, db, asked, out, err);
     }
     if let Some((db, ca, founding)) = founding_of(job) {
-        return found_in(rt, db, ca, &founding, out);
+        return found_in(rt, db, ca, founding, out, err);
     }
     match job {
-        Job::Apply { db, file } => apply(rt, db.as_ref().map(|db| db.as_str()), file.as_str(), out),
+        Job::Apply { db, file } => {
+            let db = db.as_ref().map(|db| db.as_str());
+            apply(rt, db, file.as_str(), out, err)
+        }
         Job::Check {
             ca,
             list,
@@ -85,7 +94,7 @@ pub fn do_job<O: Write, E: Write>(rt: &HostRuntime, job: &Job, out: &mut O, err:
     if let Some(service) = service_of(job) {
         return serve_by(rt, &service, out, err);
     }
-    let done = done_by(rt, job, out);
+    let done = done_by(rt, job, out, err);
     status_of(err, flushed(out, done))
 }
 
