@@ -48,7 +48,8 @@ fn after_job(done: Result<(), JobFault>) -> Result<u8, JobFault>
 ///
 /// # Errors
 ///
-/// Why it wasn't done. Nothing was told of it yet.
+/// Why it wasn't done, or, where it was done, why the database couldn't be closed well or what is told couldn't be
+/// printed.
 pub fn run_in<
     R: Net<Listener = TcpListener, Stream = TcpStream> + Clock + AllocGlobal,
     S: Alter,
