@@ -9,10 +9,9 @@ use Rattle.office.specs.declared.certificate.Certificate.{Certificate}
 use Rattle.office.specs.Certificates.{IsCertificate}
 use Rattle.office.specs.Decided.{SaysAnyKeyIdRevoked, SaysKeyIdRevoked, SaysRevoked, certificate_concerned}
 use Rattle.office.specs.Decided.{department_concerned}
-use Rattle.office.specs.Openings.{IsOpening}
 use Rattle.office.specs.State.{State}
 use Rattle.store_rows.specs.declared.office_rows.Office.{Office}
-use Rattle.store_rows.specs.Offices.{IsOfficeOf}
+use Rattle.store_rows.specs.Offices.{IsLawfulOffice, IsOfficeOf}
 use Rattle.store_reads.specs.Histories.{IsOfHistory}
 use Rattle.store_reads.specs.declared.subject.Subject.{Subject}
 use Rattle.store_reads.specs.declared.marks.Marks.{Marks}
@@ -41,11 +40,6 @@ pub record AreConcerned (c : Concerned) (s : State) (m : Message) : Type 0 where
 pub record IsLawfulSubject (x : Subject) : Type 0 where
   pub certificate : IfSome x.certificate IsCertificate
   pub department : IfSome x.department (λ d. IsTrue (is_department d))
-
--- the opening is lawful, and the next serial isn't before the first
-pub record IsLawfulOffice (o : Office) : Type 0 where
-  pub opening : IsOpening o.opening
-  pub next : o.opening.first ≤ o.next
 
 -- the rows are of the form that an office writes
 pub record AreLawful (c : Concerned) : Type 0 where

@@ -10,11 +10,10 @@ ghost use Rattle.office.specs.State.{State};
 ghost use Rattle.office.specs.Views.{IsView};
 ghost use Rattle.store_sql.specs.Calls.{Never, OnlyReads};
 ghost use Rattle.store_sql.specs.Honest.{On, OnOpen, Outlives};
-ghost use Rattle.store_rows.specs.Offices.{IsOfficeOf, if_office};
-ghost use Rattle.store_rows.specs.Reading.{IsRead};
+ghost use Rattle.store_rows.specs.Offices.{IsLawfulOffice};
 ghost use Rattle.store_rows.specs.Showing.{Shows};
 ghost use Rattle.store_reads.specs.Concerning.{AreConcerned, AreConcernedAt, AreConcernedBeside, AreConcernedUnder};
-ghost use Rattle.store_reads.specs.Concerning.{AreLawful, IsLawfulOffice, IsLawfulSubject};
+ghost use Rattle.store_reads.specs.Concerning.{AreLawful, IsLawfulSubject};
 ghost use Rattle.store_reads.specs.Histories.{IsOfHistory};
 
 use crate::marks::{Marks, marks_of};
@@ -23,7 +22,7 @@ use message::Message;
 use office::{Ca, View};
 use sqlite::{Alter, Connection};
 use std::alloc::Global;
-use store_rows::{Office, is_opening, read_cas, read_office};
+use store_rows::{Office, read_cas, read_office};
 use store_sql::Fault;
 
 /// The rows that a message concerns, and the office's own row.
@@ -54,27 +53,6 @@ impl Concerned {
             has_revoked_key_ids: self.marks.has_revoked_key_ids,
         }
     }
-}
-
-fn if_lawful(office: Office) -> Result<Office, Fault>
-    ensures exact { IsRead (if_office office) result }
-    ensures lawful { IfOk result IsLawfulOffice }
-{
-    if is_opening(&office.opening) && office.opening.first <= office.next {
-        return Ok(office);
-    }
-    drop(office);
-    Err(Fault::Damaged)
-}
-
-fn lawful_office<S: Alter>(alloc: Global, conn: &mut Connection<S>) -> Result<Office, Fault>
-    ensures shows { On S.Store (Shows (λ s kept office. IsOfficeOf office s)) conn.old conn.new result }
-    ensures lawful { IfOk result IsLawfulOffice }
-    ensures reads { On S.Store OnlyReads conn.old conn.new result }
-    ensures survives { Outlives S.Store Never conn.old conn.new }
-{
-    let office = read_office(alloc, conn)?;
-    if_lawful(office)
 }
 
 fn with_subject<S: Alter>(
@@ -170,6 +148,6 @@ pub fn concerned_rows<S: Alter>(
     ensures reads { On S.Store OnlyReads conn.old conn.new result }
     ensures survives { Outlives S.Store Never conn.old conn.new }
 {
-    let office = lawful_office(alloc, conn)?;
+    let office = read_office(alloc, conn)?;
     with_office(alloc, conn, message, office)
 }

@@ -1,11 +1,11 @@
 -- What the row of the office says.
-use Rattle.std.specs.Prelude.{◌≡◌, ℕ, List, [], ◌∷◌, Bool, ◌&&◌, ◌||◌, not, nat_lt, if◌then◌else◌, Option, Some, None}
+use Rattle.std.specs.Prelude.{◌≡◌, ◌≤◌, ℕ, List, [], ◌∷◌, Bool, ◌&&◌, ◌||◌, not, nat_lt, if◌then◌else◌, Option, Some, None}
 use Rattle.std.specs.Option.{option_and_then}
 use Rattle.std.specs.Str.{bytes_eq}
 use Rattle.values.specs.Names.{is_name}
 use Rattle.lines.specs.Keys.{key_of}
 use Rattle.office.specs.declared.opening.Opening.{Opening}
-use Rattle.office.specs.Openings.{are_serials}
+use Rattle.office.specs.Openings.{IsOpening, are_serials}
 use Rattle.office.specs.State.{State, next_serial}
 use Rattle.store_sql.specs.declared.offices.OfficeRow.{OfficeRow}
 use Rattle.store_rows.specs.declared.office_rows.Office.{Office}
@@ -34,6 +34,11 @@ abbrev pub only_office : List OfficeRow → Option Office
 only_office [] = None
 only_office (row ∷ []) = office_in row
 only_office (row ∷ other ∷ rows) = None
+
+-- the same, as what is known of an office that was read
+pub record IsLawfulOffice (o : Office) : Type 0 where
+  pub opening : IsOpening o.opening
+  pub next : o.opening.first ≤ o.next
 
 -- it has the state's opening and counters
 pub record IsOfficeOf (o : Office) (s : State) : Type 0 where

@@ -7,7 +7,8 @@ ghost use Rattle.store_sql.specs.Calls.{Never, OnlyReads};
 ghost use Rattle.store_sql.specs.Honest.{On, Outlives};
 ghost use Rattle.office.specs.Openings.{IsOpening};
 ghost use Rattle.store_rows.specs.Reading.{IsRead};
-ghost use Rattle.store_rows.specs.Offices.{IsOfficeOf, if_office, is_opening, office_in, office_of, only_office};
+ghost use Rattle.store_rows.specs.Offices.{IsLawfulOffice, IsOfficeOf, if_office, is_opening, office_in, office_of};
+ghost use Rattle.store_rows.specs.Offices.{only_office};
 ghost use Rattle.store_rows.specs.Showing.{Shows};
 
 use lines::read_key_blob;
@@ -71,7 +72,8 @@ fn office_of(alloc: Global, row: &OfficeRow, ca: [u8; 32]) -> Result<Office, NoM
 }
 
 fn if_office(office: Office) -> Result<Office, Fault>
-    ensures { IsRead (if_office office) result }
+    ensures exact { IsRead (if_office office) result }
+    ensures lawful { IfOk result IsLawfulOffice }
 {
     if is_opening(&office.opening) && office.opening.first <= office.next {
         return Ok(office);
@@ -81,7 +83,8 @@ fn if_office(office: Office) -> Result<Office, Fault>
 }
 
 fn office_in(alloc: Global, row: &OfficeRow) -> Result<Office, Fault>
-    ensures { IsRead (office_in row.now) result }
+    ensures exact { IsRead (office_in row.now) result }
+    ensures lawful { IfOk result IsLawfulOffice }
 {
     let Some(ca) = read_key_blob(row.ca.as_slice()) else {
         return Err(Fault::Damaged);
@@ -93,7 +96,8 @@ fn office_in(alloc: Global, row: &OfficeRow) -> Result<Office, Fault>
 }
 
 fn only_office(alloc: Global, rows: &[OfficeRow]) -> Result<Office, Fault>
-    ensures { IsRead (only_office rows.now) result }
+    ensures exact { IsRead (only_office rows.now) result }
+    ensures lawful { IfOk result IsLawfulOffice }
 {
     match rows {
         [row] => office_in(alloc, row),
@@ -104,6 +108,7 @@ fn only_office(alloc: Global, rows: &[OfficeRow]) -> Result<Office, Fault>
 /// The office's opening and its counters. `Damaged` where its table has not one row, or that is of no lawful office.
 pub fn read_office<S: Alter>(alloc: Global, conn: &mut Connection<S>) -> Result<Office, Fault>
     ensures shows { On S.Store (Shows (λ s kept office. IsOfficeOf office s)) conn.old conn.new result }
+    ensures lawful { IfOk result IsLawfulOffice }
     ensures reads { On S.Store OnlyReads conn.old conn.new result }
     ensures survives { Outlives S.Store Never conn.old conn.new }
 {

@@ -11,7 +11,7 @@ returns g c =
     let rest = c.with_office.ensures in
     let w = asks_both (Unit {0}) (λ s kept office. IsOfficeOf office s) _
     (λ s kept rows. IsOfHistory s kept → AreConcerned rows s m) _ _ _ c.in_ok-office.office c.with_office.result
-    (λ clean _. one.shows clean) (λ clean _. one.reads clean) c.lawful_office.ensures.survives
+    (λ clean _. one.shows clean) (λ clean _. one.reads clean) c.read_office.ensures.survives
     (λ clean _. rest.shows clean) (λ clean _. rest.reads clean) rest.survives
     (λ s kept y lawful first rest history. rest history first) in
     record {

@@ -7,7 +7,7 @@ pub returns-clause-shows : goal.returns-clause-shows
 returns-clause-shows g c clean =
     shows_office _ _ _ c.only_office.result
     (λ con means. c.in_ok-rows.ensures.finds clean con.offices (means_offices _ con means))
-    (rw c.as_slice.ensures.value at c.only_office.ensures)
+    (rw c.as_slice.ensures.value at c.only_office.ensures.exact)
 
 pub returns-clause-reads : goal.returns-clause-reads
 returns-clause-reads g c clean = asked _ _ (c.in_ok-rows.ensures.reads clean) c.only_office.result
