@@ -12,12 +12,10 @@ import time
 MEMORY_TAKEN = 0.85
 SHARE_OF_NEED = 0.5
 
-# By how many processes a crate of the longest chain is proved. Two processes take a third more of the processors' time
-# than one, since what one has worked out the other works out again.
+# By how many processes the crate is proved at least for which the longest chain of others waits, where there are more
+# than two processors. Two processes take a third more of the processors' time than one, since what one has worked out
+# the other works out again.
 JOBS_ON_CHAIN = 3
-
-# A crate counts as one of the longest chain if its own chain is at least this share of that chain.
-SHARE_OF_CHAIN = 0.9
 
 # The start of a proof takes as long as the proof of so many lines.
 LINES_OF_A_START = 250
@@ -116,9 +114,10 @@ def lines_of(crate):
 class Lanes:
     """Proves crates side by side: each as soon as those below it are proved and memory is free for it.
 
-    A crate of the longest chain is proved by several processes, and each other crate by one. There may be more processes
-    than processors, so that no processor is idle. The system gives the most time to the crate with the longest chain of
-    others behind it.
+    A crate is proved by one process, and by more only where processors would be idle. Of the crates that aren't begun,
+    that with the longest chain of others behind it has at least three processes, as long as fewer crates can be proved
+    than there are processors. There may be more processes than processors. The system gives the most time to the crate
+    with the longest chain behind it.
     """
 
     def __init__(self, rt, libraries, progress, logs, kept):
@@ -132,14 +131,17 @@ class Lanes:
         self.left = sorted(libraries, key=lambda it: -self.behind[it.name])
         self.running, self.proved, self.ended = {}, {}, queue.Queue()
 
+    def is_ready(self, crate):
+        return all(it.name in self.proved for it in crate.below())
+
     def jobs_of(self, crate):
-        """By how many processes a crate is proved that can be begun now. On two processors, a crate of the longest chain
-        has a second process only where a processor is idle."""
-        longest = max(self.behind[it.name] for it in [*self.left, *(it for it, _ in self.running.values())])
-        if self.behind[crate.name] < SHARE_OF_CHAIN * longest:
-            return 1
-        idle = self.processors - sum(it for _, it in self.running.values())
-        return max(1, min(self.processors, idle if self.processors < 3 else max(idle, JOBS_ON_CHAIN)))
+        """By how many processes a crate is proved that can be begun now."""
+        others = sum(self.is_ready(it) for it in self.left if it is not crate)
+        jobs = max(1, self.processors - sum(it for _, it in self.running.values()) - others)
+        is_first = all(self.behind[it.name] <= self.behind[crate.name] for it in self.left)
+        if is_first and 2 < self.processors and len(self.running) + others < self.processors:
+            jobs = max(jobs, JOBS_ON_CHAIN)
+        return min(self.processors, jobs)
 
     def memory_of(self, crate, jobs):
         """The memory that a proof takes, in bytes: each further process adds its own share."""
@@ -155,7 +157,7 @@ class Lanes:
         """Starts the crates that can be proved now, those with the longest chain first."""
         for crate in [*self.left]:
             jobs = self.jobs_of(crate)
-            if all(it.name in self.proved for it in crate.below()) and self.has_room_for(crate, jobs):
+            if self.is_ready(crate) and self.has_room_for(crate, jobs):
                 before = sum(self.behind[it] > self.behind[crate.name] for it in self.running)
                 self.left.remove(crate)
                 self.running[crate.name] = crate, jobs
