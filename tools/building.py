@@ -4,9 +4,12 @@ import copy
 import os
 import queue
 import re
+import subprocess
 import sys
 import threading
 import time
+
+import toolchain
 
 # The share of the free memory that proofs may take, and the share that a proof takes of what rt reckons with at most.
 MEMORY_TAKEN = 0.85
@@ -100,6 +103,24 @@ def state(crate, flags):
         with open(f"{folder}/stamp", "w", encoding="utf-8") as it:
             it.write(stamp)
     return status
+
+
+def make(program, flags, log):
+    """Proves a program, compiles and links it, and returns the status. The first time no proofs are kept: to keep those
+    of the link takes a sixth of the time."""
+    if program.has_kept() or os.path.isfile(f"{program.folder}/out/{program.name}"):
+        words = [sys.executable, toolchain.__file__, "run", *flags, "--", "--help"]
+        how = {"cwd": program.folder, "stdin": subprocess.DEVNULL, "stdout": log, "stderr": subprocess.STDOUT}
+        return subprocess.run(words, **how).returncode
+    os.makedirs(f"{program.folder}/out", exist_ok=True)
+    rtlib, made = sys.modules["rtlib"], f"out/{program.name}"
+    program = copy.copy(program)
+    program.out, tools = log, ["--toolchain", f"{rtlib.KIT}/toolchain"]
+    words = program.words([*flags, *tools], keeps=False)
+    status = program.call(rtlib.RATTLE, "build", *words, "-o", f"{made}.o")
+    words = ["--target", "x86_64-unknown-linux-gnu", *tools, "-o", made, f"{made}.o"]
+    words += [f"{rtlib.KIT}/c/libos_c.a", f"{rtlib.KIT}/c/liblibc_c.a"]
+    return status or program.call(f"{rtlib.KIT}/bin/rattle-link", *words)
 
 
 def lines_of(crate):
