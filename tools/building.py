@@ -15,19 +15,17 @@ import toolchain
 MEMORY_TAKEN = 0.85
 SHARE_OF_NEED = 0.5
 
-# By how many processes the crate is proved at least for which the longest chain of others waits, where there are more
-# than two processors. Two processes take a third more of the processors' time than one, since what one has worked out
-# the other works out again.
-JOBS_ON_CHAIN = 3
-
 # The start of a proof takes as long as the proof of so many lines.
 LINES_OF_A_START = 250
 
 # What a process takes of the memory that proves the program beside others, in bytes.
 MEMORY_OF_A_JOB = 3_000_000_000
 
-# How far the processes of a crate give way to those of each crate with a longer chain, and how far at most.
-LATER, LAST = 3, 15
+# A crate that can wait while more lines than these are proved is proved by one process.
+LONG_WAIT = 2000
+
+# While so many lines are proved a crate has to wait so that its processes give way by one step more, to these at most.
+LINES_OF_A_STEP, LAST_STEP = 300, 19
 
 
 class Progress:
@@ -135,21 +133,25 @@ def lines_of(crate):
 class Lanes:
     """Proves crates side by side: each as soon as those below it are proved and memory is free for it.
 
-    A crate is proved by one process, and by more only where processors would be idle. Of the crates that aren't begun,
-    that with the longest chain of others behind it has at least three processes, as long as fewer crates can be proved
-    than there are processors. There may be more processes than processors. The system gives the most time to the crate
-    with the longest chain behind it.
+    The build can't end before the longest chain of crates that stand on one another. A crate that isn't on that chain
+    can wait: `spare` has for how many lines. The crates that can't wait long share the processors. The others are proved
+    by one process each, and by more only where processors would be idle. There may be more processes than processors:
+    the longer a crate can wait, the less of their time the system gives to the crate.
     """
 
     def __init__(self, rt, libraries, progress, logs, kept):
         self.rt, self.progress, self.logs, self.kept = rt, progress, logs, kept
         self.processors, self.memory = rt.processors(), MEMORY_TAKEN * rt.free()
-        self.size = {it.name: LINES_OF_A_START + lines_of(it) for it in libraries}
-        self.behind = {}
+        size = {it.name: LINES_OF_A_START + lines_of(it) for it in libraries}
+        up_to, behind = {}, {}
+        for crate in libraries:
+            up_to[crate.name] = size[crate.name] + max((up_to[it.name] for it in crate.below()), default=0)
         for crate in reversed(libraries):
             above = [it.name for it in libraries if crate in it.below()]
-            self.behind[crate.name] = self.size[crate.name] + max((self.behind[it] for it in above), default=0)
-        self.left = sorted(libraries, key=lambda it: -self.behind[it.name])
+            behind[crate.name] = max((size[it] + behind[it] for it in above), default=0)
+        longest = max(up_to.values(), default=0)
+        self.spare = {it.name: longest - up_to[it.name] - behind[it.name] for it in libraries}
+        self.left = sorted(libraries, key=lambda it: -size[it.name] - behind[it.name])
         self.running, self.proved, self.ended = {}, {}, queue.Queue()
 
     def is_ready(self, crate):
@@ -157,12 +159,12 @@ class Lanes:
 
     def jobs_of(self, crate):
         """By how many processes a crate is proved that can be begun now."""
-        others = sum(self.is_ready(it) for it in self.left if it is not crate)
-        jobs = max(1, self.processors - sum(it for _, it in self.running.values()) - others)
-        is_first = all(self.behind[it.name] <= self.behind[crate.name] for it in self.left)
-        if is_first and 2 < self.processors and len(self.running) + others < self.processors:
-            jobs = max(jobs, JOBS_ON_CHAIN)
-        return min(self.processors, jobs)
+        others = [it.name for it in self.left if it is not crate and self.is_ready(it)]
+        idle = self.processors - sum(jobs for _, jobs in self.running.values()) - len(others)
+        if self.spare[crate.name] <= LONG_WAIT:
+            pressing = 1 + sum(self.spare[it] <= LONG_WAIT for it in [*self.running, *others])
+            idle = max(idle, self.processors // pressing)
+        return min(self.processors, max(1, idle))
 
     def memory_of(self, crate, jobs):
         """The memory that a proof takes, in bytes: each further process adds its own share."""
@@ -179,18 +181,17 @@ class Lanes:
         for crate in [*self.left]:
             jobs = self.jobs_of(crate)
             if self.is_ready(crate) and self.has_room_for(crate, jobs):
-                before = sum(self.behind[it] > self.behind[crate.name] for it in self.running)
                 self.left.remove(crate)
                 self.running[crate.name] = crate, jobs
-                threading.Thread(target=self.work, args=(crate, jobs, before), daemon=True).start()
+                threading.Thread(target=self.work, args=(crate, jobs), daemon=True).start()
 
-    def work(self, crate, jobs, before):
-        """Proves a crate in a thread of its own, from which its processes have their priority: the lower, the more of the
-        crates that are being proved have longer chains."""
+    def work(self, crate, jobs):
+        """Proves a crate in a thread of its own, from which its processes have their priority: the lower, the longer the
+        crate can wait."""
         is_proved = False
         try:
             # On Linux this lowers the priority of this thread, and of the processes that it starts.
-            os.nice(min(LAST, LATER * before))
+            os.nice(min(LAST_STEP, self.spare[crate.name] // LINES_OF_A_STEP))
             if all(self.proved[it.name] for it in crate.below()):
                 is_proved = prove(crate, self.progress, jobs, crate.name in self.kept, self.logs)
         finally:
