@@ -21,10 +21,11 @@ LINES_OF_A_START = 250
 # What a process takes of the memory that proves the program beside others, in bytes.
 MEMORY_OF_A_JOB = 3_000_000_000
 
-# A crate that can wait while more lines than these are proved is proved by one process.
+# A crate can wait long if more lines than these can be proved before it, and the build takes no longer.
 LONG_WAIT = 2000
 
-# While so many lines are proved a crate has to wait so that its processes give way by one step more, to these at most.
+# The longer a crate can wait, the lower the priority of its processes: by one for each so many lines, and by so much at
+# most.
 LINES_OF_A_STEP, LAST_STEP = 300, 19
 
 
@@ -133,10 +134,10 @@ def lines_of(crate):
 class Lanes:
     """Proves crates side by side: each as soon as those below it are proved and memory is free for it.
 
-    The build can't end before the longest chain of crates that stand on one another. A crate that isn't on that chain
-    can wait: `spare` has for how many lines. The crates that can't wait long share the processors. The others are proved
-    by one process each, and by more only where processors would be idle. There may be more processes than processors:
-    the longer a crate can wait, the less of their time the system gives to the crate.
+    A build takes as long as the longest chain of crates that stand on one another. A crate that isn't on this chain can
+    wait: `spare` says how many lines can be proved before it, and the build takes no longer. The crates that can't wait
+    long share the processors. The others are proved by one process each, and by more only where processors would be
+    idle. There may be more processes than processors: the longer a crate can wait, the less of their time it is given.
     """
 
     def __init__(self, rt, libraries, progress, logs, kept):
