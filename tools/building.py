@@ -106,7 +106,7 @@ def state(crate, flags):
 
 def make(program, flags, log):
     """Proves a program, compiles and links it, and returns the status. The first time no proofs are kept: to keep those
-    of the link takes a sixth of the time."""
+    of the link takes a seventh of the time."""
     if program.has_kept() or os.path.isfile(f"{program.folder}/out/{program.name}"):
         words = [sys.executable, toolchain.__file__, "run", *flags, "--", "--help"]
         how = {"cwd": program.folder, "stdin": subprocess.DEVNULL, "stdout": log, "stderr": subprocess.STDOUT}
