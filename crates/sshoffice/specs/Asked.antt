@@ -2,8 +2,8 @@
 use Rattle.std.specs.Prelude.{ℕ, List, Option, Some, None, string_bytes}
 use Rattle.command_line.specs.declared.job.Job.{Job}
 use Rattle.command_line.specs.declared.job.Job.TheVariants as job
-use Rattle.jobs.specs.declared.job.OfficeJob.{OfficeJob}
-use Rattle.jobs.specs.declared.job.OfficeJob.TheVariants as office
+use Rattle.sshoffice.specs.declared.job.OfficeJob.{OfficeJob}
+use Rattle.sshoffice.specs.declared.job.OfficeJob.TheVariants as office
 
 -- the database and what is asked of its office, where the words say it all
 abbrev pub asked_of : Job → Option (List ℕ × OfficeJob)

@@ -1,11 +1,12 @@
 //! What a command asks of the office in a database.
 
 ghost use Rattle.std.specs.Prelude.{◌≡◌, IfSome, option_map};
-ghost use Rattle.jobs.specs.Jobs.{IsLawful};
+ghost use Rattle.sshoffice.specs.Jobs.{IsLawful};
 ghost use Rattle.sshoffice.specs.Asked.{asked_of, founding_of, service_of};
 
+use crate::founding::Founding;
+use crate::job::OfficeJob;
 use command_line::Job;
-use jobs::{Founding, OfficeJob};
 
 /// What is to be served, where and how often.
 #[derive(Clone, Copy)]

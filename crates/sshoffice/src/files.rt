@@ -1,9 +1,11 @@
 //! Files, opened.
 
 ghost use Rattle.std.specs.Prelude.{IfErr};
-ghost use Rattle.jobs.specs.Faults.{IsOfAFile};
+ghost use Rattle.sshoffice.specs.Faults.{IsOfAFile};
 
-use jobs::{JobFault, check_list, file_fault, read_key};
+use crate::checking::check_list;
+use crate::file_reader::{file_fault, read_key};
+use crate::job_fault::JobFault;
 use lines::KeyLine;
 use std::fs;
 use std::fs::File;

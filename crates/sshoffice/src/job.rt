@@ -1,144 +1,83 @@
-//! Jobs done.
+//! What is asked of the office in a database, and its doing.
 
-ghost use Rattle.std.specs.Prelude.{◌≡◌, ◌≤◌, map, string_bytes};
-ghost use Rattle.command_line.specs.Answers.{AreBad};
-ghost use Rattle.sshoffice.specs.Words.{IsOfBadWords};
+ghost use Rattle.sshoffice.specs.Jobs.{Does, IsLawful};
+ghost use Rattle.store_sql.specs.Honest.{IsOutside, IsUnlimited, On};
 
-use crate::asked::{Service, asked_of, founding_of, service_of};
-use crate::database::{apply_in, do_in, found_in, serve};
-use crate::files::{check, open_file};
-use command_line::{Job, WordsFault, read_words};
-use jobs::{JobFault, apply_to_trial, flushed, status_of, test_ended, write_out};
-use server::selftest;
-use std::io::{ErrorKind, Write};
-use trial::trial_office;
+use crate::applying::apply_over;
+use crate::founding::make_over;
+use crate::job_fault::JobFault;
+use crate::listing::list_over;
+use crate::migrating::migrate_over;
+use crate::reporting::{Report, report_over};
+use office::Opening;
+use sqlite::{Alter, Connection};
+use std::alloc::Global;
+use std::io::Write;
+use web::Exchange;
 
-/// The status of bad words.
-pub const BAD_WORDS: u8 = 2;
-
-fn apply<O: Write, E: Write>(
-    rt: &HostRuntime,
-    db: Option<&str>,
-    file: &str,
-    out: &mut O,
-    err: &mut E,
-) -> Result<(), JobFault> {
-    match db {
-        Some(db) => apply_in(rt, db, file, out, err),
-        None => apply_to_trial(rt.alloc(), open_file(rt, file)?, out),
-    }
+/// What is asked of the office in a database.
+#[derive(Clone, Copy)]
+pub enum OfficeJob<'a> {
+    /// Makes an office in a new database.
+    Init(&'a Opening),
+    /// Runs exchanges and prints the answers.
+    Apply(&'a [Exchange]),
+    /// Prints the revocation list.
+    Krl,
+    /// Prints the allowed signers.
+    Signers,
+    /// Prints the table of certificates.
+    Table,
+    /// Brings a database of schema 1 to schema 2.
+    Migrate,
 }
 
-/// Serves the trial office one request of its own, and prints that it was answered as is due.
-fn test_itself<O: Write>(rt: &HostRuntime, out: &mut O) -> Result<(), JobFault> {
-    let mut office = trial_office(rt.alloc())?;
-    let tested = selftest(rt, &mut office);
-    let _ = office.into_connection();
-    test_ended(out, tested)
+/// What a job came to, with the connection and the output that it was given.
+pub struct Done<S: Alter, W> {
+    /// Whether it was done.
+    pub outcome: Result<(), JobFault>,
+    /// The connection.
+    pub conn: Connection<S>,
+    /// The output.
+    pub out: W,
 }
 
-// All but serving.
-fn done_by<O: Write, E: Write>(
-    rt: &HostRuntime,
-    job: &Job,
-    out: &mut O,
-    err: &mut E,
-) -> Result<(), JobFault> {
-    if let Some((db, asked)) = asked_of(job) {
-        return do_in(rt, db, asked, out, err);
-    }
-    if let Some((db, ca, founding)) = founding_of(job) {
-        return found_in(rt, db, ca, founding, out, err);
-    }
+/// Does a job over the connection to its database. No transaction may be open, and queries may have no limit on their
+/// steps.
+pub fn do_on<S: Alter, W: Write>(
+    alloc: Global,
+    conn: Connection<S>,
+    job: &OfficeJob<'_>,
+    out: W,
+) -> Done<S, W>
+    requires outside { IsOutside S.Store conn }
+    requires unlimited { IsUnlimited S.Store conn }
+    requires lawful { IsLawful job.now }
+    ensures { On S.Store (λ old new. Does job.now old new (W.contents out) (W.contents result.out))
+        conn result.conn result.outcome }
+{
+    let mut out = out;
     match job {
-        Job::Apply { db, file } => {
-            let db = db.as_ref().map(|db| db.as_str());
-            apply(rt, db, file.as_str(), out, err)
+        OfficeJob::Init(opening) => {
+            let (outcome, conn) = make_over(alloc, conn, opening);
+            Done { outcome, conn, out }
         }
-        Job::Check {
-            ca,
-            list,
-            serial,
-            key_id,
-        } => check(
-            rt,
-            ca.as_str(),
-            list.as_str(),
-            *serial,
-            key_id.as_str(),
-            out,
-        ),
-        Job::Selftest => test_itself(rt, out),
-        _ => Ok(()),
-    }
-}
-
-fn serve_by<O: Write, E: Write>(
-    rt: &HostRuntime,
-    service: &Service<'_>,
-    out: &mut O,
-    err: &mut E,
-) -> u8
-    ensures { result ≤ 1 }
-{
-    match serve(rt, service, out, err) {
-        Ok(status) => status,
-        Err(fault) => status_of(err, Err(fault)),
-    }
-}
-
-/// Does a job: what it gives is written to `out`, and the name of a fault to `err`. Answers the status.
-pub fn do_job<O: Write, E: Write>(rt: &HostRuntime, job: &Job, out: &mut O, err: &mut E) -> u8
-    ensures { result ≤ 1 }
-{
-    if let Some(service) = service_of(job) {
-        return serve_by(rt, &service, out, err);
-    }
-    let done = done_by(rt, job, out, err);
-    status_of(err, flushed(out, done))
-}
-
-// What is answered to words that ask for no job: the text of clap, or a fault.
-fn answer_words<O: Write, E: Write>(fault: WordsFault, out: &mut O, err: &mut E) -> u8
-    ensures status { result ≤ BAD_WORDS }
-    ensures bad { result ≡ BAD_WORDS → IsOfBadWords fault }
-{
-    match fault {
-        WordsFault::Help(text) => {
-            let shown = write_out(out, text.as_bytes());
-            status_of(err, flushed(out, shown))
+        OfficeJob::Apply(exchanges) => {
+            let (outcome, conn) = apply_over(alloc, conn, exchanges, &mut out);
+            Done { outcome, conn, out }
         }
-        WordsFault::BadWords(text) => {
-            let _ = write_out(err, text.as_bytes());
-            BAD_WORDS
+        OfficeJob::Krl => list_over(alloc, conn, out),
+        OfficeJob::Signers => {
+            let (outcome, conn) = report_over(alloc, conn, Report::Signers, &mut out);
+            Done { outcome, conn, out }
         }
-        WordsFault::NoMemory => status_of(err, Err(JobFault::NoMemory)),
+        OfficeJob::Table => {
+            let (outcome, conn) = report_over(alloc, conn, Report::Table, &mut out);
+            Done { outcome, conn, out }
+        }
+        OfficeJob::Migrate => {
+            let (outcome, conn) = migrate_over(alloc, conn);
+            Done { outcome, conn, out }
+        }
     }
-}
-
-/// Does the job that the words ask for, or shows the text of clap. Answers the status.
-pub fn do_words<O: Write, E: Write>(
-    rt: &HostRuntime,
-    words: &[String],
-    out: &mut O,
-    err: &mut E,
-) -> u8
-    ensures status { result ≤ BAD_WORDS }
-    ensures bad { result ≡ BAD_WORDS → AreBad (map string_bytes words.now) }
-{
-    match read_words(rt.alloc(), words) {
-        Ok(job) => do_job(rt, &job, out, err),
-        Err(fault) => answer_words(fault, out, err),
-    }
-}
-
-/// The status where the words can't be had: memory was refused, or a word isn't UTF-8.
-pub fn do_no_words<E: Write>(fault: ErrorKind, err: &mut E) -> u8
-    ensures { result ≤ BAD_WORDS }
-{
-    if fault == ErrorKind::OutOfMemory {
-        return status_of(err, Err(JobFault::NoMemory));
-    }
-    let _ = write_out(err, b"error: a word is not UTF-8\n");
-    BAD_WORDS
 }

@@ -1,14 +1,38 @@
-//! The program: words, files, databases and sockets.
+//! The program: words, and what each command does.
 //!
-//! What a job does stands in the crate `jobs`, over any connection, output, reader and listener. This crate reads the
-//! words, opens what they name, and closes it. Files, the console and sockets are the system's, and nothing is proved
-//! of them.
+//! What a command does is proved over any database, output, reader and listener, from the opening of a database to its
+//! closing. `run_in` does what is asked of a database. In between `do_on` does what is asked of the office in the
+//! database, from the connection as it is given to that which is handed back: it makes an office, applies exchanges,
+//! prints the list or a report, or moves tables. `closed` keeps a fault of the job or tells one of the closing, and
+//! `finish` then prints what is told. `serve_over` serves an office, and `check_list` asks a list about a certificate.
+//!
+//! `do_words` reads the words, opens what they name, and closes it. Files, the console and sockets are the system's, and
+//! nothing is proved of them.
 #![tactic(auto)]
 
+mod applying;
 mod asked;
+mod checking;
+mod command;
 mod database;
+mod database_file;
+mod ending;
+mod file_reader;
 mod files;
+mod founding;
+mod headline;
 mod job;
+mod job_fault;
+mod listing;
+mod migrating;
+mod opening;
+mod output;
+mod publish_fault;
+mod reporting;
+mod served;
+mod task;
+mod trial;
+mod whole;
 
 use std::io::BufWriter;
 use std::process::ExitCode;
@@ -24,9 +48,9 @@ fn status_by(rt: &HostRuntime) -> u8 {
     let mut err = rt.stderr();
     let out = BufWriter::new(rt.alloc(), rt.stdout());
     match (words_of(rt), out) {
-        (Ok(words), Ok(mut out)) => job::do_words(rt, words.as_slice(), &mut out, &mut err),
-        (Err(fault), _) => job::do_no_words(fault.kind(), &mut err),
-        (_, Err(fault)) => job::do_no_words(fault.kind(), &mut err),
+        (Ok(words), Ok(mut out)) => command::do_words(rt, words.as_slice(), &mut out, &mut err),
+        (Err(fault), _) => command::do_no_words(fault.kind(), &mut err),
+        (_, Err(fault)) => command::do_no_words(fault.kind(), &mut err),
     }
 }
 

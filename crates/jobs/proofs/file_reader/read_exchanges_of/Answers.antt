@@ -1,6 +1,0 @@
-use Rattle.jobs.proofs.Telling.{tells}
-use Rattle.jobs.proofs.file_reader.read_exchanges_of.Goals as goal
-
-pub returns-clause-tells : goal.returns-clause-tells
-returns-clause-tells g c =
-    tells (λ v. v.items) c.read_first.result (g.R.Read.remaining c.args.reader) c.read_first.ensures.first

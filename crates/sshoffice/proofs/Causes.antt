@@ -1,0 +1,69 @@
+-- Which faults are met.
+use Rattle.std.proofs.Common.{◌≡◌, ◌≢◌, Result, Ok, Err, refl, subst, sym}
+use Rattle.std.specs.Prelude.{IfErr}
+use Rattle.lines.specs.declared.key_line.LineFault.{LineFault}
+use Rattle.lines.specs.declared.key_line.LineFault.TheVariants as line
+use Rattle.office.specs.declared.store_fault.StoreFault.{StoreFault}
+use Rattle.office.specs.declared.store_fault.StoreFault.TheVariants as store
+use Rattle.exchanges.specs.declared.running.RunFault.{RunFault}
+use Rattle.exchanges.specs.declared.running.RunFault.TheVariants as run
+use Rattle.sshoffice.specs.declared.job_fault.JobFault.{JobFault}
+use Rattle.sshoffice.specs.declared.job_fault.JobFault.TheVariants.{File, Write, NoMemory, BadExchange, Fault}
+use Rattle.sshoffice.specs.Faults.{IsOfAFile, IsOfAKey, IsOfATrial, IsOfChecking, IsOfExchanges, of_line, of_store}
+use Rattle.sshoffice.specs.Faults.{run_result}
+
+-- ---- of a key
+
+pub key_file : (e : JobFault) → IsOfAFile e → IsOfAKey e
+key_file File h = tt
+key_file NoMemory h = tt
+key_file other h = absurd h
+
+pub key_line : (e : LineFault) → IsOfAKey (of_line e)
+key_line line.NoMemory = tt
+key_line other = tt
+
+-- ---- of a list that is asked
+
+pub list_file : (e : JobFault) → IsOfAFile e → IsOfChecking e
+list_file File h = tt
+list_file NoMemory h = tt
+list_file other h = absurd h
+
+pub verdict : {T : Type 0} (r : Result T JobFault) → IfErr r (λ e. e ≡ Write) → IfErr r IsOfChecking
+verdict (Ok x) h = tt
+verdict (Err e) h = subst IsOfChecking (sym h) tt
+
+-- ---- of a run over the trial office
+
+pub of_file : (e : JobFault) → IsOfExchanges e → IsOfATrial e
+of_file File h = tt
+of_file NoMemory h = tt
+of_file (BadExchange k) h = tt
+of_file other h = absurd h
+
+-- no exchange was run
+pub not_run : (e : JobFault) → IsOfExchanges e → ¬ (e ≡ Fault)
+not_run e h same = subst IsOfExchanges same h
+
+pub of_office : (e : StoreFault) → IsOfATrial (of_store e)
+of_office store.NoMemory = tt
+of_office other = tt
+
+pub trial_run : (r : Result (Unit {0}) RunFault) → IfErr (run_result r) IsOfATrial
+trial_run (Ok done) = tt
+trial_run (Err run.NoMemory) = tt
+trial_run (Err run.Write) = tt
+trial_run (Err run.Fault) = tt
+
+-- what was not run printed nothing
+run_silent : (P : Type 0) (r : Result (Unit {0}) RunFault) → (r ≡ Err run.NoMemory → P)
+    → IfErr (run_result r) (λ e. e ≢ Write → e ≢ Fault → P)
+run_silent P (Ok done) h = tt
+run_silent P (Err run.NoMemory) h = λ _ _. h refl
+run_silent P (Err run.Write) h = λ other _. absurd (other refl)
+run_silent P (Err run.Fault) h = λ _ other. absurd (other refl)
+
+pub silent : (P : Type 0) (r : Result (Unit {0}) RunFault) (came : Result (Unit {0}) JobFault) → came ≡ run_result r
+    → (r ≡ Err run.NoMemory → P) → IfErr came (λ e. e ≢ Write → e ≢ Fault → P)
+silent P r came same h = subst (λ d. IfErr d (λ e. e ≢ Write → e ≢ Fault → P)) (sym same) (run_silent P r h)

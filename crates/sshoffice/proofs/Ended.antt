@@ -1,0 +1,15 @@
+-- What is told of a job once its database is closed.
+use Rattle.std.proofs.Common.{◌≡◌, ℕ, List, Option, Result, Ok, Err, refl}
+use Rattle.std.specs.Prelude.{IfErr, IsOk, OnOk}
+use Rattle.std.specs.Io.KnownBytes.{Appends}
+use Rattle.sshoffice.specs.declared.job_fault.JobFault.{JobFault}
+use Rattle.sshoffice.specs.declared.job_fault.JobFault.TheVariants.{Write}
+use Rattle.sshoffice.specs.Whole.{Follows, Prints}
+
+pub told : (text : List ℕ) (held holds : Option (List ℕ)) (done result : Result Unit JobFault)
+    → IfErr done (λ e. result ≡ Err e) → IfErr done (λ _. holds ≡ held) → OnOk result (Appends held holds text)
+    → (IsOk done → IfErr result (λ e. e ≡ Write))
+    → Follows (λ _. Prints text held holds) (holds ≡ held) done result
+told text held holds (Err e) result fault silent ok only = (fault, silent)
+told text held holds (Ok x) (Ok y) fault silent ok only = ok
+told text held holds (Ok x) (Err e) fault silent ok only = only refl

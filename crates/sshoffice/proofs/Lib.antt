@@ -1,0 +1,15 @@
+pub mod Applied
+pub mod Asking
+pub mod Blank
+pub mod Bodies
+pub mod Carried
+pub mod Causes
+pub mod Ended
+pub mod Listed
+pub mod Made
+pub mod Meeting
+pub mod Printed
+pub mod Reported
+pub mod Stored
+pub mod Telling
+pub mod Told

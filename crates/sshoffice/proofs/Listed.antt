@@ -1,0 +1,101 @@
+-- The list, from what the tables show of it.
+use Rattle.std.proofs.Common.{◌≡◌, ℕ, List, [], ◌∷◌, Option, Result, Ok, Err, refl, ap, subst, ◌∙◌}
+use Rattle.std.specs.Prelude.{◌≤◌, IfErr, IfOk, IsTrue, OnOk, Vec}
+use Rattle.std.specs.declared.alloc.Global.{Global}
+use Rattle.std.specs.Io.KnownBytes.{Appends}
+use Rattle.krl.specs.declared.ca_part.CaPart.{CaPart}
+use Rattle.krl.specs.declared.krl_head.KrlHead.{KrlHead}
+use Rattle.krl.specs.Published.{fits, published_text}
+use Rattle.http_requests.specs.declared.resource.Resource.TheVariants.{RevocationList}
+use Rattle.http_requests.specs.Asks.{Ask, Asks, get}
+use Rattle.office.specs.declared.opening.Opening.{Opening}
+use Rattle.office.specs.declared.arrival.Arrival.{Arrival}
+use Rattle.office.specs.declared.publication.Revoked.{Revoked}
+use Rattle.office.specs.Faults.{IsOfARegister}
+use Rattle.office.specs.Shows.{IsOffice}
+use Rattle.office.specs.Publication.{AreRevoked, head_of, published_parts}
+use Rattle.office.specs.History.{state}
+use Rattle.office_laws.specs.Lists.{AreExactList}
+use Rattle.web.specs.declared.exchange.Exchange.{Exchange}
+use Rattle.web.specs.declared.exchange.Given.{Given}
+use Rattle.web.specs.declared.exchange.Given.TheVariants.{Answer, Fault}
+use Rattle.web.specs.Answers.{IsAnswered, ListFits, MayList, answer_text, with_ask}
+use Rattle.web.specs.Runs.{AllDue}
+use Rattle.web.specs.Causes.{IsOfAList}
+use Rattle.web.proofs.Lists.{list_only}
+use Rattle.sshoffice.specs.declared.publish_fault.PublishFault.{PublishFault}
+use Rattle.sshoffice.specs.declared.publish_fault.PublishFault.TheVariants.{Store, Write}
+use Rattle.sshoffice.specs.Headline.{AreExactLists, IsList, IsListResponse, OfStore, list_bytes}
+
+-- each list that fits is exact
+abbrev pub ListsAreExact : Type 0
+ListsAreExact = (o : Opening) (l : List Arrival) → IsOffice o l → ListFits (state o l) → AreExactList (list_bytes o l) o l
+
+-- no request asks two things
+abbrev pub AsksOneThing : Type 0
+AsksOneThing = (bytes : List ℕ) (a b : Ask) → Asks bytes a → Asks bytes b → a ≡ b
+
+-- where a list isn't written, its fault is one of a register
+pub unwritten_only : (r : Result (Unit {0}) PublishFault) (count : ℕ) (means : Opening → List Arrival → Type 0)
+    → IfErr r (OfStore (IsOfAList count)) → ((o : Opening) (l : List Arrival) → means o l → count ≤ 8)
+    → IfErr r (OfStore (λ e. (o : Opening) (l : List Arrival) → means o l → IsOfARegister e))
+unwritten_only (Ok done) count means h few = tt
+unwritten_only (Err (Store e)) count means h few = list_only {T = Unit {0}} (Err e) count means h few
+unwritten_only (Err Write) count means h few = tt
+
+module _ (exact : ListsAreExact) where
+  is_list : (o : Opening) (l : List Arrival) → MayList o l → IsList o l (list_bytes o l)
+  is_list o l may = record { same = refl; exact = exact o l may.office may.fits }
+
+  -- what is written of what the tables show is the list
+  pub listed : {E : Type 0} (means : Opening → List Arrival → Type 0) → ((o : Opening) (l : List Arrival) → means o l → IsOffice o l)
+      → (r : Result (Unit {0}) E) (found : Revoked) (old new : Option (List ℕ))
+      → ((o : Opening) (l : List Arrival) → means o l → AreRevoked found (state o l))
+      → OnOk r (IsTrue (fits found.parts.items found.key_ids))
+      → OnOk r (Appends old new (published_text found.head found.parts.items found.key_ids))
+      → OnOk r ((o : Opening) (l : List Arrival) → means o l → (bytes : List ℕ) × IsList o l bytes × Appends old new bytes)
+  listed means office (Err e) found old new row fit written = tt
+  listed means office (Ok x) found old new row fit written = λ o l m.
+      let s = state o l in
+      let are = row o l m in
+      let here : IsTrue (fits (published_parts s) found.key_ids) = subst (λ (ps : List CaPart). IsTrue (fits ps found.key_ids)) are.parts fit in
+      let fits_here : ListFits s = subst (λ (ids : List (List ℕ)). IsTrue (fits (published_parts s) ids)) are.key_ids here in
+      let same : published_text found.head found.parts.items found.key_ids ≡ list_bytes o l =
+      ap (λ (h : KrlHead). published_text h found.parts.items found.key_ids) are.head
+      ∙ (ap (λ (ps : List CaPart). published_text (head_of s) ps found.key_ids) are.parts
+      ∙ ap (λ (ids : List (List ℕ)). published_text (head_of s) (published_parts s) ids) are.key_ids) in (
+        list_bytes o l,
+        is_list o l (record { office = office o l m; fits = fits_here }),
+        subst (λ (bytes : List ℕ). Appends old new bytes) same written,
+      )
+
+  -- what is due to a GET of the list is the response with it
+  is_response : (o : Opening) (l : List Arrival) (a : Ask) (moment : ℕ) (nonce response : List ℕ) → a ≡ get RevocationList
+      → response ≡ answer_text o l a moment nonce → (a ≡ get RevocationList → MayList o l) → IsListResponse o l response
+  is_response o l a moment nonce response same text may = record {
+    body = list_bytes o l;
+    text = text ∙ ap (λ (k : Ask). answer_text o l k moment nonce) same;
+    list = is_list o l (may same);
+  }
+
+  -- what is answered to one is
+  pub responded : {E : Type 0} → AsksOneThing → (r : Result (Vec ℕ Global) E) (before after keeps : Opening → List Arrival → Type 0)
+      (request : List ℕ) (moment : ℕ) (nonce : List ℕ) → Asks request (get RevocationList)
+      → IfOk r (λ v. IsAnswered before after keeps request moment nonce v.items)
+      → IfOk r (λ v. (o : Opening) (l : List Arrival) → before o l → IsListResponse o l v.items)
+  responded one (Err e) before after keeps request moment nonce asks answered = tt
+  responded one (Ok v) before after keeps request moment nonce asks answered = λ o l m.
+      let a = answered o l m in
+      is_response o l a.ask moment nonce v.items (one request a.ask (get RevocationList) a.asks asks) a.text a.list
+
+  -- and so is each in a run
+  pub in_run : AsksOneThing → (o : Opening) (l : List Arrival) (exchanges : List Exchange) (given : List Given) (last : List Arrival)
+      → AllDue o l exchanges given last → AreExactLists o l exchanges given
+  in_run one o l [] given last due = tt
+  in_run one o l (x ∷ xs) [] last due = tt
+  in_run one o l (x ∷ xs) (Fault ∷ given) last due = in_run one o l xs given last due
+  in_run one o l (x ∷ xs) (Answer response ∷ given) last due = (
+    λ asks. is_response o l due.0 x.moment x.nonce response (one x.request due.0 (get RevocationList) due.1 asks) due.2 due.3,
+    λ a asks. in_run one o (with_ask l a x.moment x.nonce) xs given last
+        (subst (λ (k : Ask). AllDue o (with_ask l k x.moment x.nonce) xs given last) (one x.request due.0 a due.1 asks) due.4),
+  )

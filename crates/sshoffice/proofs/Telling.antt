@@ -1,0 +1,30 @@
+-- What is read of a file tells of it.
+use Rattle.std.proofs.Common.{◌≡◌, ℕ, ◌+◌, List, take, Option, Some, None, Result, Ok, Err, sym, subst}
+use Rattle.std.specs.Prelude.{IfOk, IfSome}
+use Rattle.exchanges.specs.declared.exchange_reader.TheConstants.{MAX_FILE}
+use Rattle.exchanges.specs.Exchanges.{TellsOf}
+use Rattle.exchanges.specs.declared.exchange_reader.ExchangesFault.{ExchangesFault}
+use Rattle.exchanges.specs.declared.exchange_reader.ExchangesFault.TheVariants as exchanges
+use Rattle.exchanges.proofs.LongFiles.{first_tells}
+use Rattle.sshoffice.specs.declared.job_fault.JobFault.{JobFault}
+use Rattle.sshoffice.specs.declared.job_fault.JobFault.TheVariants.{File, NoMemory}
+use Rattle.sshoffice.specs.Faults.{IsOfAFile, IsOfExchanges, of_exchanges}
+
+-- the first bytes, so many, were read
+pub tells : {T E : Type 0} (items : T → List ℕ) (r : Result T E) (left : Option (List ℕ))
+    → IfOk r (λ v. IfSome left (λ bytes. items v ≡ take (MAX_FILE + 1) bytes))
+    → IfOk r (λ v. IfSome left (λ file. TellsOf file (items v)))
+tells items (Ok v) (Some file) first = subst (TellsOf file) (sym first) (first_tells file)
+tells items (Ok v) None first = tt
+tells items (Err e) left first = tt
+
+-- ---- faults of a file of exchanges
+
+pub of_a_file : (e : JobFault) → IsOfAFile e → IsOfExchanges e
+of_a_file File h = tt
+of_a_file NoMemory h = tt
+of_a_file other h = absurd h
+
+pub of_a_record : (e : ExchangesFault) → IsOfExchanges (of_exchanges e)
+of_a_record (exchanges.BadExchange k) = tt
+of_a_record exchanges.NoMemory = tt

@@ -1,0 +1,18 @@
+use Rattle.sqlite.specs.Held.{state}
+use Rattle.store.specs.Meaning.{Tells}
+use Rattle.sshoffice.proofs.Listed.{responded}
+use Rattle.sshoffice.proofs.Stored.{AreOpen, answers}
+use Rattle.sshoffice.proofs.headline.respond.Goals as goal
+
+pub returns-clause-answered : goal.returns-clause-answered
+returns-clause-answered g c honest =
+    let called = c.answer-response in
+    answers called.result (state g.S.Store c.args.store.now.conn) (state g.S.Store called.new.registry.conn) c.args.request.now
+    c.args.moment c.args.nonce.now c.what_is_open_is_stored.ensures (called.ensures.answered honest)
+
+pub returns-clause-list : goal.returns-clause-list
+returns-clause-list g c honest asks =
+    let called = c.answer-response in
+    responded c.the_list_is_exact.ensures c.one_ask.ensures called.result (Tells (state g.S.Store c.args.store.now.conn))
+    (Tells (state g.S.Store called.new.registry.conn)) (AreOpen (state g.S.Store called.new.registry.conn)) c.args.request.now
+    c.args.moment c.args.nonce.now asks (called.ensures.answered honest)

@@ -1,0 +1,24 @@
+use Rattle.std.proofs.Common.{◌≡◌, inl, inr, ℕ, List, Option, Result, Ok, Err}
+use Rattle.std.specs.Prelude.{IfErr, IfOk, IfSome}
+use Rattle.lines.specs.declared.key_line.KeyLine.{KeyLine}
+use Rattle.office.specs.declared.opening.Opening.{Opening}
+use Rattle.sshoffice.specs.declared.founding.Founding.{Founding}
+use Rattle.sshoffice.specs.declared.job_fault.JobFault.{JobFault}
+use Rattle.sshoffice.specs.Faults.{IsOfAnOpening}
+use Rattle.sshoffice.specs.Reading.{IsKeyText}
+use Rattle.sshoffice.specs.Whole.{Begins, due_opening}
+use Rattle.sshoffice.proofs.whole.opening_from.Goals as goal
+
+begun : (file : Option (List ℕ)) (f : Founding) (k : KeyLine) (r : Result Opening JobFault)
+    → IfSome file (λ text. IsKeyText text k) → IfOk r (λ o. due_opening f k.key ≡ Ok o)
+    → IfErr r (IsOfAnOpening (due_opening f k.key)) → Begins file f r
+begun file f k (Ok o) read made fault = (k, read, made)
+begun file f k (Err e) read made fault = inr (k, read, fault)
+
+pub returns-in-Ok-clause-begins : goal.returns-in-Ok-clause-begins
+returns-in-Ok-clause-begins g c =
+    begun (g.R.Read.remaining c.args.ca) c.args.founding.now c.in-Ok.ca c.opening_of.result c.in-Ok.ensures.key
+    c.opening_of.ensures.made c.opening_of.ensures.fault
+
+pub returns-in-Err-clause-begins : goal.returns-in-Err-clause-begins
+returns-in-Err-clause-begins g c = inl c.in-Err.ensures.only

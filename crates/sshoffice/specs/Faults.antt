@@ -1,0 +1,124 @@
+-- The fault of a job by the fault that it met.
+use Rattle.std.specs.Prelude.{◌≡◌, Result, Ok, Err}
+use Rattle.std.specs.declared.io.ErrorKind.{ErrorKind}
+use Rattle.std.specs.declared.io.ErrorKind.TheVariants.{OutOfMemory}
+use Rattle.lines.specs.declared.key_line.LineFault.{LineFault}
+use Rattle.lines.specs.declared.key_line.LineFault.TheVariants as line
+use Rattle.office.specs.declared.opening.Opening.{Opening as Begun}
+use Rattle.office.specs.declared.opening.OpeningFault.{OpeningFault}
+use Rattle.office.specs.declared.store_fault.StoreFault.{StoreFault}
+use Rattle.office.specs.declared.store_fault.StoreFault.TheVariants as store
+use Rattle.server.specs.declared.connection_fault.ListenFault.{ListenFault}
+use Rattle.server.specs.declared.connection_fault.ListenFault.TheVariants as listening
+use Rattle.server.specs.declared.connection_fault.SelftestFault.{SelftestFault}
+use Rattle.server.specs.declared.connection_fault.SelftestFault.TheVariants as selftest
+use Rattle.exchanges.specs.declared.exchange_reader.ExchangesFault.{ExchangesFault}
+use Rattle.exchanges.specs.declared.exchange_reader.ExchangesFault.TheVariants as exchanges
+use Rattle.exchanges.specs.declared.running.RunFault.{RunFault}
+use Rattle.exchanges.specs.declared.running.RunFault.TheVariants as run
+use Rattle.sshoffice.specs.declared.publish_fault.PublishFault.{PublishFault}
+use Rattle.sshoffice.specs.declared.publish_fault.PublishFault.TheVariants as publish
+use Rattle.sshoffice.specs.declared.job_fault.JobFault.{JobFault}
+use Rattle.sshoffice.specs.declared.job_fault.JobFault.TheVariants.{File, Write, Socket, Connection, Mismatch, NoMemory}
+use Rattle.sshoffice.specs.declared.job_fault.JobFault.TheVariants.{BadExchange, Line, List, Opening, Store, Fault}
+
+-- of a file that can't be read as exchanges
+abbrev pub of_exchanges : ExchangesFault → JobFault
+of_exchanges (exchanges.BadExchange k) = BadExchange k
+of_exchanges exchanges.NoMemory = NoMemory
+
+-- of exchanges that were not run and printed well
+abbrev pub of_run : RunFault → JobFault
+of_run run.NoMemory = NoMemory
+of_run run.Write = Write
+of_run run.Fault = Fault
+
+-- what came of a run, as of a job
+abbrev pub run_result : Result (Unit {0}) RunFault → Result (Unit {0}) JobFault
+run_result (Ok done) = Ok done
+run_result (Err fault) = Err (of_run fault)
+
+-- of a text that is no key line
+abbrev pub of_line : LineFault → JobFault
+of_line line.NoMemory = NoMemory
+of_line other = Line other
+
+-- of a register that did not answer
+abbrev pub of_store : StoreFault → JobFault
+of_store store.NoMemory = NoMemory
+of_store other = Store other
+
+-- of a list that was not written
+abbrev pub of_publishing : PublishFault → JobFault
+of_publishing (publish.Store fault) = of_store fault
+of_publishing publish.Write = Write
+
+-- what came of publishing, as of a job
+abbrev pub publish_result : Result (Unit {0}) PublishFault → Result (Unit {0}) JobFault
+publish_result (Ok done) = Ok done
+publish_result (Err fault) = Err (of_publishing fault)
+
+-- of a port at which nobody listens
+abbrev pub of_listening : ListenFault → JobFault
+of_listening listening.Socket = Socket
+of_listening listening.Write = Write
+
+-- of an office that did not pass its own test
+abbrev pub of_selftest : SelftestFault → JobFault
+of_selftest (selftest.Unserved fault) = Connection fault
+of_selftest selftest.Mismatch = Mismatch
+
+-- of a file that can't be opened or read, by the kind of the error
+abbrev pub of_file : ErrorKind → JobFault
+of_file OutOfMemory = NoMemory
+of_file _ = File
+
+-- What is met where a file is read.
+abbrev pub IsOfAFile : JobFault → Type 0
+IsOfAFile File = Unit {0}
+IsOfAFile NoMemory = Unit {0}
+IsOfAFile other = ⊥
+
+-- What is met where a file of exchanges is read.
+abbrev pub IsOfExchanges : JobFault → Type 0
+IsOfExchanges File = Unit {0}
+IsOfExchanges NoMemory = Unit {0}
+IsOfExchanges (BadExchange k) = Unit {0}
+IsOfExchanges other = ⊥
+
+-- What is met where a key is read.
+abbrev pub IsOfAKey : JobFault → Type 0
+IsOfAKey File = Unit {0}
+IsOfAKey NoMemory = Unit {0}
+IsOfAKey (Line fault) = Unit {0}
+IsOfAKey other = ⊥
+
+-- What is met where a list is asked about a certificate.
+abbrev pub IsOfChecking : JobFault → Type 0
+IsOfChecking File = Unit {0}
+IsOfChecking NoMemory = Unit {0}
+IsOfChecking Write = Unit {0}
+IsOfChecking (List fault) = Unit {0}
+IsOfChecking other = ⊥
+
+-- What is met where a file of exchanges is applied to the trial office.
+abbrev pub IsOfATrial : JobFault → Type 0
+IsOfATrial File = Unit {0}
+IsOfATrial NoMemory = Unit {0}
+IsOfATrial (BadExchange k) = Unit {0}
+IsOfATrial (Store fault) = Unit {0}
+IsOfATrial Write = Unit {0}
+IsOfATrial Fault = Unit {0}
+IsOfATrial other = ⊥
+
+-- What is met where an opening is made: want of memory, or the fault that is due.
+abbrev pub IsOfAnOpening : Result Begun OpeningFault → JobFault → Type 0
+IsOfAnOpening due NoMemory = Unit {0}
+IsOfAnOpening due (Opening fault) = due ≡ Err fault
+IsOfAnOpening due other = ⊥
+
+-- What is met where a database is opened or closed.
+abbrev pub IsOfADatabase : JobFault → Type 0
+IsOfADatabase NoMemory = Unit {0}
+IsOfADatabase (Store fault) = fault ≡ store.Device
+IsOfADatabase other = ⊥

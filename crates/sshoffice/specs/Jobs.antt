@@ -1,0 +1,32 @@
+-- What each job does over the connection to its database.
+use Rattle.std.specs.Prelude.{◌≡◌, ℕ, List, [], codes, Option, Result}
+use Rattle.sqlite.specs.State.{State}
+use Rattle.office.specs.Openings.{IsOpening}
+use Rattle.sshoffice.specs.declared.job_fault.JobFault.{JobFault}
+use Rattle.sshoffice.specs.declared.job.OfficeJob.{OfficeJob}
+use Rattle.sshoffice.specs.declared.job.OfficeJob.TheVariants.{Init, Apply, Krl, Signers, Table, Migrate}
+use Rattle.sshoffice.specs.declared.reporting.Report.TheVariants as report
+use Rattle.sshoffice.specs.Applying.{Applies}
+use Rattle.sshoffice.specs.Listing.{Lists}
+use Rattle.sshoffice.specs.Making.{Makes, Migrates, ready_text}
+use Rattle.sshoffice.specs.Reporting.{Reports}
+
+-- an office is made of a lawful opening
+abbrev pub IsLawful : OfficeJob → Type 0
+IsLawful (Init opening) = IsOpening opening.now
+IsLawful other = Unit {0}
+
+-- What a job does between these tables and this output and those, with this result.
+abbrev pub Does : OfficeJob → (old new : State) → (held holds : Option (List ℕ)) → Result (Unit {0}) JobFault → Type 0
+Does (Init opening) old new held holds r = Makes opening.now old new r × (holds ≡ held)
+Does (Apply exchanges) old new held holds r = Applies exchanges.now old new held holds r
+Does Krl old new held holds r = Lists old new held holds r
+Does Signers old new held holds r = Reports report.Signers old new held holds r
+Does Table old new held holds r = Reports report.Table old new held holds r
+Does Migrate old new held holds r = Migrates old new r × (holds ≡ held)
+
+-- what is printed once it is done and its database is closed
+abbrev pub told_text : OfficeJob → List ℕ
+told_text (Init opening) = ready_text opening.now
+told_text Migrate = codes "migrated 1 2\n"
+told_text other = []

@@ -1,0 +1,30 @@
+-- The key revocation list of the office in a database, printed.
+use Rattle.std.specs.Prelude.{ℕ, List, Option, Result, Ok, Err}
+use Rattle.std.specs.Io.KnownBytes.{Appends}
+use Rattle.sqlite.specs.State.{State}
+use Rattle.office.specs.declared.opening.Opening.{Opening}
+use Rattle.office.specs.declared.arrival.Arrival.{Arrival}
+use Rattle.office.specs.declared.store_fault.StoreFault.TheVariants as store
+use Rattle.store_rows.specs.Transactions.{IsAsBefore}
+use Rattle.store.specs.Meaning.{Stores, Tells}
+use Rattle.sshoffice.specs.Headline.{IsList}
+use Rattle.sshoffice.specs.declared.job_fault.JobFault.{JobFault}
+use Rattle.sshoffice.specs.declared.job_fault.JobFault.TheVariants.{NoMemory, Store, Write}
+use Rattle.sshoffice.specs.Opening.{IsLeft}
+
+-- the list of the history that the tables tell is printed, and they store that history
+abbrev pub IsListed : (old new : State) → (held holds : Option (List ℕ)) → Type 0
+IsListed old new held holds = (o : Opening) (l : List Arrival) → Tells old o l
+    → (bytes : List ℕ) × IsList o l bytes × Appends held holds bytes × Stores new o l
+
+-- the tables store what they told
+abbrev pub IsStored : (old new : State) → Type 0
+IsStored old new = (o : Opening) (l : List Arrival) → Tells old o l → Stores new o l
+
+-- what came of it, where nothing of the tables has changed
+abbrev pub Lists : (old new : State) → (held holds : Option (List ℕ)) → Result (Unit {0}) JobFault → Type 0
+Lists old new held holds (Ok done) = IsAsBefore old new × IsListed old new held holds
+Lists old new held holds (Err Write) = IsAsBefore old new × IsStored old new
+Lists old new held holds (Err NoMemory) = IsAsBefore old new × IsLeft old new held holds store.NoMemory
+Lists old new held holds (Err (Store e)) = IsAsBefore old new × IsLeft old new held holds e
+Lists old new held holds (Err other) = ⊥

@@ -1,0 +1,79 @@
+-- Offices made in a database, and moved from the schema before.
+use Rattle.std.specs.Prelude.{◌++◌, ◌∷◌, [], ℕ, List, codes, decimal, IsOk, IsTrue, Result, Ok, Err}
+use Rattle.sqlite.specs.State.{State, Survives}
+use Rattle.lines.specs.Digests.{fingerprint_text}
+use Rattle.office.specs.declared.opening.Opening.{Opening}
+use Rattle.office.specs.declared.arrival.Arrival.{Arrival}
+use Rattle.office.specs.declared.store_fault.StoreFault.{StoreFault}
+use Rattle.office.specs.declared.store_fault.StoreFault.TheVariants as store
+use Rattle.store_sql.specs.Schema.{no_schema}
+use Rattle.store_sql.specs.Calls.{IsBare}
+use Rattle.store_sql.specs.Contents.{Contents}
+use Rattle.store_rows.specs.Rows.{office_contents}
+use Rattle.store_rows.specs.Transactions.{Has, IsAsBefore, Leaves, Rests}
+use Rattle.store_migration.specs.Former.{Had, TellsBefore, ca_of, migrated}
+use Rattle.store_migration.specs.Migrating.{HasStopped, IsExcused, Judges}
+use Rattle.store.specs.Meaning.{DiskFailed, IsBlank, IsHistory, Tells}
+use Rattle.sshoffice.specs.declared.job_fault.JobFault.{JobFault}
+use Rattle.sshoffice.specs.declared.job_fault.JobFault.TheVariants.{NoMemory, Store}
+
+-- ---- an office made
+
+-- a crash in the midst leaves the database as it was, or with the whole office
+abbrev pub IsMadeWhole : Opening → (old new : State) → Type 0
+IsMadeWhole opening old new =
+    Survives old new (Leaves (λ _. IsBare no_schema) (λ (_ : Unit {0}). office_contents opening []) old)
+
+-- the database without tables has the tables of the office in which nothing has happened
+pub record IsMade (opening : Opening) (old new : State) : Type 0 where
+  pub made : IsBlank old → Tells new opening []
+  pub is_open : IsTrue new.is_open
+  pub crash : IsMadeWhole opening old new
+
+-- nothing is made; of a database without tables that is for want of memory, or the database failed
+pub record IsUnmade (opening : Opening) (old new : State) (e : StoreFault) : Type 0 where
+  pub before : IsAsBefore old new
+  pub blank : IsBlank old → IsTrue new.is_open → IsBlank new
+  pub only : IsBlank old → IsExcused (DiskFailed old new) e
+  pub crash : IsMadeWhole opening old new
+
+abbrev pub Makes : Opening → (old new : State) → Result (Unit {0}) JobFault → Type 0
+Makes opening old new (Ok done) = IsMade opening old new
+Makes opening old new (Err NoMemory) = IsUnmade opening old new store.NoMemory
+Makes opening old new (Err (Store e)) = IsUnmade opening old new e
+Makes opening old new (Err other) = ⊥
+
+-- its serials, and the fingerprint of its CA
+abbrev pub ready_text : Opening → List ℕ
+ready_text o =
+    codes "office ready "
+    ++ (decimal o.first ++ (32 ∷ (decimal o.last ++ (codes "\nca " ++ (fingerprint_text o.ca ++ (10 ∷ []))))))
+
+-- ---- an office moved
+
+-- a crash in the midst leaves the tables as they were, or as they are when it is done
+abbrev pub IsMovedWhole : (old new : State) → Type 0
+IsMovedWhole old new = Survives old new (Leaves Had migrated old)
+
+-- the tables of schema 1 have become those of schema 2, row by row, and tell what they told
+pub record IsMoved (old new : State) : Type 0 where
+  pub judged : (c : Contents) → Rests (Had c) old → IsOk (ca_of c.offices)
+  pub moved : (c : Contents) → Rests (Had c) old → Rests (Has (migrated c)) new
+  pub carried : (o : Opening) (l : List Arrival) → IsHistory o l → TellsBefore old o l → Tells new o l
+  pub is_open : IsTrue new.is_open
+  pub crash : IsMovedWhole old new
+
+-- they have not, and this fault has its cause
+pub record IsUnmoved (old new : State) (e : StoreFault) : Type 0 where
+  pub judged : (c : Contents) → Rests (Had c) old → Judges c (HasStopped c old new) (Err e)
+  pub only : IsTrue old.is_open → (o : Opening) (l : List Arrival) → IsHistory o l → TellsBefore old o l
+      → IsExcused (DiskFailed old new) e
+  pub before : IsAsBefore old new
+  pub back : (o : Opening) (l : List Arrival) → TellsBefore old o l → TellsBefore new o l
+  pub crash : IsMovedWhole old new
+
+abbrev pub Migrates : (old new : State) → Result (Unit {0}) JobFault → Type 0
+Migrates old new (Ok done) = IsMoved old new
+Migrates old new (Err NoMemory) = IsUnmoved old new store.NoMemory
+Migrates old new (Err (Store e)) = IsUnmoved old new e
+Migrates old new (Err other) = ⊥

@@ -1,0 +1,44 @@
+-- An office in a database, served at a port.
+use Rattle.std.specs.Prelude.{◌≡◌, ◌≤◌, ℕ, List, length, map, flat_map, IsTrue, Option, None, Result, Ok, Err}
+use Rattle.std.specs.Io.KnownBytes.{Appends, Consumes}
+use Rattle.sqlite.specs.State.{HasCleanDisk, State}
+use Rattle.office.specs.declared.store_fault.StoreFault.TheVariants as store
+use Rattle.web.specs.Runs.{Serves as AllServed}
+use Rattle.server.specs.Books.{Book}
+use Rattle.server.specs.Connections.{Extends, TellsAll, Visit, drawn_of, exchange_of, given_of}
+use Rattle.server.specs.Names.{listening_line}
+use Rattle.store.specs.Meaning.{Tells}
+use Rattle.sshoffice.specs.declared.job_fault.JobFault.{JobFault}
+use Rattle.sshoffice.specs.declared.job_fault.JobFault.TheVariants.{NoMemory, Socket, Store, Write}
+use Rattle.sshoffice.specs.Opening.{IsUnopened, TellsOn}
+
+-- What so many connections did, one after the other, over these tables and those. Each was given what is due to it, or
+-- a fault. Where one was answered since the last fault, the tables tell the history and the connection is open.
+pub record MeetsOver (connections : ℕ) (book book' : Option Book) (nonces nonces' : Option (List ℕ)) (old new : State)
+    : Type 0 where
+  pub visits : List Visit
+  pub all : length visits ≡ connections
+  pub told : TellsAll visits book book'
+  pub drawn : Consumes nonces nonces' (flat_map drawn_of visits)
+  pub served : HasCleanDisk new → AllServed (Tells old) (Tells new) (λ o l. Tells new o l × IsTrue new.is_open)
+      (map exchange_of visits) (map given_of visits)
+
+-- The line of the port is printed. So many connections were met, of which nobody tells, each with the response that is
+-- due or a fault; or there was no memory to begin with.
+pub record IsServed (connections : ℕ) (nonces : Option (List ℕ)) (old new : State) (held holds : Option (List ℕ))
+    (status : ℕ) : Type 0 where
+  pub port : ℕ
+  pub listening : Appends held holds (listening_line port)
+  pub met : status ≡ 0 → (left : Option (List ℕ)) × MeetsOver connections None None nonces left old new
+  pub served : Extends connections (Tells old) (Tells new)
+  pub lawful : status ≤ 1
+
+-- what came of it
+abbrev pub Serves : (connections : ℕ) → (nonces : Option (List ℕ)) → (old new : State) → (held holds : Option (List ℕ))
+    → Result ℕ JobFault → Type 0
+Serves connections source old new held holds (Ok status) = IsServed connections source old new held holds status
+Serves connections source old new held holds (Err Socket) = TellsOn old new × (holds ≡ held)
+Serves connections source old new held holds (Err Write) = TellsOn old new
+Serves connections source old new held holds (Err NoMemory) = IsUnopened old new store.NoMemory × (holds ≡ held)
+Serves connections source old new held holds (Err (Store e)) = IsUnopened old new e × (holds ≡ held)
+Serves connections source old new held holds (Err other) = ⊥

@@ -1,0 +1,116 @@
+//! What files hold.
+
+ghost use Rattle.std.specs.IoError.{error_kind};
+ghost use Rattle.std.specs.Prelude.{◌≡◌, ◌<◌, ◌≤◌, ℕ, Err, IfErr, IfOk, IfSome, take, vec_len};
+ghost use Rattle.exchanges.specs.Exchanges.{AreExchanges, IsBadRecord, TellsOf, exchanges_text};
+ghost use Rattle.sshoffice.specs.Faults.{IsOfAFile, IsOfAKey, IsOfExchanges, of_file};
+ghost use Rattle.sshoffice.specs.Reading.{IsKeyText};
+
+use crate::job_fault::JobFault;
+use exchanges::{MAX_FILE, read_exchanges};
+use lines::{KeyLine, read_key_line};
+use std::alloc::Global;
+use std::io;
+use std::io::{ErrorKind, Read};
+use web::Exchange;
+
+/// The most bytes of a file with a key line: some KiB more than any has.
+const MAX_KEY_FILE: u64 = 8192;
+
+/// The most bytes of a list: a header of 44 bytes, and a section of 4294967295 with its type and length.
+const MAX_LIST: u64 = 4_294_967_344;
+
+/// The fault of a file that can't be opened or read.
+pub fn file_fault(error: &io::Error) -> JobFault
+    ensures value { result ≡ of_file (error_kind error.now) }
+    ensures only { IsOfAFile result }
+{
+    match error.kind() {
+        ErrorKind::OutOfMemory => JobFault::NoMemory,
+        _ => JobFault::File,
+    }
+}
+
+/// The first bytes that a reader gives, `most` of them where it gives so many.
+fn read_first<R: Read + Drop>(alloc: Global, reader: R, most: u64) -> Result<Vec<u8>, JobFault>
+    ensures first { IfOk result (λ v. IfSome (R.remaining reader) (λ bytes. v.items ≡ take most bytes)) }
+    ensures only { IfErr result IsOfAFile }
+{
+    let mut bytes = Vec::new(alloc);
+    match reader.take(most).read_to_end(&mut bytes) {
+        Ok(_) => Ok(bytes),
+        Err(error) => Err(file_fault(&error)),
+    }
+}
+
+/// All that a reader gives. It is a fault of the file if that is more than `most` bytes.
+fn read_whole<R: Read + Drop>(alloc: Global, reader: R, most: u64) -> Result<Vec<u8>, JobFault>
+    requires { most < u64.MAX }
+    ensures size { IfOk result (λ v. vec_len v ≤ most) }
+    ensures whole { IfOk result (λ v. IfSome (R.remaining reader) (λ bytes. v.items ≡ bytes)) }
+    ensures only { IfErr result IsOfAFile }
+{
+    let bytes = read_first(alloc, reader, most + 1)?;
+    if most < bytes.len() as u64 {
+        return Err(JobFault::File);
+    }
+    Ok(bytes)
+}
+
+/// The bytes of a list.
+pub fn read_list<R: Read + Drop>(alloc: Global, reader: R) -> Result<Vec<u8>, JobFault>
+    ensures whole { IfOk result (λ v. IfSome (R.remaining reader) (λ bytes. v.items ≡ bytes)) }
+    ensures only { IfErr result IsOfAFile }
+{
+    read_whole(alloc, reader, MAX_LIST)
+}
+
+/// The bytes of an exchange file. A longer one than any of exchanges is read to where its first bad record is sure.
+fn read_exchanges_of<R: Read + Drop>(alloc: Global, reader: R) -> Result<Vec<u8>, JobFault>
+    ensures tells { IfOk result (λ v. IfSome (R.remaining reader) (λ file. TellsOf file v.items)) }
+    ensures only { IfErr result IsOfAFile }
+{
+    read_first(alloc, reader, MAX_FILE as u64 + 1)
+}
+
+/// The exchanges of a file.
+#[tactic(auto, using(crate::proofs::Telling::of_a_file, crate::proofs::Telling::of_a_record))]
+pub fn read_exchanges_from<R: Read + Drop>(
+    alloc: Global,
+    reader: R,
+) -> Result<Vec<Exchange>, JobFault>
+    ensures found { IfOk result (λ es. IfSome (R.remaining reader) (λ file. AreExchanges es.items
+        × (file ≡ exchanges_text es.items))) }
+    ensures bad { (k : ℕ) → result ≡ Err (JobFault.BadExchange k)
+        → IfSome (R.remaining reader) (λ file. IsBadRecord file k) }
+    ensures only { IfErr result IsOfExchanges }
+{
+    let bytes = read_exchanges_of(alloc, reader)?;
+    match read_exchanges(alloc, bytes.as_slice()) {
+        Ok(exchanges) => Ok(exchanges),
+        Err(fault) => Err(JobFault::from(fault)),
+    }
+}
+
+// The key that a text holds: a key line, and then a line feed or nothing.
+#[tactic(auto, using(crate::proofs::Causes::key_line))]
+fn key_in(alloc: Global, text: &[u8]) -> Result<KeyLine, JobFault>
+    ensures key { IfOk result (IsKeyText text.now) }
+    ensures only { IfErr result IsOfAKey }
+{
+    let line = text.strip_suffix(b"\n".as_slice()).unwrap_or(text);
+    match read_key_line(alloc, line) {
+        Ok(key) => Ok(key),
+        Err(fault) => Err(JobFault::from(fault)),
+    }
+}
+
+/// The key of a file with a key line, whose last line feed may be left out.
+#[tactic(auto, using(crate::proofs::Causes::key_file))]
+pub fn read_key<R: Read + Drop>(alloc: Global, reader: R) -> Result<KeyLine, JobFault>
+    ensures key { IfOk result (λ k. IfSome (R.remaining reader) (λ text. IsKeyText text k)) }
+    ensures only { IfErr result IsOfAKey }
+{
+    let bytes = read_whole(alloc, reader, MAX_KEY_FILE)?;
+    key_in(alloc, bytes.as_slice())
+}

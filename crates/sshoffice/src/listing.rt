@@ -1,0 +1,52 @@
+//! The key revocation list, printed.
+
+ghost use Rattle.std.specs.Prelude.{◌≡◌};
+ghost use Rattle.sshoffice.specs.Faults.{publish_result};
+ghost use Rattle.sshoffice.specs.Listing.{Lists};
+ghost use Rattle.store_sql.specs.Honest.{IsOutside, IsUnlimited, On};
+
+use crate::headline::publish;
+use crate::job::Done;
+use crate::job_fault::JobFault;
+use crate::opening::open_office;
+use crate::publish_fault::PublishFault;
+use sqlite::{Alter, Connection};
+use std::alloc::Global;
+use std::io::Write;
+use wire::FromWrite;
+
+// What came of publishing, as of a job.
+fn of_publishing(done: Result<(), PublishFault>) -> Result<(), JobFault>
+    ensures { result ≡ publish_result done }
+{
+    match done {
+        Ok(()) => Ok(()),
+        Err(fault) => Err(JobFault::from(fault)),
+    }
+}
+
+/// Prints the key revocation list of the office in a database, without holding it.
+pub fn list_over<S: Alter, W: Write>(alloc: Global, conn: Connection<S>, out: W) -> Done<S, W>
+    requires outside { IsOutside S.Store conn }
+    requires unlimited { IsUnlimited S.Store conn }
+    ensures { On S.Store (λ old new. Lists old new (W.contents out) (W.contents result.out))
+        conn result.conn result.outcome }
+{
+    match open_office(alloc, conn) {
+        Ok(store) => {
+            let mut office = store;
+            let mut sink = FromWrite::new(out);
+            let outcome = of_publishing(publish(&mut office, alloc, &mut sink));
+            Done {
+                outcome,
+                conn: office.into_connection(),
+                out: sink.into_inner(),
+            }
+        }
+        Err((fault, conn)) => Done {
+            outcome: Err(JobFault::from(fault)),
+            conn,
+            out,
+        },
+    }
+}

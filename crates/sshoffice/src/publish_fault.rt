@@ -1,0 +1,24 @@
+//! Why a list was not written.
+
+use office::StoreFault;
+
+/// Why a list was not written.
+#[derive(Clone, Copy, Debug, PartialEq, Eq)]
+pub enum PublishFault {
+    /// The register did not answer, or a section of the list would be too long, which is a fault of memory. Nothing is
+    /// written.
+    Store(StoreFault),
+    /// The writer failed. What was written is no list.
+    Write,
+}
+
+impl From<StoreFault> for PublishFault {
+    ghost use Rattle.std.specs.Prelude.{◌≡◌};
+    ghost use Rattle.sshoffice.specs.declared.publish_fault.PublishFault.TheVariants.{Store};
+
+    ghost from_gives = { λ fault e. e ≡ Store fault };
+
+    fn from(fault: StoreFault) -> PublishFault {
+        PublishFault::Store(fault)
+    }
+}
