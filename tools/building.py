@@ -22,11 +22,11 @@ LINES_OF_A_START = 250
 MEMORY_OF_A_JOB = 3_000_000_000
 
 # A crate can wait long if more lines than these can be proved before it, and the build takes no longer.
-LONG_WAIT = 2000
+LONG_WAIT = 8000
 
-# The longer a crate can wait, the lower the priority of its processes: by one for each so many lines, and by so much at
-# most.
-LINES_OF_A_STEP, LAST_STEP = 300, 19
+# Beyond that, the longer a crate can wait, the lower the priority of its processes: by one for each so many lines, and
+# by so much at most.
+LINES_OF_A_STEP, LAST_STEP = 900, 19
 
 
 class Progress:
@@ -136,8 +136,9 @@ class Lanes:
 
     A build takes as long as the longest chain of crates that stand on one another. A crate that isn't on this chain can
     wait: `spare` says how many lines can be proved before it, and the build takes no longer. The crates that can't wait
-    long share the processors. The others are proved by one process each, and by more only where processors would be
-    idle. There may be more processes than processors: the longer a crate can wait, the less of their time it is given.
+    long share the processors, all alike. The others are proved by one process each, and by more only where processors
+    would be idle. There may be more processes than processors: the longer a crate can wait, the less of their time it
+    is given.
     """
 
     def __init__(self, rt, libraries, progress, logs, kept):
@@ -187,12 +188,12 @@ class Lanes:
                 threading.Thread(target=self.work, args=(crate, jobs), daemon=True).start()
 
     def work(self, crate, jobs):
-        """Proves a crate in a thread of its own, from which its processes have their priority: the lower, the longer the
-        crate can wait."""
+        """Proves a crate in a thread of its own, from which its processes have their priority: the lower, the longer a
+        crate can wait that can wait long."""
         is_proved = False
         try:
             # On Linux this lowers the priority of this thread, and of the processes that it starts.
-            os.nice(min(LAST_STEP, self.spare[crate.name] // LINES_OF_A_STEP))
+            os.nice(min(LAST_STEP, max(0, self.spare[crate.name] - LONG_WAIT) // LINES_OF_A_STEP))
             if all(self.proved[it.name] for it in crate.below()):
                 is_proved = prove(crate, self.progress, jobs, crate.name in self.kept, self.logs)
         finally:

@@ -8,8 +8,8 @@ use Rattle.office.specs.Faults.{IsOfARegister}
 use Rattle.web.specs.declared.exchange.Exchange.{Exchange}
 use Rattle.exchanges.specs.declared.running.RunFault.{RunFault}
 use Rattle.exchanges.specs.declared.running.RunFault.TheVariants as run
-use Rattle.store_rows.specs.Transactions.{IsAsBefore}
-use Rattle.store_migration.specs.Migrating.{IsExcused}
+use Rattle.store.specs.Transactions.{IsAsBefore}
+use Rattle.store.specs.Migrating.{IsExcused}
 use Rattle.store.specs.Meaning.{DiskFailed}
 use Rattle.sshoffice.specs.Headline.{OfficePrints, OfficeRuns}
 use Rattle.sshoffice.specs.declared.job_fault.JobFault.{JobFault}

@@ -5,8 +5,8 @@ use Rattle.sqlite.specs.State.{State}
 use Rattle.office.specs.declared.opening.Opening.{Opening}
 use Rattle.office.specs.declared.store_fault.StoreFault.{StoreFault}
 use Rattle.office.specs.declared.store_fault.StoreFault.TheVariants as store
-use Rattle.store_rows.specs.Transactions.{IsAsBefore}
-use Rattle.store_migration.specs.Migrating.{IsExcused}
+use Rattle.store.specs.Transactions.{IsAsBefore}
+use Rattle.store.specs.Migrating.{IsExcused}
 use Rattle.store.specs.Meaning.{DiskFailed, IsBlank}
 use Rattle.sshoffice.specs.declared.job_fault.JobFault.{JobFault}
 use Rattle.sshoffice.specs.Faults.{of_store}

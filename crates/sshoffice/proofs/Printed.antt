@@ -8,7 +8,7 @@ use Rattle.office.specs.declared.arrival.Arrival.{Arrival}
 use Rattle.office.specs.declared.store_fault.StoreFault.{StoreFault}
 use Rattle.office.specs.declared.store_fault.StoreFault.TheVariants as store
 use Rattle.office.specs.Faults.{IsOfARegister}
-use Rattle.store_rows.specs.Transactions.{IsAsBefore}
+use Rattle.store.specs.Transactions.{IsAsBefore}
 use Rattle.store.specs.Meaning.{Stores, Tells}
 use Rattle.sshoffice.specs.declared.publish_fault.PublishFault.{PublishFault}
 use Rattle.sshoffice.specs.declared.publish_fault.PublishFault.TheVariants as publish

@@ -24,7 +24,7 @@ use Rattle.office_laws.specs.Bodies.{IsBodyFor}
 use Rattle.office_laws.specs.Lists.{AreExactList, IsExact}
 use Rattle.office_laws.specs.Signers.{signer_of}
 use Rattle.store.specs.Arriving.{IsStopped}
-use Rattle.store_rows.specs.Transactions.{IsAsBefore}
+use Rattle.store.specs.Transactions.{IsAsBefore}
 use Rattle.store.specs.Meaning.{HasFailed, KeepsTelling, Stores, Tells}
 use Rattle.web.specs.declared.exchange.Exchange.{Exchange}
 use Rattle.web.specs.declared.exchange.Given.{Given}

@@ -5,7 +5,7 @@ use Rattle.sqlite.specs.State.{State}
 use Rattle.office.specs.declared.opening.Opening.{Opening}
 use Rattle.office.specs.declared.arrival.Arrival.{Arrival}
 use Rattle.office.specs.declared.store_fault.StoreFault.TheVariants as store
-use Rattle.store_rows.specs.Transactions.{IsAsBefore}
+use Rattle.store.specs.Transactions.{IsAsBefore}
 use Rattle.store.specs.Meaning.{Stores, Tells}
 use Rattle.sshoffice.specs.Headline.{IsList}
 use Rattle.sshoffice.specs.declared.job_fault.JobFault.{JobFault}

@@ -9,10 +9,10 @@ use Rattle.office.specs.declared.store_fault.StoreFault.TheVariants as store
 use Rattle.store_sql.specs.Schema.{no_schema}
 use Rattle.store_sql.specs.Calls.{IsBare}
 use Rattle.store_sql.specs.Contents.{Contents}
-use Rattle.store_rows.specs.Rows.{office_contents}
-use Rattle.store_rows.specs.Transactions.{Has, IsAsBefore, Leaves, Rests}
-use Rattle.store_migration.specs.Former.{Had, TellsBefore, ca_of, migrated}
-use Rattle.store_migration.specs.Migrating.{HasStopped, IsExcused, Judges}
+use Rattle.store.specs.Rows.{office_contents}
+use Rattle.store.specs.Transactions.{Has, IsAsBefore, Leaves, Rests}
+use Rattle.store.specs.Former.{Had, TellsBefore, ca_of, migrated}
+use Rattle.store.specs.Migrating.{HasStopped, IsExcused, Judges}
 use Rattle.store.specs.Meaning.{DiskFailed, IsBlank, IsHistory, Tells}
 use Rattle.sshoffice.specs.declared.job_fault.JobFault.{JobFault}
 use Rattle.sshoffice.specs.declared.job_fault.JobFault.TheVariants.{NoMemory, Store}

@@ -7,8 +7,8 @@ use Rattle.office.specs.declared.store_fault.StoreFault.{StoreFault}
 use Rattle.office.specs.Faults.{IsOfARegister}
 use Rattle.store_sql.specs.declared.offices.OfficeRow.{OfficeRow}
 use Rattle.store_sql.specs.Contents.{HasOffices}
-use Rattle.store_rows.specs.Transactions.{IsAsBefore}
-use Rattle.store_migration.specs.Migrating.{IsExcused}
+use Rattle.store.specs.Transactions.{IsAsBefore}
+use Rattle.store.specs.Migrating.{IsExcused}
 use Rattle.store.specs.Meaning.{DiskFailed, Looks, Tells, opened_by}
 
 -- these tables tell each history that those told

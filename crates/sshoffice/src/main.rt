@@ -6,8 +6,8 @@
 //! prints the list or a report, or moves tables. `closed` keeps a fault of the job or tells one of the closing, and
 //! `finish` then prints what is told. `serve_over` serves an office, and `check_list` asks a list about a certificate.
 //!
-//! `do_words` reads the words, opens what they name, and closes it. Files, the console and sockets are the system's, and
-//! nothing is proved of them.
+//! `do_words` reads the words, opens what they name, and closes it. Files, the console and sockets are the system's,
+//! and nothing is proved of them.
 #![tactic(auto)]
 
 mod applying;

@@ -23,8 +23,8 @@ use Rattle.office.specs.Shows.{Shows}
 use Rattle.office.proofs.Growth.{holds_in_range, opening_stays}
 use Rattle.office.proofs.Ranges.{revoked_is_issued}
 use Rattle.office.proofs.Steps.{shows_accepted}
-use Rattle.store_rows.specs.Transactions.{Goes, Makes, Waits}
-use Rattle.store_writes.specs.Due.{Fits, IsDue, contents_after, kept_of}
+use Rattle.store.specs.Transactions.{Goes, Makes, Waits}
+use Rattle.store.specs.Due.{Fits, IsDue, contents_after, kept_of}
 use Rattle.store.specs.Meaning.{IsHistory}
 use Rattle.store.specs.Arriving.{IsAccepted, IsAfter, IsNew, Past, Settles, kept_at, state_at}
 use Rattle.office.proofs.Dates.{date_after}

@@ -36,9 +36,9 @@ use Rattle.office.specs.Refusals.{is_missing, is_one_that}
 use Rattle.office.proofs.Growth.{length-signed_at}
 use Rattle.office.proofs.Judged.{judged_is_first, none_holds}
 use Rattle.store_sql.specs.Refusals.{HasOne}
-use Rattle.store_rows.specs.Rows.{ca_rows, cert_row, department_row, request_row}
-use Rattle.store_rows.specs.Certificates.{AreCounted}
-use Rattle.store_rows.specs.Lawful.{IsLawful}
+use Rattle.store.specs.Rows.{ca_rows, cert_row, department_row, request_row}
+use Rattle.store.specs.Certificates.{AreCounted}
+use Rattle.store.specs.Lawful.{IsLawful}
 use Rattle.store.proofs.Ascending.{IsEntry}
 use Rattle.store.specs.Arriving.{IsAccepted, Past, kept_at, state_at}
 use Rattle.store.proofs.Accepted.{ok_from_is_ok_and}

@@ -12,9 +12,9 @@ use Rattle.office.specs.declared.arrival.Kept.{Kept}
 use Rattle.office.specs.declared.store_fault.StoreFault.{StoreFault}
 use Rattle.office.specs.Faults.{HasCause, IsOfARegister}
 use Rattle.office.specs.State.{State}
-use Rattle.store_rows.specs.Faults.{fault_of, told}
-use Rattle.store_rows.specs.Transactions.{IsAsBefore}
-use Rattle.store_rows.proofs.Before.{fails_before}
+use Rattle.store.specs.Faults.{fault_of, told}
+use Rattle.store.specs.Transactions.{IsAsBefore}
+use Rattle.store.proofs.Before.{fails_before}
 use Rattle.store.specs.Meaning.{DiskFailed, HasFailed, Tells}
 use Rattle.store.specs.Showing.{ShowsOffice}
 use Rattle.store.proofs.Reading.{At, Reads}

@@ -12,11 +12,11 @@ use Rattle.office.specs.declared.arrival.Arrival.{Arrival}
 use Rattle.office.specs.Listing.{batch_of}
 use Rattle.office.specs.State.{next_serial}
 use Rattle.office.specs.History.{state}
-use Rattle.store_rows.specs.Certificates.{AreCounted, is_within}
+use Rattle.store.specs.Certificates.{AreCounted, is_within}
 use Rattle.store.specs.Batches.{numbered}
 use Rattle.store.specs.Meaning.{IsHistory}
 use Rattle.store.proofs.Lawful.{lawful_after}
-use Rattle.store_reads.proofs.OfHistory.{of_history}
+use Rattle.store.proofs.OfHistory.{of_history}
 
 -- none has a serial up to one below the first
 none_below : (first lo hi : ℕ) (cs : List Certificate) → hi < first → AreCounted first cs

@@ -38,8 +38,8 @@ use Rattle.office.specs.declared.arrival.Arrival.{Arrival}
 use Rattle.office.specs.History.{First, add_accepted, change, judged, kept_by, state, state_after, with_arrival}
 use Rattle.office.proofs.Histories.{message_lawful}
 use Rattle.office.proofs.Judged.{judged_is_first, none_holds}
-use Rattle.store_rows.specs.Certificates.{IsSigned, AreCounted}
-use Rattle.store_rows.specs.Lawful.{IsLawful}
+use Rattle.store.specs.Certificates.{IsSigned, AreCounted}
+use Rattle.store.specs.Lawful.{IsLawful}
 use Rattle.store.proofs.Ascending.{IsEntry, entries_put, names_put, texts_put}
 use Rattle.store.specs.Meaning.{IsHistory}
 

@@ -32,13 +32,13 @@ use Rattle.store_sql.specs.Cells.{cert_cells}
 use Rattle.store_sql.specs.Changes.{with_counters, with_request}
 use Rattle.store_sql.specs.Contents.{Contents}
 use Rattle.store_sql.specs.Runs as runs
-use Rattle.store_rows.specs.Rows.{run_row, office_contents, revoked_runs, cert_row, request_row}
-use Rattle.store_rows.specs.Lawful.{IsLawful}
-use Rattle.store_writes.specs.Changing.{ca_from}
-use Rattle.store_writes.specs.Due.{counters_of, kept_of}
-use Rattle.store_writes.specs.Ranges.{joined_run}
-use Rattle.store_writes.specs.Refused.{RefusesChange, RefusesDecision, RefusesRange}
-use Rattle.store_writes.proofs.Joined.{rows_joined}
+use Rattle.store.specs.Rows.{run_row, office_contents, revoked_runs, cert_row, request_row}
+use Rattle.store.specs.Lawful.{IsLawful}
+use Rattle.store.specs.Changing.{ca_from}
+use Rattle.store.specs.Due.{counters_of, kept_of}
+use Rattle.store.specs.Ranges.{joined_run}
+use Rattle.store.specs.Refused.{RefusesChange, RefusesDecision, RefusesRange}
+use Rattle.store.proofs.Joined.{rows_joined}
 use Rattle.store.specs.Arriving.{IsTooMuch, IsTooMuchToChange, IsAccepted, Past, kept_at, state_at}
 use Rattle.store.specs.Meaning.{IsHistory}
 use Rattle.store.proofs.Lawful.{lawful_after}

@@ -16,8 +16,8 @@ use Rattle.sqlite.specs.State.{State}
 use Rattle.store_sql.specs.Refusals.{HasCauseOr}
 use Rattle.store_sql.specs.declared.table_fault.Fault.{Fault}
 use Rattle.store_sql.specs.declared.table_fault.Fault.TheVariants as table_fault
-use Rattle.store_rows.specs.Faults.{fault_of}
-use Rattle.store_migration.specs.Migrating.{HasStopped, IsExcused, RefusesFirstCa}
+use Rattle.store.specs.Faults.{fault_of}
+use Rattle.store.specs.Migrating.{HasStopped, IsExcused, RefusesFirstCa}
 use Rattle.store.specs.Meaning.{DiskFailed, Looks, opened_by}
 use Rattle.store.proofs.Telling.{disk_failed}
 

@@ -16,13 +16,13 @@ use Rattle.office.specs.declared.arrival.Arrival.{Arrival}
 use Rattle.office.specs.declared.arrival.Kept.{Kept}
 use Rattle.office.specs.State.{State}
 use Rattle.office.specs.History.{first_accepted, kept_by, state}
-use Rattle.store_rows.specs.Lawful.{IsLawful}
-use Rattle.store_rows.specs.Rows.{contents_of, office_contents}
-use Rattle.store_rows.specs.Showing.{Shows}
-use Rattle.store_rows.proofs.Sorting.{asked}
-use Rattle.store_reads.specs.Histories.{IsOfHistory}
-use Rattle.store_reads.proofs.OfHistory.{of_history}
-use Rattle.store_reads.proofs.Showing.{shows_weaker}
+use Rattle.store.specs.Lawful.{IsLawful}
+use Rattle.store.specs.Rows.{contents_of, office_contents}
+use Rattle.store.specs.ShowingRows.{Shows}
+use Rattle.store.proofs.Sorting.{asked}
+use Rattle.store.specs.Histories.{IsOfHistory}
+use Rattle.store.proofs.OfHistory.{of_history}
+use Rattle.store.proofs.Showing.{shows_weaker}
 use Rattle.store.specs.Meaning.{IsHistory, made}
 use Rattle.store.specs.Showing.{ShowsOffice}
 use Rattle.store.proofs.Lawful.{lawful_after}

@@ -35,13 +35,13 @@ use Rattle.store_sql.specs.declared.table_fault.Fault.{Fault}
 use Rattle.store_sql.specs.declared.table_fault.Fault.TheVariants.{Damaged, NoMemory}
 use Rattle.store_sql.proofs.Later.{stops}
 use Rattle.store_sql.proofs.Staying.{reads_stay, stays_then}
-use Rattle.store_rows.specs.Lawful.{IsLawful}
-use Rattle.store_rows.specs.Rows.{contents_of, office_contents}
-use Rattle.store_rows.specs.Transactions.{Answers, Waits}
-use Rattle.store_rows.proofs.Causes.{cause_of, fails_then, fails_weaker}
-use Rattle.store_rows.proofs.Steps.{Leads, answers_then, goes_still, waits_then}
-use Rattle.store_reads.specs.Histories.{AreApart, is_for}
-use Rattle.store_reads.proofs.Keeping.{known_by_kept, no_repeat, reply_by_kept, reply_of}
+use Rattle.store.specs.Lawful.{IsLawful}
+use Rattle.store.specs.Rows.{contents_of, office_contents}
+use Rattle.store.specs.Transactions.{Answers, Waits}
+use Rattle.store.proofs.Causes.{cause_of, fails_then, fails_weaker}
+use Rattle.store.proofs.Steps.{Leads, answers_then, goes_still, waits_then}
+use Rattle.store.specs.Histories.{AreApart, is_for}
+use Rattle.store.proofs.Keeping.{known_by_kept, no_repeat, reply_by_kept, reply_of}
 use Rattle.store.specs.Meaning.{IsHistory}
 use Rattle.store.specs.Arriving.{ExceedsTables, FailsAt, IsAfter, IsAnswered, IsAsked, IsNew, Past, Settles}
 use Rattle.store.specs.Arriving.{contents_with, kept_at, state_at, stopped}

@@ -4,8 +4,8 @@ use Rattle.std.specs.Prelude.{nat_le}
 use Rattle.std.proofs.lemmas.List.{length-drop}
 use Rattle.values.specs.Names.{department_of, is_key_id, is_key_id_end, has_size, is_name, is_name_byte}
 use Rattle.office.specs.declared.opening.Opening.{Opening}
-use Rattle.store_migration.specs.Former.{first_ca, former_contents}
-use Rattle.store_migration.specs.Migrating.{RefusesFirstCa}
+use Rattle.store.specs.Former.{first_ca, former_contents}
+use Rattle.store.specs.Migrating.{RefusesFirstCa}
 use Rattle.store_sql.specs.declared.cas.CaRow.{CaRow}
 use Rattle.store_sql.specs.Cells.{ca_cells, key_id_cells, office_cells}
 use Rattle.office.specs.Openings.{IsOpening}
@@ -23,8 +23,8 @@ use Rattle.store_sql.specs.declared.offices.Counters.{Counters}
 use Rattle.store_sql.specs.declared.offices.OfficeRow.{OfficeRow}
 use Rattle.store_sql.specs.Changes.{counted, renumbered}
 use Rattle.store_sql.specs.Refusals.{IsTooLong, RefusesCounters}
-use Rattle.store_rows.specs.Lawful.{IsLawful}
-use Rattle.store_rows.specs.Rows.{contents_of, office_row}
+use Rattle.store.specs.Lawful.{IsLawful}
+use Rattle.store.specs.Rows.{contents_of, office_row}
 use Rattle.store.specs.Arriving.{state_at}
 use Rattle.cert.proofs.Sizes.{key_id_end-le}
 

@@ -12,8 +12,8 @@ use Rattle.office.specs.declared.arrival.Outcome.{Outcome}
 use Rattle.office.specs.declared.store_fault.StoreFault.{StoreFault}
 use Rattle.office.specs.Faults.{HasCause, IsOfARegister}
 use Rattle.office.specs.History.{due}
-use Rattle.store_rows.specs.Transactions.{Ends, IsAsBefore, KeepsOnErr, Leaves, Rests}
-use Rattle.store_rows.specs.Faults.{fault_of, told}
+use Rattle.store.specs.Transactions.{Ends, IsAsBefore, KeepsOnErr, Leaves, Rests}
+use Rattle.store.specs.Faults.{fault_of, told}
 use Rattle.store.specs.Meaning.{Tells}
 use Rattle.store.specs.Arriving.{IsAfter, IsAnswered, IsAny, IsCaused, IsStopped, contents_with}
 use Rattle.store.proofs.Telling.{disk_failed, left_committed}

@@ -8,8 +8,8 @@ use Rattle.store_sql.specs.Calls.{Fails, Never}
 use Rattle.store_sql.specs.Faults.{HasFailed}
 use Rattle.office.specs.declared.opening.Opening.{Opening}
 use Rattle.office.specs.declared.arrival.Arrival.{Arrival}
-use Rattle.store_rows.specs.Transactions.{Has, Rests}
-use Rattle.store_rows.specs.Rows.{office_contents}
+use Rattle.store.specs.Transactions.{Has, Rests}
+use Rattle.store.specs.Rows.{office_contents}
 use Rattle.store.specs.Meaning.{DiskFailed, IsLeft, Tells}
 
 -- where no query has a limit on its steps, only a disk fails

@@ -27,12 +27,12 @@ use Rattle.office.specs.Decided.{HasRoom, written}
 use Rattle.office.specs.Messages.{message_with_text}
 use Rattle.office.specs.State.{State, next_serial}
 use Rattle.office.specs.History.{change as change_by, due, first_accepted, has_key, judged, kept_by, reply_kept, state}
-use Rattle.store_rows.specs.Rows.{cert_row, department_row, office_contents, request_row}
-use Rattle.store_rows.specs.Transactions.{Answers, FailsFor, StopsFor}
-use Rattle.store_reads.specs.declared.concerning.Concerned.{Concerned}
-use Rattle.store_reads.specs.Concerning.{AreConcerned}
-use Rattle.store_reads.specs.Histories.{is_for}
-use Rattle.store_writes.specs.Due.{kept_of}
+use Rattle.store.specs.Rows.{cert_row, department_row, office_contents, request_row}
+use Rattle.store.specs.Transactions.{Answers, FailsFor, StopsFor}
+use Rattle.store.specs.declared.reads.concerning.Concerned.{Concerned}
+use Rattle.store.specs.Concerning.{AreConcerned}
+use Rattle.store.specs.Histories.{is_for}
+use Rattle.store.specs.Due.{kept_of}
 use Rattle.store.specs.Meaning.{DiskFailed, IsHistory, Tells}
 
 -- ---- an office after a history

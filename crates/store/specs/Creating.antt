@@ -12,8 +12,8 @@ use Rattle.store_sql.specs.declared.offices.OfficeRow.{OfficeRow}
 use Rattle.store_sql.specs.Changes.{with_ca, with_office}
 use Rattle.store_sql.specs.Contents.{Contents, no_contents}
 use Rattle.store_sql.specs.Refusals.{HasCauseOr, RefusesCa, RefusesOffice}
-use Rattle.store_rows.specs.Rows.{ca_row, office_contents, office_row}
-use Rattle.store_rows.specs.Transactions.{Ends, FailsFor, Leaves, Makes, Rests, Waits}
+use Rattle.store.specs.Rows.{ca_row, office_contents, office_row}
+use Rattle.store.specs.Transactions.{Ends, FailsFor, Leaves, Makes, Rests, Waits}
 
 -- the row of the office is refused, or then that of its CA
 abbrev pub RefusesFirst : OfficeRow → CaRow → Contents → Type 0

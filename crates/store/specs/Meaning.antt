@@ -17,8 +17,8 @@ use Rattle.store_sql.specs.declared.table_fault.Fault.TheVariants as table_fault
 use Rattle.text.specs.declared.memory.NoMemory as text
 use Rattle.store_sql.specs.Schema.{no_schema}
 use Rattle.store_sql.specs.Calls.{Fails, IsBare}
-use Rattle.store_rows.specs.Rows.{office_contents}
-use Rattle.store_rows.specs.Transactions.{Rests, Has}
+use Rattle.store.specs.Rows.{office_contents}
+use Rattle.store.specs.Transactions.{Rests, Has}
 
 -- no transaction is open, and the database has no table
 abbrev pub IsBlank : State → Type 0

@@ -5,9 +5,9 @@ use Rattle.office.specs.declared.opening.Opening.{Opening}
 use Rattle.office.specs.declared.arrival.Arrival.{Arrival}
 use Rattle.office.specs.declared.store_fault.StoreFault.{StoreFault}
 use Rattle.store_sql.specs.Contents.{Contents}
-use Rattle.store_rows.specs.Transactions.{Has, Rests}
-use Rattle.store_migration.specs.Former.{Had, TellsBefore, migrated}
-use Rattle.store_migration.specs.Migrating.{IsExcused}
+use Rattle.store.specs.Transactions.{Has, Rests}
+use Rattle.store.specs.Former.{Had, TellsBefore, migrated}
+use Rattle.store.specs.Migrating.{IsExcused}
 use Rattle.store.specs.Meaning.{DiskFailed, IsBlank, IsHistory, Tells}
 
 -- the connection is open

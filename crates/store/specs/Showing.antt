@@ -10,7 +10,7 @@ use Rattle.office.specs.declared.arrival.Arrival.{Arrival}
 use Rattle.office.specs.declared.arrival.Kept.{Kept}
 use Rattle.office.specs.State.{State}
 use Rattle.office.specs.History.{first_accepted, kept_by, state}
-use Rattle.store_rows.specs.Rows.{office_contents}
+use Rattle.store.specs.Rows.{office_contents}
 use Rattle.store.specs.Meaning.{IsHistory}
 
 -- Of tables with the rows of an office after a history: this is shown of its state and of what is kept with it, and

@@ -7,16 +7,16 @@ ghost use Rattle.store_sql.specs.Honest.{On, OutlivesBy};
 ghost use Rattle.store_sql.specs.Changes.{with_ca, with_office};
 ghost use Rattle.office.specs.Openings.{IsOpening};
 ghost use Rattle.office.specs.State.{first_ca, opened};
-ghost use Rattle.store_rows.specs.Rows.{ca_row, office_row};
-ghost use Rattle.store_rows.specs.Transactions.{FailsFor, Has, KeepsOnErr, Makes, Waits};
+ghost use Rattle.store.specs.Rows.{ca_row, office_row};
+ghost use Rattle.store.specs.Transactions.{FailsFor, Has, KeepsOnErr, Makes, Waits};
 ghost use Rattle.store.specs.Creating.{EndsFirst, EndsOpening, FailsFirst, FailsOnBlank, LeavesFirst, LeavesOpening};
 ghost use Rattle.store.specs.Creating.{MakesFirst, RefusesFirst, RefusesOpening, WaitsFirst};
 
+use crate::rows::{conclude, number};
 use lines::key_blob_of;
 use office::Opening;
 use sqlite::{Alter, Connection};
 use std::alloc::Global;
-use store_rows::{conclude, number};
 use store_sql::{CaRow, Fault, Number, OfficeRow, begin, create_tables, insert_ca, insert_office};
 use text::{NoMemory, Text};
 

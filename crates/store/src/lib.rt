@@ -10,12 +10,16 @@ mod crashes;
 mod creating;
 mod listing;
 mod looking;
+mod migration;
 mod publishing;
+mod reads;
 mod register;
 mod registry;
+mod rows;
 mod serials;
 mod settling;
 mod taking;
+mod writes;
 
 pub use crashes::{a_crash_leaves_the_history, what_is_open_is_stored};
 pub use krl::{CaPart, KrlHead, Run, Runs};

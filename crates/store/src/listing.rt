@@ -2,18 +2,18 @@
 
 ghost use Rattle.std.specs.Prelude.{◌≡◌, ◌+◌, min};
 ghost use Rattle.store_sql.specs.Calls.{Never, OnlyReads};
-ghost use Rattle.store_rows.specs.Showing.{AreWithin};
+ghost use Rattle.store.specs.ShowingRows.{AreWithin};
 ghost use Rattle.store_sql.specs.Honest.{On, Outlives};
 ghost use Rattle.office.specs.Listing.{AreRevocations, batch_of};
 ghost use Rattle.store.specs.Batches.{numbered};
 ghost use Rattle.store.specs.Showing.{ShowsOffice};
 
+use crate::reads::revoked_runs;
+use crate::rows::{number, read_certificates, read_key_ids, read_office};
 use krl::Runs;
 use office::{Certificate, Revocations};
 use sqlite::{Alter, Connection};
 use std::alloc::Global;
-use store_reads::revoked_runs;
-use store_rows::{number, read_certificates, read_key_ids, read_office};
 use store_sql::{Fault, Number};
 
 fn with_key_ids<S: Alter>(

@@ -10,10 +10,10 @@ ghost use Rattle.store_sql.specs.Faults.{HasFailed};
 ghost use Rattle.store.specs.Meaning.{KeepsTelling, LooksOn, LooksUnless, opened_by};
 
 use crate::creating::SCHEMA;
+use crate::rows::fault_of;
 use office::StoreFault;
 use sqlite::{Alter, Connection};
 use std::alloc::Global;
-use store_rows::fault_of;
 use store_sql::{OfficeRow, every_office, has_office};
 
 fn opened_by(rows: &[OfficeRow]) -> Result<(), StoreFault>

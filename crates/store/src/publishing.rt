@@ -11,11 +11,11 @@ ghost use Rattle.store.specs.Showing.{ShowsOffice};
 
 use crate::answer::made;
 use crate::listing::read_revocations;
+use crate::rows::{read_cas, read_office};
 use krl::KrlHead;
 use office::{Ca, Revocations, Revoked, parts_of};
 use sqlite::{Alter, Connection};
 use std::alloc::Global;
-use store_rows::{read_cas, read_office};
 use store_sql::Fault;
 use text::{NoMemory, Texts};
 

@@ -2,25 +2,25 @@
 
 ghost use Rattle.std.specs.Prelude.{◌≡◌, false, [], Err, IfErr, IfOk, IsTrue, Ok, true};
 ghost use Rattle.std.specs.List.{list_any};
-ghost use Rattle.store_rows.specs.Transactions.{IsAsBefore, Leaves};
+ghost use Rattle.store.specs.Transactions.{IsAsBefore, Leaves};
 ghost use Rattle.store_sql.specs.Look.{is_ca_name, is_office_name, is_office_table};
-ghost use Rattle.store_migration.specs.Migrating.{JudgesAtRest};
+ghost use Rattle.store.specs.Migrating.{JudgesAtRest};
 ghost use Rattle.store.specs.Register.{CarriesOn, Founds, IsExcusedOfBlank, IsExcusedOfFormer, IsExcusedOfHistory};
 ghost use Rattle.store.specs.Register.{IsLeftOpen, KeepsTellingBefore, Moves, StaysBlank};
 ghost use Rattle.store.specs.Creating.{LeavesOpening};
 ghost use Rattle.store_sql.specs.Honest.{Between, IsOutside, IsUnlimited, On, OnOpen, OutlivesBy, tables_of};
-ghost use Rattle.store_migration.specs.Former.{Had, migrated};
+ghost use Rattle.store.specs.Former.{Had, migrated};
 ghost use Rattle.office.specs.declared.opening.Opening.{Opening};
 ghost use Rattle.office.specs.Openings.{IsOpening};
 ghost use Rattle.store.specs.Meaning.{DiskFailed, KeepsTelling, LooksUnless};
 
 use crate::creating::create;
 use crate::looking::look;
+use crate::migration::migrate;
+use crate::rows::fault_of;
 use office::{Opening, StoreFault};
 use sqlite::{Alter, Connection};
 use std::alloc::Global;
-use store_migration::migrate;
-use store_rows::fault_of;
 use store_sql::has_any_table;
 
 /// An office's register in the tables of a database.

@@ -4,13 +4,14 @@ ghost use Rattle.std.specs.Prelude.{IsTrue};
 ghost use Rattle.sqlite.specs.Held.{state};
 ghost use Rattle.sqlite.specs.State.{HasCleanDisk};
 ghost use Rattle.office.specs.declared.arrival.Arrival.{Arrival};
-ghost use Rattle.store_rows.specs.Transactions.{IsAsBefore};
+ghost use Rattle.store.specs.Transactions.{IsAsBefore};
 ghost use Rattle.store.specs.Meaning.{HasFailed, Tells};
 ghost use Rattle.store.specs.Arriving.{IsStopped};
 
 use crate::listing::{read_batch, read_revocations};
 use crate::publishing::read_revoked;
 use crate::register::Store;
+use crate::rows::{read_cas, read_departments, told};
 use crate::serials::{read_body_of, read_issued};
 use crate::taking::take;
 use message::Department;
@@ -19,7 +20,6 @@ use office::{
 };
 use sqlite::Alter;
 use std::alloc::Global;
-use store_rows::{read_cas, read_departments, told};
 use text::Text;
 
 impl<S: Alter> Registry for Store<S> {

@@ -9,10 +9,10 @@ ghost use Rattle.office.specs.Publication.{issued_of, issued_row};
 ghost use Rattle.store.specs.Showing.{ShowsOffice};
 
 use crate::answer::made;
+use crate::reads::find_certificate;
 use office::{Certificate, Issued};
 use sqlite::{Alter, Connection};
 use std::alloc::Global;
-use store_reads::find_certificate;
 use store_sql::Fault;
 use text::{NoMemory, Text};
 

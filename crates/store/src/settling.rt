@@ -8,18 +8,18 @@ ghost use Rattle.store_sql.specs.Honest.{On, OnOpen, OutlivesBy};
 ghost use Rattle.message.specs.Values.{is_message};
 ghost use Rattle.office.specs.Decided.{IsLawfulChange};
 ghost use Rattle.office.specs.Messages.{message_with_text};
-ghost use Rattle.store_rows.specs.Transactions.{Waits};
-ghost use Rattle.store_reads.specs.Concerning.{AreLawful};
+ghost use Rattle.store.specs.Transactions.{Waits};
+ghost use Rattle.store.specs.Concerning.{AreLawful};
 ghost use Rattle.store.specs.Arriving.{FailsAt, IsAccepted, IsAfter, IsAny, IsAsked, IsDecided, IsFound, IsNew};
 ghost use Rattle.store.specs.Arriving.{IsWeighed, Settles, stopped};
 
+use crate::reads::{Concerned, concerned_rows, kept_for};
+use crate::writes::write;
 use message::{Message, MessageFault, read_message};
 use office::{Arrival, Ca, Decision, Kept, Outcome, Stop, decide};
 use sqlite::{Alter, Connection};
 use std::alloc::Global;
-use store_reads::{Concerned, concerned_rows, kept_for};
 use store_sql::Fault;
-use store_writes::write;
 use values::{LATEST_MOMENT, Refusal};
 
 /// The last version of the published list.

@@ -1,15 +1,15 @@
 //! One arrival, in one transaction.
 
 ghost use Rattle.std.specs.Prelude.{◌≡◌, length};
-ghost use Rattle.store_rows.specs.Transactions.{Ends, KeepsOnErr, Leaves};
+ghost use Rattle.store.specs.Transactions.{Ends, KeepsOnErr, Leaves};
 ghost use Rattle.store.specs.Arriving.{FailsAsCaused, IsAfter, IsAnswered, IsAny, contents_with, of_statement};
 ghost use Rattle.store_sql.specs.Honest.{On, OutlivesBy};
 
+use crate::rows::conclude;
 use crate::settling::settle;
 use office::{Arrival, Outcome};
 use sqlite::{Alter, Connection};
 use std::alloc::Global;
-use store_rows::conclude;
 use store_sql::{Fault, begin};
 
 /// The fault of a statement that shows no rows, of which none is damaged.

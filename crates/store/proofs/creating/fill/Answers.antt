@@ -6,9 +6,9 @@ use Rattle.store_sql.specs.Calls.{Leaves}
 use Rattle.store_sql.specs.Changes.{with_ca, with_office}
 use Rattle.store_sql.specs.Refusals.{RefusesCa, RefusesOffice}
 use Rattle.store_sql.proofs.Staying.{stays_then}
-use Rattle.store_rows.specs.Transactions.{Has}
-use Rattle.store_rows.proofs.Causes.{fails_then, fails_weaker}
-use Rattle.store_rows.proofs.Steps.{leads, makes, makes_then, waits, waits_then}
+use Rattle.store.specs.Transactions.{Has}
+use Rattle.store.proofs.Causes.{fails_then, fails_weaker}
+use Rattle.store.proofs.Steps.{leads, makes, makes_then, waits, waits_then}
 use Rattle.store.specs.Creating.{RefusesFirst}
 use Rattle.store.proofs.creating.fill.Goals as goal
 

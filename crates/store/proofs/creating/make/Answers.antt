@@ -7,9 +7,9 @@ use Rattle.store_sql.specs.Contents.{no_contents}
 use Rattle.store_sql.specs.Calls.{IsBare, Steps, Waits as WaitsAt}
 use Rattle.store_sql.specs.Changes.{with_ca, with_office}
 use Rattle.store_sql.proofs.Staying.{stays_then}
-use Rattle.store_rows.specs.Transactions.{Has, Waits}
-use Rattle.store_rows.proofs.Steps.{Leads, goes, answers_then, waits_then}
-use Rattle.store_rows.proofs.Causes.{fails_then}
+use Rattle.store.specs.Transactions.{Has, Waits}
+use Rattle.store.proofs.Steps.{Leads, goes, answers_then, waits_then}
+use Rattle.store.proofs.Causes.{fails_then}
 use Rattle.store.specs.Creating.{RefusesFirst}
 use Rattle.store.proofs.creating.make.Goals as goal
 

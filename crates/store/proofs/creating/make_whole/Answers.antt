@@ -7,10 +7,10 @@ use Rattle.store_sql.specs.Schema.{no_schema}
 use Rattle.store_sql.specs.Contents.{no_contents}
 use Rattle.store_sql.specs.Calls.{IsBare}
 use Rattle.store_sql.specs.Changes.{with_ca, with_office}
-use Rattle.store_rows.specs.Transactions.{Waits}
-use Rattle.store_rows.proofs.Before.{concludes_before}
-use Rattle.store_rows.proofs.Causes.{stops_for}
-use Rattle.store_rows.proofs.Steps.{ends, left}
+use Rattle.store.specs.Transactions.{Waits}
+use Rattle.store.proofs.Before.{concludes_before}
+use Rattle.store.proofs.Causes.{stops_for}
+use Rattle.store.proofs.Steps.{ends, left}
 use Rattle.store.specs.Creating.{RefusesFirst}
 use Rattle.store.proofs.creating.make_whole.Goals as goal
 

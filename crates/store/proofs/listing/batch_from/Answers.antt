@@ -1,6 +1,6 @@
 use Rattle.std.proofs.Common.{◌≡◌, ◌+◌, arith}
 use Rattle.sqlite.specs.Held.{state}
-use Rattle.store_rows.specs.Showing.{AreWithin}
+use Rattle.store.specs.ShowingRows.{AreWithin}
 use Rattle.store.specs.Batches.{numbered}
 use Rattle.store.proofs.Reading.{shows_office}
 use Rattle.store.proofs.listing.batch_from.Goals as goal

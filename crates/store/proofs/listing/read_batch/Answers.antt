@@ -2,9 +2,9 @@ use Rattle.std.proofs.Common.{◌≡◌, ℕ, Ok, ap, ◌∙◌, ◌+◌, filter
 use Rattle.office.specs.declared.opening.Opening.{Opening}
 use Rattle.office.specs.History.{state as after}
 use Rattle.office.specs.Listing.{batch_of}
-use Rattle.store_rows.specs.Certificates.{is_within}
-use Rattle.store_rows.specs.Offices.{IsOfficeOf}
-use Rattle.store_rows.specs.Showing.{AreWithin}
+use Rattle.store.specs.Certificates.{is_within}
+use Rattle.store.specs.Offices.{IsOfficeOf}
+use Rattle.store.specs.ShowingRows.{AreWithin}
 use Rattle.store.specs.Batches.{numbered}
 use Rattle.store.proofs.Batches.{batch_is}
 use Rattle.store.proofs.Reading.{and_then, of_office, of_state, shows_failed}

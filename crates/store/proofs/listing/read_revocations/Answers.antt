@@ -2,9 +2,9 @@ use Rattle.std.proofs.Common.{◌≡◌, ℕ, List, Ok, ap, ◌∙◌}
 use Rattle.krl.specs.declared.run.Run.{Run}
 use Rattle.krl.specs.Sets.{contains}
 use Rattle.office.specs.Listing.{AreRevocations}
-use Rattle.store_reads.specs.Histories.{IsOfHistory}
-use Rattle.store_reads.specs.RunRows.{AreRevokedRuns}
-use Rattle.store_reads.proofs.Showing.{shows_weaker}
+use Rattle.store.specs.Histories.{IsOfHistory}
+use Rattle.store.specs.RunRows.{AreRevokedRuns}
+use Rattle.store.proofs.Showing.{shows_weaker}
 use Rattle.store.proofs.Reading.{and_then, of_office, of_past, shows_failed}
 use Rattle.store.proofs.listing.read_revocations.Goals as goal
 

@@ -1,6 +1,6 @@
 use Rattle.std.proofs.Common.{ℕ, Ok, refl, ap₂, ◌∙◌}
 use Rattle.office.specs.Publication.{AreRevoked}
-use Rattle.store_rows.specs.Offices.{IsOfficeOf}
+use Rattle.store.specs.Offices.{IsOfficeOf}
 use Rattle.store.specs.Parts.{AreShown}
 use Rattle.store.proofs.Reading.{and_then, of_office, of_state, shows_failed}
 use Rattle.store.proofs.publishing.read_revoked.Goals as goal

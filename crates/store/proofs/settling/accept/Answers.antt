@@ -3,10 +3,10 @@ use Rattle.std.proofs.Common.{ℕ, List, Ok, Err, sym, subst}
 use Rattle.sqlite.specs.Held.{state}
 use Rattle.office.specs.declared.arrival.Outcome.TheVariants as outcome
 use Rattle.office.specs.declared.arrival.Outcome.{Outcome}
-use Rattle.store_rows.specs.Rows.{contents_of}
-use Rattle.store_rows.proofs.Causes.{fails_weaker}
-use Rattle.store_writes.specs.Due.{IsDue}
-use Rattle.store_writes.specs.Refused.{RefusesDecision}
+use Rattle.store.specs.Rows.{contents_of}
+use Rattle.store.proofs.Causes.{fails_weaker}
+use Rattle.store.specs.Due.{IsDue}
+use Rattle.store.specs.Refused.{RefusesDecision}
 use Rattle.store.specs.Arriving.{IsAccepted, IsAfter, ExceedsTables, Settles, kept_at, state_at}
 use Rattle.store.proofs.Accepted.{is_due, settles_written, waits_written}
 use Rattle.store.proofs.Limits.{limited}

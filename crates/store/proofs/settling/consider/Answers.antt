@@ -1,5 +1,5 @@
 use Rattle.std.proofs.Common.{Ok}
-use Rattle.store_reads.specs.Concerning.{AreConcerned}
+use Rattle.store.specs.Concerning.{AreConcerned}
 use Rattle.store.specs.Arriving.{IsNew, IsWeighed}
 use Rattle.store.proofs.Reading.{of_past}
 use Rattle.store.proofs.Settled.{read_failed, read_then, settling}

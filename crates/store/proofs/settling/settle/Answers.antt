@@ -1,6 +1,6 @@
 use Rattle.std.proofs.Common.{◌≡◌, Ok}
 use Rattle.std.specs.Prelude.{find}
-use Rattle.store_reads.specs.Histories.{is_for}
+use Rattle.store.specs.Histories.{is_for}
 use Rattle.store.specs.Arriving.{IsAny, IsFound}
 use Rattle.store.proofs.Reading.{of_past}
 use Rattle.store.proofs.Settled.{read_failed, read_then, settling}

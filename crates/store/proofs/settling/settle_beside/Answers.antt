@@ -3,8 +3,8 @@ use Rattle.std.specs.Prelude.{find}
 use Rattle.std.specs.Str.{bytes_eq}
 use Rattle.sqlite.specs.Held.{state}
 use Rattle.office.specs.declared.arrival.Outcome.TheVariants as outcome
-use Rattle.store_reads.specs.Histories.{is_for}
-use Rattle.store_reads.proofs.OfHistory.{apart_after}
+use Rattle.store.specs.Histories.{is_for}
+use Rattle.store.proofs.OfHistory.{apart_after}
 use Rattle.store.specs.Meaning.{IsHistory}
 use Rattle.store.specs.Arriving.{IsAsked, IsFound, Past, kept_at}
 use Rattle.store.proofs.Settled.{known_found, repeat_found, repeat_other, repeat_unknown, repeated_still}

@@ -1,10 +1,10 @@
 use Rattle.std.proofs.Common.{arith}
 use Rattle.sqlite.specs.Held.{state}
 use Rattle.sqlite.specs.State.{HasCleanDisk}
-use Rattle.store_rows.specs.Transactions.{Waits}
-use Rattle.store_rows.proofs.Before.{concludes_before}
-use Rattle.store_rows.proofs.Causes.{stops_for}
-use Rattle.store_rows.proofs.Steps.{ends, left}
+use Rattle.store.specs.Transactions.{Waits}
+use Rattle.store.proofs.Before.{concludes_before}
+use Rattle.store.proofs.Causes.{stops_for}
+use Rattle.store.proofs.Steps.{ends, left}
 use Rattle.store.specs.Arriving.{IsAfter, IsAnswered, IsAny, ExceedsTables, contents_with}
 use Rattle.store.proofs.taking.take.Goals as goal
 

@@ -4,7 +4,7 @@ use Rattle.std.proofs.lemmas.Bool.{both_ways}
 use Rattle.sqlite.specs.Schema.{Schema}
 use Rattle.store_sql.specs.Look.{is_office_name}
 use Rattle.sqlite.specs.Held.{state}
-use Rattle.store_rows.proofs.Before.{same_before}
+use Rattle.store.proofs.Before.{same_before}
 use Rattle.store.specs.Creating.{RefusesOpening}
 use Rattle.store.proofs.ShortRows.{opening_fits}
 use Rattle.store.proofs.OfficeRows.{excused_unless}

@@ -1,6 +1,6 @@
 use Rattle.std.proofs.Common.{◌∙◌}
 use Rattle.sqlite.specs.Held.{state}
-use Rattle.store_migration.specs.Former.{former_contents}
+use Rattle.store.specs.Former.{former_contents}
 use Rattle.store.proofs.ShortRows.{first_ca_fits}
 use Rattle.store.proofs.OfficeRows.{excused_by_disk}
 use Rattle.store.proofs.Telling.{left_committed}

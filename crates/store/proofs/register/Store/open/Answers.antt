@@ -2,7 +2,7 @@ use Rattle.std.proofs.Common.{refl, Err}
 use Rattle.sqlite.specs.Held.{state}
 use Rattle.store_sql.specs.Faults.{HasFailed}
 use Rattle.store_sql.proofs.FirstTable.{means_offices}
-use Rattle.store_rows.specs.Rows.{office_contents}
+use Rattle.store.specs.Rows.{office_contents}
 use Rattle.store.specs.Meaning.{DiskFailed}
 use Rattle.store.proofs.OfficeRows.{looks_weaker, not_missed}
 use Rattle.store.proofs.Telling.{disk_failed}

@@ -1,7 +1,7 @@
 use Rattle.std.specs.Prelude.{◌≡◌}
 use Rattle.office.specs.Listing.{batch_of}
 use Rattle.sqlite.specs.Held.{state}
-use Rattle.store_rows.proofs.Before.{reads_before}
+use Rattle.store.proofs.Before.{reads_before}
 use Rattle.store.proofs.Answering.{answered}
 use Rattle.store.proofs.Reading.{of_office}
 use Rattle.store.proofs.registry.StoreRegistry.certificates.Goals as goal

@@ -1,7 +1,7 @@
 use Rattle.std.specs.Prelude.{◌≡◌}
 use Rattle.office.specs.Publication.{departments_of}
 use Rattle.sqlite.specs.Held.{state}
-use Rattle.store_rows.proofs.Before.{reads_before}
+use Rattle.store.proofs.Before.{reads_before}
 use Rattle.store.proofs.Answering.{answered}
 use Rattle.store.proofs.Reading.{of_state}
 use Rattle.store.proofs.registry.StoreRegistry.departments.Goals as goal

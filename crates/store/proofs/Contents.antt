@@ -1,0 +1,52 @@
+-- The contents of schema 1 become those of schema 2.
+use Rattle.std.proofs.Common.{◌≡◌, Bool, true, false, List, [], ◌∷◌, map, Ok, Err, refl, sym, ap, ◌∙◌, arith}
+use Rattle.std.specs.Prelude.{◌==◌, if◌then◌else◌, IsPermutation, All}
+use Rattle.std.proofs.lemmas.List.Sorted.{length_permutation, All-permutation}
+use Rattle.std.proofs.lemmas.List.Elements.{All-cons, All-nil}
+use Rattle.sqlite.specs.Effect.{Database}
+use Rattle.office.specs.declared.store_fault.StoreFault.TheVariants.{Damaged, WrongSchema}
+use Rattle.store_sql.specs.declared.offices.OfficeRow.{OfficeRow}
+use Rattle.store_sql.specs.declared.cas.CaRow.{CaRow}
+use Rattle.store_sql.specs.Cells.{ca_cells}
+use Rattle.store_sql.specs.Contents.{Contents, MeansWithoutCa}
+use Rattle.store_sql.specs.Changes.{with_ca, with_schema}
+use Rattle.store.specs.Former.{ca_of, first_ca, migrated}
+
+-- where there is no table of CAs there is no CA
+none_of : (cas : List CaRow) → IsPermutation (map ca_cells cas) [] → cas ≡ []
+none_of [] p = refl
+none_of (ca ∷ cas) p = absurd (let many = length_permutation (map ca_cells (ca ∷ cas)) [] p in omega arith)
+
+pub no_cas : (db : Database) (c : Contents) → MeansWithoutCa db c → c.cas ≡ []
+no_cas db c means = none_of c.cas means.holds.cas.same
+
+-- the order of the rows is nothing
+pub ca_same : (xs ys : List OfficeRow) → IsPermutation xs ys → ca_of xs ≡ ca_of ys
+ca_same [] [] p = refl
+ca_same [] (y ∷ ys) p = absurd (let many = length_permutation [] (y ∷ ys) p in omega arith)
+ca_same (x ∷ []) [] p = absurd (let many = length_permutation (x ∷ []) [] p in omega arith)
+ca_same (x ∷ []) (y ∷ []) p =
+    let one : All (λ z. z ≡ x) (x ∷ []) = All-cons (λ z. z ≡ x) x [] refl (All-nil (λ z. z ≡ x)) in
+    let same : y ≡ x = All-permutation (λ z. z ≡ x) (x ∷ []) (y ∷ []) p one 0 y (omega arith) in
+    ap (λ (z : OfficeRow). ca_of (z ∷ [])) (sym same)
+ca_same (x ∷ []) (y ∷ z ∷ ys) p = absurd (let many = length_permutation (x ∷ []) (y ∷ z ∷ ys) p in omega arith)
+ca_same (x ∷ w ∷ xs) [] p = absurd (let many = length_permutation (x ∷ w ∷ xs) [] p in omega arith)
+ca_same (x ∷ w ∷ xs) (y ∷ []) p = absurd (let many = length_permutation (x ∷ w ∷ xs) (y ∷ []) p in omega arith)
+ca_same (x ∷ w ∷ xs) (y ∷ z ∷ ys) p = refl
+
+one_of : (o : OfficeRow) (a b : Bool) (ca : CaRow)
+    → (if a then (if b then Ok (first_ca o) else Err Damaged) else Err WrongSchema) ≡ Ok ca → first_ca o ≡ ca
+one_of o true true ca e = cc
+one_of o true false ca e = absurd cc
+one_of o false b ca e = absurd cc
+
+only_ca : (offices : List OfficeRow) (ca : CaRow) → ca_of offices ≡ Ok ca → map first_ca offices ≡ ca ∷ []
+only_ca [] ca e = absurd cc
+only_ca (o ∷ []) ca e = ap (λ (x : CaRow). x ∷ []) (one_of o (o.schema == 1) (o.id == 1) ca e)
+only_ca (o ∷ p ∷ offices) ca e = absurd cc
+
+-- the rows that are put in make the contents of schema 2
+pub put_in : (c : Contents) (ca : CaRow) → ca_of c.offices ≡ Ok ca → c.cas ≡ []
+    → with_schema 2 (with_ca ca c) ≡ migrated c
+put_in c ca is none = ap (λ (cas : List CaRow). with_schema 2 (record c { cas = cas }))
+    (ap (λ (cas : List CaRow). ca ∷ cas) none ∙ sym (only_ca c.offices ca is))

@@ -1,0 +1,53 @@
+-- What each part of the transaction leaves to the next.
+use Rattle.std.proofs.Common.{◌≡◌, List, subst, ◌∙◌, Ok, Err, Result}
+use Rattle.std.specs.Prelude.{IsPermutation, OnErr}
+use Rattle.sqlite.specs.State.{State, IsUnchanged, Survives}
+use Rattle.sqlite.proofs.StateLemmas.{survives_weaker}
+use Rattle.store_sql.specs.declared.table_fault.Fault.{Fault}
+use Rattle.store_sql.specs.declared.offices.OfficeRow.{OfficeRow}
+use Rattle.store_sql.specs.declared.cas.CaRow.{CaRow}
+use Rattle.store_sql.specs.Schema.{without_ca}
+use Rattle.store_sql.specs.Contents.{Contents, Means, MeansWithoutCa}
+use Rattle.store_sql.specs.Calls.{Stays, Steps, Waits as WaitsAt}
+use Rattle.store_sql.specs.Changes.{with_ca, with_schema}
+use Rattle.store.specs.Transactions.{Goes, Has, Makes, Waits}
+use Rattle.store.proofs.Steps.{Leads, goes, goes_still, goes_then, stops_then}
+use Rattle.store.specs.Former.{Had, ca_of, migrated}
+use Rattle.office.specs.declared.store_fault.StoreFault.{StoreFault}
+use Rattle.store.specs.Faults.{told}
+use Rattle.store.specs.Migrating.{HasNoCa, done}
+use Rattle.store.proofs.Contents.{ca_same, no_cas, put_in}
+
+-- the rows were read, and then CA 1 and the number are put
+pub filled : (a b d : State) (rows : List OfficeRow) (ca : CaRow) (r : Result (Unit {0}) Fault)
+    → ((c : Contents) → Means a.now c → IsUnchanged a b × IsPermutation c.offices rows) → ca_of rows ≡ Ok ca
+    → Makes Has (λ c. with_schema 2 (with_ca ca c)) b d r → Makes HasNoCa migrated a d (done (told r))
+filled a b d rows ca (Ok x) found is put = λ c before.
+    let f = found c before.0 in
+    let g = goes_still a b c f.0 before.0 in
+    let due : ca_of c.offices ≡ Ok ca = ca_same c.offices rows f.1 ∙ is in (
+      tt,
+      subst (Goes a d) (put_in c ca due before.1)
+          (goes_then a b d c (with_schema 2 (with_ca ca c)) g (put c g.means).1),
+    )
+filled a b d rows ca (Err e) found is put = λ c before.
+    let g = goes_still a b c (found c before.0).0 before.0 in stops_then a b d c g (put c g.means)
+
+-- the table of CAs is made, and has no row
+pub made_leads : (a b : State) → ((c : Contents) → MeansWithoutCa a.now c → Steps a b c)
+    → Leads Had HasNoCa (λ c. c) a b
+made_leads a b made c before = let s = goes a b c (made c before) in (c, s, (s.means, no_cas a.now c before))
+
+pub made_waits : (a b : State) → Survives a b (WaitsAt without_ca a) → Survives a b (Waits Had a)
+made_waits a b one =
+    survives_weaker a b (WaitsAt without_ca a) (Waits Had a) (λ clean trees h c before. h before.schema) one
+
+-- what a call leaves, as it is told
+pub stays_told : (old new : State) (r : Result (Unit {0}) Fault) → Stays old new r → Stays old new (done (told r))
+stays_told old new (Ok x) stays = stays
+stays_told old new (Err f) stays = stays
+
+-- what holds on each fault holds however that is told
+pub on_fault : (P : Type 0) (r : Result (Unit {0}) StoreFault) → OnErr (done r) P → OnErr r P
+on_fault P (Ok x) h = h
+on_fault P (Err f) h = h

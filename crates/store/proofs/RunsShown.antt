@@ -1,0 +1,100 @@
+-- The runs of the revoked serials, as rows show them.
+use Rattle.std.proofs.Common.{◌≡◌, ℕ, ◌+◌, ◌<◌, ◌≤◌, inl, List, length, map, ◌^◌, Option, Bool, true, false, ◌&&◌}
+use Rattle.std.proofs.Common.{Ok, Err, Result, refl, sym, ap, ◌∙◌, arith, IsPermutation, IsTrue}
+use Rattle.std.specs.Prelude.{◌↔◌, IsSortedByKey}
+use Rattle.std.specs.Ordering.{nat_cmp}
+use Rattle.std.proofs.lemmas.Cmp.{nat_cmp_total, on_total}
+use Rattle.sqlite_keyed.proofs.ListLemmas.{map_back}
+use Rattle.sqlite_keyed.proofs.SortLemmas.{sorted_unique}
+use Rattle.sqlite.specs.State.{State as Connection, IsUnchanged}
+use Rattle.krl.specs.declared.run.Run.{Run}
+use Rattle.krl.specs.Sets.{HasAll, contains, is_counted}
+use Rattle.krl.proofs.Counting.{contains_runs_in, are_counted, runs_in_runs}
+use Rattle.office.specs.declared.arrival.Kept.{Kept}
+use Rattle.office.specs.State.{State}
+use Rattle.store_sql.specs.declared.runs.RunRow.{RunRow}
+use Rattle.store_sql.specs.Runs.{last_at, last_run}
+use Rattle.store_sql.proofs.LastRun.{is_last}
+use Rattle.store_sql.specs.Contents.{Contents, Means}
+use Rattle.store_sql.specs.declared.table_fault.Fault.{Fault}
+use Rattle.store_sql.specs.declared.table_fault.Fault.TheVariants.{Damaged, Device, NoMemory}
+use Rattle.store.specs.Lawful.{IsLawful}
+use Rattle.store.specs.Rows.{contents_of, revoked_runs, run_row}
+use Rattle.store.specs.ShowingRows.{Shows}
+use Rattle.store.specs.Histories.{IsOfHistory}
+use Rattle.store.specs.RunRows.{AreRead, AreRevokedRuns, RiseFrom, reaches, run_of, runs_of}
+use Rattle.store.proofs.Rising.{rise_lower, rows_rise, runs_rise}
+use Rattle.store.proofs.Numbered.{serials_within}
+use Rattle.store.proofs.Reaching.{all_in}
+use Rattle.store.proofs.RunsApart.{rows_apart}
+use Rattle.std.proofs.Math.Bool.{and-false}
+
+revoked_rise : (s : State) → RiseFrom 0 (revoked_runs s)
+revoked_rise s =
+    rise_lower 0 s.opening.first (revoked_runs s) (omega arith)
+    (runs_rise s.revoked s.opening.first (length s.certificates))
+
+found_runs : (s : State) (rows : List RunRow) → IsPermutation (map run_row (revoked_runs s)) rows
+    → IsSortedByKey (λ r. r.lo) nat_cmp rows → runs_of rows ≡ revoked_runs s
+found_runs s rows same sorted =
+    ap runs_of (sorted_unique (λ (x y : RunRow). nat_cmp x.lo y.lo) (on_total (λ (r : RunRow). r.lo) nat_cmp_total)
+    (map run_row (revoked_runs s)) rows (rows_rise 0 (revoked_runs s) (revoked_rise s)) same sorted)
+    ∙ map_back run_row run_of (λ r. refl) (revoked_runs s)
+
+-- every run
+pub shows_every : (old new : Connection) (rows : List RunRow) (r : Result (List Run) Fault)
+    → ((c : Contents) → Means old.now c → IsUnchanged old new × IsPermutation c.runs rows)
+    → ((c : Contents) → Means old.now c → IsSortedByKey (λ r. r.lo) nat_cmp rows) → AreRead rows r
+    → Shows (λ s kept x. x ≡ revoked_runs s) old new r
+shows_every old new rows (Ok x) finds sorted read = λ s kept lawful means.
+    let f = finds (contents_of s kept) means in
+    (read ∙ found_runs s rows f.1 (sorted (contents_of s kept) means), f.0)
+shows_every old new rows (Err NoMemory) finds sorted read = λ s kept lawful means.
+    (inl (finds (contents_of s kept) means).0, tt)
+shows_every old new rows (Err Damaged) finds sorted read = λ s kept lawful means.
+    let f = finds (contents_of s kept) means in
+    absurd (read (rw (found_runs s rows f.1 (sorted (contents_of s kept) means)) (revoked_rise s)))
+shows_every old new rows (Err Device) finds sorted read = absurd read
+
+-- ---- the serials in them
+
+counted : (first count n : ℕ) (b : Bool) → (b ≡ true → (first ≤ n) × (n < first + count))
+    → (is_counted first count n && b) ≡ b
+counted first count n true is = let p = is refl in rw (are_counted first count n p.0 p.1) refl
+counted first count n false is = and-false (is_counted first count n)
+
+-- so many serials are of 64 bits
+are_few : (s : State) (kept : List Kept) → IsLawful s → IsOfHistory s kept
+    → s.opening.first + length s.certificates ≤ 2 ^ 64
+are_few s kept lawful history =
+    omega (arith, (serials_within s.opening.first s.opening.last lawful.opening.serials).1, history.range)
+
+-- just the revoked serials, where only issued ones are revoked
+pub revoked_in : (s : State) (kept : List Kept) → IsLawful s → IsOfHistory s kept → (n : ℕ)
+    → contains (revoked_runs s) n ≡ s.revoked n
+revoked_in s kept lawful history n =
+    contains_runs_in s.revoked s.opening.first (length s.certificates) n (are_few s kept lawful history)
+    ∙ counted s.opening.first (length s.certificates) n (s.revoked n) (history.revoked n)
+
+pub are_revoked_runs : (s : State) (kept : List Kept) (runs : List Run) → IsLawful s → runs ≡ revoked_runs s
+    → AreRevokedRuns runs s kept
+are_revoked_runs s kept runs lawful is = record {
+  maximal = is;
+  serials = λ history n. ap (λ (l : List Run). contains l n) is ∙ revoked_in s kept lawful history n;
+}
+
+-- ---- an interval of them
+
+-- where the last run that begins with a serial or before it ends with another or after it, each between them is revoked
+pub all_reached : (s : State) (kept : List Kept) (lo hi : ℕ) (found : Option RunRow) → lo ≤ hi → IsLawful s
+    → IsOfHistory s kept → found ≡ last_run lo (contents_of s kept)
+    → (IsTrue (reaches found hi) ↔ HasAll s.revoked lo hi)
+all_reached s kept lo hi found order lawful history is =
+    let runs = revoked_runs s in
+    let says = all_in lo hi runs (last_at lo (map run_row runs)) order
+    (rows_apart 0 runs (runs_in_runs s.revoked s.opening.first (length s.certificates) (are_few s kept lawful history)))
+    (is_last lo (map run_row runs)) in
+    rw is (
+      λ reached n low high. sym (revoked_in s kept lawful history n) ∙ says.0 reached n low high,
+      λ all. says.1 (λ n low high. revoked_in s kept lawful history n ∙ all n low high),
+    )

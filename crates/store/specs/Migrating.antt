@@ -1,0 +1,103 @@
+-- What a migration does to the connection, and when it answers what.
+use Rattle.std.specs.Prelude.{◌≡◌, ◌⊎◌, true, List, [], IfErr, IsOk, IsTrue, Result, Ok, Err}
+use Rattle.sqlite.specs.Effect.{Database}
+use Rattle.sqlite.specs.State.{State}
+use Rattle.office.specs.declared.opening.Opening.{Opening}
+use Rattle.office.specs.declared.arrival.Arrival.{Arrival}
+use Rattle.office.specs.declared.store_fault.StoreFault.{StoreFault}
+use Rattle.office.specs.declared.store_fault.StoreFault.TheVariants.{AlreadyAnOffice, Damaged, Device}
+use Rattle.office.specs.declared.store_fault.StoreFault.TheVariants.{NoMemory, NotAnOffice, WrongSchema}
+use Rattle.store_sql.specs.declared.cas.CaRow.{CaRow}
+use Rattle.store_sql.specs.declared.table_fault.Fault.{Fault}
+use Rattle.store_sql.specs.declared.table_fault.Fault.TheVariants as table
+use Rattle.store_sql.specs.Changes.{with_ca}
+use Rattle.store_sql.specs.Contents.{Contents, Means}
+use Rattle.store_sql.specs.Faults.{HasCause, HasFailed}
+use Rattle.store_sql.specs.Refusals.{RefusesCa, RefusesNumber}
+use Rattle.store.specs.Faults.{fault_of}
+use Rattle.store.specs.Rows.{office_contents}
+use Rattle.store.specs.Transactions.{Has, Rests}
+use Rattle.store.specs.Former.{Had, TellsBefore, ca_of, former_contents, migrated}
+
+-- ---- results
+
+-- whether it is done, whatever the fault
+abbrev pub done : {X : Type 0} → Result X StoreFault → Result X Fault
+done (Ok x) = Ok x
+done (Err f) = Err table.Device
+
+-- the CA is read, or what was due is told, or memory is refused
+abbrev pub IsCaDue : Result CaRow StoreFault → Result CaRow StoreFault → Type 0
+IsCaDue due (Err NoMemory) = Unit {0}
+IsCaDue due r = due ≡ r
+
+-- ---- why it fails
+
+-- the rules of the tables refuse this CA, or after it the number of schema 2
+abbrev pub IsRefused : CaRow → Contents → Type 0
+IsRefused ca c = RefusesCa ca c ⊎ RefusesNumber 2 (with_ca ca c)
+
+-- they refuse CA 1 beside these contents
+abbrev pub RefusesFirstCa : Contents → Type 0
+RefusesFirstCa c = (ca : CaRow) × (ca_of c.offices ≡ Ok ca) × IsRefused ca c
+
+-- the database failed during the call, or its rules refuse CA 1
+abbrev pub HasStopped : Contents → State → State → Type 0
+HasStopped c old new = HasFailed old new ⊎ RefusesFirstCa c
+
+-- what failed before is told, and what fails at the end has its cause
+abbrev pub TellsEnd : {X : Type 0} → Result X StoreFault → State → State → Result X StoreFault → Type 0
+TellsEnd (Ok x) old new r =
+    old.in_transaction ≡ true → IfErr r (λ e. (f : Fault) × (e ≡ fault_of f) × HasCause old new f)
+TellsEnd (Err e) old new r = r ≡ Err e
+
+-- what the rows of these contents say of their office is answered; or memory was refused, or the call was stopped
+abbrev pub Judges : Contents → Type 0 → Result (Unit {0}) StoreFault → Type 0
+Judges c stopped (Ok x) = IsOk (ca_of c.offices)
+Judges c stopped (Err NoMemory) = Unit {0}
+Judges c stopped (Err Device) = stopped
+Judges c stopped (Err e) = ca_of c.offices ≡ Err e
+
+-- so it is of a database at rest with the tables of schema 1
+abbrev pub JudgesAtRest : State → State → Result (Unit {0}) StoreFault → Type 0
+JudgesAtRest old new r = (c : Contents) → Rests (Had c) old → Judges c (HasStopped c old new) r
+
+-- so it is inside of the transaction, of tables that are as one of these says
+abbrev pub JudgesInside : (Contents → Database → Type 0) → State → State → Result (Unit {0}) StoreFault → Type 0
+JudgesInside Before old new r = (c : Contents) → Before c old.now → Judges c (HasStopped c old new) r
+
+-- ---- a part of the transaction
+
+-- the tables of schema 2 hold these contents, of which no CA is one
+abbrev pub HasNoCa : Contents → Database → Type 0
+HasNoCa c db = Means db c × (c.cas ≡ [])
+
+-- ---- the whole
+
+-- Of a database at rest with the tables of schema 1: they become those of schema 2; or all is as before. Only a failed
+-- disk shuts the connection, and a shut one answers nothing.
+abbrev pub Migrates : State → State → Result (Unit {0}) StoreFault → Type 0
+Migrates old new (Ok x) =
+    IsTrue old.is_open × IsTrue new.is_open × ((c : Contents) → Rests (Had c) old → Rests (Has (migrated c)) new)
+Migrates old new (Err e) =
+    IsTrue new.is_open → IsTrue old.is_open × ((c : Contents) → Rests (Had c) old → Rests (Had c) new)
+
+-- want of memory and a stop are the only faults
+abbrev pub IsExcused : Type 0 → StoreFault → Type 0
+IsExcused stopped NoMemory = Unit {0}
+IsExcused stopped Device = stopped
+IsExcused stopped AlreadyAnOffice = ⊥
+IsExcused stopped NotAnOffice = ⊥
+IsExcused stopped WrongSchema = ⊥
+IsExcused stopped Damaged = ⊥
+
+-- Of tables of schema 1 that tell a history: they hold its rows in schema 2; or they tell it as before, and the fault
+-- has its cause.
+abbrev pub Carries : State → State → Opening → List Arrival → Result (Unit {0}) StoreFault → Type 0
+Carries old new o l (Ok x) = IsTrue new.is_open × Rests (Has (office_contents o l)) new
+Carries old new o l (Err e) =
+    TellsBefore new o l × (IsTrue old.is_open → IsExcused (HasStopped (former_contents o l) old new) e)
+
+-- so it is of each history
+abbrev pub CarriesEach : State → State → Result (Unit {0}) StoreFault → Type 0
+CarriesEach old new r = (o : Opening) (l : List Arrival) → TellsBefore old o l → Carries old new o l r

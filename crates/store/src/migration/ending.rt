@@ -1,0 +1,30 @@
+//! The end of the transaction.
+
+ghost use Rattle.store.specs.Transactions.{Commits, Concludes};
+ghost use Rattle.store.specs.Migrating.{TellsEnd, done};
+ghost use Rattle.store_sql.specs.Honest.{On, OutlivesBy};
+
+use crate::rows::{close, fault_of, undo};
+use office::StoreFault;
+use sqlite::{Alter, Connection};
+
+/// Commits what was moved, and leaves nothing of what was not.
+pub(crate) fn end<S: Alter>(
+    conn: &mut Connection<S>,
+    moved: Result<(), StoreFault>,
+) -> Result<(), StoreFault>
+    ensures concludes { On S.Store (Concludes (done moved)) conn.old conn.new (done result) }
+    ensures tells { On S.Store (TellsEnd moved) conn.old conn.new result }
+    ensures survives { OutlivesBy S.Store (Commits (done moved)) conn.old conn.new }
+{
+    match moved {
+        Ok(()) => match close(conn) {
+            Ok(()) => Ok(()),
+            Err(fault) => Err(fault_of(fault)),
+        },
+        Err(fault) => {
+            undo(conn);
+            Err(fault)
+        }
+    }
+}

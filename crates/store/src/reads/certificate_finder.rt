@@ -1,0 +1,60 @@
+//! The certificate of a serial.
+//!
+//! Large values are dropped by name: the proof of a function that ends with one takes each of its fields apart.
+
+ghost use Rattle.std.specs.Prelude.{◌≡◌, IfOk, IfSome};
+ghost use Rattle.store_sql.specs.Calls.{Never, OnlyReads};
+ghost use Rattle.store_sql.specs.Honest.{On, Outlives};
+ghost use Rattle.office.specs.Certificates.{IsCertificate};
+ghost use Rattle.office.specs.State.{certificate_of};
+ghost use Rattle.store.specs.Certificates.{certificate_in};
+ghost use Rattle.store.specs.Reading.{IsRead};
+ghost use Rattle.store.specs.ShowingRows.{Shows};
+ghost use Rattle.store.specs.Finding.{asked_serial, value_in};
+ghost use Rattle.store.specs.Histories.{IsOfHistory};
+
+use crate::rows::read_certificate;
+use office::Certificate;
+use sqlite::{Alter, Connection};
+use std::alloc::Global;
+use store_sql::{CertRow, Fault, Number, find_cert};
+
+/// The serial as a column can hold it. No office issues 0.
+fn asked_serial(serial: u64) -> Number
+    ensures { result ≡ asked_serial serial }
+{
+    match Number::new(serial) {
+        Some(number) => number,
+        None => Number::ZERO,
+    }
+}
+
+fn read_found(alloc: Global, found: Option<CertRow>) -> Result<Option<Certificate>, Fault>
+    ensures exact { IsRead (value_in certificate_in found) result }
+    ensures lawful { IfOk result (λ found. IfSome found IsCertificate) }
+{
+    match found {
+        Some(row) => {
+            let certificate = read_certificate(alloc, &row);
+            drop(row);
+            Ok(Some(certificate?))
+        }
+        None => Ok(None),
+    }
+}
+
+/// The certificate of this serial, or `None` where it wasn't issued. What is read is lawful, or told damaged.
+pub fn find_certificate<S: Alter>(
+    alloc: Global,
+    conn: &mut Connection<S>,
+    serial: u64,
+) -> Result<Option<Certificate>, Fault>
+    ensures shows { On S.Store (Shows (λ s kept found. IsOfHistory s kept → found ≡ certificate_of s serial))
+        conn.old conn.new result }
+    ensures lawful { IfOk result (λ found. IfSome found IsCertificate) }
+    ensures reads { On S.Store OnlyReads conn.old conn.new result }
+    ensures survives { Outlives S.Store Never conn.old conn.new }
+{
+    let found = find_cert(alloc, conn, asked_serial(serial))?;
+    read_found(alloc, found)
+}

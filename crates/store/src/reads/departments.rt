@@ -1,0 +1,48 @@
+//! The department of a name.
+//!
+//! Large values are dropped by name: the proof of a function that ends with one takes each of its fields apart.
+
+ghost use Rattle.std.specs.Prelude.{◌≡◌, IfOk, IfSome, IsTrue};
+ghost use Rattle.store_sql.specs.Calls.{Never, OnlyReads};
+ghost use Rattle.store_sql.specs.Honest.{On, Outlives};
+ghost use Rattle.message.specs.Values.{is_department};
+ghost use Rattle.office.specs.State.{department_named};
+ghost use Rattle.store.specs.Departments.{department_in};
+ghost use Rattle.store.specs.Reading.{IsRead};
+ghost use Rattle.store.specs.ShowingRows.{Shows};
+ghost use Rattle.store.specs.Finding.{value_in};
+
+use crate::rows::read_department;
+use message::Department;
+use sqlite::{Alter, Connection};
+use std::alloc::Global;
+use store_sql::{DepartmentRow, Fault, find_department as find_row};
+
+fn read_found(alloc: Global, found: Option<DepartmentRow>) -> Result<Option<Department>, Fault>
+    ensures exact { IsRead (value_in department_in found) result }
+    ensures lawful { IfOk result (λ found. IfSome found (λ d. IsTrue (is_department d))) }
+{
+    match found {
+        Some(row) => {
+            let department = read_department(alloc, &row);
+            drop(row);
+            Ok(Some(department?))
+        }
+        None => Ok(None),
+    }
+}
+
+/// The department of this name, if it is there. What is read is lawful, or told damaged.
+pub fn find_department<S: Alter>(
+    alloc: Global,
+    conn: &mut Connection<S>,
+    name: &[u8],
+) -> Result<Option<Department>, Fault>
+    ensures shows { On S.Store (Shows (λ s kept found. found ≡ department_named s name.now)) conn.old conn.new result }
+    ensures lawful { IfOk result (λ found. IfSome found (λ d. IsTrue (is_department d))) }
+    ensures reads { On S.Store OnlyReads conn.old conn.new result }
+    ensures survives { Outlives S.Store Never conn.old conn.new }
+{
+    let found = find_row(alloc, conn, name)?;
+    read_found(alloc, found)
+}

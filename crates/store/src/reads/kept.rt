@@ -1,0 +1,44 @@
+//! The kept request of a caller and a key.
+
+ghost use Rattle.std.specs.Prelude.{◌≡◌, find};
+ghost use Rattle.std.specs.Option.{option_map};
+ghost use Rattle.store_sql.specs.Calls.{Never, OnlyReads};
+ghost use Rattle.store_sql.specs.Honest.{On, Outlives};
+ghost use Rattle.store.specs.ShowingRows.{Shows};
+ghost use Rattle.store.specs.Finding.{kept_in};
+ghost use Rattle.store.specs.Histories.{IsOfHistory, is_for};
+
+use office::Kept;
+use sqlite::{Alter, Connection};
+use std::alloc::Global;
+use store_sql::{Fault, RequestRow, find_request};
+
+fn kept_of(found: Option<RequestRow>) -> Option<Kept>
+    ensures { result ≡ option_map kept_in found }
+{
+    match found {
+        Some(row) => Some(Kept {
+            caller: row.caller,
+            key: row.key,
+            bytes: row.message,
+            reply: row.reply,
+        }),
+        None => None,
+    }
+}
+
+/// The kept request of this caller and key, if there is one.
+pub fn kept_for<S: Alter>(
+    alloc: Global,
+    conn: &mut Connection<S>,
+    caller: &[u8],
+    key: &[u8],
+) -> Result<Option<Kept>, Fault>
+    ensures shows { On S.Store (Shows
+        (λ s kept found. IsOfHistory s kept → found ≡ find (is_for caller.now key.now) kept)) conn.old conn.new result }
+    ensures reads { On S.Store OnlyReads conn.old conn.new result }
+    ensures survives { Outlives S.Store Never conn.old conn.new }
+{
+    let found = find_request(alloc, conn, caller, key)?;
+    Ok(kept_of(found))
+}

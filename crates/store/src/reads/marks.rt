@@ -1,0 +1,107 @@
+//! What is revoked of what a message concerns.
+
+ghost use Rattle.std.specs.Prelude.{IsTrue, option_copied};
+ghost use Rattle.message.specs.Values.{is_message};
+ghost use Rattle.office.specs.Decided.{SaysAnyKeyIdRevoked, SaysRevoked};
+ghost use Rattle.store_sql.specs.Calls.{Never, OnlyReads};
+ghost use Rattle.store.specs.Concerning.{AreMarksOf, SaysKeyIdBeside};
+ghost use Rattle.store_sql.specs.Honest.{OnOpen, Outlives};
+ghost use Rattle.store.specs.ShowingRows.{Shows};
+ghost use Rattle.store.specs.Histories.{IsOfHistory};
+
+use crate::reads::key_ids::{has_revoked_key_ids, is_key_id_revoked};
+use crate::reads::runs::are_revoked;
+use message::Message;
+use office::{Certificate, concerned};
+use sqlite::{Alter, Connection};
+use std::alloc::Global;
+use store_sql::Fault;
+
+/// What is revoked of what a message concerns.
+#[derive(Clone, Copy)]
+pub(crate) struct Marks {
+    /// The serial, or each of the range.
+    pub(crate) is_revoked: bool,
+    /// The key id, or that of the certificate.
+    pub(crate) is_key_id_revoked: bool,
+    /// Any key id, where the message asks.
+    pub(crate) has_revoked_key_ids: bool,
+}
+
+fn is_revoked<S: Alter>(
+    alloc: Global,
+    conn: &mut Connection<S>,
+    message: &Message,
+) -> Result<bool, Fault>
+    requires { IsTrue (is_message message.now) }
+    ensures shows { OnOpen S.Store (Shows (λ s kept is. IsOfHistory s kept → SaysRevoked is s message.now))
+        conn.old conn.new result }
+    ensures reads { OnOpen S.Store OnlyReads conn.old conn.new result }
+    ensures survives { Outlives S.Store Never conn.old conn.new }
+{
+    let concern = concerned(message);
+    match (concern.serial, concern.range) {
+        (Some(serial), _) => are_revoked(alloc, conn, serial, serial),
+        (None, Some(range)) => are_revoked(alloc, conn, range.lo, range.hi),
+        (None, None) => Ok(false),
+    }
+}
+
+fn is_concerned_key_id_revoked<S: Alter>(
+    alloc: Global,
+    conn: &mut Connection<S>,
+    message: &Message,
+    certificate: Option<&Certificate>,
+) -> Result<bool, Fault>
+    ensures shows { OnOpen S.Store (Shows (SaysKeyIdBeside (option_copied certificate.entry) message.now))
+        conn.old conn.new result }
+    ensures reads { OnOpen S.Store OnlyReads conn.old conn.new result }
+    ensures survives { Outlives S.Store Never conn.old conn.new }
+{
+    match (certificate, concerned(message).key_id) {
+        (Some(certificate), _) => {
+            is_key_id_revoked(alloc, conn, certificate.fields.key_id.as_slice())
+        }
+        (None, Some(key_id)) => is_key_id_revoked(alloc, conn, key_id),
+        (None, None) => Ok(false),
+    }
+}
+
+fn is_any_key_id_revoked<S: Alter>(
+    alloc: Global,
+    conn: &mut Connection<S>,
+    message: &Message,
+) -> Result<bool, Fault>
+    ensures shows { OnOpen S.Store (Shows (λ s kept is. SaysAnyKeyIdRevoked is s message.now))
+        conn.old conn.new result }
+    ensures reads { OnOpen S.Store OnlyReads conn.old conn.new result }
+    ensures survives { Outlives S.Store Never conn.old conn.new }
+{
+    match message {
+        Message::Rollover(_) => has_revoked_key_ids(alloc, conn),
+        _ => Ok(false),
+    }
+}
+
+/// What is revoked of what a message concerns, where it concerns this certificate.
+pub(crate) fn marks_of<S: Alter>(
+    alloc: Global,
+    conn: &mut Connection<S>,
+    message: &Message,
+    certificate: Option<&Certificate>,
+) -> Result<Marks, Fault>
+    requires { IsTrue (is_message message.now) }
+    ensures shows { OnOpen S.Store (Shows (AreMarksOf (option_copied certificate.entry) message.now))
+        conn.old conn.new result }
+    ensures reads { OnOpen S.Store OnlyReads conn.old conn.new result }
+    ensures survives { Outlives S.Store Never conn.old conn.new }
+{
+    let is_revoked = is_revoked(alloc, conn, message)?;
+    let is_key_id_revoked = is_concerned_key_id_revoked(alloc, conn, message, certificate)?;
+    let has_revoked_key_ids = is_any_key_id_revoked(alloc, conn, message)?;
+    Ok(Marks {
+        is_revoked,
+        is_key_id_revoked,
+        has_revoked_key_ids,
+    })
+}

@@ -1,0 +1,92 @@
+//! The certificate and the department that a message concerns.
+//!
+//! Large values are dropped by name: the proof of a function that ends with one takes each of its fields apart.
+
+ghost use Rattle.std.specs.Prelude.{◌≡◌, IfOk, IfSome, IsTrue, option_copied};
+ghost use Rattle.message.specs.Values.{is_department};
+ghost use Rattle.office.specs.Certificates.{IsCertificate};
+ghost use Rattle.office.specs.Decided.{certificate_concerned};
+ghost use Rattle.store_sql.specs.Calls.{Never, OnlyReads};
+ghost use Rattle.store_sql.specs.Honest.{OnOpen, Outlives};
+ghost use Rattle.store.specs.ShowingRows.{Shows};
+ghost use Rattle.store.specs.Concerning.{IsDepartmentBeside, IsLawfulSubject, IsSubject};
+ghost use Rattle.store.specs.Histories.{IsOfHistory};
+
+use crate::reads::certificate_finder::find_certificate;
+use crate::reads::departments::find_department;
+use message::{Department, Message};
+use office::{Certificate, concerned};
+use sqlite::{Alter, Connection};
+use std::alloc::Global;
+use store_sql::Fault;
+
+/// The certificate and the department that a message concerns, if they are there.
+#[derive(Drop)]
+pub(crate) struct Subject {
+    pub(crate) certificate: Option<Certificate>,
+    pub(crate) department: Option<Department>,
+}
+
+fn certificate_of<S: Alter>(
+    alloc: Global,
+    conn: &mut Connection<S>,
+    message: &Message,
+) -> Result<Option<Certificate>, Fault>
+    ensures shows { OnOpen S.Store (Shows
+        (λ s kept found. IsOfHistory s kept → found ≡ certificate_concerned s message.now)) conn.old conn.new result }
+    ensures lawful { IfOk result (λ found. IfSome found IsCertificate) }
+    ensures reads { OnOpen S.Store OnlyReads conn.old conn.new result }
+    ensures survives { Outlives S.Store Never conn.old conn.new }
+{
+    match concerned(message).serial {
+        Some(serial) => find_certificate(alloc, conn, serial),
+        None => Ok(None),
+    }
+}
+
+/// The department of the certificate, where the message concerns one.
+fn department_of<S: Alter>(
+    alloc: Global,
+    conn: &mut Connection<S>,
+    message: &Message,
+    certificate: Option<&Certificate>,
+) -> Result<Option<Department>, Fault>
+    ensures shows { OnOpen S.Store (Shows (IsDepartmentBeside (option_copied certificate.entry) message.now))
+        conn.old conn.new result }
+    ensures lawful { IfOk result (λ found. IfSome found (λ d. IsTrue (is_department d))) }
+    ensures reads { OnOpen S.Store OnlyReads conn.old conn.new result }
+    ensures survives { Outlives S.Store Never conn.old conn.new }
+{
+    match (certificate, concerned(message).department) {
+        (Some(certificate), _) => {
+            find_department(alloc, conn, certificate.department.as_slice())
+        }
+        (None, Some(name)) => find_department(alloc, conn, name),
+        (None, None) => Ok(None),
+    }
+}
+
+/// The certificate and the department that a message concerns.
+pub(crate) fn subject_of<S: Alter>(
+    alloc: Global,
+    conn: &mut Connection<S>,
+    message: &Message,
+) -> Result<Subject, Fault>
+    ensures shows { OnOpen S.Store (Shows (λ s kept subject. IsOfHistory s kept → IsSubject subject s message.now))
+        conn.old conn.new result }
+    ensures lawful { IfOk result IsLawfulSubject }
+    ensures reads { OnOpen S.Store OnlyReads conn.old conn.new result }
+    ensures survives { Outlives S.Store Never conn.old conn.new }
+{
+    let certificate = certificate_of(alloc, conn, message)?;
+    match department_of(alloc, conn, message, certificate.as_ref()) {
+        Ok(department) => Ok(Subject {
+            certificate,
+            department,
+        }),
+        Err(fault) => {
+            drop(certificate);
+            Err(fault)
+        }
+    }
+}

@@ -1,0 +1,38 @@
+//! The certificates of the tables.
+
+ghost use Rattle.store_sql.specs.Calls.{Never, OnlyReads};
+ghost use Rattle.store_sql.specs.Honest.{On, Outlives};
+ghost use Rattle.store.specs.ShowingRows.{AreWithin, Shows};
+
+use crate::rows::cert_rows::read_certificate;
+use crate::rows::row_reader::{OfRow, read_each};
+use office::Certificate;
+use sqlite::{Alter, Connection};
+use std::alloc::Global;
+use store_sql::{CertRow, Fault, Number, certs_within};
+
+impl OfRow<CertRow> for Certificate {
+    ghost use Rattle.store.specs.Certificates.{certificate_in};
+
+    ghost value = { certificate_in };
+
+    fn of_row(alloc: Global, row: &CertRow) -> Result<Certificate, Fault> {
+        read_certificate(alloc, row)
+    }
+}
+
+/// The certificates whose serials lie between these two, both included, by serial. `Damaged` where the row of one is
+/// that of no lawful certificate.
+pub fn read_certificates<S: Alter>(
+    alloc: Global,
+    conn: &mut Connection<S>,
+    lo: Number,
+    hi: Number,
+) -> Result<Vec<Certificate>, Fault>
+    ensures shows { On S.Store (Shows (AreWithin lo hi)) conn.old conn.new result }
+    ensures reads { On S.Store OnlyReads conn.old conn.new result }
+    ensures survives { Outlives S.Store Never conn.old conn.new }
+{
+    let rows = certs_within(alloc, conn, lo, hi)?;
+    read_each(alloc, rows.as_slice())
+}

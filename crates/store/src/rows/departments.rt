@@ -1,0 +1,37 @@
+//! The departments of the tables.
+
+ghost use Rattle.std.specs.Prelude.{◌≡◌};
+ghost use Rattle.store_sql.specs.Calls.{Never, OnlyReads};
+ghost use Rattle.store_sql.specs.Honest.{On, Outlives};
+ghost use Rattle.office.specs.Publication.{departments_of};
+ghost use Rattle.store.specs.ShowingRows.{Shows};
+
+use crate::rows::department_rows::read_department;
+use crate::rows::row_reader::{OfRow, read_each};
+use message::Department;
+use sqlite::{Alter, Connection};
+use std::alloc::Global;
+use store_sql::{DepartmentRow, Fault, every_department};
+
+impl OfRow<DepartmentRow> for Department {
+    ghost use Rattle.store.specs.Departments.{department_in};
+
+    ghost value = { department_in };
+
+    fn of_row(alloc: Global, row: &DepartmentRow) -> Result<Department, Fault> {
+        read_department(alloc, row)
+    }
+}
+
+/// The departments by name. `Damaged` where a row is that of no lawful department.
+pub fn read_departments<S: Alter>(
+    alloc: Global,
+    conn: &mut Connection<S>,
+) -> Result<Vec<Department>, Fault>
+    ensures shows { On S.Store (Shows (λ s kept rows. rows.items ≡ departments_of s)) conn.old conn.new result }
+    ensures reads { On S.Store OnlyReads conn.old conn.new result }
+    ensures survives { Outlives S.Store Never conn.old conn.new }
+{
+    let rows = every_department(alloc, conn)?;
+    read_each(alloc, rows.as_slice())
+}

@@ -1,0 +1,88 @@
+//! Ranges of serials among the runs.
+
+ghost use Rattle.std.specs.Prelude.{◌≡◌, ◌<◌, ◌≤◌, ◌^◌, IsTrue};
+ghost use Rattle.store_sql.specs.Calls.{Stays};
+ghost use Rattle.store_sql.specs.Honest.{On, OutlivesBy};
+ghost use Rattle.message.specs.Values.{is_range};
+ghost use Rattle.store.specs.Transactions.{FailsFor, Has, Makes, Waits};
+ghost use Rattle.store.specs.Ranges.{joined_high, joined_low, run_from, with_joined, with_range};
+ghost use Rattle.store.specs.Refused.{RefusesJoined, RefusesRange};
+
+use crate::rows::number;
+use message::SerialRange;
+use sqlite::{Alter, Connection};
+use std::alloc::Global;
+use store_sql::{Fault, Number, RunRow, delete_runs, insert_run, last_run};
+
+// Where a range from this serial on begins, once it is one with the last run that begins there or before.
+fn joined_low(lo: u64, found: Option<RunRow>) -> Number
+    requires { lo < 2 ^ 63 }
+    ensures { result ≡ joined_low lo found }
+{
+    match found {
+        Some(run) => {
+            if lo <= run.hi.get() + 1 {
+                run.lo
+            } else {
+                number(lo)
+            }
+        }
+        None => number(lo),
+    }
+}
+
+// Where a range up to this serial ends, once it is one with the last run that begins behind it or before.
+fn joined_high(hi: u64, found: Option<RunRow>) -> Number
+    requires { hi < 2 ^ 63 }
+    ensures { result ≡ joined_high hi found }
+{
+    match found {
+        Some(run) => number(hi.max(run.hi.get())),
+        None => number(hi),
+    }
+}
+
+fn replace<S: Alter>(conn: &mut Connection<S>, run: &RunRow) -> Result<(), Fault>
+    ensures makes { On S.Store (Makes Has (with_joined run.now)) conn.old conn.new result }
+    ensures fault { On S.Store (FailsFor Has (RefusesJoined run.now)) conn.old conn.new result }
+    ensures stays { On S.Store Stays conn.old conn.new result }
+    ensures survives { OutlivesBy S.Store (Waits Has) conn.old conn.new }
+{
+    delete_runs(conn, run)?;
+    insert_run(conn, run)
+}
+
+// Puts the run from this serial on.
+fn put_from<S: Alter>(
+    alloc: Global,
+    conn: &mut Connection<S>,
+    range: SerialRange,
+    lo: Number,
+) -> Result<(), Fault>
+    requires { IsTrue (is_range range) }
+    ensures makes { On S.Store (Makes Has (λ c. with_joined (run_from lo range c) c)) conn.old conn.new result }
+    ensures fault { On S.Store (FailsFor Has (λ c. RefusesJoined (run_from lo range c) c)) conn.old conn.new result }
+    ensures stays { On S.Store Stays conn.old conn.new result }
+    ensures survives { OutlivesBy S.Store (Waits Has) conn.old conn.new }
+{
+    let found = last_run(alloc, conn, number(range.hi + 1))?;
+    let hi = joined_high(range.hi, found);
+    replace(conn, &RunRow { lo, hi })
+}
+
+/// Puts a range among the runs: it and those that it touches or overlaps become one. It reads two runs, however many
+/// there are.
+pub(crate) fn put_range<S: Alter>(
+    alloc: Global,
+    conn: &mut Connection<S>,
+    range: SerialRange,
+) -> Result<(), Fault>
+    requires { IsTrue (is_range range) }
+    ensures makes { On S.Store (Makes Has (with_range range)) conn.old conn.new result }
+    ensures fault { On S.Store (FailsFor Has (RefusesRange range)) conn.old conn.new result }
+    ensures stays { On S.Store Stays conn.old conn.new result }
+    ensures survives { OutlivesBy S.Store (Waits Has) conn.old conn.new }
+{
+    let found = last_run(alloc, conn, number(range.lo))?;
+    put_from(alloc, conn, range, joined_low(range.lo, found))
+}

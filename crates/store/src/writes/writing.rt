@@ -1,0 +1,92 @@
+//! The whole of what was decided.
+
+ghost use Rattle.store_sql.specs.Calls.{Stays};
+ghost use Rattle.store_sql.specs.Honest.{On, OutlivesBy};
+ghost use Rattle.office.specs.Decided.{IsLawfulChange};
+ghost use Rattle.store_sql.specs.Changes.{with_counters, with_request};
+ghost use Rattle.store.specs.Rows.{contents_of};
+ghost use Rattle.store.specs.Transactions.{FailsFor, Has, Makes, Waits};
+ghost use Rattle.store.specs.Changing.{with_change};
+ghost use Rattle.store.specs.Refused.{RefusesDecision, RefusesRecord, RefusesRows};
+ghost use Rattle.store.specs.Due.{IsDue, contents_after};
+
+use crate::rows::number;
+use crate::writes::changing::make;
+use crate::writes::new_rows::{counters_of, request_row};
+use office::{Arrival, Ca, Change, Decision};
+use sqlite::{Alter, Connection};
+use std::alloc::Global;
+use store_sql::{Counters, Fault, Number, RequestRow, insert_request, update_office};
+
+fn record<S: Alter>(
+    conn: &mut Connection<S>,
+    counters: &Counters,
+    request: &RequestRow,
+) -> Result<(), Fault>
+    ensures makes { On S.Store (Makes Has (λ c. with_request request.now (with_counters counters.now c)))
+        conn.old conn.new result }
+    ensures fault { On S.Store (FailsFor Has (RefusesRecord counters.now request.now)) conn.old conn.new result }
+    ensures stays { On S.Store Stays conn.old conn.new result }
+    ensures survives { OutlivesBy S.Store (Waits Has) conn.old conn.new }
+{
+    update_office(conn, counters)?;
+    insert_request(conn, request)
+}
+
+fn write_rows<S: Alter>(
+    alloc: Global,
+    conn: &mut Connection<S>,
+    number: Number,
+    change: &Change,
+    counters: &Counters,
+    request: &RequestRow,
+) -> Result<(), Fault>
+    requires { IsLawfulChange change.now }
+    ensures makes { On S.Store (Makes Has (λ c. with_change number counters.now.next change.now
+        (with_request request.now (with_counters counters.now c)))) conn.old conn.new result }
+    ensures fault { On S.Store (FailsFor Has (RefusesRows number change.now counters.now request.now))
+        conn.old conn.new result }
+    ensures stays { On S.Store Stays conn.old conn.new result }
+    ensures survives { OutlivesBy S.Store (Waits Has) conn.old conn.new }
+{
+    record(conn, counters, request)?;
+    make(alloc, conn, number, counters.next, change)
+}
+
+/// Writes what was decided of an arrival, inside a transaction: the change, the counters and a row for the request.
+/// `cas` are the CAs that are there.
+///
+/// # Errors
+///
+/// `Device`, where the database failed or its rules refuse a row that is due. `NoMemory`, where memory was refused.
+/// `Damaged`, where a counter is 2^63 or more, or a row isn't of the form of its table. Tables that hold the rows of a
+/// lawful state, in which the decision has room, give no `Damaged`.
+pub fn write<S: Alter>(
+    alloc: Global,
+    conn: &mut Connection<S>,
+    arrival: &Arrival,
+    decision: &Decision,
+    cas: &[Ca],
+) -> Result<(), Fault>
+    requires lawful { IsLawfulChange decision.now.change }
+
+    // Of tables that hold the rows of a lawful state those of the state with what was decided come out, and a row for
+    // the arrival; or, with an error, nothing is committed.
+    ensures makes { On S.Store (Makes (IsDue decision.now cas.now) (contents_after decision.now arrival.now))
+        conn.old conn.new result }
+
+    // Of such tables a fault is want of memory, or the database failed, or its rules refuse a row that is due.
+    ensures fault { On S.Store (FailsFor (IsDue decision.now cas.now)
+        (λ x. RefusesDecision decision.now arrival.now cas.now (contents_of x.0 x.1))) conn.old conn.new result }
+    ensures stays { On S.Store Stays conn.old conn.new result }
+
+    // A crash in its midst commits nothing.
+    ensures survives { OutlivesBy S.Store (Waits (IsDue decision.now cas.now)) conn.old conn.new }
+{
+    let Some(counters) = counters_of(decision) else {
+        return Err(Fault::Damaged);
+    };
+    let request = request_row(alloc, arrival, &decision.reply)?;
+    let number = number(cas.len() as u64 + 1);
+    write_rows(alloc, conn, number, &decision.change, &counters, &request)
+}

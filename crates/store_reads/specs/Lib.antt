@@ -1,4 +1,0 @@
-pub mod Histories
-pub mod Finding
-pub mod RunRows
-pub mod Concerning

@@ -1,5 +1,0 @@
-use Rattle.store_rows.proofs.CertRows.{reads_certificate}
-use Rattle.store_rows.proofs.cert_rows.read_certificate.Goals as goal
-
-pub returns-clause-again : goal.returns-clause-again
-returns-clause-again c = reads_certificate c.args.row.now c.certificate_in.result c.certificate_in.ensures.exact

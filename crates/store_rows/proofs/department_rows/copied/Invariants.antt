@@ -1,5 +1,0 @@
-use Rattle.std.proofs.Common.{◌≡◌, map, take}
-use Rattle.store_rows.proofs.department_rows.copied.Given as goal
-
-abbrev pub invariant-loop-piece : goal.invariant-loop-piece
-invariant-loop-piece l = l.texts ≡ map (λ x. x.now) (take l.piece-index l.pieces)

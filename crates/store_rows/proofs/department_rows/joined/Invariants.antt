@@ -1,7 +1,0 @@
-use Rattle.std.proofs.Common.{◌≡◌, ◌++◌, drop}
-use Rattle.store_rows.specs.Rows.{joined}
-use Rattle.store_rows.proofs.DepartmentRows.{following}
-use Rattle.store_rows.proofs.department_rows.joined.Given as goal
-
-abbrev pub invariant-loop-text : goal.invariant-loop-text
-invariant-loop-text l = l.bytes.items ++ following (drop l.text-index l.rest) ≡ joined l.texts

@@ -1,9 +1,0 @@
-pub mod Faults
-pub mod Reading
-pub mod Departments
-pub mod Certificates
-pub mod Lawful
-pub mod Offices
-pub mod Rows
-pub mod Transactions
-pub mod Showing

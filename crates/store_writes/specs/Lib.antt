@@ -1,4 +1,0 @@
-pub mod Ranges
-pub mod Changing
-pub mod Due
-pub mod Refused
