@@ -4,6 +4,11 @@ import os
 import re
 
 CLAUSE = re.compile(r"(?:requires|ensures)(?:\s*\*)?(?:\s+\w+)?\s*\{|ghost\s+\w+\s*:\s*\{")
+HOLE = """use Rattle.{crate}.proofs.{path}.Statement.{{statement}}
+
+pub {name}_spec : {{M : Type 1}} → statement M
+{name}_spec = ?
+"""
 TYPE = re.compile(r"\b(?:struct|enum|union)\s+(\w+)")
 ITEM = re.compile(r"\b(?:fn\s+(?P<fn>\w+)|impl\b(?P<impl>[^{;]*)|const\s+(?P<const>\w+)\s*:)")
 
@@ -202,6 +207,21 @@ class Sources:
             functions = [it for it in self.items[path] if not it.is_constant]
             users += [it.name for it in functions if re.search(rf"\b{constant}\b", text[it.start : it.end])]
         return users
+
+    def holes(self, crate, functions):
+        """The proof files of all other functions than these, with a hole in place of each proof, and None for each file
+        that has to go. A check that allows holes takes such a function by its contract, and doesn't prove it."""
+        texts = {}
+        for path, text in self.blank.items():
+            # A cycle of calls has one proof, which stands elsewhere.
+            for item in self.items[path] if "#[cycle" not in text else []:
+                if item.is_constant or item.name in functions:
+                    continue
+                names = item.name.split("::")
+                folder = f"proofs/{'/'.join(names)}"
+                texts |= dict.fromkeys((f"{folder}/Answers.antt", f"{folder}/Invariants.antt"))
+                texts[f"{folder}/Proof.antt"] = HOLE.format(crate=crate, path=".".join(names), name=names[-1])
+        return texts
 
     def edited(self, edits):
         """A copy of the crate in which these edits are: the texts of its files, the functions that each edit changes

@@ -43,8 +43,8 @@ def load():
 
 
 def read_once(kind):
-    """Has the stamp of a crate read the files of each crate below once. The toolchain's own reads them once for each way
-    that leads down to that crate, and of these there are thousands."""
+    """Has the stamp of a crate read the files of each crate below once. The toolchain's own reads them once for each
+    way that leads down to that crate, and of these there are thousands."""
     stamp, known = kind.stamp, threading.local()
 
     def stamped(crate):
@@ -62,15 +62,20 @@ def read_once(kind):
 
 
 def checked(rt, crate, texts, flags, kept):
-    """Checks a copy of the crate with these texts in place of its own or beside them, over what earlier checks kept."""
+    """Checks a copy of the crate with these texts in place of its own or beside them, over what earlier checks kept. A
+    file whose text is None isn't in the copy."""
     with tempfile.TemporaryDirectory(prefix=f"wrong-{os.getpid()}-") as room:
         for part in rt.rtlib.PARTS:
             if os.path.isdir(f"{crate.folder}/{part}"):
                 shutil.copytree(f"{crate.folder}/{part}", f"{room}/{part}")
         for path, text in texts.items():
-            os.makedirs(os.path.dirname(f"{room}/{path}"), exist_ok=True)
-            with open(f"{room}/{path}", "w", encoding="utf-8") as it:
-                it.write(text)
+            file = f"{room}/{path}"
+            if text is not None:
+                os.makedirs(os.path.dirname(file), exist_ok=True)
+                with open(file, "w", encoding="utf-8") as it:
+                    it.write(text)
+            elif os.path.exists(file):
+                os.remove(file)
         words = [rt.rtlib.RATTLE, "check", *crate.words(flags, keeps=False), "--incremental", kept]
         how = {"cwd": room, "stdin": subprocess.DEVNULL, "stdout": subprocess.PIPE, "stderr": subprocess.STDOUT}
         return subprocess.run([*rt.rtlib.guarded(), *words], text=True, errors="replace", **how)
