@@ -4,6 +4,7 @@ import os
 import re
 
 ERROR = re.compile(r"^(?:\./)?proofs/(\S+?\.antt):\d+:\d+: error: (.*)$", re.M)
+STANDS_ON = re.compile(r"it stands on ((?:`[^`]+`,? ?)+)which antt refuses")
 DEPENDS = re.compile(r"declarations? that depends? on `([^`]+)`, which was [^:]*: (.*)$")
 
 
@@ -50,6 +51,17 @@ class Lemmas:
         words = set(re.findall(r"\w+", found[0])) if found else set()
         own = re.findall(r"(?m)^(\w+) = (\w+)\.now$", text)
         return words | {constant for alias, constant in own if alias in words}
+
+    def stood_on(self, line, constant, others):
+        """The lemma that a function's line names as refused, and that speaks of this constant and of no other that was
+        changed."""
+        found = STANDS_ON.search(line)
+        for name in re.findall(r"`([^`]+)`", found[1]) if found else []:
+            *module, lemma = name.removeprefix(f"Rattle.{self.name}.proofs.").split(".")
+            words = self.speaks_of("/".join(module) + ".antt", lemma)
+            if constant in words and not words & others:
+                return f"it stands on `{name}`, which antt refuses"
+        return None
 
     def failed_for(self, folder, constant, others):
         """The complaint of a lemma that speaks of this constant and of no other that was changed, and on which a proof in
