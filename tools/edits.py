@@ -180,6 +180,15 @@ class Sources:
         around = [it for it in self.items[pair.path] if it.holds(start, end)]
         return min(around, key=lambda it: it.end - it.start) if around else None
 
+    def lines_of_head(self, function):
+        """The file of a function, and the numbers of its lines from its first attribute to the brace of its body."""
+        for path, items in self.items.items():
+            for it in items:
+                if it.name == function and not it.is_constant:
+                    first, last = (self.blank[path].count("\n", 0, at) + 1 for at in (it.head, it.start))
+                    return path, range(first, last + 1)
+        return None, range(0)
+
     def changed(self, edit):
         """The names of the functions whose bodies an edit changes, of which each that names a changed constant is one.
         There are none where it changes something else."""
