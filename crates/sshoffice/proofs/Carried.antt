@@ -11,7 +11,7 @@ use Rattle.exchanges.specs.declared.running.RunFault.TheVariants as run
 use Rattle.store.specs.Transactions.{IsAsBefore}
 use Rattle.store.specs.Migrating.{IsExcused}
 use Rattle.store.specs.Meaning.{DiskFailed}
-use Rattle.sshoffice.specs.Headline.{OfficePrints, OfficeRuns}
+use Rattle.headline.specs.Headline.{OfficePrints, OfficeRuns}
 use Rattle.sshoffice.specs.declared.job_fault.JobFault.{JobFault}
 use Rattle.sshoffice.specs.Faults.{of_store, run_result}
 use Rattle.sshoffice.specs.Opening.{IsLeft, IsOpened, IsUnopened, TellsOn}

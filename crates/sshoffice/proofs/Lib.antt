@@ -5,11 +5,9 @@ pub mod Bodies
 pub mod Carried
 pub mod Causes
 pub mod Ended
-pub mod Listed
 pub mod Made
 pub mod Meeting
 pub mod Printed
 pub mod Reported
-pub mod Stored
 pub mod Telling
 pub mod Told

@@ -10,9 +10,9 @@ use Rattle.office.specs.declared.store_fault.StoreFault.TheVariants as store
 use Rattle.office.specs.Faults.{IsOfARegister}
 use Rattle.store.specs.Transactions.{IsAsBefore}
 use Rattle.store.specs.Meaning.{Stores, Tells}
-use Rattle.sshoffice.specs.declared.publish_fault.PublishFault.{PublishFault}
-use Rattle.sshoffice.specs.declared.publish_fault.PublishFault.TheVariants as publish
-use Rattle.sshoffice.specs.Headline.{IfFound, IsList, OfStore}
+use Rattle.headline.specs.declared.publish_fault.PublishFault.{PublishFault}
+use Rattle.headline.specs.declared.publish_fault.PublishFault.TheVariants as publish
+use Rattle.headline.specs.Headline.{IfFound, IsList, OfStore}
 use Rattle.sshoffice.specs.declared.job_fault.JobFault.{JobFault}
 use Rattle.sshoffice.specs.declared.job_fault.JobFault.TheVariants.{NoMemory, Store, Write}
 use Rattle.sshoffice.specs.declared.reporting.Report.{Report}

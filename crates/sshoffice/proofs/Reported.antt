@@ -12,7 +12,7 @@ use Rattle.office.specs.declared.store_fault.StoreFault.TheVariants as store
 use Rattle.office.specs.History.{state}
 use Rattle.store.specs.Meaning.{Stores, Tells}
 use Rattle.web.specs.Answers.{Answers, IsOfTheRegister, answer_text, with_ask}
-use Rattle.sshoffice.specs.Headline.{OfficeAnswers}
+use Rattle.headline.specs.Headline.{OfficeAnswers}
 use Rattle.sshoffice.specs.declared.job_fault.JobFault.{JobFault}
 use Rattle.sshoffice.specs.declared.job_fault.JobFault.TheVariants.{Write}
 use Rattle.sshoffice.specs.declared.reporting.Report.{Report}

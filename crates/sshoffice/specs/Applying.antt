@@ -4,7 +4,7 @@ use Rattle.sqlite.specs.State.{State}
 use Rattle.office.specs.declared.store_fault.StoreFault.TheVariants as store
 use Rattle.web.specs.declared.exchange.Exchange.{Exchange}
 use Rattle.store.specs.Transactions.{IsAsBefore}
-use Rattle.sshoffice.specs.Headline.{OfficePrints, OfficeRuns}
+use Rattle.headline.specs.Headline.{OfficePrints, OfficeRuns}
 use Rattle.sshoffice.specs.declared.job_fault.JobFault.{JobFault}
 use Rattle.sshoffice.specs.declared.job_fault.JobFault.TheVariants.{Fault, NoMemory, Store, Write}
 use Rattle.sshoffice.specs.Opening.{IsLeft, IsUnopened}

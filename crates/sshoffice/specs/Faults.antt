@@ -16,8 +16,8 @@ use Rattle.exchanges.specs.declared.exchange_reader.ExchangesFault.{ExchangesFau
 use Rattle.exchanges.specs.declared.exchange_reader.ExchangesFault.TheVariants as exchanges
 use Rattle.exchanges.specs.declared.running.RunFault.{RunFault}
 use Rattle.exchanges.specs.declared.running.RunFault.TheVariants as run
-use Rattle.sshoffice.specs.declared.publish_fault.PublishFault.{PublishFault}
-use Rattle.sshoffice.specs.declared.publish_fault.PublishFault.TheVariants as publish
+use Rattle.headline.specs.declared.publish_fault.PublishFault.{PublishFault}
+use Rattle.headline.specs.declared.publish_fault.PublishFault.TheVariants as publish
 use Rattle.sshoffice.specs.declared.job_fault.JobFault.{JobFault}
 use Rattle.sshoffice.specs.declared.job_fault.JobFault.TheVariants.{File, Write, Socket, Connection, Mismatch, NoMemory}
 use Rattle.sshoffice.specs.declared.job_fault.JobFault.TheVariants.{BadExchange, Line, List, Opening, Store, Fault}

@@ -1,4 +1,3 @@
-pub mod Headline
 pub mod Faults
 pub mod Opening
 pub mod Applying

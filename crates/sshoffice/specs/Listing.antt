@@ -7,7 +7,7 @@ use Rattle.office.specs.declared.arrival.Arrival.{Arrival}
 use Rattle.office.specs.declared.store_fault.StoreFault.TheVariants as store
 use Rattle.store.specs.Transactions.{IsAsBefore}
 use Rattle.store.specs.Meaning.{Stores, Tells}
-use Rattle.sshoffice.specs.Headline.{IsList}
+use Rattle.headline.specs.Headline.{IsList}
 use Rattle.sshoffice.specs.declared.job_fault.JobFault.{JobFault}
 use Rattle.sshoffice.specs.declared.job_fault.JobFault.TheVariants.{NoMemory, Store, Write}
 use Rattle.sshoffice.specs.Opening.{IsLeft}

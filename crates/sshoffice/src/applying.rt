@@ -8,11 +8,11 @@ ghost use Rattle.sshoffice.specs.Trial.{AppliesToTrial};
 ghost use Rattle.store_sql.specs.Honest.{IsOutside, IsUnlimited, On};
 
 use crate::file_reader::read_exchanges_from;
-use crate::headline::replay;
 use crate::job_fault::JobFault;
 use crate::opening::open_office;
 use crate::trial::trial_office;
 use exchanges::{RunFault, apply_exchanges};
+use headline::replay;
 use sqlite::{Alter, Connection};
 use std::alloc::Global;
 use std::io::{Read, Write};

@@ -1,7 +1,7 @@
 //! Why a job was not done.
 
-use crate::publish_fault::PublishFault;
 use exchanges::{ExchangesFault, RunFault};
+use headline::PublishFault;
 use krl::KrlFault;
 use lines::LineFault;
 use office::{OpeningFault, StoreFault};

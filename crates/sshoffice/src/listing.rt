@@ -5,11 +5,10 @@ ghost use Rattle.sshoffice.specs.Faults.{publish_result};
 ghost use Rattle.sshoffice.specs.Listing.{Lists};
 ghost use Rattle.store_sql.specs.Honest.{IsOutside, IsUnlimited, On};
 
-use crate::headline::publish;
 use crate::job::Done;
 use crate::job_fault::JobFault;
 use crate::opening::open_office;
-use crate::publish_fault::PublishFault;
+use headline::{PublishFault, publish};
 use sqlite::{Alter, Connection};
 use std::alloc::Global;
 use std::io::Write;

@@ -9,10 +9,10 @@ ghost use Rattle.exchanges.specs.Reading.{after, cut_of};
 ghost use Rattle.sshoffice.specs.Reporting.{Reports, resource_of};
 ghost use Rattle.store_sql.specs.Honest.{IsOutside, IsUnlimited, On, StaysClean};
 
-use crate::headline::respond;
 use crate::job_fault::JobFault;
 use crate::opening::open_office;
 use crate::output::write_out;
+use headline::respond;
 use office::StoreFault;
 use sqlite::{Alter, Connection};
 use std::alloc::Global;

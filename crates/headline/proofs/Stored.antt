@@ -11,8 +11,8 @@ use Rattle.web.specs.declared.exchange.Given.{Given}
 use Rattle.web.specs.Answers.{IsAnswered}
 use Rattle.web.specs.Runs.{Serves}
 use Rattle.exchanges.specs.Printing.{AreRun, Prints}
-use Rattle.sshoffice.proofs.Listed.{AsksOneThing, ListsAreExact, in_run}
-use Rattle.sshoffice.specs.Headline.{OfficeAnswers, OfficePrints, OfficeRuns}
+use Rattle.headline.proofs.Listed.{AsksOneThing, ListsAreExact, in_run}
+use Rattle.headline.specs.Headline.{OfficeAnswers, OfficePrints, OfficeRuns}
 
 -- tables that tell a history and are open
 abbrev pub AreOpen : State → Opening → List Arrival → Type 0

@@ -1,8 +1,8 @@
 use Rattle.sqlite.specs.Held.{state}
 use Rattle.store.specs.Meaning.{Tells}
-use Rattle.sshoffice.proofs.Listed.{responded}
-use Rattle.sshoffice.proofs.Stored.{AreOpen, answers}
-use Rattle.sshoffice.proofs.headline.respond.Goals as goal
+use Rattle.headline.proofs.Listed.{responded}
+use Rattle.headline.proofs.Stored.{AreOpen, answers}
+use Rattle.headline.proofs.respond.Goals as goal
 
 pub returns-clause-answered : goal.returns-clause-answered
 returns-clause-answered g c honest =

@@ -2,8 +2,8 @@ use Rattle.std.proofs.Common.{length}
 use Rattle.sqlite.specs.Held.{state}
 use Rattle.store.specs.Meaning.{Tells}
 use Rattle.web.proofs.Lists.{few_parts}
-use Rattle.sshoffice.proofs.Listed.{listed, unwritten_only}
-use Rattle.sshoffice.proofs.headline.publish.Goals as goal
+use Rattle.headline.proofs.Listed.{listed, unwritten_only}
+use Rattle.headline.proofs.publish.Goals as goal
 
 pub returns-clause-list : goal.returns-clause-list
 returns-clause-list g c honest =

@@ -34,8 +34,8 @@ use Rattle.web.specs.Causes.{StopsAt}
 use Rattle.exchanges.specs.declared.running.RunFault.{RunFault}
 use Rattle.exchanges.specs.declared.running.RunFault.TheVariants as run
 use Rattle.exchanges.specs.Printing.{AreRun, Prints}
-use Rattle.sshoffice.specs.declared.publish_fault.PublishFault.{PublishFault}
-use Rattle.sshoffice.specs.declared.publish_fault.PublishFault.TheVariants.{Store, Write}
+use Rattle.headline.specs.declared.publish_fault.PublishFault.{PublishFault}
+use Rattle.headline.specs.declared.publish_fault.PublishFault.TheVariants.{Store, Write}
 
 -- ---- serials and bodies, after every history
 

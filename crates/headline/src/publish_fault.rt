@@ -14,7 +14,7 @@ pub enum PublishFault {
 
 impl From<StoreFault> for PublishFault {
     ghost use Rattle.std.specs.Prelude.{◌≡◌};
-    ghost use Rattle.sshoffice.specs.declared.publish_fault.PublishFault.TheVariants.{Store};
+    ghost use Rattle.headline.specs.declared.publish_fault.PublishFault.TheVariants.{Store};
 
     ghost from_gives = { λ fault e. e ≡ Store fault };
 

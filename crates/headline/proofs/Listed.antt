@@ -23,9 +23,9 @@ use Rattle.web.specs.Answers.{IsAnswered, ListFits, MayList, answer_text, with_a
 use Rattle.web.specs.Runs.{AllDue}
 use Rattle.web.specs.Causes.{IsOfAList}
 use Rattle.web.proofs.Lists.{list_only}
-use Rattle.sshoffice.specs.declared.publish_fault.PublishFault.{PublishFault}
-use Rattle.sshoffice.specs.declared.publish_fault.PublishFault.TheVariants.{Store, Write}
-use Rattle.sshoffice.specs.Headline.{AreExactLists, IsList, IsListResponse, OfStore, list_bytes}
+use Rattle.headline.specs.declared.publish_fault.PublishFault.{PublishFault}
+use Rattle.headline.specs.declared.publish_fault.PublishFault.TheVariants.{Store, Write}
+use Rattle.headline.specs.Headline.{AreExactLists, IsList, IsListResponse, OfStore, list_bytes}
 
 -- each list that fits is exact
 abbrev pub ListsAreExact : Type 0

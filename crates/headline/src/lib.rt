@@ -7,6 +7,9 @@
 //! request whose bytes alone are refused asks nothing of the tables.
 //!
 //! The clauses are asked of a disk that has returned what was written, as the call ends.
+#![tactic(auto)]
+
+mod publish_fault;
 
 ghost use Rattle.std.specs.Prelude.{◌≡◌, ◌≢◌, ◌⊎◌, ◌<◌, ◌+◌, ℕ, List, length, Err, IfErr, IsTrue, OnOk, if◌then◌else◌};
 ghost use Rattle.std.specs.Io.KnownBytes.{Appends};
@@ -20,16 +23,17 @@ ghost use Rattle.office.specs.Faults.{HasCause};
 ghost use Rattle.store.specs.Meaning.{HasFailed, KeepsTelling, StoresWhereOpen};
 ghost use Rattle.web.specs.Causes.{IsOfAList};
 ghost use Rattle.office_laws.specs.Counting.{CountsUp};
-ghost use Rattle.sshoffice.specs.Headline.{AnswersDue, AnswersList, BodiesNameTheirSigners, BodiesStay};
-ghost use Rattle.sshoffice.specs.Headline.{EqualVersionsAreEqualLists, FailsAsRegister, IsAsBeforeWhereOpen};
-ghost use Rattle.sshoffice.specs.Headline.{KeepsTellingOnErr, ListsForgetNothing, OfStore, OfficeStops, PrintsDue};
-ghost use Rattle.sshoffice.specs.Headline.{PrintsWithFaults, PublishFailsAsRegister, RunsUnprinted, StoresWhereFound};
-ghost use Rattle.sshoffice.specs.Headline.{WritesList, is_write};
+ghost use Rattle.headline.specs.Headline.{AnswersDue, AnswersList, BodiesNameTheirSigners, BodiesStay};
+ghost use Rattle.headline.specs.Headline.{EqualVersionsAreEqualLists, FailsAsRegister, IsAsBeforeWhereOpen};
+ghost use Rattle.headline.specs.Headline.{KeepsTellingOnErr, ListsForgetNothing, OfStore, OfficeStops, PrintsDue};
+ghost use Rattle.headline.specs.Headline.{PrintsWithFaults, PublishFailsAsRegister, RunsUnprinted, StoresWhereFound};
+ghost use Rattle.headline.specs.Headline.{WritesList, is_write};
 
-use crate::publish_fault::PublishFault;
-use exchanges::{RunFault, apply_exchanges};
+pub use exchanges::RunFault;
+use exchanges::apply_exchanges;
 use krl::{krl_len, write_krl};
 use office::{MOST_CAS, Registry, Revoked, StoreFault};
+pub use publish_fault::PublishFault;
 use sqlite::Alter;
 use std::alloc::Global;
 use std::io::Write;

@@ -1,6 +1,6 @@
 use Rattle.sqlite.specs.Held.{state}
-use Rattle.sshoffice.proofs.Stored.{prints, prints_ok, runs}
-use Rattle.sshoffice.proofs.headline.replay.Goals as goal
+use Rattle.headline.proofs.Stored.{prints, prints_ok, runs}
+use Rattle.headline.proofs.replay.Goals as goal
 
 pub returns-clause-ok : goal.returns-clause-ok
 returns-clause-ok g c honest =
