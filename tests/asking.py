@@ -1,0 +1,193 @@
+"""What callers ask an office: the texts of messages, the bytes of requests, and files of exchanges."""
+import base64
+import collections
+import random
+import time
+
+LATEST = 253402300799
+LAST_SERIAL = 2 ** 63 - 2
+CERTIFICATE_NAME = b"ssh-ed25519-cert-v01@openssh.com"
+
+
+# ---- keys and signatures
+
+def string(data):
+    """A string of RFC 4251: its length in four bytes, and then its bytes."""
+    return len(data).to_bytes(4, "big") + data
+
+
+def key_blob(key):
+    """The blob of an Ed25519 key of these 32 bytes, or of 32 times one byte."""
+    return string(b"ssh-ed25519") + string(bytes([key]) * 32 if isinstance(key, int) else key)
+
+
+def key_line(key, comment=None):
+    """The public line of a key of these 32 bytes, or of 32 times one byte."""
+    line = f"ssh-ed25519 {base64.b64encode(key_blob(key)).decode()}"
+    return line if comment is None else f"{line} {comment}"
+
+
+def signature_blob(signature=0x44):
+    """The blob of a signature of these 64 bytes, or of 64 times one byte, in base64."""
+    signature = bytes([signature]) * 64 if isinstance(signature, int) else signature
+    return base64.b64encode(string(b"ssh-ed25519") + string(signature)).decode()
+
+
+# The CA and the subject of the worked rows. Nobody has the private halves.
+CA, OTHER_CA, KEY = key_line(0x11), key_line(0x12), key_line(0x22)
+
+
+# ---- messages
+
+def joined(some):
+    """A list as a message has it: a text as it stands, or texts with commas between them."""
+    return some if isinstance(some, str) else ",".join(some)
+
+
+def line_of(word, some):
+    """A line of a list; that of an empty list is the word alone."""
+    return f"{word} {joined(some)}".rstrip(" ") + "\n"
+
+
+def department(name="web", *, kind="user", admins="ana", principals="alice", options=(), extensions=(), maxlife=86400,
+               namespaces=()):
+    return (f"department {name}\nkind {kind}\n" + line_of("admins", admins) + line_of("principals", principals)
+            + line_of("options", options) + line_of("extensions", extensions) + f"maxlife {maxlife}\n"
+            + line_of("namespaces", namespaces))
+
+
+def lasting(seconds, since=-60):
+    """The validity of a certificate from a minute ago on, for so many seconds from now, as `after` and `before`."""
+    now = int(time.time())
+    return {"after": now + since, "before": now + seconds}
+
+
+def issue(keyid="web/alice", *, department=None, key=KEY, principals="alice", after=4102400000, before=4102444800,
+          options=(), extensions=()):
+    """An issue of the key id's department. An option is a text, such as `force-command /bin/true`."""
+    lines = "".join(f"option {it}\n" for it in options)
+    return (f"issue {department or keyid.partition('/')[0]}\nkeyid {keyid}\nkey {key}\n"
+            + line_of("principals", principals) + f"after {after}\nbefore {before}\n{lines}"
+            + line_of("extensions", extensions))
+
+
+def renew(serial=1, *, after=4102400000, before=4102444800):
+    return f"renew {serial}\nafter {after}\nbefore {before}\n"
+
+
+def deliver(serial, digest, signature=0x44):
+    """A delivery of a signature of these 64 bytes, or of 64 times one byte. An office looks at no signature."""
+    return f"deliver {serial}\ndigest {digest}\nsignature {signature_blob(signature)}\n"
+
+
+def revoke_serial(serial):
+    return f"revoke-serial {serial}\n"
+
+
+def revoke_range(first, last):
+    return f"revoke-range {first} {last}\n"
+
+
+def revoke_keyid(keyid):
+    return f"revoke-keyid {keyid}\n"
+
+
+def rollover(key=OTHER_CA):
+    return f"rollover {key}\n"
+
+
+# ---- requests and responses
+
+def as_bytes(text):
+    return text.encode() if isinstance(text, str) else text
+
+
+def post(caller, key, message):
+    """The request that posts a message of a caller under a request key."""
+    message = as_bytes(message)
+    return (f"POST /v1/callers/{caller}/requests/{key} HTTP/1.1\r\ncontent-length: {len(message)}\r\n\r\n".encode()
+            + message)
+
+
+def get(path, method="GET"):
+    """The request for a page, by its whole path, such as `/v1/krl`."""
+    return as_bytes(method) + b" " + as_bytes(path) + b" HTTP/1.1\r\n\r\n"
+
+
+class Response(bytes):
+    """The bytes of a response, or none where nothing came."""
+
+    @property
+    def bytes(self):
+        return bytes(self)
+
+    @property
+    def status(self):
+        """The number in its first line, or None."""
+        words = self.split(b" ", 2)
+        return int(words[1]) if len(words) == 3 and words[0] == b"HTTP/1.1" else None
+
+    @property
+    def head(self):
+        return self.partition(b"\r\n\r\n")[0]
+
+    @property
+    def body(self):
+        return self.partition(b"\r\n\r\n")[2]
+
+    @property
+    def text(self):
+        return self.body.decode()
+
+
+# ---- exchange files
+
+# A request with the moment and the nonce that come with it.
+Exchange = collections.namedtuple("Exchange", "request moment nonce")
+
+
+def exchange(request, moment=1, nonce=None):
+    """An exchange of these bytes; each has a nonce of its own, if none is given. A nonce may be 32 times one byte."""
+    nonce = random.randbytes(32) if nonce is None else bytes([nonce]) * 32 if isinstance(nonce, int) else nonce
+    return Exchange(as_bytes(request), moment, nonce)
+
+
+def record(request, moment=1, nonce=None):
+    """The bytes of a record of an exchange file."""
+    one = exchange(request, moment, nonce)
+    return f"exchange {one.moment} {one.nonce.hex()} {len(one.request)}\n".encode() + one.request
+
+
+def write_exchanges(path, exchanges):
+    """Writes an exchange file of requests, or of requests with their moments and nonces. Returns the path."""
+    with open(path, "wb") as file:
+        for one in exchanges:
+            file.write(record(one) if isinstance(one, (bytes, str)) else record(*one))
+    return path
+
+
+def exchanges_of(file):
+    """The exchanges of an exchange file's bytes."""
+    found = []
+    while file:
+        line, _, rest = file.partition(b"\n")
+        word, moment, nonce, length = line.split(b" ")
+        assert word == b"exchange", f"no record: {line!r}"
+        found.append(Exchange(rest[:int(length)], int(moment), bytes.fromhex(nonce.decode())))
+        file = rest[int(length):]
+    return found
+
+
+def answers(printed):
+    """What `apply` printed, cut into a response for each exchange; None is a fault."""
+    found = []
+    while printed:
+        line, _, printed = printed.partition(b"\n")
+        if line == b"fault":
+            found.append(None)
+            continue
+        word, length = line.split(b" ")
+        assert word == b"answer" and len(printed) >= int(length), f"no answer: {line!r}"
+        found.append(Response(printed[:int(length)]))
+        printed = printed[int(length):]
+    return found

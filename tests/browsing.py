@@ -1,0 +1,72 @@
+"""Chromium, and a relay that gives it a client's certificate."""
+import contextlib
+import http.server
+import os
+import threading
+
+from selenium import webdriver
+from selenium.webdriver.chrome.service import Service
+
+# nginx gives these itself, or they belong to one connection.
+OWN_LINES = ("connection", "content-length", "transfer-encoding", "date", "server")
+
+
+def new_browser(folder):
+    """Headless Chromium with a profile of its own in the folder."""
+    options = webdriver.ChromeOptions()
+    options.binary_location = "/usr/bin/chromium"
+    for word in ("--headless=new", "--no-sandbox", "--disable-gpu", "--disable-dev-shm-usage", "--no-first-run",
+                 "--disable-background-networking", "--disable-component-update", "--hide-scrollbars",
+                 f"--user-data-dir={folder}/browser"):
+        options.add_argument(word)
+    options.set_capability("goog:loggingPrefs", {"browser": "ALL"})
+    service = Service("/usr/bin/chromedriver", env=os.environ | {"HOME": str(folder), "LANG": "C.UTF-8"})
+    return webdriver.Chrome(service=service, options=options)
+
+
+class Relay(http.server.ThreadingHTTPServer):
+    """Carries a browser's requests to a front with a client's certificate, since a browser takes one by hand alone.
+
+    `asked` has the requests, and `instead` the answers that the relay gives itself, by path: a status, or 0 for none,
+    and a body. `session` is the client's; another one may be put in its place."""
+    daemon_threads = True
+
+    def __init__(self, front, name):
+        self.front, self.asked, self.instead = front, [], {}
+        self.session = front.session(name)
+        super().__init__(("127.0.0.1", 0), Carrier)
+        self.port = self.server_address[1]
+        self.url = f"http://127.0.0.1:{self.port}"
+        threading.Thread(target=self.serve_forever, daemon=True).start()
+
+    def end(self):
+        self.shutdown()
+        self.server_close()
+
+
+class Carrier(http.server.BaseHTTPRequestHandler):
+    def log_message(self, *_):
+        pass
+
+    def do_GET(self):
+        relay = self.server
+        if self.path in relay.instead:
+            status, body = relay.instead[self.path]
+            lines = {"Content-Type": "text/plain"}
+        else:
+            answer = relay.session.get(relay.front.url + self.path, timeout=60)
+            status, lines, body = answer.status_code, answer.headers, answer.content
+        with contextlib.suppress(OSError):
+            if status:
+                self.send_response(status)
+                for name, value in lines.items():
+                    if name.lower() not in OWN_LINES:
+                        self.send_header(name, value)
+                self.send_header("Content-Length", str(len(body)))
+                self.end_headers()
+                self.wfile.write(body)
+        relay.asked.append((self.command, self.path, status))
+
+    def do_POST(self):
+        self.server.asked.append((self.command, self.path, None))
+        self.send_error(501)

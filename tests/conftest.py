@@ -1,0 +1,156 @@
+"""The fixtures of the tests. tests/README.md says what each is."""
+import functools
+import os
+import pathlib
+import signal
+
+import pytest
+
+from asking import CA
+from browsing import Relay, new_browser
+from differences import difference
+from fronts import Front, Station, new_authority
+from running import TOP, Office, Programs
+
+
+def pytest_addoption(parser):
+    group = parser.getgroup("office")
+    group.addoption("--program", metavar="PATH", type=pathlib.Path, default=TOP / "crates/sshoffice/out/sshoffice",
+                    help="the sshoffice to test")
+    group.addoption("--krl-tool", metavar="PATH", type=pathlib.Path, default=TOP / "crates/krl_tool/out/krl_tool",
+                    help="the krl_tool to test")
+    group.addoption("--counts", action="store_true", help="end with the lines of counts that ./check reads")
+
+
+def pytest_configure(config):
+    os.environ["PATH"] += ":/usr/sbin:/sbin"
+    os.environ["TZ"] = "UTC"
+    # Whoever ends pytest ends what the tests have begun as well.
+    signal.signal(signal.SIGTERM, signal.default_int_handler)
+
+
+def pytest_unconfigure(config):
+    """Prints how many tests passed and failed. One that was skipped has failed, unless this machine can't run it."""
+    reporter = config.pluginmanager.get_plugin("terminalreporter")
+    if not config.getoption("--counts") or reporter is None or hasattr(config, "workerinput"):
+        return
+    passed = reporter.stats.get("passed", [])
+    skipped = [it for it in reporter.stats.get("skipped", []) if "left out: " not in str(it.longrepr)]
+    failed = sum(len(reporter.stats.get(it, [])) for it in ("failed", "error")) + len(skipped)
+    print(f"{sum('rows' in it.keywords for it in passed)} worked rows")
+    print(f"{len(passed)} passed, {failed} failed", flush=True)
+
+
+def pytest_collection_modifyitems(items):
+    """Marks tests by what they use, and leaves out what only root can run."""
+    for item in items:
+        for name in ("front", "browser"):
+            if {name, f"make_{name}"} & {*getattr(item, "fixturenames", ())}:
+                item.add_marker(name)
+        if item.get_closest_marker("root") and os.getuid():
+            item.add_marker(pytest.mark.skip(reason="left out: root alone can run it"))
+
+
+def pytest_assertrepr_compare(op, left, right):
+    """Says of two values where they differ, which for long bytes is shorter than both."""
+    if op == "==":
+        return ["the values differ", *list(difference(left, right))[:40]]
+    return None
+
+
+def built(path):
+    if not os.access(path, os.X_OK):
+        pytest.fail(f"{path} isn't there: ./build makes the program", pytrace=False)
+    return path.resolve()
+
+
+@pytest.fixture(scope="session")
+def program(request):
+    return built(request.config.getoption("--program"))
+
+
+@pytest.fixture(scope="session")
+def krl_tool(request):
+    return built(request.config.getoption("--krl-tool"))
+
+
+@pytest.fixture
+def room(tmp_path, monkeypatch):
+    monkeypatch.chdir(tmp_path)
+    return tmp_path
+
+
+@pytest.fixture
+def programs():
+    begun = Programs()
+    yield begun
+    begun.end_all()
+
+
+@pytest.fixture
+def make_office(program, room):
+    return functools.partial(Office, program)
+
+
+@pytest.fixture
+def office(make_office):
+    return make_office()
+
+
+@pytest.fixture
+def rows_office(make_office):
+    """An office under the CA of the worked rows."""
+    return make_office(ca=CA)
+
+
+@pytest.fixture
+def served(office):
+    with office.serving() as made:
+        yield made
+
+
+@pytest.fixture(scope="session")
+def authority(tmp_path_factory):
+    """The folder of a front's authority with its clients' certificates, of which each front gets a copy."""
+    return new_authority(tmp_path_factory.mktemp("authority") / "front")
+
+
+@pytest.fixture
+def make_front(programs, authority, room):
+    """Makes fronts: `make_front(port)` sets nginx before what listens at this port."""
+    numbers = iter(range(100))
+    return lambda port, **options: Front(programs, room / f"front{next(numbers) or ''}", authority, port, **options)
+
+
+@pytest.fixture
+def front(served, make_front):
+    made = make_front(served.port)
+    made.served, made.office = served, served.office
+    return made
+
+
+@pytest.fixture
+def station(front, room):
+    return Station(room / "station", front.url, front.office.ca_key, front.certificate("station"),
+                   front.authority / "ca.crt")
+
+
+@pytest.fixture
+def browser(room):
+    made = new_browser(room)
+    yield made
+    made.quit()
+
+
+@pytest.fixture
+def make_relay():
+    """Makes relays: `make_relay(front, "watch")` has a URL that asks the front with this client's certificate."""
+    made = []
+
+    def make(front, name):
+        made.append(Relay(front, name))
+        return made[-1]
+
+    yield make
+    for it in made:
+        it.end()

@@ -1,0 +1,133 @@
+"""An office behind nginx with examples/front, and the signing station of examples/station."""
+import contextlib
+import functools
+import os
+import pathlib
+import pwd
+import shutil
+import signal
+import socket
+import ssl
+import subprocess
+
+import requests
+
+from asking import Response
+from running import EXAMPLES, end, free_port, is_listening, run, until
+
+# The clients of whom `front` has a certificate.
+CLIENTS = (("caller", "ana"), ("root",), ("station",), ("reader", "watch"))
+
+
+def new_authority(folder):
+    """Makes the authority of a front, and a certificate for each of the clients."""
+    authority = EXAMPLES / "front/authority"
+    run([authority, "new", folder, "localhost", "127.0.0.1"], check=True)
+    for job, *name in CLIENTS:
+        run([authority, job, folder, *name], check=True)
+    return folder
+
+
+class Front:
+    """nginx before an office, as examples/front sets it up.
+
+    `authority` is the folder of its certificates, `conf` the folder of its configuration, and `state` where nginx
+    writes. `edits` are texts of nginx.conf, each with what takes its place."""
+
+    def __init__(self, programs, folder, authority, office_port, *, edits=()):
+        self.port, self.office_port, self.programs = free_port(), office_port, programs
+        self.url = f"https://localhost:{self.port}"
+        folder = pathlib.Path(folder).absolute()
+        self.authority, self.conf, self.state = (folder / it for it in ("authority", "conf", "state"))
+        shutil.copytree(authority, self.authority)
+        self.conf.mkdir()
+        self.state.mkdir()
+        for name in ("server.crt", "server.key", "ca.crt", "crl.pem"):
+            shutil.copy(self.authority / name, self.conf)
+        self.configure(("127.0.0.1:8022", f"127.0.0.1:{office_port}"), ("listen 8443", f"listen 127.0.0.1:{self.port}"),
+                       ("/usr/local/share/office/page", str(EXAMPLES / "page")), *edits)
+        self.begin()
+
+    def configure(self, *edits):
+        """Writes nginx.conf anew, with a text in the place of another, which has to stand there once."""
+        file = self.conf / "nginx.conf"
+        text = (file if file.exists() else EXAMPLES / "front/nginx.conf").read_text()
+        for old, new in edits:
+            assert text.count(old) == 1, f"{old} stands {text.count(old)} times in nginx.conf"
+            text = text.replace(old, new)
+        file.write_text(text)
+
+    def begin(self):
+        """Starts nginx, and waits until it listens."""
+        user = pwd.getpwuid(os.getuid()).pw_name
+        words = ["nginx", "-p", self.state, "-c", self.conf / "nginx.conf", "-g", f"user {user}; daemon off;"]
+        with open(self.state / "nginx.faults", "ab") as faults:
+            self.process = self.programs.begin(words, stderr=faults)
+        until(functools.partial(is_listening, self.port))
+
+    def end(self):
+        end(self.process)
+
+    def workers(self):
+        """The processes that nginx's first process has begun."""
+        children = pathlib.Path(f"/proc/{self.process.pid}/task/{self.process.pid}/children")
+        return [int(it) for it in children.read_text().split()]
+
+    def reload(self):
+        """Has nginx read its files again, and waits until the processes of before are gone."""
+        old = self.workers()
+        self.process.send_signal(signal.SIGHUP)
+        until(lambda: not set(old) & set(self.workers()))
+
+    def certificate(self, name):
+        """The file with a client's key and certificate."""
+        return self.authority / f"{name}.pem"
+
+    def make(self, job, *name):
+        """Has the authority make a certificate, such as `make("caller", "bob")`, or take one back."""
+        return run([EXAMPLES / "front/authority", job, self.authority, *name], check=True).stdout.decode().strip()
+
+    def session(self, name=None):
+        """A session of the client of this name, or of one without a certificate."""
+        made = requests.Session()
+        made.verify = str(self.authority / "ca.crt")
+        made.cert = str(self.certificate(name)) if name else None
+        made.trust_env = False
+        return made
+
+    def connect(self, name=None, address="127.0.0.1"):
+        """A connection of the client of this name, by which bytes go as they are."""
+        of = ssl.create_default_context(cafile=self.authority / "ca.crt")
+        if name:
+            of.load_cert_chain(self.certificate(name))
+        plain = socket.create_connection(("127.0.0.1", self.port), timeout=20, source_address=(address, 0))
+        plain.setsockopt(socket.IPPROTO_TCP, socket.TCP_NODELAY, 1)
+        return of.wrap_socket(plain, server_hostname="localhost")
+
+    def ask(self, request, name=None):
+        """All that comes back for these bytes, until the connection ends."""
+        came = b""
+        with self.connect(name) as peer:
+            peer.sendall(request)
+            with contextlib.suppress(OSError):
+                while piece := peer.recv(65536):
+                    came += piece
+        return Response(came)
+
+
+class Station:
+    """The signing station of examples/station: `ca_key` is the CA's private half, `certificate` the station's own."""
+
+    def __init__(self, folder, url, ca_key, certificate=None, trusted=None):
+        self.url, self.ca_key, self.certificate = url, ca_key, certificate
+        self.home = pathlib.Path(folder).absolute()
+        self.home.mkdir(exist_ok=True)
+        if certificate:
+            (self.home / ".curlrc").write_text(f'cert = "{certificate}"\ncacert = "{trusted}"\n')
+
+    def sign(self, ca_key=None):
+        """Signs what waits, and returns the serials that were signed."""
+        done = subprocess.run([EXAMPLES / "station", self.url, ca_key or self.ca_key], capture_output=True, timeout=60,
+                              env=os.environ | {"CURL_HOME": str(self.home)}, text=True)
+        assert done.returncode == 0, f"the station: status {done.returncode}, {done.stderr}"
+        return [int(line.removeprefix("signed ")) for line in done.stdout.splitlines()]

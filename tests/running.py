@@ -1,0 +1,176 @@
+"""Programs that run beside a test and end with it, free ports, waiting, and an office in a file."""
+import contextlib
+import os
+import pathlib
+import random
+import signal
+import socket
+import subprocess
+import time
+
+import pytest
+
+from asking import Response, answers, get, post, write_exchanges
+
+TOP = pathlib.Path(__file__).resolve().parent.parent
+EXAMPLES = TOP / "examples"
+ROWS = EXAMPLES / "rows"
+
+
+def left_out(why):
+    """Leaves a test out because this machine can't run it, for a reason that the check shows and doesn't count."""
+    pytest.skip(f"left out: {why}")
+
+
+# ---- programs
+
+def end(process, patience=5):
+    """Ends a program that `begin` has begun, with all of its session's group, and waits until it is gone."""
+    for sign in (signal.SIGTERM, signal.SIGKILL):
+        with contextlib.suppress(ProcessLookupError):
+            os.killpg(process.pid, sign)
+            os.killpg(process.pid, signal.SIGCONT)
+        with contextlib.suppress(subprocess.TimeoutExpired):
+            process.wait(patience)
+            return
+
+
+class Programs:
+    """Programs that were begun, each in a session of its own, and that end together."""
+
+    def __init__(self):
+        self.begun = []
+
+    def begin(self, words, **how):
+        """Begins a program. Its output goes nowhere, unless `how` says where."""
+        how = {"stdin": subprocess.DEVNULL, "stdout": subprocess.DEVNULL, "stderr": subprocess.DEVNULL} | how
+        process = subprocess.Popen([str(it) for it in words], start_new_session=True, **how)
+        self.begun.append(process)
+        return process
+
+    def end_all(self):
+        for process in reversed(self.begun):
+            end(process)
+        for process in self.begun:
+            with contextlib.suppress(ProcessLookupError):
+                os.killpg(process.pid, signal.SIGKILL)
+            for pipe in (process.stdout, process.stderr):
+                if pipe:
+                    pipe.close()
+
+
+def run(words, **how):
+    """Runs a program to its end, with what it prints."""
+    how = {"capture_output": True, "timeout": 100, "stdin": subprocess.DEVNULL} | how
+    return subprocess.run([str(it) for it in words], **how)
+
+
+# ---- ports and waiting
+
+def free_port():
+    """A port of 127.0.0.1 at which nobody listens, and which the machine gives to no client of its own accord. Tests
+    that run side by side get ports of different ranges."""
+    number = int(os.environ.get("PYTEST_XDIST_WORKER", "gw0").removeprefix("gw")) % 10
+    while True:
+        port = random.randrange(20000 + 1000 * number, 21000 + 1000 * number)
+        with contextlib.suppress(OSError), socket.create_server(("127.0.0.1", port)):
+            return port
+
+
+def until(is_so, seconds=10, pause=0.02):
+    """Waits until it is so, and returns what was found, or fails after some seconds."""
+    end_of_wait = time.monotonic() + seconds
+    while True:
+        found = is_so()
+        if found:
+            return found
+        if time.monotonic() > end_of_wait:
+            raise AssertionError(f"not so within {seconds} seconds: {getattr(is_so, '__name__', is_so)}")
+        time.sleep(pause)
+
+
+def is_listening(port):
+    with contextlib.suppress(OSError), socket.create_connection(("127.0.0.1", port), timeout=1):
+        return True
+    return False
+
+
+# ---- offices
+
+class Served:
+    """An office that serves, at `port` of 127.0.0.1. Its program is `process`."""
+
+    def __init__(self, office, process, port):
+        self.office, self.process, self.port, self.url = office, process, port, f"http://127.0.0.1:{port}"
+
+    def ask(self, request, timeout=60):
+        """The response to these bytes, up to the end of the connection."""
+        came = b""
+        with socket.create_connection(("127.0.0.1", self.port), timeout=timeout) as peer:
+            peer.sendall(request)
+            while piece := peer.recv(65536):
+                came += piece
+        return Response(came)
+
+    def post(self, caller, key, message):
+        return self.ask(post(caller, key, message))
+
+    def get(self, path):
+        return self.ask(get(path))
+
+
+class Office:
+    """An office in a file, made by `init`.
+
+    `db` is its file, and `ca` the file with the public line of its CA. `ca_key` is the file with the CA's private half,
+    or None where the CA was given as a line of text."""
+
+    def __init__(self, program, db="office.db", *, ca=None, root="root", station="station", first=1, last=100_000):
+        self.program, self.db = program, pathlib.Path(db).absolute()
+        self.ca, self.ca_key = self.db.with_suffix(".ca.pub"), None
+        if ca is None:
+            self.ca_key = self.db.with_suffix(".ca.pem")
+            run(["openssl", "genpkey", "-algorithm", "ed25519", "-out", self.ca_key], check=True)
+            ca = run([EXAMPLES / "ca-line", self.ca_key], check=True).stdout.decode()
+        self.ca.write_text(ca.rstrip("\n") + "\n")
+        self.opened = self.must("init", "--db", self.db, "--ca", self.ca, "--root", root, "--station", station,
+                                "--first", first, "--last", last)
+
+    def run(self, *words, **how):
+        """Status, output and errors of the program."""
+        done = run([self.program, *words], **how)
+        return done.returncode, done.stdout, done.stderr
+
+    def must(self, *words):
+        """What the program prints, which has to end well."""
+        status, out, err = self.run(*words)
+        assert (status, err) == (0, b""), f"{words}: status {status}, {err.decode()}"
+        return out
+
+    def apply(self, exchanges):
+        """Applies requests, or requests with their moments and nonces, and returns the responses; None is a fault."""
+        file = write_exchanges(self.db.with_suffix(".exchange"), exchanges)
+        return answers(self.run("apply", "--db", self.db, file)[1])
+
+    def krl(self):
+        return self.must("krl", "--db", self.db)
+
+    def table(self):
+        return self.must("table", "--db", self.db)
+
+    def signers(self):
+        return self.must("signers", "--db", self.db)
+
+    @contextlib.contextmanager
+    def serving(self, *, port=0, connections=1_000_000, nonces="/dev/urandom", before=(), **how):
+        """Serves the office until the block ends. `before` are words before the program, such as `unshare --net`."""
+        words = [*before, self.program, "serve", "--db", self.db, "--port", port, "--connections", connections,
+                 "--nonces", nonces]
+        programs = Programs()
+        try:
+            process = programs.begin(words, bufsize=0, **{"stdout": subprocess.PIPE, "stderr": subprocess.PIPE} | how)
+            line = process.stdout.readline()
+            assert line.startswith(b"listening "), f"the office doesn't serve: {line!r} {process.stderr.read()!r}"
+            yield Served(self, process, int(line.split()[1]))
+        finally:
+            programs.end_all()
