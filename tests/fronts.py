@@ -44,7 +44,11 @@ class Front:
         self.state.mkdir()
         for name in ("server.crt", "server.key", "ca.crt", "crl.pem"):
             shutil.copy(self.authority / name, self.conf)
-        self.configure(("127.0.0.1:8022", f"127.0.0.1:{office_port}"), ("listen 8443", f"listen 127.0.0.1:{self.port}"),
+        own_folder = ("/etc/vethlumi/front;", f"{self.conf};")
+        self.configure(("server 127.0.0.1:8022;", f"server 127.0.0.1:{office_port};"),
+                       ("server 127.0.0.1:8022 max_conns", f"server 127.0.0.1:{office_port} max_conns"),
+                       ("listen 8443", f"listen 127.0.0.1:{self.port}"),
+                       ("listen [::]:8443", f"listen [::1]:{self.port}"), own_folder,
                        ("/usr/local/share/office/page", str(EXAMPLES / "page")), *edits)
         self.begin()
 

@@ -1,0 +1,466 @@
+"""What the front of examples/front sends on to the office, and for whom, and what it answers itself.
+
+The office behind it is one that records what it is sent."""
+import collections
+import socket
+import subprocess
+import time
+
+import pytest
+
+from fronts import Front
+from recording import Recorder, composed, getting, posting, statuses, staying
+from running import Programs, run, until
+
+pytestmark = [pytest.mark.front, pytest.mark.xdist_group("front")]
+
+
+# ---- a front before a recorder, and certificates that nobody should take
+
+def made_by_openssl(folder, name, subject, ca, days=()):
+    """A client's key and certificate in one file, which examples/front/authority would not make."""
+    file = folder / name
+    run(["openssl", "req", "-new", "-newkey", "ec", "-pkeyopt", "ec_paramgen_curve:P-256", "-nodes", "-utf8", "-keyout",
+         f"{file}.key", "-subj", subject, "-out", f"{file}.csr"], check=True)
+    file.with_suffix(".ext").write_text("extendedKeyUsage = clientAuth\n")
+    run(["openssl", "x509", "-req", "-in", f"{file}.csr", "-CA", f"{ca}.crt", "-CAkey", f"{ca}.key", "-extfile",
+         f"{file}.ext", "-out", f"{file}.crt", *days], check=True)
+    file.with_suffix(".pem").write_bytes(file.with_suffix(".key").read_bytes() + file.with_suffix(".crt").read_bytes())
+
+
+SUBJECTS = {
+    "as-station": "/CN=station", "as-root": "/CN=root", "as-capitals": "/OU=Office/CN=Station",
+    "as-more": "/O=example/CN=ana", "as-two": "/CN=ana/CN=root", "as-joined": "/CN=ana+CN=root",
+    "as-slash": "/CN=ana\\/requests\\/k-1", "as-comma": "/CN=root,OU=office", "as-line": "/CN=ana\n",
+    "as-ana": "/CN=Ana", "as-long": "/CN=" + 33 * "a", "as-wide": "/CN=anä", "as-empty": "/",
+}
+
+
+def odd_certificates(folder):
+    for name, subject in SUBJECTS.items():
+        made_by_openssl(folder, name, subject, folder / "ca")
+    # Another authority of the same name, and ana as one.
+    run(["openssl", "req", "-x509", "-new", "-newkey", "ec", "-pkeyopt", "ec_paramgen_curve:P-256", "-nodes", "-keyout",
+         folder / "other-ca.key", "-out", folder / "other-ca.crt", "-subj", "/CN=the authority of the front"],
+        check=True)
+    made_by_openssl(folder, "other", "/CN=ana", folder / "other-ca")
+    ana = (folder / "ana.pem").read_text()
+    (folder / "ana.crt").write_text(ana[ana.index("-----BEGIN CERT"):])
+    (folder / "ana.key").write_text(ana[:ana.index("-----BEGIN CERT")])
+    made_by_openssl(folder, "self", "/CN=ana", folder / "ana")
+    # One that ended in 2020, for which `openssl ca` takes a date.
+    run(["openssl", "req", "-new", "-key", folder / "ana.key", "-subj", "/CN=ana", "-out", folder / "ana.csr"],
+        check=True)
+    run(["openssl", "ca", "-batch", "-notext", "-config", folder / "authority.conf", "-extensions", "client",
+         "-startdate", "200101000000Z", "-enddate", "200102000000Z", "-in", folder / "ana.csr", "-out",
+         folder / "ended.crt"], check=True, cwd=folder.parent)
+    (folder / "ended.pem").write_text((folder / "ana.key").read_text() + (folder / "ended.crt").read_text())
+    (folder / "server.pem").write_bytes((folder / "server.key").read_bytes() + (folder / "server.crt").read_bytes())
+
+
+@pytest.fixture(scope="module")
+def recorded(authority, tmp_path_factory):
+    """A front before an office that records; ana's friend bob had a certificate, which was taken back."""
+    programs = Programs()
+    with Recorder() as recorder:
+        front = Front(programs, tmp_path_factory.mktemp("recorded") / "front", authority, recorder.port)
+        front.recorder = recorder
+        (front.conf / "ca-keys").write_text("ssh-ed25519 AAAA a\nssh-ed25519 BBBB b\n")
+        odd_certificates(front.authority)
+        front.make("caller", "bob")
+        take_back(front, "bob")
+        front.reload()
+        yield front
+        programs.end_all()
+
+
+def take_back(front, name):
+    front.make("revoke", front.certificate(name))
+    (front.conf / "crl.pem").write_bytes((front.authority / "crl.pem").read_bytes())
+
+
+# ---- what each request makes the front send on
+
+WHOLE = "/v1/callers/root/requests/k-1"
+ANA = "POST /v1/callers/ana/requests/k-1"
+MESSAGE = "/v1/requests/k-1"
+CHUNKED = b"Transfer-Encoding: chunked"
+SMUGGLED = b"0\r\n\r\n" + posting(WHOLE)
+HELLO = [composed(ANA, b"hello")]
+LIST = [composed("GET /v1/krl", length=False)]
+FORGED = [b"X-Forwarded-User: root", b"X-Remote-User: root", b"X-Original-URL: " + WHOLE.encode(),
+          b"X-HTTP-Method-Override: GET", b"X-SSL-Client-S-DN: CN=root,OU=office", b"Caller: root", b"Upgrade: h2c",
+          b"Connection: Upgrade, HTTP2-Settings", b"HTTP2-Settings: AAMAAABkAARAAAAAAAIAAAAA"]
+
+# What, the request of ana's client, the statuses, and what the office is sent.
+GUISES = [
+    ("a message", posting(MESSAGE), [200], HELLO),
+    ("another caller's path, given whole", posting(WHOLE), [404], []),
+    ("the own path, given whole", posting("/v1/callers/ana/requests/k-1"), [404], []),
+    ("a path with ..", posting("/v1/requests/../callers/root/requests/k-1"), [404], []),
+    ("a path with .. that leads back", posting("/v1/callers/../requests/k-1"), [404], []),
+    ("a path with %2e%2e%2f", posting("/v1/requests/%2e%2e%2fcallers%2froot%2frequests%2fk-1"), [404], []),
+    ("a path with %2f", posting("/v1/requests/k-1%2f..%2f..%2fcallers%2froot%2frequests%2fk-1"), [404], []),
+    ("a letter that is encoded", posting("/v1/%72equests/k-1"), [404], []),
+    ("a key that is encoded", posting("/v1/requests/%6b-1"), [404], []),
+    ("an encoded line feed", posting("/v1/requests/k-1%0d%0aHost:%20root"), [404], []),
+    ("an encoded space", posting("/v1/requests/k-1%20HTTP/1.1"), [404], []),
+    ("an encoded NUL", posting("/v1/requests/k-1%00"), [400], []),
+    ("a space in the path", posting("/v1/requests/k-1 /v1/krl"), [400], []),
+    ("doubled slashes before the path", posting("//v1/requests/k-1"), [404], []),
+    ("doubled slashes in the path", posting("/v1//callers//root//requests//k-1"), [404], []),
+    ("a slash behind the path", posting("/v1/requests/k-1/"), [404], []),
+    ("a query", posting("/v1/requests/k-1?caller=root"), [404], []),
+    ("a query that is empty", posting("/v1/requests/k-1?"), [404], []),
+    ("a fragment", posting("/v1/requests/k-1#/../../callers/root"), [404], []),
+    ("a semicolon", posting("/v1/requests/k-1;caller=root"), [404], []),
+    ("a backslash", posting("/v1/requests\\..\\callers\\root"), [404], []),
+    ("no key", posting("/v1/requests/"), [404], []),
+    ("a key of 33 letters", posting("/v1/requests/" + 33 * "k"), [404], []),
+    ("a key of 32 letters", posting("/v1/requests/" + 32 * "k"), [200],
+     [composed("POST /v1/callers/ana/requests/" + 32 * "k", b"hello")]),
+    ("a key with a capital letter", posting("/v1/requests/K-1"), [404], []),
+    ("a path in capital letters", posting("/V1/REQUESTS/k-1"), [404], []),
+    ("a target of 8,100 bytes", getting("/" + 8099 * "a"), [404], []),
+    ("a target of 9,000 bytes", getting("/" + 8999 * "a"), [414], []),
+    ("an absolute target", posting("http://localhost/v1/requests/k-1"), [200], HELLO),
+    ("an absolute target of another host", posting("https://root/v1/requests/k-1"), [200], HELLO),
+    ("an absolute target with a path given whole", posting(f"http://localhost{WHOLE}"), [404], []),
+    ("an absolute target without a path", posting("http://localhost?/v1/requests/k-1"), [404], []),
+    ("a target that is a star", getting("*", "OPTIONS"), [400], []),
+    ("the target of CONNECT", getting("root:443", "CONNECT"), [400], []),
+    ("the front's own names of locations", getting("/@say_unknown"), [404], []),
+    ("other header lines", posting(MESSAGE, b"hello", *FORGED), [200], HELLO),
+    ("header lines with _ and a dot", posting(MESSAGE, b"hello", b"content_length: 0", b"Transfer.Encoding: chunked"),
+     [200], HELLO),
+    ("a header line of 9,000 bytes", posting(MESSAGE, b"hello", b"X: " + 8997 * b"x"), [400], []),
+    ("five header lines of 8,000 bytes", posting(MESSAGE, b"hello", *5 * [b"X: " + 7997 * b"x"]), [400], []),
+    ("two lines Host", posting(MESSAGE, b"hello", b"Host: root"), [400], []),
+    ("a line with a NUL", posting(MESSAGE, b"hello", b"X: a\0b"), [400], []),
+    ("lines that end with LF alone", posting(MESSAGE).replace(b"\r\n", b"\n"), [200], HELLO),
+    ("a chunked body", posting(MESSAGE, b"2\r\nhe\r\n3\r\nllo\r\n0\r\n\r\n", CHUNKED), [200], HELLO),
+    ("a chunk with an extension", posting(MESSAGE, b"5;a=\"b\"\r\nhello\r\n0\r\n\r\n", CHUNKED), [200], HELLO),
+    ("chunks with a line behind them", posting(MESSAGE, b"5\r\nhello\r\n0\r\nHost: root\r\n\r\n", CHUNKED), [200],
+     HELLO),
+    ("a request behind a chunked body", staying(posting(MESSAGE, SMUGGLED, CHUNKED)), [200, 404], [composed(ANA)]),
+    ("a request behind a body", staying(posting(MESSAGE, b"hello" + posting(WHOLE), b"Content-Length: 5")), [200, 404],
+     HELLO),
+    ("a length and chunks", posting(MESSAGE, SMUGGLED, CHUNKED, b"Content-Length: 5"), [400], []),
+    ("chunks and a length", posting(MESSAGE, SMUGGLED, b"Content-Length: 5", CHUNKED), [400], []),
+    ("a length, and chunks with a space before the colon",
+     posting(MESSAGE, b"hello", b"Content-Length: 5", b"Transfer-Encoding : chunked"), [400], []),
+    ("two lengths", posting(MESSAGE, b"hello", b"Content-Length: 5", b"Content-Length: 0"), [400], []),
+    ("two lengths that are alike", posting(MESSAGE, b"hello", b"Content-Length: 5", b"Content-Length: 5"), [400], []),
+    ("two lengths in one line", posting(MESSAGE, b"hello", b"Content-Length: 5, 5"), [400], []),
+    ("a length with a sign", posting(MESSAGE, b"hello", b"Content-Length: +5"), [400], []),
+    ("a length below nothing", posting(MESSAGE, b"hello", b"Content-Length: -5"), [400], []),
+    ("a length in base 16", posting(MESSAGE, b"hello", b"Content-Length: 0x5"), [400], []),
+    ("a length of 2^64 + 5", posting(MESSAGE, b"hello", b"Content-Length: %d" % (2 ** 64 + 5)), [400], []),
+    ("chunks by another name", posting(MESSAGE, SMUGGLED, b"Transfer-Encoding: xchunked"), [501], []),
+    ("chunks named twice", posting(MESSAGE, SMUGGLED, CHUNKED, CHUNKED), [400], []),
+    ("chunks that are packed", posting(MESSAGE, SMUGGLED, b"Transfer-Encoding: gzip, chunked"), [501], []),
+    ("a chunk of no size", posting(MESSAGE, b"zz\r\nhello\r\n0\r\n\r\n", CHUNKED), [400], []),
+    ("a chunk of a size below nothing", posting(MESSAGE, b"-5\r\nhello\r\n0\r\n\r\n", CHUNKED), [400], []),
+    ("a chunk of 2^64 + 5 bytes", posting(MESSAGE, b"10000000000000005\r\nhello\r\n0\r\n\r\n", CHUNKED), [400], []),
+    ("no length", posting(MESSAGE, b"", b"Content-Length: x").replace(b"Content-Length: x\r\n", b""), [200],
+     [composed(ANA, length=False)]),
+    ("a body of 16384 bytes", posting(MESSAGE, 16384 * b"x"), [200], [composed(ANA, 16384 * b"x")]),
+    ("a body of 16385 bytes", posting(MESSAGE, 16385 * b"x"), [413], []),
+    ("chunks of 16385 bytes", posting(MESSAGE, b"4001\r\n" + 16385 * b"x" + b"\r\n0\r\n\r\n", CHUNKED), [413], []),
+    ("a page's script of another site", posting(MESSAGE, b"hello", b"Origin: https://evil.example"), [403], []),
+    ("a page without an origin", posting(MESSAGE, b"hello", b"Origin: null"), [403], []),
+    ("a page of the front itself", posting(MESSAGE, b"hello", b"Origin: https://localhost"), [403], []),
+    *[(f"a browser's fetch, {site}", posting(MESSAGE, b"hello", b"Sec-Fetch-Site: " + site.encode()), [403], [])
+      for site in ("cross-site", "same-site", "same-origin", "none")],
+    ("a page's script with both lines", posting(MESSAGE, b"hello", b"origin: null", b"SEC-FETCH-SITE: cross-site"),
+     [403], []),
+    ("what a browser asks before it posts", getting(MESSAGE, "OPTIONS", b"Origin: https://evil.example",
+                                                   b"Access-Control-Request-Method: POST"), [405], []),
+    *[(f"the method {method} for a message", getting(MESSAGE, method), [405], [])
+      for method in ("GET", "HEAD", "PUT", "DELETE", "PATCH", "OPTIONS", "TRACE", "PROPFIND")],
+    ("a method in small letters", posting(MESSAGE).replace(b"POST", b"post", 1), [400], []),
+    *[(f"the method {method} for the list", posting("/v1/krl").replace(b"POST", method.encode(), 1), [405], [])
+      for method in ("POST", "HEAD", "DELETE")],
+    ("the list with a body", posting("/v1/krl").replace(b"POST", b"GET", 1), [200], LIST),
+    ("a part of the list", getting("/v1/krl", "GET", b"Range: bytes=0-0"), [200], LIST),
+    ("the list, unless it is as old", getting("/v1/krl", "GET", b"If-Modified-Since: Fri, 01 Jan 2100 00:00:00 GMT",
+                                              b"If-None-Match: *"), [200], LIST),
+    ("the list with a query", getting("/v1/krl?x"), [404], []),
+    ("the list as an encoded path", getting("/v1/%6brl"), [404], []),
+    ("the list in capital letters", getting("/v1/KRL"), [404], []),
+    ("the table", getting("/v1/table"), [200], [composed("GET /v1/table", length=False)]),
+    ("the table, asked by a page of another site", getting("/v1/table", "GET", b"Origin: https://evil.example"), [200],
+     [composed("GET /v1/table", length=False)]),
+    ("what waits", getting("/v1/pending"), [200], [composed("GET /v1/pending", length=False)]),
+    ("a certificate", getting("/v1/certs/12"), [200], [composed("GET /v1/certs/12", length=False)]),
+    ("a body", getting("/v1/certs/12/body"), [200], [composed("GET /v1/certs/12/body", length=False)]),
+    ("a serial with a zero before it", getting("/v1/certs/012"), [404], []),
+    ("a serial of twenty digits", getting("/v1/certs/" + 20 * "1"), [404], []),
+    ("a path that is none", getting("/"), [404], []),
+    ("a path of nginx's own folders", getting("/index.html"), [404], []),
+    ("the CAs' key lines", getting("/ca-keys"), [200], []),
+    ("a file beside them", getting("/server.key"), [404], []),
+    ("a file beside them, by ..", getting("/ca-keys/../server.key"), [404], []),
+    ("the key lines with a query", getting("/ca-keys?x"), [404], []),
+    ("the key lines as a folder", getting("/ca-keys/"), [404], []),
+    ("a message for the key lines", posting("/ca-keys"), [405], []),
+    ("HTTP/2 without more ado", b"PRI * HTTP/2.0\r\n\r\nSM\r\n\r\n", [400], []),
+]
+
+
+@pytest.mark.parametrize("request_bytes, wanted, sent", [it[1:] for it in GUISES], ids=[it[0] for it in GUISES])
+def test_a_guise(recorded, request_bytes, wanted, sent):
+    forget(recorded)
+    answer = recorded.ask(request_bytes, "ana")
+    assert (wanted, sent) == (statuses(answer), recorded.recorder.requests)
+
+
+def forget(front):
+    """Has the front keep no page, and the recorder no request."""
+    for file in (front.state / "cache").iterdir():
+        file.unlink()
+    front.recorder.requests.clear()
+
+
+def test_a_body_that_ends_early(recorded):
+    forget(recorded)
+    with recorded.connect("ana") as peer:
+        peer.sendall(posting(MESSAGE, b"hell", b"Content-Length: 5"))
+    time.sleep(0.2)
+    assert [] == recorded.recorder.requests
+
+
+# ---- who may send and read what
+
+# What, the client's name, the status and the caller of a message, the status of the table, and that of the list.
+NOBODY = (403, None, 200, 200)
+REFUSED = (403, None, 403, 403)
+CLIENTS = [
+    ("no certificate", None, (403, None, 403, 200)),
+    ("ana's certificate", "ana", (200, "ana", 200, 200)),
+    ("root's", "root", (200, "root", 200, 200)),
+    ("the station's", "station", (200, "station", 200, 200)),
+    ("a reader's", "watch", NOBODY),
+    ("a caller's of the name station", "as-station", NOBODY),
+    ("a caller's of the name root", "as-root", NOBODY),
+    ("the station's subject in capital letters", "as-capitals", NOBODY),
+    ("a subject with an organisation", "as-more", NOBODY),
+    ("a subject with two names", "as-two", NOBODY),
+    ("a subject with two names in one part", "as-joined", NOBODY),
+    ("a name with a slash", "as-slash", NOBODY),
+    ("a name with a comma", "as-comma", NOBODY),
+    ("a name with a line feed", "as-line", NOBODY),
+    ("a name with a capital letter", "as-ana", NOBODY),
+    ("a name of 33 letters", "as-long", NOBODY),
+    ("a name of letters beyond ASCII", "as-wide", NOBODY),
+    ("an empty subject", "as-empty", (403, None, 403, 200)),
+    ("another authority's certificate for ana", "other", REFUSED),
+    ("a certificate for ana that ana signed", "self", REFUSED),
+    ("a certificate that has ended", "ended", REFUSED),
+    ("one that was taken back", "bob", REFUSED),
+    ("the front's own", "server", REFUSED),
+]
+
+
+@pytest.mark.parametrize("name, wanted", [it[1:] for it in CLIENTS], ids=[it[0] for it in CLIENTS])
+def test_a_client(recorded, name, wanted):
+    forget(recorded)
+    status, = statuses(recorded.ask(posting(MESSAGE), name))
+    sent = [it.split(b" HTTP")[0].decode() for it in recorded.recorder.requests]
+    table, = statuses(recorded.ask(getting("/v1/certs/1"), name))
+    page, = statuses(recorded.ask(getting("/v1/signers"), name))
+    assert wanted == (status, sent[0].split("/")[3] if sent else None, table, page)
+    assert sent in ([], [f"POST /v1/callers/{wanted[1]}/requests/k-1"])
+
+
+REFUSALS = [
+    ("a message without a certificate", None, posting(MESSAGE), "the certificate names no caller, or there is none"),
+    ("a page without a certificate", None, getting("/v1/table"), "only a client with a certificate may read this"),
+    ("a message by a browser", "ana", posting(MESSAGE, b"hello", b"Origin: null"), "a browser may not send messages"),
+    ("a message by GET", "ana", getting(MESSAGE), "a message is sent by POST"),
+    ("the list by POST", None, posting("/v1/krl"), "a page is read by GET"),
+    ("no path", None, getting("/favicon.ico"), "no such path"),
+    ("a body of 16385 bytes", "ana", posting(MESSAGE, 16385 * b"x"), "a message has at most 16384 bytes"),
+    ("a certificate that was taken back", "bob", getting("/v1/krl"),
+     "the certificate is another authority's, has ended or was taken back"),
+]
+
+
+@pytest.mark.parametrize("name, request_bytes, text", [it[1:] for it in REFUSALS], ids=[it[0] for it in REFUSALS])
+def test_a_refusal_says_why(recorded, name, request_bytes, text):
+    assert f"front: {text}\n" == recorded.ask(request_bytes, name).text
+
+
+# ---- pages that are kept
+
+KEPT = ("/v1/krl", "/v1/signers", "/v1/cas", "/v1/table", "/v1/pending")
+
+
+def asked_for(front, *names_and_paths):
+    """How often the office is asked when these clients ask for these pages, one after the other and at once."""
+    forget(front)
+    for name, path in names_and_paths:
+        assert [200] == statuses(front.ask(getting(path), name))
+    return len(front.recorder.requests)
+
+
+def test_a_page_is_kept_for_two_seconds(make_front, recorded):
+    front = with_own_limits(make_front, recorded)
+    begun = time.monotonic()
+    while time.monotonic() < begun + 7:
+        for path in KEPT:
+            assert [200] == statuses(front.ask(getting(path), "watch"))
+    # nginx counts whole seconds: a page is asked for again after two to three, and when ten of the clock have ended.
+    asked = collections.Counter(it.split()[1].decode() for it in recorded.recorder.requests)
+    assert dict.fromkeys(KEPT, True) == {path: 3 <= asked[path] <= 5 for path in KEPT}, asked
+
+
+def with_own_limits(make_front, recorded):
+    """A front whose pages nobody has asked for, and that counts no reader's requests."""
+    recorded.recorder.requests.clear()
+    return make_front(recorded.recorder.port, edits=[("zone=reports:1m rate=1r/s", "zone=reports:1m rate=1000r/s")])
+
+
+def test_what_a_caller_reads_is_kept_for_each_page_alone(recorded):
+    assert 2 == asked_for(recorded, ("ana", "/v1/table"), ("watch", "/v1/table"), ("watch", "/v1/pending"))
+    assert 3 == asked_for(recorded, *3 * [("ana", "/v1/certs/1")])
+
+
+def test_a_kept_page_is_given_to_no_stranger(recorded):
+    forget(recorded)
+    assert [200] == statuses(recorded.ask(getting("/v1/table"), "ana"))
+    assert [403] == statuses(recorded.ask(getting("/v1/table")))
+    assert [403] == statuses(recorded.ask(getting("/v1/table"), "bob"))
+
+
+def test_the_station_is_given_no_kept_page(recorded):
+    assert 4 == asked_for(recorded, ("ana", "/v1/pending"), *3 * [("station", "/v1/pending")])
+
+
+def test_what_the_station_is_given_is_not_kept(recorded):
+    assert 2 == asked_for(recorded, ("station", "/v1/pending"), ("ana", "/v1/pending"), ("ana", "/v1/pending"))
+
+
+def test_a_reader_is_given_one_table_a_second_and_the_station_any_number(make_front, recorded):
+    front = make_front(recorded.recorder.port)
+    for name, slowed in (("station", False), ("watch", True)):
+        begun = time.monotonic()
+        for _ in range(6):
+            assert [200] == statuses(front.ask(getting("/v1/table"), name))
+        # Three at once, and one more in each second.
+        assert slowed == (time.monotonic() - begun > 2.5), name
+
+
+def test_no_error_is_kept(make_front):
+    with Recorder(answer=b"HTTP/1.1 404 Not Found\r\ncontent-length: 0\r\n\r\n") as recorder:
+        front = make_front(recorder.port)
+        for _ in range(3):
+            assert [404] == statuses(front.ask(getting("/v1/krl")))
+        assert 3 == len(recorder.requests)
+
+
+# ---- the CAs' keys
+
+def test_the_key_lines_are_those_of_the_file(recorded):
+    answer = recorded.session().get(f"{recorded.url}/ca-keys")
+    assert ("ssh-ed25519 AAAA a\nssh-ed25519 BBBB b\n", "text/plain", "max-age=60") == (
+        answer.text, answer.headers["Content-Type"], answer.headers["Cache-Control"])
+
+
+def test_without_the_file_the_front_says_so(make_front, recorded):
+    answer = make_front(recorded.recorder.port).ask(getting("/ca-keys"))
+    assert (404, "front: there is no file ca-keys beside the front's nginx.conf\n") == (answer.status, answer.text)
+
+
+# ---- what TLS permits
+
+AEAD = {"ECDHE-ECDSA-AES256-GCM-SHA384", "ECDHE-ECDSA-AES128-GCM-SHA256", "ECDHE-ECDSA-CHACHA20-POLY1305"}
+# Words of s_client, and whether the handshake ends well.
+HANDSHAKES = [
+    ("TLS 1.3", ["-tls1_3"], True),
+    ("TLS 1.2", ["-tls1_2"], True),
+    ("TLS 1.1", ["-tls1_1", "-cipher", "ALL:@SECLEVEL=0"], False),
+    ("TLS 1.0", ["-tls1", "-cipher", "ALL:@SECLEVEL=0"], False),
+    ("TLS 1.2 with AES-GCM", ["-tls1_2", "-cipher", "ECDHE-ECDSA-AES128-GCM-SHA256"], True),
+    ("TLS 1.2 with ChaCha20", ["-tls1_2", "-cipher", "ECDHE-ECDSA-CHACHA20-POLY1305"], True),
+    ("TLS 1.2 with CBC and SHA-1", ["-tls1_2", "-cipher", "ECDHE-ECDSA-AES256-SHA"], False),
+    ("TLS 1.2 with CBC and SHA-2", ["-tls1_2", "-cipher", "ECDHE-ECDSA-AES256-SHA384"], False),
+    ("TLS 1.2 with any suite that isn't authenticated encryption",
+     ["-tls1_2", "-cipher", "ALL:!AESGCM:!CHACHA20:!AESCCM:@SECLEVEL=0"], False),
+    ("TLS 1.2 with CCM of a short tag", ["-tls1_2", "-cipher", "ECDHE-ECDSA-AES128-CCM8"], False),
+]
+
+
+@pytest.mark.parametrize("words, succeeds", [it[1:] for it in HANDSHAKES], ids=[it[0] for it in HANDSHAKES])
+def test_a_handshake(recorded, words, succeeds):
+    done = run(["openssl", "s_client", "-connect", f"127.0.0.1:{recorded.port}", "-CAfile",
+                recorded.authority / "ca.crt", "-verify_return_error", "-servername", "localhost", *words],
+               input=b"", stdin=None)
+    assert (succeeds, succeeds) == (done.returncode == 0, b"Verify return code: 0 (ok)" in done.stdout
+                                    and b"Cipher is (NONE)" not in done.stdout)
+
+
+def test_the_front_listens_on_ipv6_as_well(recorded):
+    try:
+        socket.create_server(("::1", 0), family=socket.AF_INET6).close()
+    except OSError:
+        pytest.skip("left out: this machine has no IPv6")
+    done = run(["curl", "-sSf", "--cacert", recorded.authority / "ca.crt", "--resolve",
+                f"localhost:{recorded.port}:[::1]", f"{recorded.url}/v1/cas"], check=True)
+    assert b"heard\n" == done.stdout
+
+
+# ---- a certificate that is taken back
+
+def nginx(front, *words):
+    """The status of nginx's own program for this front, as an administrator types it."""
+    return subprocess.run(["nginx", "-p", front.state, "-c", front.conf / "nginx.conf", *words], capture_output=True,
+                          check=False).returncode
+
+
+@pytest.mark.parametrize("broken", [b"", b"-----BEGIN X509 CRL-----\nAAAA\n-----END X509 CRL-----\n"],
+                         ids=["empty", "cut"])
+def test_a_broken_list_of_certificates_is_reported_before_nginx_reads_it(recorded, broken):
+    good = (recorded.conf / "crl.pem").read_bytes()
+    try:
+        assert 0 == nginx(recorded, "-t", "-q")
+        (recorded.conf / "crl.pem").write_bytes(broken)
+        assert 1 == nginx(recorded, "-t", "-q")
+        assert 1 == nginx(recorded, "-s", "reload")
+    finally:
+        (recorded.conf / "crl.pem").write_bytes(good)
+
+
+def test_a_request_that_began_before_its_certificate_was_taken_back_does_not_end_long_after(make_front, recorded):
+    front = make_front(recorded.recorder.port)
+    front.make("caller", "carl")
+    recorded.recorder.requests.clear()
+    with front.connect("carl") as peer:
+        request = posting(MESSAGE, 40 * b"x")
+        peer.sendall(request[:-40])
+        time.sleep(0.2)
+        take_back(front, "carl")
+        old = front.workers()
+        nginx(front, "-s", "reload")
+        begun = time.monotonic()
+        with pytest.raises(OSError):
+            # A letter every half second keeps the front's patience, which ends with the processes of before.
+            for number in range(40):
+                peer.sendall(b"x")
+                time.sleep(0.5)
+            raise AssertionError(f"after {time.monotonic() - begun:.0f} s the front still reads the message")
+    until(lambda: not set(old) & set(front.workers()))
+    assert [] == recorded.recorder.requests
+    assert [403] == statuses(front.ask(posting(MESSAGE), "carl"))
+
+
+# ---- a front before a front
+
+def test_a_front_before_the_front(make_front, recorded):
+    settings = ("proxy_pass https://office_pages/v1/$public_page; proxy_ssl_verify on; "
+                "proxy_ssl_trusted_certificate ca.crt; proxy_ssl_name localhost;")
+    far = make_front(recorded.port, edits=[("proxy_pass http://office_pages/v1/$public_page;", settings)])
+    assert "heard\n" == far.ask(getting("/v1/krl")).text
+    far.configure(("proxy_ssl_name localhost", "proxy_ssl_name elsewhere"))
+    far.reload()
+    assert [502] == statuses(far.ask(getting("/v1/cas")))
