@@ -1,18 +1,21 @@
 """Chromium, and a relay that gives it a client's certificate."""
 import contextlib
 import http.server
+import json
 import os
 import threading
 
 from selenium import webdriver
 from selenium.webdriver.chrome.service import Service
 
+from running import run
+
 # nginx gives these itself, or they belong to one connection.
 OWN_LINES = ("connection", "content-length", "transfer-encoding", "date", "server")
 
 
-def new_browser(folder):
-    """Headless Chromium with a profile of its own in the folder."""
+def new_browser(folder, driver="/usr/bin/chromedriver"):
+    """Headless Chromium with a profile of its own in the folder, begun by this driver."""
     options = webdriver.ChromeOptions()
     options.binary_location = "/usr/bin/chromium"
     for word in ("--headless=new", "--no-sandbox", "--disable-gpu", "--disable-dev-shm-usage", "--no-first-run",
@@ -20,8 +23,34 @@ def new_browser(folder):
                  f"--user-data-dir={folder}/browser"):
         options.add_argument(word)
     options.set_capability("goog:loggingPrefs", {"browser": "ALL"})
-    service = Service("/usr/bin/chromedriver", env=os.environ | {"HOME": str(folder), "LANG": "C.UTF-8"})
+    service = Service(str(driver), env=os.environ | {"HOME": str(folder), "LANG": "C.UTF-8"})
     return webdriver.Chrome(service=service, options=options)
+
+
+# Chromium reads its policies in /etc, so it gets an /etc/chromium of its own.
+DRIVER = """#!/bin/sh
+exec unshare --map-root-user --mount sh -c 'mount -t tmpfs none /etc/chromium && mkdir -p /etc/chromium/policies/managed &&
+  cp "$0" /etc/chromium/policies/managed/front.json && exec /usr/bin/chromedriver "$@"' "{policy}" "$@"
+"""
+
+
+def new_browser_of_client(folder, front, name):
+    """Headless Chromium that has this client's certificate, and shows it to the front without asking anybody."""
+    keys = folder / ".pki/nssdb"
+    keys.mkdir(parents=True)
+    packed = folder / f"{name}.p12"
+    for words in (["certutil", "-d", f"sql:{keys}", "-N", "--empty-password"],
+                  ["certutil", "-d", f"sql:{keys}", "-A", "-t", "C,,", "-n", "front", "-i", front.authority / "ca.crt"],
+                  ["openssl", "pkcs12", "-export", "-in", front.certificate(name), "-name", name, "-passout", "pass:",
+                   "-out", packed],
+                  ["pk12util", "-d", f"sql:{keys}", "-i", packed, "-W", ""]):
+        run(words, check=True)
+    policy, driver = folder / "policy.json", folder / "driver"
+    choice = json.dumps({"pattern": front.url, "filter": {}})
+    policy.write_text(json.dumps({"AutoSelectCertificateForUrls": [choice]}))
+    driver.write_text(DRIVER.replace("{policy}", str(policy)))
+    driver.chmod(0o755)
+    return new_browser(folder, driver)
 
 
 class Relay(http.server.ThreadingHTTPServer):

@@ -1,0 +1,283 @@
+"""The scripts of examples/ that callers, servers and those who watch type: ca-line, request, fetch-list, list-of-table
+and figures. test_authority.py has those of the front's authority."""
+import functools
+import http.server
+import json
+import os
+import re
+import threading
+import time
+
+import pytest
+
+from asking import department, post, revoke_serial
+from running import EXAMPLES, free_port, run, until
+
+pytestmark = pytest.mark.xdist_group("scripts")
+
+
+def script(name, *words, **environment):
+    """Status, output, and the last line of errors of a script of examples/."""
+    done = run([EXAMPLES / name, *words], env=os.environ | environment)
+    errors = done.stderr.decode().splitlines()
+    return done.returncode, done.stdout.decode(), errors[-1] if errors else ""
+
+
+def new_key(name):
+    run(["ssh-keygen", "-q", "-t", "ed25519", "-N", "", "-C", name, "-f", name], check=True)
+
+
+def shown(certificate):
+    """What ssh-keygen shows of a certificate, as lines without spaces around them."""
+    return [it.strip() for it in run(["ssh-keygen", "-L", "-f", certificate], check=True).stdout.decode().splitlines()]
+
+
+def is_revoked(krl, certificate):
+    return {0: False, 1: True}[run(["ssh-keygen", "-Q", "-f", krl, certificate]).returncode]
+
+
+@pytest.mark.parametrize("name", ["front/authority", "request", "ca-line", "list-of-table", "figures", "fetch-list"])
+def test_a_script_says_what_it_wants(name):
+    status, out, _ = script(name, "--help")
+    assert (0, True, 2) == (status, os.path.basename(name) in out, script(name, "--no-such-word")[0])
+
+
+# ---- ca-line
+
+def test_the_key_line_of_a_pem(office):
+    """Of its private half and of its public one; ssh-keygen reads it, and printf and base64 make the same."""
+    status, line, _ = script("ca-line", office.ca_key, "the first CA")
+    (office.db.parent / "line.pub").write_text(line)
+    read = run(["ssh-keygen", "-l", "-f", "line.pub"], check=True).stdout.decode().split(" ", 2)
+    assert (0, "the first CA (ED25519)\n") == (status, read[2])
+    run(["openssl", "pkey", "-in", office.ca_key, "-pubout", "-out", "half.pem"], check=True)
+    assert line.split()[:2] == script("ca-line", "half.pem")[1].split()
+    blob = r"""printf '\0\0\0\013ssh-ed25519\0\0\0\040' && openssl pkey -in "$0" -pubout -outform DER | tail -c 32"""
+    by_hand = run(["sh", "-c", f"{{ {blob}; }} | base64 -w 0", office.ca_key], check=True).stdout.decode()
+    assert by_hand == line.split()[1]
+
+
+def test_a_key_of_another_kind_has_no_line(authority):
+    why = f"ca-line: {authority}/ca.key has no Ed25519 key, or openssl can't read it"
+    assert (1, "", why) == script("ca-line", authority / "ca.key")
+
+
+def test_a_comment_of_two_lines_is_refused(office):
+    why = "ca-line: the comment has a line feed or another control letter"
+    assert (1, "", why) == script("ca-line", office.ca_key, "a\nb")
+
+
+# ---- request
+
+WEB = department("web", principals="alice,lost", options="force-command", extensions="permit-pty")
+
+
+@pytest.fixture
+def asking(front, room):
+    """A front before an office with the department web, and request as ana types it; alice and here are keys."""
+    assert 200 == front.session("root").post(f"{front.url}/v1/requests/web-1", data=WEB).status_code
+    new_key("alice")
+    environment = {"OFFICE_CERT": str(front.certificate("ana")), "OFFICE_CACERT": str(front.authority / "ca.crt")}
+    front.ask_for = lambda *words, **other: script("request", *words, **environment | other)
+    return front
+
+
+ALICE = ("web", "web/alice", "alice.pub", "alice", "8h")
+
+
+def left_of(key):
+    """What request keeps of a key."""
+    return sorted(it for it in os.listdir() if it.startswith(f"{key}.request"))
+
+
+def test_one_command_leads_from_a_key_to_a_certificate(asking, station):
+    waits = (1, "", "request: serial 1 has no signature yet; alice.request is kept: run the same command again")
+    assert waits == asking.ask_for("--wait", 1, asking.url, *ALICE)
+    assert 0o600 == os.stat("alice.request").st_mode & 0o777
+    assert [1] == station.sign()
+    assert (0, "alice-cert.pub serial 1\n", "") == asking.ask_for(asking.url, *ALICE)
+    assert 'Key ID: "web/alice"' in shown("alice-cert.pub")
+    assert [] == left_of("alice")
+
+
+def test_other_words_are_refused_while_the_first_have_no_answer(asking):
+    asking.ask_for("--wait", 1, asking.url, *ALICE)
+    with open("alice.request", encoding="ascii") as file:
+        kept = file.read()
+    why = ("request: alice.request has another message, which has no certificate yet: ask with its words again, or "
+           "remove the file")
+    assert (1, "", why) == asking.ask_for("--wait", 1, asking.url, "web", "web/other", "alice.pub", "alice", "8h")
+    with open("alice.request", encoding="ascii") as file:
+        assert kept == file.read()
+
+
+# What, the words, and the status and the complaint.
+BAD = [
+    ("a principal that the department does not permit", ("web", "web/alice", "alice.pub", "mallory", "8h"), 1,
+     "request: refused 14 NotPermitted"),
+    ("a life that is none", ("web", "web/alice", "alice.pub", "alice", "8y"), 2, "request: no life: 8y"),
+    ("a private key", ("web", "web/alice", "alice", "alice", "8h"), 2,
+     "request: the public key's file has to end with .pub: alice"),
+]
+
+
+@pytest.mark.parametrize("words, status, why", [it[1:] for it in BAD], ids=[it[0] for it in BAD])
+def test_a_request_that_is_refused_is_not_kept(asking, words, status, why):
+    assert (status, "", why) == asking.ask_for(asking.url, *words)
+    assert [] == left_of("alice")
+
+
+def test_without_a_certificate_the_front_refuses_a_request(asking):
+    why = "request: front: the certificate names no caller, or there is none (status 403)"
+    assert (1, "", why) == asking.ask_for(asking.url, *ALICE, OFFICE_CERT="")
+
+
+def test_without_a_front_request_names_its_caller(asking, station):
+    words = ("--caller", "ana", "--option", "force-command /bin/true", "--extensions", "permit-pty", "--wait", "1",
+             asking.served.url, "web", "web/alice", "alice.pub", "alice", "15m")
+    assert 1 == asking.ask_for(*words)[0]
+    station.sign()
+    assert (0, "alice-cert.pub serial 1\n", "") == asking.ask_for(*words)
+    lines = shown("alice-cert.pub")
+    assert ["force-command /bin/true", "permit-pty"] == [it for it in lines[lines.index("Critical Options:"):]
+                                                         if not it.endswith(":")]
+
+
+# ---- fetch-list
+
+@pytest.fixture
+def listed(asking, station):
+    """The front, with alice's certificate of serial 1 in alice-cert.pub, and fetch-list as a server types it."""
+    asking.ask_for("--wait", 1, asking.url, *ALICE)
+    station.sign()
+    assert 0 == asking.ask_for(asking.url, *ALICE)[0]
+    asking.fetch = functools.partial(script, "fetch-list", "--cacert", asking.authority / "ca.crt", asking.url)
+    return asking
+
+
+def test_a_server_fetches_the_list(listed, room):
+    assert (0, "", "") == listed.fetch("revoked.krl")
+    assert listed.served.get("/v1/krl").body == (room / "revoked.krl").read_bytes()
+    assert not is_revoked("revoked.krl", "alice-cert.pub")
+    listed.session("ana").post(f"{listed.url}/v1/requests/revoke-1", data=revoke_serial(1))
+    until(lambda: listed.fetch("revoked.krl")[0] == 0 and is_revoked("revoked.krl", "alice-cert.pub"))
+    assert 0o644 == os.stat("revoked.krl").st_mode & 0o777
+
+
+class Folder:
+    """A server that gives what is in a folder."""
+    def __init__(self, folder):
+        handler = functools.partial(Quiet, directory=folder)
+        self.server = http.server.ThreadingHTTPServer(("127.0.0.1", 0), handler)
+        self.url = f"http://127.0.0.1:{self.server.server_address[1]}"
+        threading.Thread(target=self.server.serve_forever, daemon=True).start()
+
+    def end(self):
+        self.server.shutdown()
+        self.server.server_close()
+
+
+class Quiet(http.server.SimpleHTTPRequestHandler):
+    def log_message(self, *_):
+        pass
+
+
+@pytest.fixture
+def folder_server(room):
+    (room / "web/v1").mkdir(parents=True)
+    made = Folder(room / "web")
+    yield made
+    made.end()
+
+
+# What comes in the place of a list, of which the office's newest and its first are given, and the complaint.
+OTHERS = [
+    ("an error", None, "no list came from {url}"),
+    ("another page", lambda krl, first: b"<html>sign in to the network</html>\n", "ssh-keygen can't read what came"),
+    ("half a list", lambda krl, first: krl[:60], "ssh-keygen can't read what came"),
+    ("an empty file", lambda krl, first: b"", "ssh-keygen can't read what came"),
+    ("an older list", lambda krl, first: first, "version 0 came, and 1 is in place"),
+]
+
+
+@pytest.mark.parametrize("come, why", [it[1:] for it in OTHERS], ids=[it[0] for it in OTHERS])
+def test_what_is_no_newer_list_does_not_take_the_place_of_the_list(office, folder_server, room, come, why):
+    first = office.krl()
+    office.apply([post("root", "web", department()), post("root", "revoke-1", "revoke-keyid web/alice\n")])
+    krl = office.krl()
+    assert krl != first
+    (room / "revoked.krl").write_bytes(krl)
+    if come:
+        (room / "web/v1/krl").write_bytes(come(krl, first))
+    complaint = f"fetch-list: {why.format(url=folder_server.url)}; revoked.krl is as it was"
+    assert (1, "", complaint) == script("fetch-list", folder_server.url, "revoked.krl")
+    assert krl == (room / "revoked.krl").read_bytes()
+    assert ["revoked.krl"] == [it for it in os.listdir() if it.startswith("revoked.krl")]
+
+
+# ---- list-of-table
+
+@pytest.fixture
+def table(listed, room):
+    """The table of three certificates, of which alice's is revoked, as the front gives it, in the file `table`."""
+    for number in (2, 3):
+        new_key(f"key-{number}")
+        listed.ask_for("--wait", 1, listed.url, "web", f"web/key-{number}", f"key-{number}.pub", "alice", "8h")
+    listed.session("ana").post(f"{listed.url}/v1/requests/revoke-1", data=revoke_serial(1))
+    until(lambda: " revoked " in listed.session("watch").get(f"{listed.url}/v1/table").text, pause=1)
+    (room / "table").write_text(listed.session("watch").get(f"{listed.url}/v1/table").text)
+    return listed
+
+
+def test_the_table_as_json(table):
+    status, out, _ = script("list-of-table", "table")
+    first, *rest = [json.loads(line) for line in out.splitlines()]
+    validity = next(it for it in shown("alice-cert.pub") if it.startswith("Valid: ")).split()
+    assert (0, 2, f"{validity[2]}Z", f"{validity[4]}Z") == (status, len(rest), first["after"], first["before"])
+    assert ("1", "revoked", "web/alice", "user", "web") == tuple(
+        first[it] for it in ("serial", "state", "keyid", "kind", "department"))
+
+
+def test_the_latest_moment_has_a_date(room):
+    row = f"{1:19d}  user  signed   {0:12d}  {253402300799:12d}  web/a\ntotal 1 version 0\n"
+    (room / "table").write_text(row)
+    assert "9999-12-31T23:59:59Z" == json.loads(script("list-of-table", "table")[1])["before"]
+
+
+ROW = f"{1:19d}  user  signed   {0:12d}  {1:12d}  web/a\n"
+CUT = "the table has no last line with its total: it was cut off, or is none"
+TABLES = [
+    ("a table without its end", 2 * ROW, CUT),
+    ("a table that lacks a line", ROW + "total 2 version 0\n", "the table has 1 lines, and its last line says 2"),
+    ("a table with another line", "web/a\ntotal 1 version 0\n", "line 1 is no line of a table"),
+    ("nothing", "", CUT),
+]
+
+
+@pytest.mark.parametrize("text, why", [it[1:] for it in TABLES], ids=[it[0] for it in TABLES])
+def test_of_a_table_that_is_not_whole_nothing_is_printed(room, text, why):
+    (room / "table").write_text(text)
+    assert (1, "", f"list-of-table: {why}") == script("list-of-table", "table")
+
+
+# ---- figures
+
+LINE = re.compile(r'# (HELP|TYPE) [a-z_]+ .+|[a-z_]+(\{[a-z]+="[a-z]+"(,[a-z]+="[a-z]+")*\})? [0-9.e-]+')
+
+
+def test_figures_of_an_office(table):
+    status, out, _ = script("figures", "--cacert", table.authority / "ca.crt", "--cert", table.certificate("watch"),
+                            "--last", 100000, table.url)
+    assert [] == [line for line in out.splitlines() if not LINE.fullmatch(line)]
+    got = dict(line.split(" ") for line in out.splitlines() if not line.startswith("#"))
+    assert (0, "1") == (status, got["office_up"])
+    assert {"pending": "2", "signed": "0", "revoked": "1"} == {
+        state: got[f'office_certificates{{kind="user",state="{state}"}}'] for state in ("pending", "signed", "revoked")}
+    assert ("1", str(100000 - 3), str(2 ** 63 - 3)) == (
+        got["office_list_version"], got["office_serials_left"], got["office_list_versions_left"])
+    assert abs(time.time() - float(got["office_list_changed_timestamp_seconds"])) < 120
+
+
+def test_an_office_that_is_away_is_a_figure_as_well():
+    status, out, _ = script("figures", f"http://127.0.0.1:{free_port()}")
+    assert (1, ["office_up 0"]) == (status, [line for line in out.splitlines() if not line.startswith("#")])
