@@ -77,8 +77,9 @@ TRIES = {
                field.name = "revoke-serial 1\\n"; form.append(field); document.documentElement.append(form);
                done(); form.submit()""",
     "frame": """const frame = document.createElement("iframe"); frame.sandbox = "allow-scripts";
-                frame.srcdoc = `<script>fetch("${url}", {method: "POST", mode: "no-cors", credentials: "include", body: "revoke-serial 1\\\\n"})
-                <` + `/script>`; document.documentElement.append(frame); done()""",
+                frame.srcdoc = `<script>fetch("${url}", {method: "POST", mode: "no-cors", credentials: "include",
+                  body: "revoke-serial 1\\\\n"})<` + `/script>`;
+                document.documentElement.append(frame); done()""",
 }
 
 
