@@ -35,6 +35,24 @@ SUBJECTS = {
     "as-ana": "/CN=Ana", "as-long": "/CN=" + 33 * "a", "as-wide": "/CN=anä", "as-empty": "/",
 }
 
+SETTINGS_OF_ENDED = """
+[ca]
+default_ca = ended
+[ended]
+database = ended.index
+new_certs_dir = .
+certificate = ca.crt
+private_key = ca.key
+default_md = sha256
+rand_serial = yes
+policy = any
+x509_extensions = client
+[any]
+commonName = supplied
+[client]
+extendedKeyUsage = clientAuth
+"""
+
 
 def odd_certificates(folder):
     for name, subject in SUBJECTS.items():
@@ -51,9 +69,10 @@ def odd_certificates(folder):
     # One that ended in 2020, for which `openssl ca` takes a date.
     run(["openssl", "req", "-new", "-key", folder / "ana.key", "-subj", "/CN=ana", "-out", folder / "ana.csr"],
         check=True)
-    run(["openssl", "ca", "-batch", "-notext", "-config", folder / "authority.conf", "-extensions", "client",
-         "-startdate", "200101000000Z", "-enddate", "200102000000Z", "-in", folder / "ana.csr", "-out",
-         folder / "ended.crt"], check=True, cwd=folder.parent)
+    (folder / "ended.index").touch()
+    (folder / "ended.conf").write_text(SETTINGS_OF_ENDED)
+    run(["openssl", "ca", "-batch", "-notext", "-config", "ended.conf", "-startdate", "200101000000Z", "-enddate",
+         "200102000000Z", "-in", "ana.csr", "-out", "ended.crt"], check=True, cwd=folder)
     (folder / "ended.pem").write_text((folder / "ana.key").read_text() + (folder / "ended.crt").read_text())
     (folder / "server.pem").write_bytes((folder / "server.key").read_bytes() + (folder / "server.crt").read_bytes())
 
