@@ -1,0 +1,4 @@
+pub mod OneSchema
+pub mod Opened
+pub mod Left
+pub mod Adding

@@ -1,0 +1,4 @@
+pub mod Schemas
+pub mod Images
+pub mod Runs
+pub mod Adding

@@ -1,0 +1,18 @@
+//! An office in its two files, from one run of the program to the next.
+//!
+//! A database is a file and its log. The two *hold an office* of an opening and a history if the database that SQLite
+//! finds in them has the rows of the plain machine that was opened so and was given the history's arrivals. An open of
+//! such files tells the history, a close leaves the history that was told, and a crash leaves it, or it with one
+//! arrival more.
+//!
+//! What the files held at an open, and how a crash is read, are what `Start` says. Clauses that speak of values ask
+//! that the disk has returned what was written.
+#![tactic(auto)]
+
+mod closing;
+mod laws;
+mod opening;
+
+pub use closing::{close_at, close_path, store_of};
+pub use laws::{a_run_keeps_the_office, arrivals_stay, one_schema, what_is_found_is_told};
+pub use opening::{open_again, open_at};
