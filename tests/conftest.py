@@ -2,6 +2,7 @@
 import functools
 import os
 import pathlib
+import random
 import signal
 
 import pytest
@@ -19,14 +20,22 @@ def pytest_addoption(parser):
                     help="the sshoffice to test")
     group.addoption("--krl-tool", metavar="PATH", type=pathlib.Path, default=TOP / "crates/krl_tool/out/krl_tool",
                     help="the krl_tool to test")
+    group.addoption("--steps", type=int, default=1000, help="how many random exchanges test_registers asks (1000)")
     group.addoption("--counts", action="store_true", help="end with the lines of counts that ./check reads")
 
 
+@pytest.hookimpl(tryfirst=True)
 def pytest_configure(config):
+    if config.option.hypothesis_seed is None:
+        config.option.hypothesis_seed = str(random.randrange(2 ** 32))
     os.environ["PATH"] += ":/usr/sbin:/sbin"
     os.environ["TZ"] = "UTC"
     # Whoever ends pytest ends what the tests have begun as well.
     signal.signal(signal.SIGTERM, signal.default_int_handler)
+
+
+def pytest_report_header(config):
+    return f"random histories: --hypothesis-seed={config.option.hypothesis_seed}"
 
 
 def pytest_unconfigure(config):

@@ -65,6 +65,13 @@ def run(words, **how):
     return subprocess.run([str(it) for it in words], **how)
 
 
+def preloaded(source, folder):
+    """Compiles a source of tests/preload to a library, which a program loads first where LD_PRELOAD names it."""
+    library = pathlib.Path(folder).absolute() / source.replace(".c", ".so")
+    run(["cc", "-shared", "-fPIC", "-O1", "-o", library, TOP / "tests/preload" / source], check=True)
+    return library
+
+
 # ---- ports and waiting
 
 def free_port():
@@ -126,7 +133,7 @@ class Office:
     or None where the CA was given as a line of text."""
 
     def __init__(self, program, db="office.db", *, ca=None, root="root", station="station", first=1, last=100_000):
-        self.program, self.db = program, pathlib.Path(db).absolute()
+        self.program, self.db, self.first, self.last = program, pathlib.Path(db).absolute(), first, last
         self.ca, self.ca_key = self.db.with_suffix(".ca.pub"), None
         if ca is None:
             self.ca_key = self.db.with_suffix(".ca.pem")
@@ -170,7 +177,8 @@ class Office:
         try:
             process = programs.begin(words, bufsize=0, **{"stdout": subprocess.PIPE, "stderr": subprocess.PIPE} | how)
             line = process.stdout.readline()
-            assert line.startswith(b"listening "), f"the office doesn't serve: {line!r} {process.stderr.read()!r}"
+            said = b"" if line or not process.stderr else process.stderr.read()
+            assert line.startswith(b"listening "), f"the office doesn't serve: {line!r} {said!r}"
             yield Served(self, process, int(line.split()[1]))
         finally:
             programs.end_all()

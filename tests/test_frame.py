@@ -4,7 +4,8 @@ from running import run
 
 
 def test_an_office_in_a_file(office):
-    given = office.apply([post("root", "web", department()), exchange(post("ana", "one", issue("web/one")), 1000, 0x33)])
+    asked = exchange(post("ana", "one", issue("web/one")), 1000, 0x33)
+    given = office.apply([post("root", "web", department()), asked])
     assert [b"department web\n", 200] == [given[0].body, given[1].status]
     assert b"total 1 version 0\n" in office.table()
 

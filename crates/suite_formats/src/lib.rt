@@ -2,7 +2,8 @@
 //!
 //! They call what any crate can call: readers and writers that end and fail, and the names of faults that no command
 //! prints. Expected values come from outside. What the built programs can show of texts, bodies, key lines and lists
-//! they show, in `interop/messages`, `interop/bodies`, `interop/checking` and `interop/specifications`.
+//! they show, in `tests/test_messages.py`, `tests/test_certificates.py`, `tests/test_key_lines.py` and
+//! `tests/test_krl.py`.
 #![tactic(auto)]
 
 #[cfg(test)]

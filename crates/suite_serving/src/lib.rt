@@ -2,7 +2,8 @@
 //! memory.
 //!
 //! They call what any crate can call. What a request is answered by its bytes alone, and which words are a job, the
-//! built program shows, in `interop/requests` and `interop/answers`; sockets and clocks it shows in `interop/serving`.
+//! built program shows, in `tests/test_requests.py` and `tests/test_command_line.py`; sockets and clocks it shows in
+//! `tests/test_serving.py`.
 #![tactic(auto)]
 
 #[cfg(test)]

@@ -1,4 +1,4 @@
-"""For the scripts beside it: the fenced blocks of a text, its commands, and what a shell prints for each."""
+"""The fenced blocks of a page, its commands, and what a shell prints for each."""
 import collections
 import re
 

@@ -1,22 +1,21 @@
-#!/usr/bin/env python3
 """Runs the commands of docs/OPERATING.md as they stand, from nothing to a login that sshd grants and then refuses, and
 looks at what they print and leave.
 
 The commands that README shows with what they print are some of these, and have to print just that here. Digests and the
 user's name are others at each run, and are not compared.
-
-    interop/operating [PROGRAM]
 """
+import dataclasses
 import os
 import pathlib
 import re
-import socket
 import subprocess
-import sys
-import tempfile
+
+import pytest
 
 from blocks import lines_of, printed_after, transcript
-from seeing import PROGRAM, TOP, counted, seen
+from running import TOP, free_port, run
+
+pytestmark = [pytest.mark.slow, pytest.mark.front, pytest.mark.xdist_group("operating")]
 
 PAGE = TOP / "docs/OPERATING.md"
 PORTS = ("OFFICE_PORT", "SSHD_PORT", "FRONT_PORT")
@@ -50,7 +49,6 @@ LINES = [
     ("the figures say that the office answers", "office_up 1"),
 ]
 
-
 # What is new at each run, or of the machine, and what stands for it when a text is compared.
 VARYING = [
     (re.compile(r"\b[0-9a-f]{64}\b"), "DIGEST"),
@@ -67,64 +65,65 @@ def alike(text):
     return text
 
 
-def free_ports():
-    """Ports of 127.0.0.1 at which nobody listens."""
-    peers = [socket.create_server(("127.0.0.1", 0)) for _ in PORTS]
-    ports = {name: str(peer.getsockname()[1]) for name, peer in zip(PORTS, peers)}
-    for peer in peers:
-        peer.close()
-    return ports
+@dataclasses.dataclass
+class Commands:
+    """The folder where the page's commands ran, their status, the log, and what was printed behind each line."""
+    folder: pathlib.Path
+    status: int
+    log: str
+    printed: list
+
+    def lines(self):
+        return "".join(output for _, output in self.printed).splitlines()
 
 
-def run_page(room):
-    """What a verbose shell prints for the page's commands, in order, behind each line, and its status."""
+@pytest.fixture(scope="module")
+def commands(program, tmp_path_factory):
+    """Runs the page's commands by a verbose shell, in order."""
+    room = tmp_path_factory.mktemp("operating")
     script = BEFORE + "".join(f"{line}\n" for line in lines_of(PAGE.read_text()))
     (room / "commands").write_text(script)
-    (room / "tools").mkdir()
-    (room / "folder").mkdir()
-    (room / "tools/sshoffice").symlink_to(PROGRAM)
+    for name in ("tools", "folder"):
+        (room / name).mkdir()
+    (room / "tools/sshoffice").symlink_to(program)
     (room / "tools/examples").symlink_to(TOP / "examples")
-    environment = {**os.environ, "VETHLUMI": str(room / "tools"), **free_ports()}
+    ports = {name: str(free_port()) for name in PORTS}
     with open(room / "log", "w") as log:
-        done = subprocess.run(["timeout", "120", "bash", "-v", "../commands"], cwd=room / "folder", env=environment,
-                              stdin=subprocess.DEVNULL, stdout=log, stderr=subprocess.STDOUT)
-    return printed_after(script, (room / "log").read_text(errors="replace")), done.returncode
+        how = {"stdout": log, "stderr": subprocess.STDOUT, "capture_output": False, "timeout": 130}
+        done = run(["timeout", "120", "bash", "-v", "../commands"], cwd=room / "folder",
+                   env=os.environ | ports | {"VETHLUMI": str(room / "tools")}, **how)
+    text = (room / "log").read_text(errors="replace")
+    return Commands(room / "folder", done.returncode, text, printed_after(script, text))
 
 
-def shown_in_readme(printed):
-    """The lines of the page that README shows, in this order, print what README shows."""
+def test_the_commands_end_well(commands):
+    assert 0 == commands.status, commands.log
+    assert "" == (commands.folder / "serve.faults").read_text(), "no fault was met"
+
+
+@pytest.mark.parametrize("line", [line for _, line in LINES], ids=[what for what, _ in LINES])
+def test_a_command_prints_its_line(commands, line):
+    assert line in commands.lines()
+
+
+def test_the_fingerprint_of_the_ca_is_ssh_keygens(commands):
+    shown = run(["ssh-keygen", "-l", "-f", commands.folder / "ca.pub"], check=True).stdout.decode().split()[1]
+    assert f"ca {shown}" in commands.lines()
+
+
+def test_one_login_is_granted_and_the_refusal_is_the_lists(commands):
+    assert 1 == commands.lines().count("granted")
+    assert "revoked" in (commands.folder / "sshd.log").read_text()
+    assert 1 == sum("REVOKED" in line for line in commands.lines()), "ssh-keygen finds the certificate revoked"
+
+
+def test_they_print_what_readme_shows(commands):
+    """The lines of the page that README shows come in this order."""
     of_page = lines_of(PAGE.read_text())
-    rest = iter(printed)
-    for step in transcript((TOP / "README.md").read_text()):
-        last = step.command.splitlines()[-1]
-        if last in of_page:
-            got = next((output for line, output in rest if line == last), "it doesn't come there\n")
-            seen(f"[{last}] prints what README shows", alike(step.output).encode(), alike(got).encode())
-
-
-def fingerprint(key):
-    """What ssh-keygen shows of a key."""
-    return subprocess.run(["ssh-keygen", "-l", "-f", key], capture_output=True, text=True).stdout.split()[1]
-
-
-def main():
-    with tempfile.TemporaryDirectory() as name:
-        room = pathlib.Path(name)
-        printed, status = run_page(room)
-        seen("the commands end well", 0, status)
-        if status:
-            print((room / "log").read_text(errors="replace"))
-        folder = room / "folder"
-        lines = "".join(output for _, output in printed).splitlines()
-        for what, line in LINES:
-            seen(what, True, line in lines)
-        seen("the CA's fingerprint is ssh-keygen's", True, f"ca {fingerprint(folder / 'ca.pub')}" in lines)
-        seen("one login was granted", 1, lines.count("granted"))
-        seen("the refusal is the list's", True, "revoked" in (folder / "sshd.log").read_text())
-        seen("ssh-keygen finds the certificate revoked", 1, sum("REVOKED" in line for line in lines))
-        seen("no fault was met", "", (folder / "serve.faults").read_text())
-        shown_in_readme(printed)
-    return counted()
-
-
-sys.exit(main())
+    rest = iter(commands.printed)
+    shown = [(step.command.splitlines()[-1], step.output) for step in transcript((TOP / "README.md").read_text())]
+    wanted = [(line, alike(output)) for line, output in shown if line in of_page]
+    got = [(line, next((alike(output) for found, output in rest if found == line), "it doesn't come there\n"))
+           for line, _ in wanted]
+    assert len(wanted) > 4
+    assert wanted == got

@@ -1,22 +1,18 @@
-#!/usr/bin/env python3
 """Which texts are messages, each limit at and past its end: a text that is none is refused as BadMessage.
 
 A message of each kind is given another line in one place, and is posted by root to the trial office in memory. Of each
 worked message each beginning is posted as well, and the message with one line feed more.
-
-    interop/messages [PROGRAM]
 """
 import base64
-import pathlib
-import subprocess
-import sys
-import tempfile
 
-sys.dont_write_bytecode = True
-from seeing import PROGRAM, answers, counted, seen
+import pytest
 
-KEY = "ssh-ed25519 AAAAC3NzaC1lZDI1NTE5AAAAICIi" + "IiIi" * 10
-OTHER_KEY = "ssh-ed25519 AAAAC3NzaC1lZDI1NTE5AAAAIBIS" + "EhIS" * 10
+from asking import KEY, OTHER_CA, answers, exchange, post, string, write_exchanges
+from running import run
+
+pytestmark = pytest.mark.rows
+
+OTHER_KEY = OTHER_CA
 DIGEST = "82e0c34fe67da3fc3dc1be6682073994ec021449271b641cdd36180e95572e79"
 
 
@@ -25,7 +21,7 @@ BAD = b"refused 7 BadMessage\n"
 
 def blob(algorithm, size):
     """A signature blob of so many bytes 44."""
-    return len(algorithm).to_bytes(4, "big") + algorithm + size.to_bytes(4, "big") + b"\x44" * size
+    return string(algorithm) + string(b"\x44" * size)
 
 
 def base64_of(data):
@@ -155,7 +151,7 @@ def shown(line):
 
 
 def all_rows():
-    """What is posted: why, its bytes, and whether they are a message."""
+    """What is posted: what it is, its bytes, and whether they are a message."""
     for lines, place, good, bad in ROWS:
         for line, is_message in [*((it, True) for it in good), *((it, False) for it in bad)]:
             changed = [*lines[:place], line, *lines[place + 1:]]
@@ -168,28 +164,31 @@ def all_rows():
             yield f"the first {size} bytes of {lines[0]!r}", whole[:size], False
 
 
-def posted(place, message):
-    """The exchange that posts a message under a key of its own."""
-    head = b"POST /v1/callers/root/requests/m%d HTTP/1.1\r\ncontent-length: %d\r\n\r\n" % (place, len(message))
-    asked = head + message
-    return b"exchange 1000 %s %d\n%s" % (b"33" * 32, len(asked), asked)
+POSTED = [*all_rows()]
 
 
-def main():
-    for lines, size in WORKED:
-        seen(f"{lines[0]!r} has {size} bytes", size, len(text(lines)))
-    rows = list(all_rows())
-    with tempfile.TemporaryDirectory() as room:
-        file = pathlib.Path(room) / "messages.exchange"
-        file.write_bytes(b"".join(posted(place, message) for place, (_, message, _) in enumerate(rows)))
-        out = subprocess.run([PROGRAM, "apply", file], capture_output=True, timeout=100).stdout
-    for (what, _, is_message), answer in zip(rows, answers(out), strict=True):
-        body = answer.partition(b"\r\n\r\n")[2]
-        if is_message:
-            seen(f"{what} is a message", b"any answer but " + BAD if body == BAD else body, body)
-        else:
-            seen(f"{what} is none", BAD, body)
-    return counted()
+@pytest.fixture(scope="module")
+def replies(program, tmp_path_factory):
+    """What each text is answered, posted under a key of its own."""
+    file = tmp_path_factory.mktemp("messages") / "messages.exchange"
+    write_exchanges(file, [exchange(post("root", f"m{place}", message), 1000, 0x33)
+                           for place, (_, message, _) in enumerate(POSTED)])
+    return [it.body for it in answers(run([program, "apply", file]).stdout)]
 
 
-sys.exit(main())
+@pytest.mark.parametrize(("lines", "size"), WORKED, ids=[lines[0] for lines, _ in WORKED])
+def test_a_worked_message_has_its_length(lines, size):
+    assert size == len(text(lines))
+
+
+def test_each_text_is_answered(replies):
+    assert len(POSTED) == len(replies)
+
+
+@pytest.mark.parametrize(("place", "is_message"), [(place, it[2]) for place, it in enumerate(POSTED)],
+                         ids=[what for what, _, _ in POSTED])
+def test_a_text_is_a_message_or_none(replies, place, is_message):
+    if is_message:
+        assert BAD != replies[place]
+    else:
+        assert BAD == replies[place]

@@ -1,33 +1,25 @@
-#!/usr/bin/env python3
 """What is refused of requests by their bytes alone, and by which refusal: paths, methods, lengths, limits of heads.
 
 All requests are the exchanges of one file, which is applied to the trial office in memory. A refusal's number and
 status are those of the table in docs/FORMATS.md.
-
-    interop/requests [PROGRAM]
 """
-import os
-import pathlib
 import re
-import subprocess
-import sys
-import tempfile
 
-sys.dont_write_bytecode = True
-from seeing import PROGRAM, TOP, answers, counted, seen
+import pytest
 
-MESSAGE = (b"issue web\nkeyid web/alice\nkey ssh-ed25519 AAAAC3NzaC1lZDI1NTE5AAAAICIi" + b"IiIi" * 10 +
-           b"\nprincipals alice\nafter 1000\nbefore 2000\nextensions\n")
-HEAD = b"POST /v1/callers/ana/requests/i1 HTTP/1.1\r\ncontent-length: 162\r\n\r\n"
+from asking import answers, exchange, get, issue, write_exchanges
+from asking import post as posted
+from running import TOP, run
+
+pytestmark = pytest.mark.rows
+
+MESSAGE = issue("web/alice", after=1000, before=2000).encode()
+HEAD = posted("ana", "i1", MESSAGE).removesuffix(MESSAGE)
 LONGEST_NAME = b"abcdefghijklmnopqrstuvwxyz012345"
 
 # Each row is a request, and the name of its refusal, or what the response's head and body begin with.
 ISSUED = b"HTTP/1.1 200 OK\r\n", b"issued 1\ndigest 82e0c34fe67da3fc3dc1be6682073994ec021449271b641cdd36180e95572e79\n"
 OK = b"HTTP/1.1 200 OK\r\n", b""
-
-
-def get(path, method=b"GET"):
-    return b"%s %s HTTP/1.1\r\n\r\n" % (method, path)
 
 
 def post(lines, body=b""):
@@ -130,21 +122,14 @@ PATHS = [(get(path, method), wanted) for method, path, wanted in [
     (b"POST", b"/v1/callers/ana/requests/" + LONGEST_NAME, "LengthRequired"),
 ]]
 
-ROWS = {
-    "a message that is posted": POSTS,
-    "the length of a message": LENGTHS,
-    "the limits of a head": LIMITS,
-    "a path of a resource": [(get(path), (OK[0], body)) for path, body in RESOURCES],
-    "what is like the path of a resource": AROUND,
-    "a path": PATHS,
+TABLES = {
+    "posted": POSTS,
+    "length": LENGTHS,
+    "limit": LIMITS,
+    "resource": [(get(path), (OK[0], body)) for path, body in RESOURCES],
+    "around": AROUND,
+    "path": PATHS,
 }
-
-
-def refusals():
-    """The status line and the body of each refusal, by its name."""
-    found = re.findall(r"^\| (\d+) \| (\w+) \| (\d+) \|", (TOP / "docs/FORMATS.md").read_text(), re.M)
-    return {name: (b"HTTP/1.1 %s " % status.encode(), b"refused %s %s\n" % (number.encode(), name.encode()))
-            for number, name, status in found}
 
 
 def shown(request):
@@ -153,26 +138,38 @@ def shown(request):
     return text if len(text) <= 90 else f"{text[:40]}..{text[-40:]} of {len(request)} bytes"
 
 
-def all_answers(requests):
-    """The response to each of these requests, which the trial office is asked one after the other."""
-    with tempfile.TemporaryDirectory() as room:
-        file = pathlib.Path(room) / "requests.exchange"
-        file.write_bytes(b"".join(b"exchange 1000 %s %d\n%s" % (b"33" * 32, len(it), it) for it in requests))
-        out = subprocess.run([PROGRAM, "apply", file], capture_output=True, timeout=100).stdout
-    return [it.partition(b"\n")[2] for it in answers(out)]
+ROWS = [(what, request, wanted) for what, rows in TABLES.items() for request, wanted in rows]
 
 
-def main():
-    named = refusals()
-    rows = [(what, request, wanted) for what, them in ROWS.items() for request, wanted in them]
-    given = all_answers([request for _, request, _ in rows])
-    for (what, request, wanted), response in zip(rows, given, strict=True):
-        head, _, body = response.partition(b"\r\n\r\n")
-        line, start = named[wanted] if isinstance(wanted, str) else wanted
-        end = len(body) if isinstance(wanted, str) or wanted is ISSUED else len(start)
-        name = wanted if isinstance(wanted, str) else "answered"
-        seen(f"{what}: {shown(request)}: {name}", line + start, (head + b"\r\n")[:len(line)] + body[:end])
-    return counted()
+def name_of(row):
+    what, request, wanted = row
+    return f"{what}: {shown(request)}: {wanted if isinstance(wanted, str) else 'answered'}"
 
 
-sys.exit(main())
+@pytest.fixture(scope="module")
+def given(program, tmp_path_factory):
+    """The responses to all requests, for which the trial office is asked one after the other."""
+    file = tmp_path_factory.mktemp("requests") / "requests.exchange"
+    write_exchanges(file, [exchange(request, 1000, 0x33) for _, request, _ in ROWS])
+    return answers(run([program, "apply", file]).stdout)
+
+
+@pytest.fixture(scope="module")
+def refusals():
+    """The status line and the body of each refusal, by its name."""
+    found = re.findall(r"^\| (\d+) \| (\w+) \| (\d+) \|", (TOP / "docs/FORMATS.md").read_text(), re.M)
+    return {name: (b"HTTP/1.1 %s " % status.encode(), b"refused %s %s\n" % (number.encode(), name.encode()))
+            for number, name, status in found}
+
+
+def test_each_request_is_answered(given):
+    assert len(ROWS) == len(given)
+
+
+@pytest.mark.parametrize("place", range(len(ROWS)), ids=map(name_of, ROWS))
+def test_a_request_is_judged_by_its_bytes(given, refusals, place):
+    wanted, response = ROWS[place][2], given[place]
+    line, start = refusals[wanted] if isinstance(wanted, str) else wanted
+    is_whole = isinstance(wanted, str) or wanted is ISSUED
+    end = len(response.body) if is_whole else len(start)
+    assert line + start == response[:len(line)] + response.body[:end]

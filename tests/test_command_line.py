@@ -1,0 +1,206 @@
+"""Commands: words, a status, and what is printed to standard output and to standard error."""
+import pathlib
+import resource
+
+import pytest
+
+from asking import CA, OTHER_CA
+from running import ROWS, run
+
+pytestmark = pytest.mark.rows
+
+NONCE = b"33" * 32
+READY = b"office ready 1 9223372036854775806\nca SHA256:SQfC+vTbLURn9cTkVxIS8fGQ3FKNAJWeB0o139+gV4M\n"
+
+# Lists, by their fields: nothing is revoked; the serials 5 to 7; and faulty ones.
+NO_LIST = "5353484b524c0a00 00000001 0000000000000000 0000000000000000 0000000000000000 00000000 00000000"
+HEAD = "5353484b524c0a00 00000001 0000000000000003 0000000000000bbe 0000000000000000 00000000 00000000"
+BLOB = "00000033 0000000b 7373682d65643235353139 00000020" + "11" * 32 + "00000000"
+LIST = f"{HEAD} 01 00000050 {BLOB} 21 00000010 0000000000000005 0000000000000007"
+SHORT_RANGE = f"{HEAD} 01 0000004c {BLOB} 21 0000000c 0000000000000005 00000007"
+
+BAD_HEAD = (b"answer 111\nHTTP/1.1 400 Bad Request\r\ncontent-type: text/plain\r\ncontent-length: 18\r\n"
+            b"connection: close\r\n\r\nrefused 1 BadHead\n")
+
+
+def record(moment, nonce, length, request):
+    return b"exchange %s %s %s\n%s" % (moment, nonce, length, request)
+
+
+# Records of another form, each behind a good one.
+BAD_RECORDS = {
+    "moment-over-64-bits": record(b"18446744073709551616", NONCE, b"0", b""),
+    "moment-with-a-zero": record(b"01", NONCE, b"0", b""),
+    "moment-with-a-sign": record(b"+1", NONCE, b"0", b""),
+    "no-moment": record(b"", NONCE, b"0", b""),
+    "nonce-in-upper-case": record(b"1000", b"AA" + NONCE[2:], b"0", b""),
+    "nonce-cut": record(b"1000", NONCE[1:], b"0", b""),
+    "length-with-a-zero": record(b"1000", NONCE, b"00", b""),
+    "length-over-the-end": record(b"1000", NONCE, b"4", b"abc"),
+    "two-spaces": record(b" 1000", NONCE, b"0", b""),
+    "space-behind": record(b"1000", NONCE, b"0 ", b""),
+}
+
+# Bytes that are no record.
+NO_RECORDS = {
+    "first-line-cut": b"exchange 1000",
+    "line-feed": b"\n",
+    "letter": b"x",
+    "short-nonce": b"exchange 1000 33 0\n",
+    "capital": b"Exchange 1000 33 0\n",
+    "request-cut": record(b"1000", NONCE, b"4", b"abc"),
+}
+
+# Files of the folder where all is run.
+FILES = {
+    "department.exchange": (ROWS / "the-department-of-the-trial-office.exchange").read_bytes(),
+    "ca.pub": f"{CA} office\n".encode(),
+    "ca2.pub": OTHER_CA.encode(),
+    "bad.pub": b"ssh-ed25519 AAAA",
+    "rsa.pub": b"ssh-rsa AAAA",
+    "most.pub": f"{CA} ".encode().ljust(8192, b"a"),
+    "longer.pub": f"{CA} ".encode().ljust(8193, b"a"),
+    "list.krl": bytes.fromhex(LIST),
+    "longer.krl": bytes.fromhex(LIST) + b"\0",
+    "cut.krl": bytes.fromhex(LIST)[:120],
+    "other.krl": bytes.fromhex(NO_LIST + "0200000000"),
+    "short.krl": bytes.fromhex(SHORT_RANGE),
+    "most.exchange": record(b"0", NONCE, b"65536", b"a" * 65536),
+    "longer.exchange": record(b"0", NONCE, b"65537", b"a" * 65537),
+    "10000.exchange": record(b"0", NONCE, b"0", b"") * 10000,
+    "10001.exchange": record(b"0", NONCE, b"0", b"") * 10001,
+    **{f"{name}.exchange": record(b"1000", NONCE, b"3", b"abc") + bad for name, bad in BAD_RECORDS.items()},
+    **{f"{name}.exchange": bad for name, bad in NO_RECORDS.items()},
+}
+
+
+@pytest.fixture(scope="module")
+def files(tmp_path_factory, program):
+    """A folder with the files, and the offices `ready.db` and `kept.db`."""
+    folder = tmp_path_factory.mktemp("commands")
+    for name, content in FILES.items():
+        (folder / name).write_bytes(content)
+    for db in ("ready.db", "kept.db"):
+        run([program, *init(db).split()], cwd=folder, check=True)
+    return folder
+
+
+def init(db, ca="ca.pub", root="root", station="station", first=1, last=9223372036854775806):
+    return f"init --db {db} --ca {ca} --root {root} --station {station} --first {first} --last {last}"
+
+
+# Words, and the fault in which they end. The first fault is named.
+FAULTS = [
+    # An office is founded once.
+    (init("ready.db"), "AlreadyAnOffice"),
+    ("migrate --db ready.db", "WrongSchema"),
+    # An opening has its faults in order.
+    (init("opening.db", root="Root", station="Root", first=0, last=0), "BadName"),
+    (init("opening.db", root="root", station="root", first=0, last=0), "SameName"),
+    (init("opening.db", first=0, last=1), "BadSerials"),
+    (init("opening.db", first=2, last=1), "BadSerials"),
+    (init("numbers.db", first=0, last=2 ** 64 - 1), "BadSerials"),
+    (init("no/where.db", ca="no.pub", root="Root", station="Root", first=0, last=0), "File"),
+    (init("no/where.db", ca="bad.pub", root="Root", station="Root", first=0, last=0), "BadBase64"),
+    (init("no/where.db", root="Root", station="Root", first=0, last=0), "BadName"),
+    (init("no/where.db", first=2, last=1), "BadSerials"),
+    (init("no/where.db", first=1, last=2), "Device"),
+    # A faulty list has its fault.
+    ("check --ca ca.pub longer.krl 6 web/x", "Truncated"),
+    ("check --ca ca.pub other.krl 6 web/x", "Unsupported(2)"),
+    ("check --ca ca.pub cut.krl 6 web/x", "Truncated"),
+    ("check --ca ca.pub short.krl 6 web/x", "BadSection"),
+    ("check --ca no.pub no.krl 6 web/x", "File"),
+    ("check --ca rsa.pub no.krl 6 web/x", "WrongType"),
+    ("check --ca bad.pub no.krl 6 web/x", "BadBase64"),
+    ("check --ca ca.pub no.krl 6 web/x", "File"),
+    # A file is read up to its limit, and one of exchanges whole or not at all.
+    ("check --ca most.pub no.krl 6 web/x", "BadComment"),
+    ("check --ca longer.pub no.krl 6 web/x", "File"),
+    ("check --ca /dev/zero no.krl 6 web/x", "File"),
+    ("apply longer.exchange", "BadExchange 1"),
+    ("apply /dev/zero", "BadExchange 1"),
+    ("apply 10001.exchange", "BadExchange 10001"),
+    *[(f"apply {name}.exchange", "BadExchange 2") for name in BAD_RECORDS],
+    *[(f"apply {name}.exchange", "BadExchange 1") for name in NO_RECORDS],
+    ("apply no.exchange", "File"),
+    ("apply -- -one", "File"),
+    ("apply --db no/where.db no.exchange", "File"),
+    ("apply --db no/where.db request-cut.exchange", "BadExchange 1"),
+    ("apply --db no/where.db /dev/null", "Device"),
+    ("apply --db none.db /dev/null", "NotAnOffice"),
+    ("krl --db no/where.db", "Device"),
+    ("signers --db none.db", "NotAnOffice"),
+    ("migrate --db none.db", "NotAnOffice"),
+    ("serve --db no/where.db --port 0 --connections 1 --nonces no.nonces", "File"),
+    ("serve --db no/where.db --port 0 --connections 1 --nonces /dev/zero", "Device"),
+    ("serve --db none.db --port 0 --connections 1 --nonces /dev/zero", "NotAnOffice"),
+]
+
+# Words, and what is printed.
+PRINTED = [
+    (init("new.db"), READY),
+    ("table --db kept.db", b"total 0 version 0\n"),
+    ("krl --db kept.db", bytes.fromhex(NO_LIST)),
+    ("signers --db kept.db", b""),
+    # A list is asked about a certificate.
+    *[(f"check --ca ca.pub list.krl {serial} web/x", b"revoked\n") for serial in (5, 6, 7)],
+    *[(f"check --ca ca.pub list.krl {serial} web/x", b"clear\n") for serial in (4, 8, 2 ** 64 - 1)],
+    *[(f"check --ca ca2.pub list.krl {serial} web/x", b"clear\n") for serial in (5, 6, 7)],
+    ("apply /dev/null", b""),
+    ("apply most.exchange", BAD_HEAD),
+    ("apply 10000.exchange", BAD_HEAD * 10000),
+    ("selftest", b"selftest ok\n"),
+    # Options come in any order and with an equals sign. A word that begins with - stands behind one, or behind --.
+    ("init --last=+9 --first=007 --station=-press --root=-ada --ca=ca.pub --db=order.db",
+     READY.replace(b"1 9223372036854775806", b"7 9")),
+    ("apply /dev/null --db kept.db", b""),
+    ("check --ca ca.pub -- list.krl 7 -web/alice", b"revoked\n"),
+]
+
+# Words that are no command.
+MISTAKES = [
+    "check --ca ca.pub list.krl 0 web/x",
+    "serve",
+    "serve --db a --port 0 --connections 1",
+    "serve --db a --port -1 --connections 1 --nonces b",
+    "serve --db a --port 0 --connections 1 --nonces b c",
+    "serve --db a --db a --port 0 --connections 1 --nonces b",
+]
+
+
+def come(program, words, folder):
+    """Status, output and errors."""
+    done = run([program, *words.split()], cwd=folder)
+    return done.returncode, done.stdout, done.stderr
+
+
+@pytest.mark.parametrize(("words", "fault"), FAULTS)
+def test_a_fault_is_named(program, files, words, fault):
+    assert (1, b"", f"sshoffice: {fault}\n".encode()) == come(program, words, files)
+
+
+@pytest.mark.parametrize(("words", "output"), PRINTED, ids=[words for words, _ in PRINTED])
+def test_what_is_printed(program, files, words, output):
+    assert (0, output, b"") == come(program, words, files)
+
+
+@pytest.mark.parametrize("words", MISTAKES)
+def test_words_that_are_no_command(program, files, words):
+    status, out, err = come(program, words, files)
+    assert (2, b"", True) == (status, out, len(err) > 0)
+
+
+# ---- outputs that take nothing, or a part
+
+def test_an_output_that_takes_nothing_is_a_fault(program):
+    with open("/dev/full", "wb") as full:
+        done = run([program, "selftest"], capture_output=False, stdout=full, stderr=-1)
+    assert (1, b"sshoffice: Write\n") == (done.returncode, done.stderr)
+
+
+def test_an_output_that_takes_eight_bytes_is_a_fault(program, room):
+    limit = {"restore_signals": False, "preexec_fn": lambda: resource.setrlimit(resource.RLIMIT_FSIZE, (8, 8))}
+    with open("eight", "wb") as eight:
+        done = run([program, "selftest"], capture_output=False, stdout=eight, stderr=-1, **limit)
+    assert (1, b"sshoffice: Write\n", b"selftest") == (done.returncode, done.stderr, pathlib.Path("eight").read_bytes())

@@ -1,0 +1,227 @@
+"""Has three registers answer the same mixed exchanges: the program's lists in memory, its tables in a file, and an
+office in Python that keeps lists.
+
+The office in Python is written from the formats alone. First it has to give the bytes of each row of examples/rows
+whose requests have good heads. Then hypothesis asks it histories of messages of each kind and of each GET, many of
+which are refused, and makes a history that fails as short as it can. The program has to give the same bytes, in a file
+that is opened again and again; and so once more, with each request at another moment and with another nonce. Then the
+reports, each certificate and its body have to be the same, and sqlite3 has to find the rows in the file that the office
+in Python has.
+
+`--steps 20000` asks more than the thousand exchanges of the check, and `--hypothesis-seed` the same ones as before.
+"""
+import itertools
+import json
+import pathlib
+
+import pytest
+from hypothesis import HealthCheck, Phase, settings
+from hypothesis import strategies as some
+from hypothesis.stateful import RuleBasedStateMachine, initialize, precondition, rule, run_state_machine_as_test
+
+from asking import (CA, LAST_SERIAL, LATEST, answers, deliver, department, exchange, exchanges_of, get, issue,
+                    key_blob, key_line, post, renew, revoke_keyid, revoke_range, revoke_serial, rollover,
+                    write_exchanges)
+from plain_office import PlainOffice
+from running import ROWS, Office, run
+
+STEPS_OF_A_HISTORY = 50
+DEPARTMENT = exchanges_of((ROWS / "the-department-of-the-trial-office.exchange").read_bytes())
+
+# Rows whose requests have heads that are no good ones. The office in Python reads none of these.
+OTHER_HEADS = {"a-cut-request-is-refused", "a-head-is-judged-before-its-body", "records-are-read-whole"}
+NAMES = sorted({path.stem for path in ROWS.glob("*.exchange")} - OTHER_HEADS)
+
+
+def plain_office(first=1, last=LAST_SERIAL):
+    return PlainOffice(key_blob(0x11), first, last)
+
+
+@pytest.mark.parametrize("name", NAMES)
+def test_the_office_in_python_gives_the_rows(name):
+    opening = ROWS / f"{name}.office"
+    office = plain_office(*map(int, opening.read_text().split()[1::2])) if opening.exists() else plain_office()
+    for one in [] if opening.exists() else DEPARTMENT:
+        office.answer(*one)
+    wanted = answers((ROWS / f"{name}.expected").read_bytes())
+    assert wanted == [office.answer(*one) for one in exchanges_of((ROWS / f"{name}.exchange").read_bytes())]
+
+
+# ---- what is asked
+
+CALLERS = some.sampled_from(["ana", "bob", "root", "station"])
+KEYS = some.sampled_from([f"k{place}" for place in range(40)])
+MOMENTS = some.sampled_from([1000, 1000, 1000, 1500, 1999, 0, 3000, LATEST, LATEST + 1])
+NONCES = some.integers(0, 255)
+DEPARTMENTS = some.sampled_from(["web", "web", "web2", "db"])
+KEY_IDS = some.builds("{}/{}".format, DEPARTMENTS, some.sampled_from(["a", "b", "c/d", "x"]))
+PRINCIPALS = some.sampled_from(["alice", "alice,bob", "x@example.org", "@example.org", "b.example.org"])
+RULES = some.sampled_from(["alice,bob,*@example.org", "*.example.org", "alice"])
+ENDS = some.sampled_from([(1000, 2000), (1000, 2000), (1500, 2500), (0, 1000), (2000, 1000), (1000, 90000)])
+COMMAND = "force-command /bin/true"
+OPTIONS = some.sampled_from([(), (), (COMMAND,), ("verify-required", COMMAND), (COMMAND, COMMAND)])
+EXTENSIONS = some.sampled_from(["", "permit-pty", "permit-pty,permit-X11-forwarding", "permit-user-rc"])
+SUBJECTS = some.sampled_from([key_line(0x22), key_line(0x23, "box")])
+CAS = some.integers(0x11, 0x1a).map(key_line)
+OTHERS = some.sampled_from(["issue web\n", "deliver 9\n", "revoke-range 3 2\n", "revoke-serial 0\n", "", "renew 1\n"])
+PAGES = some.sampled_from(["pending", "krl", "signers", "table", "cas", "certs/0", "certs/01", "keys"])
+# A serial that is near to one that was handed out: so many before the next.
+BEFORE = some.integers(-1, 8)
+
+COLUMNS = {
+    "office": "id, schema, hex(ca), root, station, first, last, next, version, date",
+    "department": "name, kind, admins, rules, options, extensions, maxlife, namespaces",
+    "cert": "serial, department, keyid, hex(body), iif(signature IS NULL, NULL, hex(signature))",
+    "request": "caller, key, hex(message), hex(reply)",
+    "run": "lo, hi",
+    "revoked_keyid": "keyid",
+    "ca": "number, hex(ca), since",
+}
+
+
+def rows_of(db, table):
+    """The rows that sqlite3 finds in a table, in the order of its key."""
+    keys = "1, 2" if table == "request" else "1"
+    found = run(["sqlite3", "-json", db, f"SELECT {COLUMNS[table]} FROM {table} ORDER BY {keys}"], check=True).stdout
+    return [list(row.values()) for row in json.loads(found or b"[]")]
+
+
+class Registers(RuleBasedStateMachine):
+    """A history of exchanges, which the office in Python answers at once, and the program at the end."""
+    program = None
+    count = itertools.count()
+
+    @initialize(last=some.sampled_from([LAST_SERIAL, LAST_SERIAL, 4, 12]), piece=some.sampled_from([1000, 17]))
+    def begin(self, last, piece):
+        """The office, and how many exchanges the program answers before the file is opened again."""
+        self.last, self.piece, self.exchanges, self.given, self.office = last, piece, [], [], plain_office(1, last)
+        for one in DEPARTMENT:
+            self.office.answer(*one)
+
+    def ask(self, request, moment, nonce):
+        one = exchange(request, moment, nonce)
+        self.exchanges.append(one)
+        self.given.append(self.office.answer(*one))
+
+    def send(self, to, message):
+        caller, key, moment, nonce = to
+        self.ask(post(caller, key, message), moment, nonce)
+
+    def serial(self, before):
+        return max(1, self.office.next() - before)
+
+    # Who sends under which key, and with which moment and nonce. Those who may are asked more often.
+    FROM = some.tuples(CALLERS, KEYS, MOMENTS, NONCES)
+    FROM_ROOT = some.tuples(some.sampled_from(["root", "root", "root", "ana"]), KEYS, MOMENTS, NONCES)
+    FROM_ANA = some.tuples(some.sampled_from(["ana", "ana", "ana", "bob"]), KEYS, MOMENTS, NONCES)
+    FROM_STATION = some.tuples(some.sampled_from(["station", "station", "station", "root"]), KEYS, MOMENTS, NONCES)
+
+    @rule(to=FROM_ROOT, name=DEPARTMENTS, kind=some.sampled_from(["user", "user", "host"]), admins=some.sampled_from(
+        ["ana", "ana,bob", ""]), rules=RULES, extensions=EXTENSIONS, maxlife=some.sampled_from([86400, 1000, 0]))
+    def put_department(self, to, name, kind, admins, rules, extensions, maxlife):
+        options, spaces = (("force-command",), ("file", "git")) if kind == "user" else ((), ())
+        self.send(to, department(name, kind=kind, admins=admins, principals=rules, options=options, maxlife=maxlife,
+                                 extensions=extensions if kind == "user" else "", namespaces=spaces))
+
+    @rule(to=FROM_ANA, key_id=KEY_IDS, of=DEPARTMENTS, is_its_own=some.sampled_from([True, True, True, False]),
+          key=SUBJECTS, principals=PRINCIPALS, ends=ENDS, options=OPTIONS, extensions=EXTENSIONS)
+    def ask_for(self, to, key_id, of, is_its_own, key, principals, ends, options, extensions):
+        self.send(to, issue(key_id, department=None if is_its_own else of, key=key, principals=principals,
+                            after=ends[0], before=ends[1], options=options, extensions=extensions))
+
+    @rule(to=FROM_ANA, key_id=some.sampled_from(["web/a", "web/b", "web/c"]))
+    def ask_for_what_is_permitted(self, to, key_id):
+        self.send(to, issue(key_id, after=1000, before=2000))
+
+    @rule(to=FROM_ANA, before=BEFORE, ends=ENDS)
+    def renew_one(self, to, before, ends):
+        self.send(to, renew(self.serial(before), after=ends[0], before=ends[1]))
+
+    @precondition(lambda self: self.office.waiting())
+    @rule(to=FROM_STATION, place=some.integers(0, 9))
+    def deliver_what_waits(self, to, place):
+        waiting = self.office.waiting()
+        serial, certificate = waiting[place % len(waiting)]
+        self.send(to, deliver(serial, certificate.digest()))
+
+    @precondition(lambda self: self.office.certificates)
+    @rule(to=FROM_STATION, before=BEFORE, signature=some.sampled_from([0x44, 0x55]), is_astray=some.booleans())
+    def deliver_another(self, to, before, signature, is_astray):
+        serial = self.serial(before)
+        certificate = self.office.certificates.get(serial, self.office.certificates[1])
+        self.send(to, deliver(serial, "0" * 64 if is_astray else certificate.digest(), signature))
+
+    @rule(to=FROM, before=BEFORE)
+    def revoke_one(self, to, before):
+        self.send(to, revoke_serial(self.serial(before)))
+
+    @rule(to=FROM_ROOT, before=BEFORE, count=some.integers(0, 4))
+    def revoke_several(self, to, before, count):
+        self.send(to, revoke_range(self.serial(before), self.serial(before) + count))
+
+    @rule(to=FROM, key_id=KEY_IDS)
+    def revoke_key_id(self, to, key_id):
+        self.send(to, revoke_keyid(key_id))
+
+    @rule(to=FROM_ROOT, ca=CAS)
+    def roll_over(self, to, ca):
+        self.send(to, rollover(ca))
+
+    @rule(to=FROM, message=OTHERS)
+    def send_no_message(self, to, message):
+        self.send(to, message)
+
+    @precondition(lambda self: self.exchanges)
+    @rule(place=some.integers(0, 50), moment=MOMENTS, nonce=NONCES)
+    def send_again(self, place, moment, nonce):
+        self.ask(self.exchanges[place % len(self.exchanges)].request, moment, nonce)
+
+    @rule(page=PAGES)
+    def look_at(self, page):
+        self.ask(get(f"/v1/{page}"), 1000, 0)
+
+    @rule(before=BEFORE, what=some.sampled_from(["", "/body"]))
+    def look_at_certificate(self, before, what):
+        self.ask(get(f"/v1/certs/{self.serial(before)}{what}"), 1000, 0)
+
+    # What the program gives.
+
+    def reports(self):
+        """What shows each list, each table and each certificate."""
+        pages = ["pending", "krl", "signers", "table", "cas"]
+        pages += [f"certs/{serial}{what}" for serial in range(1, self.office.next() + 1) for what in ("", "/body")]
+        return [exchange(get(f"/v1/{it}"), 0, 0) for it in pages]
+
+    def teardown(self):
+        if not hasattr(self, "office"):
+            return
+        again = [exchange(one.request, one.moment ^ 1, 0xee) for one in self.exchanges]
+        asked = self.exchanges + again + self.reports()
+        due = self.given + [self.office.answer(*one) for one in asked[len(self.given):]]
+        if self.last == LAST_SERIAL:
+            file = write_exchanges("some.exchange", asked)
+            assert due == answers(run([self.program, "apply", file]).stdout), "in memory"
+        office = Office(self.program, f"{next(self.count)}.db", ca=CA, last=self.last)
+        office.apply(DEPARTMENT)
+        given = []
+        for place in range(0, len(asked), self.piece):
+            given += office.apply(asked[place:place + self.piece])
+        assert due == given, "in a file"
+        assert self.office.rows() == {table: rows_of(office.db, table) for table in COLUMNS}
+        assert b"ok\n" == run(["sqlite3", office.db, "PRAGMA integrity_check"]).stdout
+        for file in pathlib.Path().glob(f"{office.db.stem}.*"):
+            file.unlink()
+
+
+@pytest.mark.slow
+@pytest.mark.timeout(36000)
+def test_registers_answer_alike(request, program, room):
+    class Machine(Registers):
+        pass
+
+    Machine.program = program
+    steps = request.config.getoption("--steps")
+    run_state_machine_as_test(Machine, settings=settings(
+        max_examples=max(1, steps // STEPS_OF_A_HISTORY), stateful_step_count=STEPS_OF_A_HISTORY, deadline=None,
+        database=None, suppress_health_check=HealthCheck.all(), print_blob=False,
+        phases=(Phase.generate, Phase.shrink)))

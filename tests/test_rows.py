@@ -1,0 +1,96 @@
+"""The worked rows of examples/rows: requests in, and bytes out.
+
+Each NAME.exchange is applied to the trial office in memory and to an office in a file, and has to print NAME.expected.
+Then each of its records comes to the file again, at another moment and with another nonce: each request has to be given
+the last answer that it was given before, so that an accepted message gets its kept reply, and no table of the file may
+change. What else the repeat has to print stands in NAME.again. An office with other serials than the trial office's, or
+without its department, has the words of its opening in NAME.office, and is run in a file alone.
+"""
+import dataclasses
+import re
+
+import pytest
+
+from asking import CA, LAST_SERIAL, answers, exchange, exchanges_of, get, write_exchanges
+from running import ROWS, Office, run
+
+pytestmark = pytest.mark.rows
+
+NAMES = sorted(path.stem for path in ROWS.glob("*.exchange"))
+DEPARTMENT = ROWS / "the-department-of-the-trial-office.exchange"
+
+
+@dataclasses.dataclass
+class Row:
+    """The files of a row: requests, what is printed, and perhaps the opening and what the repeat prints."""
+    exchanges: list
+    expected: bytes
+    opening: list
+    again: bytes
+
+    @classmethod
+    def read(cls, name):
+        parts = {path.suffix: path.read_bytes() for path in ROWS.glob(f"{name}.*")}
+        opening = list(map(int, re.findall(rb"\d+", parts.get(".office", b""))))
+        return cls(exchanges_of(parts[".exchange"]), parts[".expected"], opening, parts.get(".again"))
+
+    def last_answers(self):
+        """To each request the last answer that it was given."""
+        given = answers(self.expected)
+        assert len(self.exchanges) == len(given), "as many answers as records"
+        return {one.request: answer for one, answer in zip(self.exchanges, given)}
+
+    def printed_again(self):
+        last = self.last_answers()
+        given = (last[one.request] for one in self.exchanges)
+        return self.again or b"".join(b"answer %d\n%s" % (len(it), it) for it in given)
+
+
+def printed(program, *words):
+    """What the program prints, and then its fault."""
+    done = run([program, *words])
+    return done.stdout + done.stderr
+
+
+@pytest.mark.parametrize("name", [name for name in NAMES if not Row.read(name).opening])
+def test_in_memory(name, program):
+    assert Row.read(name).expected == printed(program, "apply", ROWS / f"{name}.exchange")
+
+
+@pytest.fixture(params=NAMES)
+def filed(request, program, room):
+    """A row, an office in a file of its opening, and what the row's requests print of it."""
+    name = request.param
+    row = Row.read(name)
+    first, last = row.opening or (1, LAST_SERIAL)
+    office = Office(program, ca=CA, first=first, last=last)
+    if not row.opening:
+        office.must("apply", "--db", office.db, DEPARTMENT)
+    return row, office, printed(program, "apply", "--db", office.db, ROWS / f"{name}.exchange")
+
+
+def test_in_a_file(filed):
+    row, _, came = filed
+    assert row.expected == came
+
+
+def test_reports_as_commands(filed):
+    """The commands print what the row's last requests for these pages were given."""
+    row, office, _ = filed
+    last = {report: row.last_answers().get(get(f"/v1/{report}")) for report in ("krl", "signers", "table")}
+    for report, answer in last.items():
+        assert answer is None or answer.body == office.must(report, "--db", office.db), report
+
+
+def test_again(filed):
+    row, office, _ = filed
+    tables = run(["sqlite3", office.db, ".dump"], check=True).stdout
+    file = write_exchanges("again", [exchange(one.request, one.moment ^ 1, 0xee) for one in row.exchanges])
+    assert row.printed_again() == printed(office.program, "apply", "--db", office.db, file)
+    assert tables == run(["sqlite3", office.db, ".dump"], check=True).stdout, "a repeat changes no table"
+
+
+def test_the_table_of_rows_names_each_file():
+    listed = (ROWS / "README.md").read_text()
+    assert [] == [name for name in NAMES if f"`{name}`" not in listed]
+    assert [] == [path.name for path in ROWS.iterdir() if path.name != "README.md" and path.stem not in NAMES]
