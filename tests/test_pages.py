@@ -29,7 +29,9 @@ PLACES = ("*.md", "docs/*.md", "examples/**/*.md", "crates/*/README.md", "tests/
 PAGES = sorted(str(page.relative_to(TOP)) for place in PLACES for page in TOP.glob(place))
 TEXTS = {page: (TOP / page).read_text() for page in PAGES}
 CRATES = re.findall(r"^(\w+):", (TOP / "crates.txt").read_text(), re.M)
-KINDS = ("sh", "console", "text")
+# What stands behind `sh` where a block is for one of several machines, on which tests/test_boxes.py types it.
+MACHINES = ("admin", "office", "station", "server", "spare")
+KINDS = ("sh", "console", "text", *(f"sh {it}" for it in MACHINES))
 
 # What isn't run here: a line, or the first line of a block that is left out whole. With why, what else shows it, and a
 # word of that.
@@ -56,8 +58,9 @@ ELSEWHERE = {
         Elsewhere("it looks at a copy of an office", "interop/front", "PRAGMA integrity_check"),
     "fetch-list --cacert ca.crt https://a.example.org:8443 a.krl":
         Elsewhere("it asks two fronts", "interop/front", "tail -c +45"),
-    "install -m 755 crates/sshoffice/out/sshoffice examples/station examples/fetch-list /usr/local/bin":
-        Elsewhere("it changes the machine, and wants root", "interop/front", "examples/systemd"),
+    "office-restore /var/backups/office/office.db":
+        Elsewhere("it wants the units in service", "tests/test_boxes.py", "office-restore"),
+    "cat /etc/vethlumi/alert": Elsewhere("it wants the units in service", "tests/test_boxes.py", "etc/vethlumi/alert"),
 }
 # Pages of which another test runs the blocks of a shell. What README shows of them is that test's as well.
 PAGES_ELSEWHERE = {"docs/OPERATING.md": "tests/test_operating.py"}

@@ -1,0 +1,402 @@
+#!/usr/bin/python3
+"""Boxes: machines of Debian 12, each with a systemd of its own, for tests of units and of pages.
+
+    tests/boxes.py prepare    makes the folder that every box starts from, if it isn't there. This takes a minute
+    tests/boxes.py folder     prints where this folder is: $OFFICE_BOXES, or /var/cache/sshoffice-boxes
+
+The boxes of a `Rack` have a network of their own. They run in namespaces that end with the process that made the rack,
+however it ends: then the kernel ends every box, and their files, which are in memory, are gone.
+"""
+import contextlib
+import fcntl
+import hashlib
+import itertools
+import os
+import pathlib
+import shutil
+import signal
+import subprocess
+import sys
+import time
+import uuid
+
+FOLDER = pathlib.Path(os.environ.get("OFFICE_BOXES", "/var/cache/sshoffice-boxes"))
+RELEASE = "bookworm"
+PACKAGES = """systemd systemd-sysv dbus libpam-systemd iproute2 procps logrotate cron nginx-light openssh-client
+openssh-server openssl curl sqlite3 python3 ca-certificates""".split()
+TOOLS = "debootstrap systemd-nspawn unshare nsenter ip mount".split()
+ENVIRONMENT = {"PATH": "/usr/local/sbin:/usr/local/bin:/usr/sbin:/usr/bin:/sbin:/bin", "HOME": "/root", "USER": "root",
+               "LANG": "C.UTF-8", "TZ": "UTC"}
+DOMAIN = "example.org"
+# With this status systemd-nspawn says that the box wants to be started again.
+REBOOT = 133
+NETWORK = "[Match]\nName=host0\n[Network]\nAddress={}/24\nLinkLocalAddressing=no\nIPv6AcceptRA=no\n"
+# The first process of a rack. It ends when nobody holds the other end of its standard input any more.
+KEEPER = """set -e
+mount --make-rprivate /
+mount -t tmpfs -o mode=755 rack "$1"
+ip link set lo up
+ip link add rack type bridge
+ip link set rack up
+echo ready
+exec cat >/dev/null
+"""
+# Enters the folders of control groups that are named, and becomes systemd-nspawn.
+ENTER = 'for it in $GROUPS_OF_BOX; do echo 0 >"$it/cgroup.procs"; done; unset GROUPS_OF_BOX; exec "$@"'
+
+
+class CannotBoot(Exception):
+    """Why this machine can't boot a box."""
+
+
+def why_none():
+    """Why this machine can't boot a box, or None."""
+    if os.getuid():
+        return "only root can boot a box"
+    missing = [it for it in TOOLS if not shutil.which(it, path=ENVIRONMENT["PATH"])]
+    return f"{', '.join(missing)} missing" if missing else None
+
+
+# ---- the folder that every box starts from
+
+def stamp():
+    return hashlib.sha256(" ".join([RELEASE, *PACKAGES]).encode()).hexdigest()
+
+
+def is_prepared(folder):
+    with contextlib.suppress(OSError):
+        return (folder / "stamp").read_text() == stamp()
+    return False
+
+
+def prepare(folder=FOLDER):
+    """Makes the folder of a Debian with its packages, unless it is there. Several processes may call this at once."""
+    if is_prepared(folder):
+        return folder / "root"
+    if reason := why_none():
+        raise CannotBoot(reason)
+    folder.mkdir(parents=True, exist_ok=True)
+    with open(folder / "lock", "w") as lock:
+        fcntl.flock(lock, fcntl.LOCK_EX)
+        if not is_prepared(folder):
+            make_root(folder)
+    return folder / "root"
+
+
+def make_root(folder):
+    new, root = folder / "new", folder / "root"
+    for it in (folder / "stamp", new, root):
+        shutil.rmtree(it) if it.is_dir() else it.unlink(missing_ok=True)
+    words = ["debootstrap", "--variant=minbase", f"--include={','.join(PACKAGES)}", RELEASE, new]
+    environment = ENVIRONMENT | {"DEBIAN_FRONTEND": "noninteractive"}
+    made = subprocess.run(words, capture_output=True, text=True, env=environment)
+    if made.returncode:
+        raise CannotBoot(f"debootstrap failed: {(made.stdout + made.stderr)[-800:]}")
+    shutil.rmtree(new / "var/cache/apt/archives", ignore_errors=True)
+    new.rename(root)
+    (folder / "stamp").write_text(stamp())
+
+
+# ---- control groups
+
+def group_folders():
+    """Where this process may make control groups: in the hierarchy of systemd, of version 1 and 2."""
+    top = pathlib.Path("/sys/fs/cgroup")
+    if (top / "cgroup.controllers").exists():
+        found = [(top, "")]
+    else:
+        found = [(top / "unified", ""), (top / "systemd", "name=systemd")]
+    own = dict(line.split(":")[1:] for line in pathlib.Path("/proc/self/cgroup").read_text().splitlines())
+    return [place / own.get(name, "/").lstrip("/") for place, name in found if place.is_dir()]
+
+
+def remove_group(folder, seconds=5.0):
+    """Removes the folder of a control group that has ended. The kernel keeps it for a moment after its last process."""
+    end = time.monotonic() + seconds
+    while folder.exists() and time.monotonic() < end:
+        for it in [*sorted(folder.rglob("*/"), key=lambda it: -len(it.parts)), folder]:
+            with contextlib.suppress(OSError):
+                it.rmdir()
+        time.sleep(0.02)
+
+
+def remove_old_groups():
+    """Removes what a process that was killed has left: empty folders that have its number."""
+    for place in group_folders():
+        for it in place.glob("sshoffice-box-*"):
+            if not pathlib.Path("/proc", it.name.split("-")[2]).exists():
+                remove_group(it, 0.1)
+
+
+def children(pid):
+    with contextlib.suppress(OSError):
+        return [int(it) for it in pathlib.Path(f"/proc/{pid}/task/{pid}/children").read_text().split()]
+    return []
+
+
+def descendants(pid):
+    for it in children(pid):
+        yield it
+        yield from descendants(it)
+
+
+def wait_until(is_so, what, seconds=30):
+    """Waits until a function returns something true, and returns that."""
+    end = time.monotonic() + seconds
+    while time.monotonic() < end:
+        if found := is_so():
+            return found
+        time.sleep(0.1)
+    raise AssertionError(f"not within {seconds} s: {what}")
+
+
+# ---- boxes
+
+class Rack:
+    """A network with boxes, each of which reaches the others by NAME.example.org. `kept` is a folder of boxes that were
+    kept by `keep`: a box that has the name of one of them begins with its files."""
+
+    def __init__(self, room, base=None, kept=None):
+        self.base, self.kept = base or prepare(), kept
+        self.room = pathlib.Path(room)
+        self.boxes = {}
+        self.numbers = itertools.count(2)
+        remove_old_groups()
+        words = ["unshare", "--mount", "--net", "--pid", "--fork", "--mount-proc", "sh", "-c", KEEPER, "sh", self.room]
+        self.keeper = subprocess.Popen(words, stdin=subprocess.PIPE, stdout=subprocess.PIPE, stderr=subprocess.PIPE,
+                                       env=ENVIRONMENT)
+        if self.keeper.stdout.readline() != b"ready\n":
+            self.keeper.stdin.close()
+            raise CannotBoot(self.keeper.stderr.read().decode(errors="replace").strip())
+        self.first = children(self.keeper.pid)[0]
+        # The rack's files, as this process sees them.
+        self.files = pathlib.Path(f"/proc/{self.first}/root{self.room}")
+        self.make_key()
+
+    def make_key(self):
+        """The key by which the boxes that have it log in to all others as root."""
+        key = self.files / "key"
+        subprocess.run(["ssh-keygen", "-q", "-t", "ed25519", "-N", "", "-C", "admin", "-f", key], check=True)
+        self.key, self.public = key.read_bytes(), key.with_suffix(".pub").read_bytes()
+
+    def enter(self, *words, **how):
+        """Starts a command in the rack's namespaces."""
+        into = ["nsenter", "-t", str(self.first), "-m", "-n", "-p", "--"]
+        return subprocess.Popen([*into, *words], stdin=subprocess.DEVNULL, **({"env": ENVIRONMENT} | how))
+
+    def add(self, *names):
+        """Makes boxes and boots them side by side."""
+        made = [Box(self, name, f"10.80.0.{next(self.numbers)}") for name in names]
+        self.boxes |= {it.name: it for it in made}
+        for it in self.boxes.values():
+            it.write("etc/hosts", self.hosts())
+        for it in made:
+            it.start()
+        for it in made:
+            it.wait_until_up()
+        return made
+
+    def hosts(self):
+        lines = ["127.0.0.1 localhost", "::1 localhost"]
+        return "".join(f"{it}\n" for it in lines + [f"{it.address} {it.host}" for it in self.boxes.values()])
+
+    def keep(self, folder):
+        """Switches all boxes off, and keeps their files in a folder."""
+        for box in self.boxes.values():
+            box.switch_off()
+        for box in self.boxes.values():
+            box.running.wait(60)
+            subprocess.run(["cp", "-a", self.files / box.name / "over", folder / box.name], check=True)
+
+    def end(self):
+        """Ends every box at once, as if the plug were pulled."""
+        self.keeper.stdin.close()
+        self.keeper.wait(30)
+        for pipe in (self.keeper.stdout, self.keeper.stderr):
+            pipe.close()
+        for box in self.boxes.values():
+            box.forget()
+
+
+class Box:
+    """A machine. Its files lie over those of the folder that every box starts from, and stay while it is off."""
+
+    def __init__(self, rack, name, address):
+        self.rack, self.name, self.address, self.host = rack, name, address, f"{name}.{DOMAIN}"
+        self.files = rack.files / name / "root"
+        # One name in both hierarchies: systemd-nspawn takes that of version 2 for version 1 too.
+        group = f"sshoffice-box-{os.getpid()}-{name}-{uuid.uuid4().hex[:8]}"
+        self.groups = [it / group for it in group_folders()]
+        self.running = self.init = None
+        self.make_files()
+
+    def make_files(self):
+        here = self.rack.room / self.name
+        for it in ("over", "work", "root"):
+            (self.rack.files / self.name / it).mkdir(parents=True)
+        lower = [self.rack.base]
+        if self.rack.kept and (self.rack.kept / self.name).exists():
+            lower.insert(0, self.rack.kept / self.name)
+        options = f"lowerdir={':'.join(map(str, lower))},upperdir={here}/over,workdir={here}/work"
+        mount = ["mount", "-t", "overlay", "box", "-o", options]
+        if self.rack.enter(*mount, here / "root").wait():
+            raise CannotBoot("this machine mounts no overlay")
+        # The file is the image's, and may not be written.
+        (self.files / "etc/machine-id").unlink()
+        self.write("etc/machine-id", uuid.uuid4().hex + "\n")
+        self.write("etc/hostname", self.name + "\n")
+        self.write("etc/systemd/network/10-host0.network", NETWORK.format(self.address))
+        for target, unit in (("multi-user", "systemd-networkd"), ("network-online", "systemd-networkd-wait-online")):
+            wants = self.files / f"etc/systemd/system/{target}.target.wants"
+            wants.mkdir(parents=True, exist_ok=True)
+            with contextlib.suppress(FileExistsError):
+                (wants / f"{unit}.service").symlink_to(f"/lib/systemd/system/{unit}.service")
+        self.write("root/.ssh/authorized_keys", self.rack.public, 0o600)
+
+    def write(self, path, text, mode=0o644):
+        """Writes a file of the box."""
+        file = self.files / path
+        file.parent.mkdir(parents=True, exist_ok=True)
+        file.write_bytes(text if isinstance(text, bytes) else text.encode())
+        file.chmod(mode)
+
+    def may_log_in(self):
+        """Lets root of this box log in to the others."""
+        self.write("root/.ssh/id_ed25519", self.rack.key, 0o600)
+        self.write("root/.ssh/config", "Host *.example.org\n  StrictHostKeyChecking accept-new\n", 0o600)
+
+    def start(self):
+        for it in self.groups:
+            it.mkdir(exist_ok=True)
+        root = self.rack.room / self.name / "root"
+        words = ["systemd-nspawn", "-D", root, "-M", self.name, "--boot", "--register=no", "--keep-unit", "--network-bridge=rack", "-q", "--console=pipe",
+                 # Without these systemd can't filter addresses in the box.
+                 "--capability=CAP_BPF", "--system-call-filter=bpf"]
+        self.init = None
+        with open(self.rack.files / self.name / "log", "wb") as log:
+            self.running = self.rack.enter("sh", "-c", ENTER, "sh", *words, stdout=log, stderr=subprocess.STDOUT,
+                                           env=ENVIRONMENT | {"GROUPS_OF_BOX": " ".join(map(str, self.groups))})
+
+    def wait_until_up(self):
+        try:
+            self.init = wait_until(self.find_init, f"{self.name} begins")
+            wait_until(self.is_up, f"{self.name} is up")
+        except AssertionError as fault:
+            said = (self.rack.files / self.name / "log").read_text(errors="replace")
+            raise CannotBoot(f"{fault}: {said[-800:]}") from None
+
+    def find_init(self):
+        """The number of the box's first process, as this process sees it: it is 1 in the box's own namespace."""
+        if self.running.poll() is not None:
+            raise AssertionError(f"{self.name} ended with {self.running.returncode}")
+        for pid in descendants(self.running.pid):
+            with contextlib.suppress(OSError):
+                status = pathlib.Path(f"/proc/{pid}/status").read_text()
+                numbers = next(it for it in status.splitlines() if it.startswith("NSpid:")).split()[1:]
+                if len(numbers) == 3 and numbers[-1] == "1":
+                    return pid
+        return None
+
+    def is_up(self):
+        return self.run("systemctl is-system-running --wait", False).stdout.strip() in ("running", "degraded")
+
+    def words(self, *words):
+        return ["nsenter", "-t", str(self.init), "-a", "--", *words]
+
+    def run(self, command, check=True, timeout=60):
+        """Runs a command of bash as root. Its standard output and faults are one text."""
+        done = subprocess.run(self.words("bash", "-euo", "pipefail", "-c", f"cd; {command}"), stdin=subprocess.DEVNULL,
+                              stdout=subprocess.PIPE, stderr=subprocess.STDOUT, text=True, errors="replace",
+                              env=ENVIRONMENT, timeout=timeout)
+        if check and done.returncode:
+            raise AssertionError(f"{self.name}: {command}\nended with {done.returncode}:\n{done.stdout}")
+        return done
+
+    def says(self, command):
+        """What a command prints."""
+        return self.run(command).stdout.strip()
+
+    def reboot(self):
+        with contextlib.suppress(AssertionError):
+            self.run("systemctl reboot")
+        ended = self.running.wait(60)
+        assert ended == REBOOT, f"{self.name} ended with {ended}"
+        self.start()
+        self.wait_until_up()
+
+    def switch_off(self):
+        """Has the box end as by `poweroff`. For a first process this signal means that."""
+        os.kill(self.init, signal.SIGRTMIN + 4)
+
+    def pull_the_plug(self):
+        """Ends the box within a moment. Its files stay as they are."""
+        with contextlib.suppress(ProcessLookupError):
+            os.kill(self.init, 9)
+        self.running.wait(30)
+        self.init = None
+
+    def forget(self):
+        self.running.wait(30)
+        for it in self.groups:
+            remove_group(it)
+
+
+class Shell:
+    """A shell of root in a box, which keeps its folder and its variables from one text of commands to the next."""
+
+    MARK = "---- these commands have ended ----"
+
+    def __init__(self, box):
+        self.box, self.count = box, itertools.count(1)
+        self.running = subprocess.Popen(box.words("bash", "-euo", "pipefail"), stdin=subprocess.PIPE,
+                                        stdout=subprocess.PIPE, stderr=subprocess.STDOUT, env=ENVIRONMENT)
+        self.send("cd")
+
+    def send(self, line):
+        self.running.stdin.write(f"{line}\n".encode())
+        self.running.stdin.flush()
+
+    def run(self, commands):
+        """Runs a text of commands, and returns what they print. A command that fails ends the shell."""
+        path = f"root/.commands-{next(self.count)}"
+        self.box.write(path, commands)
+        self.send(f". /{path} </dev/null\necho; echo '{self.MARK}'")
+        said = []
+        for line in self.running.stdout:
+            text = line.decode(errors="replace")
+            if text.strip() == self.MARK:
+                return "".join(said)
+            said.append(text)
+        if commands.startswith("poweroff"):
+            return "".join(said)
+        raise AssertionError(f"{self.box.name}: these commands failed:\n{commands}\nthey printed:\n{''.join(said)}")
+
+    def end(self):
+        with contextlib.suppress(OSError):
+            self.running.stdin.close()
+        # It ends at the end of its input, unless it is still in a command.
+        with contextlib.suppress(subprocess.TimeoutExpired):
+            self.running.wait(2)
+        self.running.kill()
+        self.running.wait(30)
+        self.running.stdout.close()
+
+
+def main():
+    match sys.argv[1:]:
+        case ["prepare"]:
+            try:
+                print(prepare())
+            except CannotBoot as reason:
+                print(f"boxes: {reason}", file=sys.stderr)
+                return 1
+        case ["folder"]:
+            print(FOLDER)
+        case _:
+            print(__doc__, end="", file=sys.stderr)
+            return 2
+    return 0
+
+
+if __name__ == "__main__":
+    sys.exit(main())

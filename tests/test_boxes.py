@@ -1,0 +1,408 @@
+"""The units of examples/systemd under a systemd of their own, and the pages that say how to run an office with them.
+
+Machines are boxes (boxes.py), set up by the commands of docs/OPERATING.md, "In service"."""
+import contextlib
+import fcntl
+import os
+import pathlib
+import re
+import shutil
+import subprocess
+import sys
+import time
+
+import pytest
+
+import boxes
+import pages
+from running import TOP, left_out
+
+pytestmark = [pytest.mark.boxes, pytest.mark.root, pytest.mark.slow, pytest.mark.timeout(300)]
+IN_SERVICE = "In service"
+MACHINES = ["admin", "office", "station", "server"]
+# What stays in a shell when its commands have ended.
+NAMES = re.compile(r"^(?:export |front=|send\(\)).*$", re.M)
+UNITS = "office office-door.socket office-front"
+# What a caller is answered by the front, for a route of which the front keeps no answer.
+ASK = ("curl -s -o /dev/null -w '%{{http_code}}' --cacert authority/ca.crt --cert authority/{}.pem "
+       "https://office.example.org:8443/v1/certs/1")
+
+
+@pytest.fixture(scope="session")
+def base(tmp_path_factory):
+    """The folder that every box starts from. A machine that boots no box at all is left out; if it boots one, every box
+    has to boot."""
+    try:
+        rack = boxes.Rack(tmp_path_factory.mktemp("probe"))
+        try:
+            rack.add("probe")
+        finally:
+            rack.end()
+    except boxes.CannotBoot as reason:
+        left_out(reason)
+    return rack.base
+
+
+class Site(boxes.Rack):
+    """Machines on which the commands of pages are typed, one shell for each."""
+
+    def __init__(self, room, base, program, kept=None):
+        super().__init__(room, base, kept)
+        self.program, self.shells, self.printed = program, {}, {}
+
+    def add(self, *names):
+        made = super().add(*names)
+        for box in made:
+            if box.name == "admin":
+                box.may_log_in()
+            place = box.files / "root/vethlumi"
+            if not place.exists():
+                shutil.copytree(TOP / "examples", place / "examples")
+                out = place / "crates/sshoffice/out"
+                out.mkdir(parents=True)
+                shutil.copy2(self.program, out / "sshoffice")
+        return made
+
+    def shell(self, name):
+        if name not in self.shells:
+            self.shells[name] = boxes.Shell(self.boxes[name])
+        return self.shells[name]
+
+    def type(self, text):
+        """Types the blocks of a text, each on its machine, and returns the lines that were printed."""
+        printed = []
+        for block in pages.blocks(text):
+            if block.machine not in self.boxes:
+                self.add(block.machine)
+            printed += self.shell(block.machine).run(block.commands).splitlines()
+        return printed
+
+    def end_shells(self):
+        for it in self.shells.values():
+            it.end()
+
+    def close(self):
+        self.end_shells()
+        self.end()
+
+
+def set_up():
+    return pages.section((TOP / "docs/OPERATING.md").read_text(), IN_SERVICE)
+
+
+def of(printed, *lines):
+    """Those of the printed lines that are among these."""
+    return [it for it in printed if it in lines]
+
+
+def install(room, base, program, kept):
+    """Types the page's commands into machines, and keeps the machines."""
+    made = Site(room, base, program)
+    with contextlib.closing(made):
+        made.add(*MACHINES)
+        printed = made.type(set_up())
+        lines = "alice-cert.pub serial 1", "granted"
+        assert [*lines] == of(printed, *lines), printed
+        made.end_shells()
+        made.keep(kept)
+
+
+@pytest.fixture(scope="session")
+def installed(base, program, tmp_path_factory):
+    """A folder with the machines as the page leaves them. Tests that run side by side share it."""
+    common = tmp_path_factory.getbasetemp()
+    common = common.parent if os.environ.get("PYTEST_XDIST_WORKER") else common
+    kept = common / "machines"
+    with open(common / "machines.lock", "w") as lock:
+        fcntl.flock(lock, fcntl.LOCK_EX)
+        if not kept.exists():
+            new = tmp_path_factory.mktemp("machines")
+            install(tmp_path_factory.mktemp("rack"), base, program, new)
+            new.rename(kept)
+    return kept
+
+
+@pytest.fixture
+def site(base, installed, program, tmp_path):
+    """The machines of the page, which have just been switched on. Their shells have the page's names."""
+    made = Site(tmp_path, base, program, installed)
+    with contextlib.closing(made):
+        made.add(*MACHINES)
+        made.shell("admin").run("\n".join(NAMES.findall(set_up())))
+        wait_until_up(made.boxes["office"])
+        yield made
+
+
+@pytest.fixture
+def office(site):
+    return site.boxes["office"]
+
+
+def states(box, units=UNITS):
+    return box.run(f"systemctl is-active {units}", False).stdout.split()
+
+
+def answer(box, caller="ana"):
+    """The status with which the front answers a caller on the administrator's machine."""
+    return box.rack.boxes["admin"].run(ASK.format(caller), False).stdout
+
+
+def is_up(box):
+    return ["active"] * 3 == states(box) and "200" == answer(box)
+
+
+def wait_until_up(box, seconds=30):
+    boxes.wait_until(lambda: is_up(box), f"the office on {box.name} answers", seconds)
+
+
+def table(site):
+    return site.boxes["admin"].says(
+        "curl -sSf --cacert authority/ca.crt --cert authority/watch.pem https://office.example.org:8443/v1/table")
+
+
+# ---- boxes
+
+MAKER = """
+import pathlib, sys, time
+sys.path.insert(0, sys.argv[1])
+import boxes
+rack = boxes.Rack(sys.argv[2], pathlib.Path(sys.argv[3]))
+box, = rack.add("lonely")
+print(box.init, flush=True)
+time.sleep(60)
+"""
+
+
+def test_no_box_outlives_its_maker(base, tmp_path):
+    """Not even if its maker is killed. What it leaves is a folder of a control group, which the next one removes."""
+    words = [sys.executable, "-c", MAKER, TOP / "tests", tmp_path, base]
+    with subprocess.Popen(words, stdout=subprocess.PIPE) as maker:
+        init = pathlib.Path("/proc", maker.stdout.readline().decode().strip())
+        assert init.exists()
+        maker.kill()
+    boxes.wait_until(lambda: not init.exists(), "the box has ended", 10)
+    assert [] == list(tmp_path.iterdir())
+    # The kernel lets go of the last of them within a moment.
+    boxes.wait_until(lambda: not (boxes.remove_old_groups() or left_of(maker.pid)), "nothing is left", 10)
+
+
+def left_of(pid):
+    return [it for place in boxes.group_folders() for it in place.glob(f"sshoffice-box-{pid}-*")]
+
+
+# ---- units
+
+def test_an_office_comes_back_after_a_kill_and_a_reboot(site, office):
+    before = table(site)
+    assert "1  user  signed" in before
+    for name in ("sshoffice", "nginx", "systemd-socket-"):
+        office.run(f"kill -9 $(pgrep -o -x {name} || pgrep -o {name})")
+        time.sleep(0.2)
+        wait_until_up(office)
+    office.reboot()
+    wait_until_up(office)
+    time.sleep(2.1)
+    assert before == table(site)
+    assert "" == office.says("systemctl --failed --no-legend --plain")
+
+
+def test_a_stopped_office_stays_stopped(office):
+    office.run("systemctl stop office")
+    answers = set()
+    for _ in range(20):
+        answers.add(answer(office))
+        time.sleep(0.1)
+    assert {"502"} == answers
+    office.run("systemctl restart office-front")
+    assert "502" == boxes.wait_until(lambda: (it := answer(office)) != "000" and it, "the front answers")
+    assert ["inactive", "inactive", "active"] == states(office)
+    assert "inactive" == office.run("systemctl is-active office-door.service", False).stdout.strip()
+    office.run("systemctl start office")
+    wait_until_up(office, 5)
+
+
+def test_an_office_that_cannot_serve_ends_failed_and_raises_the_alert(office):
+    office.write("etc/vethlumi/alert", "#!/bin/sh\necho \"called for $1 by $(id -un)\"\n", 0o755)
+    office.run("chown root: /var/lib/office/office.db && systemctl kill -s KILL office")
+    boxes.wait_until(lambda: ["failed"] == states(office, "office"), "the office has failed", 60)
+    starts = int(office.says("systemctl show -P NRestarts office"))
+    assert 5 <= starts <= 10
+    said = boxes.wait_until(lambda: "called for" in (it := office.says("journalctl -b -t office-alert -o cat")) and it,
+                            "the alert is raised")
+    assert "office.service has failed and stays down" in office.says("journalctl -b -p alert -o cat")
+    assert "called for office.service by " in said and "by root" not in said
+    # No request starts it again.
+    assert ["502"] * 3 == [answer(office) for _ in range(3)]
+    time.sleep(3)
+    assert ["failed", "inactive", "active"] == states(office)
+    office.run("chown office: /var/lib/office/office.db && systemctl reset-failed office && systemctl start office")
+    wait_until_up(office, 5)
+
+
+def test_the_end_after_its_connections_is_no_failure(office):
+    office.write("etc/vethlumi/office.env", "OFFICE_CONNECTIONS=2\n")
+    office.run("systemctl restart office")
+    wait_until_up(office)
+    begun = "journalctl -b -u office -o cat | grep -c listening"
+    ask = "for it in 1 2 3 4 5 6; do curl -s --unix-socket /run/office-door.sock http://office/v1/cas || true; done"
+    # Twice as often as a unit may start that fails.
+    boxes.wait_until(lambda: office.run(ask) and 20 < int(office.says(begun)), "the program has ended often", 60)
+    wait_until_up(office)
+    assert "0" == office.says("systemctl show -P NRestarts office")
+
+
+def test_a_broken_list_of_revoked_certificates_makes_the_reload_fail(site, office):
+    good = office.says("cat /etc/vethlumi/front/crl.pem")
+    office.run("echo broken >/etc/vethlumi/front/crl.pem")
+    reload = office.run("systemctl reload office-front", False)
+    assert 0 != reload.returncode
+    assert "crl.pem" in office.says("journalctl -b -u office-front -o cat -n 20")
+    assert is_up(office)
+    # A front that is started with it is started until the file is good.
+    office.run("systemctl restart office-front", False)
+    time.sleep(12)
+    assert "activating" == states(office, "office-front")[0]
+    office.write("etc/vethlumi/front/crl.pem", good + "\n")
+    wait_until_up(office, 10)
+    site.type("""
+```sh admin
+authority revoke authority authority/watch.pem
+scp authority/crl.pem root@office.example.org:/etc/vethlumi/front
+```
+```sh office
+systemctl reload office-front
+```
+""")
+    boxes.wait_until(lambda: "403" == answer(office, "watch"), "the certificate is refused", 5)
+    assert "200" == answer(office)
+
+
+def test_the_front_may_have_a_low_port_and_no_other_right(office):
+    office.run("sed -i 's/:8443 ssl/:443 ssl/; s/ 8443 ssl/ 443 ssl/' /etc/vethlumi/front/nginx.conf")
+    office.run("systemctl restart office-front")
+    said = boxes.wait_until(lambda: office.run("curl -sk https://127.0.0.1/v1/cas", False).stdout, "port 443 answers")
+    assert said.startswith("1 1 SHA256:")
+    # CAP_NET_BIND_SERVICE is the tenth of capability.h, counted from 0.
+    status = office.says("cat /proc/$(systemctl show -P MainPID office-front)/status")
+    rights = [line.split()[1] for line in status.splitlines() if line.startswith(("CapPrm", "CapEff", "CapBnd"))]
+    assert [f"{1 << 10:016x}"] * 3 == rights
+    assert "" == office.says("ss -Hltn 'sport = :80'")
+
+
+def test_the_log_is_rotated(site, office):
+    """By the unit of Debian's logrotate, which runs once a day, and here because the log is larger than it may be."""
+    folder = "/var/lib/office-front"
+    office.run(f"cat {folder}/asked.log; truncate -s 101M {folder}/asked.log")
+    office.run("systemctl start logrotate")
+    assert ["asked.log", "asked.log.1"] == office.says(f"cd {folder} && ls asked.log*").split()
+    assert "office-front" == office.says(f"stat -c %U {folder}/asked.log")
+    assert "200" == answer(office)
+    boxes.wait_until(lambda: "/v1/certs/1 " in office.says(f"cat {folder}/asked.log"), "nginx writes the new log", 5)
+
+
+def test_the_units_are_limited(office):
+    """Memory and addresses, as systemd has understood them; no image of the memory is written."""
+    shown = dict(it.split("=", 1) for it in office.says("systemctl show office").splitlines())
+    assert ("0", str(1 << 30)) == (shown["LimitCORE"], shown["MemoryMax"])
+    assert {"0.0.0.0/0", "::/0"} == set(shown["IPAddressDeny"].split())
+    limits = office.says("cat /proc/$(pgrep -x sshoffice)/limits")
+    assert ["0", "0"] == next(it for it in limits.splitlines() if it.startswith("Max core")).split()[4:6]
+
+
+# ---- a restore
+
+KEEP_A_COPY = """
+```sh office
+mkdir -p copies
+systemctl kill -s STOP office
+cp /var/lib/office/office.db /var/lib/office/office.db-wal copies
+systemctl kill -s CONT office
+```
+"""
+
+
+def test_a_copy_is_restored(site, office):
+    site.type(KEEP_A_COPY)
+    before = table(site)
+    site.type("""
+```sh admin
+echo 'revoke-serial 1' | send ana revoke-1
+```
+""")
+    digest = office.says("sha256sum copies/*")
+    said = office.says("office-restore copies/office.db")
+    assert said.splitlines()[-1] == f"office-restore: the office serves copies/office.db: {before.splitlines()[-1]}"
+    wait_until_up(office, 5)
+    boxes.wait_until(lambda: before == table(site), "the table is that of the copy", 15)
+    assert "office:office 600" == office.says("stat -c '%U:%G %a' /var/lib/office/office.db")
+    assert digest == office.says("sha256sum copies/*")
+    # The file that was there is kept with its log, and has the revocation.
+    kept = office.says("ls -d /var/lib/office/replaced-*")
+    assert "total 1 version 1" == office.says(f"sshoffice table --db {kept}/office.db | tail -n 1")
+    assert [] == office.says("find /var/lib/office -maxdepth 1 -name 'restore*'").split()
+    assert 0 == int(office.says("systemctl show -P NRestarts office"))
+
+
+def test_a_failed_office_is_restored(site, office):
+    site.type(KEEP_A_COPY)
+    office.run("chown root: /var/lib/office/office.db && systemctl kill -s KILL office")
+    boxes.wait_until(lambda: ["failed"] == states(office, "office"), "the office has failed", 60)
+    office.run("office-restore copies/office.db")
+    wait_until_up(office, 5)
+
+
+@pytest.mark.parametrize("spoil, why", [
+    ("truncate -s 8192 bad.db", "is not sound"),
+    ("head -c 9000 /dev/urandom >bad.db", "is not sound: "),
+    ("rm bad.db && sqlite3 bad.db 'CREATE TABLE other (x)'", "is no office that this sshoffice serves"),
+    (": >bad.db", "can't read bad.db, or it is empty"),
+], ids=["cut off", "noise", "another database", "empty"])
+def test_a_bad_copy_is_not_restored(site, office, spoil, why):
+    site.type(KEEP_A_COPY)
+    before = office.says("sha256sum /var/lib/office/office.db; systemctl show -P MainPID office")
+    office.run(f"cp copies/office.db bad.db; {spoil}")
+    ended = office.run("office-restore bad.db", False)
+    assert (1, True) == (ended.returncode, why in ended.stdout), ended.stdout
+    assert before == office.says("sha256sum /var/lib/office/office.db; systemctl show -P MainPID office")
+    assert ["office.db", "office.db-wal"] == [it for it in office.says("ls /var/lib/office").split() if "shm" not in it]
+    assert is_up(office)
+
+
+# ---- drills
+
+def drill(site, heading):
+    """Types a drill's commands, and returns what they print. The time is printed too."""
+    begun = time.monotonic()
+    printed = site.type(pages.section((TOP / "docs/DRILLS.md").read_text(), heading))
+    print(f"figure: the drill '{heading}' was done after {time.monotonic() - begun:.0f} s")
+    return printed
+
+
+def test_drill_backup_and_restore(site):
+    printed = drill(site, "Backup and restore")
+    assert ["revoked", "failed", "revoked", "refused"] == of(printed, "revoked", "failed", "granted", "refused")
+    assert any("office.service has failed and stays down" in it for it in printed)
+
+
+def test_drill_a_new_ca(site):
+    printed = drill(site, "A new CA")
+    assert ["granted", "granted", "refused", "granted"] == of(printed, "granted", "refused")
+    signer = next(it for it in printed if "Signing CA" in it)
+    assert site.boxes["station"].says("ssh-keygen -l -f second.pub").split()[1] in signer
+
+
+def test_drill_a_lost_ca(site):
+    printed = drill(site, "A lost CA")
+    assert ["refused", "granted"] == of(printed, "granted", "refused")
+
+
+def test_drill_a_taken_front(site):
+    printed = drill(site, "A taken front")
+    assert ["granted", "refused", "granted"] == of(printed, "granted", "refused")
+    assert any(it.startswith("front: the certificate is another authority's") for it in printed)
+
+
+def test_drill_a_lost_office(site):
+    printed = drill(site, "A lost office")
+    assert ["refused", "granted"] == of(printed, "granted", "refused")
+    assert "alice-cert.pub serial 1000000" in printed

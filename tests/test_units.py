@@ -1,0 +1,68 @@
+"""The units of examples/systemd, as systemd-analyze and systemd-sysusers read them. test_boxes.py runs them."""
+import os
+import re
+import shutil
+
+import pytest
+
+from running import EXAMPLES, left_out, run
+
+UNITS = EXAMPLES / "systemd"
+NAMES = sorted(it.name for it in UNITS.iterdir() if it.suffix in (".service", ".socket", ".timer"))
+SERVICES = [it for it in NAMES if it.endswith(".service")]
+# The most that systemd may say of a unit: 1.5 of 10.
+MOST_EXPOSURE = 15
+
+
+def settings(unit, name):
+    """The values of a setting, one for each line that has it."""
+    return re.findall(rf"^{name}=(.*)$", (UNITS / unit).read_text(), re.M)
+
+
+@pytest.fixture
+def analyze():
+    if not shutil.which("systemd-analyze"):
+        left_out("systemd-analyze isn't installed")
+    return lambda *words: run(["systemd-analyze", *words])
+
+
+def test_systemd_finds_no_fault(analyze, room):
+    """The programs are none of this machine's, so others stand for them."""
+    for name in NAMES:
+        text = (UNITS / name).read_text()
+        (room / name).write_text(re.sub(r"/usr/local/bin/\S+|/usr/sbin/nginx", "/bin/true", text))
+    ended = analyze("verify", "--man=no", *(room / it for it in NAMES))
+    assert (0, b"") == (ended.returncode, ended.stderr)
+
+
+@pytest.mark.parametrize("unit", SERVICES)
+def test_exposure_is_low(analyze, unit):
+    ended = analyze("security", "--offline=true", f"--threshold={MOST_EXPOSURE}", UNITS / unit)
+    assert 0 == ended.returncode, ended.stdout.decode().splitlines()[-1]
+
+
+@pytest.mark.parametrize("unit", SERVICES)
+def test_no_memory_image_is_written_and_memory_is_limited(unit):
+    assert ["0"] == settings(unit, "LimitCORE")
+    assert 1 == len(settings(unit, "MemoryMax"))
+
+
+@pytest.mark.parametrize("unit", ["office.service", "office-door.service"])
+def test_what_is_for_this_machine_alone_reaches_no_address(unit):
+    assert (["any"], ["localhost"]) == (settings(unit, "IPAddressDeny"), settings(unit, "IPAddressAllow"))
+
+
+@pytest.mark.parametrize("unit", SERVICES)
+def test_only_the_front_has_a_right_of_root(unit):
+    rights = ["CAP_NET_BIND_SERVICE"] if unit == "office-front.service" else []
+    assert (rights or [""]) == settings(unit, "CapabilityBoundingSet")
+    assert rights == settings(unit, "AmbientCapabilities")
+
+
+@pytest.mark.root
+def test_sysusers_makes_the_users_of_the_units(room):
+    (room / "etc").mkdir()
+    run(["systemd-sysusers", f"--root={room}", UNITS / "sysusers.conf"])
+    made = {line.split(":")[0] for line in (room / "etc/passwd").read_text().splitlines()}
+    assert {user for unit in SERVICES for user in settings(unit, "User")} == made
+    assert 0 == os.stat(room / "etc/passwd").st_uid
