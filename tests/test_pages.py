@@ -47,6 +47,8 @@ ELSEWHERE = {
         Elsewhere(A_FRONT, "interop/front", "request "),
     "examples/fetch-list --cacert ca.crt https://office.example.org:8443 revoked.krl":
         Elsewhere(A_FRONT, "interop/front", "fetch-list --cacert"),
+    "examples/fetch-ca-keys --cacert ca.crt --named trusted https://office.example.org:8443 cas.pub":
+        Elsewhere(A_FRONT, "tests/test_ca_keys.py", "fetch-ca-keys"),
     "curl -sSf --cacert ca.crt --cert watch.pem https://office.example.org:8443/v1/table | examples/list-of-table":
         Elsewhere(A_FRONT, "interop/front", "list-of-table"),
     "examples/figures --cacert ca.crt --cert watch.pem https://office.example.org:8443":

@@ -1,0 +1,50 @@
+"""What tests of the scripts that fetch have in common: a server that answers anything, and a disk that is small."""
+import contextlib
+import os
+
+from recording import Recorder, whole_request
+from running import EXAMPLES, run
+
+
+def response(body, status="200 OK", length=None):
+    """A response with this body; its head may name another length, or "" for none."""
+    length = len(body) if length is None else length
+    return f"HTTP/1.1 {status}\r\nconnection: close\r\n".encode() + (
+        b"" if length == "" else f"content-length: {length}\r\n".encode()) + b"\r\n" + body
+
+
+class Web(Recorder):
+    """A server that answers each request by `answer`, and goes on for ever with `endless`, if that isn't empty."""
+    endless = b""
+
+    @property
+    def url(self):
+        return f"http://127.0.0.1:{self.port}"
+
+    def finish_request(self, peer, address):
+        self.requests.append(whole_request(peer))
+        with contextlib.suppress(OSError):
+            peer.sendall(self.answer)
+            while self.endless:
+                peer.sendall(self.endless)
+
+
+def script(name, *words, **how):
+    """Status, output, and the lines of errors of a script of examples/."""
+    done = run([EXAMPLES / name, *words], **how)
+    return done.returncode, done.stdout.decode(), done.stderr.decode(errors="replace").splitlines()
+
+
+@contextlib.contextmanager
+def small_disk(folder, kilobytes=64):
+    """A file system of so many kilobytes. Its `fill(left)` leaves so many of its blocks free."""
+    folder.mkdir()
+    run(["mount", "-t", "tmpfs", "-o", f"size={kilobytes}k", "tmpfs", folder], check=True)
+
+    def fill(left):
+        (folder / "filling").unlink(missing_ok=True)
+        (folder / "filling").write_bytes(bytes(4096 * (os.statvfs(folder).f_bavail - left)))
+    try:
+        yield fill
+    finally:
+        run(["umount", folder], check=True)

@@ -1,0 +1,385 @@
+"""fetch-ca-keys: a server trusts the CAs that its administrator named, whatever the front gives it."""
+import base64
+import concurrent.futures
+import contextlib
+import os
+import signal
+import subprocess
+import time
+
+import pytest
+
+from asking import key_blob, string
+from fetching import Web, response, script, small_disk
+from running import EXAMPLES, free_port, run
+
+
+def key(number):
+    """A CA's public-key line; nobody has the private half."""
+    return f"ssh-ed25519 {base64.b64encode(key_blob(number)).decode()}"
+
+
+def fingerprint(line):
+    """What ssh-keygen calls a key."""
+    return run(["ssh-keygen", "-l", "-f", "-"], input=line.encode(), stdin=None, check=True).stdout.decode().split()[1]
+
+
+A, B, FALSE = key(0x41), key(0x42), key(0x66)
+RSA = "ssh-rsa " + base64.b64encode(string(b"ssh-rsa") + string(b"\1\0\1") + string(b"\0" + 256 * b"\xc1")).decode()
+
+
+@pytest.fixture(scope="module")
+def names():
+    """The fingerprints of the keys."""
+    return {it: fingerprint(it) for it in (A, B, FALSE, RSA)}
+
+
+@pytest.fixture
+def web(room):
+    with Web() as made:
+        yield made
+
+
+@pytest.fixture
+def fetch(web, names, room):
+    """Runs fetch-ca-keys for the file `keys`, with these keys named, before a front that gives this body."""
+    def run_script(body, *named, file="keys", url=None, **how):
+        web.answer = body if body[:4] == b"HTTP" else response(body)
+        words = [word for it in named for word in ("--fingerprint", names[it])]
+        status, out, errors = script("fetch-ca-keys", *words, url or web.url, file, **how)
+        said = [it for it in errors if not it.startswith("curl: ")]
+        assert out == ""
+        assert [it for it in said if not it.startswith("fetch-ca-keys: ")] == []
+        return status, [it.removeprefix("fetch-ca-keys: ") for it in said]
+    return run_script
+
+
+def text(*lines):
+    return "".join(f"{it}\n" for it in lines)
+
+
+def body(*lines):
+    return text(*lines).encode()
+
+
+def of(path="keys"):
+    with open(path, encoding="ascii", newline="") as file:
+        return file.read()
+
+
+def test_keys_that_are_named_are_taken(fetch, web, room):
+    assert (0, []) == fetch(body(A + " the first CA", B), A, B)
+    assert text(A, B) == of()
+    assert 0o644 == os.stat("keys").st_mode & 0o777
+    assert ["keys"] == os.listdir()
+    assert b"GET /ca-keys HTTP/1.1" == web.requests[0].split(b"\r\n")[0]
+
+
+def test_the_mode_does_not_depend_on_the_umask(fetch):
+    assert (0, []) == fetch(body(A), A, umask=0o077)
+    assert 0o644 == os.stat("keys").st_mode & 0o777
+
+
+def test_a_key_that_is_not_named_is_left_out_and_reported(fetch, names):
+    left_out = f"{names[FALSE]} came and isn't named; it was left out"
+    assert (1, [left_out]) == fetch(body(FALSE, A, FALSE), A)
+    assert text(A) == of()
+
+
+def test_a_false_key_alone_makes_no_file(fetch, names):
+    left_out = f"{names[FALSE]} came and isn't named; it was left out"
+    assert (1, [left_out, "no key that is named came or is in place; keys is as it was"]) == fetch(body(FALSE), A)
+    assert [] == os.listdir()
+
+
+def test_a_false_key_does_not_come_beside_what_is_in_place(fetch, room):
+    (room / "keys").write_text(text(A))
+    assert 1 == fetch(body(FALSE), A)[0]
+    assert text(A) == of()
+
+
+def test_a_named_key_that_is_not_offered_stays(fetch, room):
+    (room / "keys").write_text(text(A + " the first CA"))
+    assert (0, []) == fetch(body(B), A, B)
+    assert text(A + " the first CA", B) == of()
+    assert (0, []) == fetch(body(B), A, B)
+    assert text(A + " the first CA", B) == of()
+
+
+def test_a_named_key_that_is_nowhere_is_reported(fetch, names):
+    assert (1, [f"{names[B]} is named, and neither came nor is in place"]) == fetch(body(A), A, B)
+    assert text(A) == of()
+
+
+def test_a_key_that_is_not_named_any_more_is_taken_out(fetch, names, room):
+    (room / "keys").write_text(text(A, B))
+    assert (0, [f"{names[A]} isn't named, and is taken out of keys"]) == fetch(body(B), B)
+    assert text(B) == of()
+
+
+def test_a_key_is_taken_out_also_if_the_front_is_away(fetch, names, room):
+    (room / "keys").write_text(text(A, B))
+    url = f"http://127.0.0.1:{free_port()}"
+    status, errors = fetch(b"", B, url=url)
+    assert (1, [f"{names[A]} isn't named, and is taken out of keys", f"no keys came from {url}"]) \
+        == (status, errors)
+    assert text(B) == of()
+
+
+def test_the_file_is_never_emptied(fetch, names, room):
+    (room / "keys").write_text(text(A))
+    status, errors = fetch(body(A), B)
+    assert (1, "no key that is named came or is in place; keys is as it was") == (status, errors[-1])
+    assert text(A) == of()
+
+
+def test_a_key_of_another_kind_in_place_stays_if_it_is_named(fetch, room):
+    (room / "keys").write_text(text("# our CAs", RSA + " of before", "nonsense"))
+    assert (0, []) == fetch(body(A), A, RSA)
+    assert text(RSA + " of before", A) == of()
+
+
+# What comes of the front in place of the line of A, where A alone is named. None of it is that line.
+BLOB = A.split()[1]
+TRICKS = [
+    ("an option", f'command="sh" {A}'),
+    ("a mark", f"cert-authority {A}"),
+    ("a mark of known_hosts", f"@cert-authority * {A}"),
+    ("a space before", f" {A}"),
+    ("no type", BLOB),
+    ("another type", f"ssh-rsa {BLOB}"),
+    ("a certificate's type", f"ssh-ed25519-cert-v01@openssh.com {BLOB}"),
+    ("two spaces", A.replace(" ", "  ")),
+    ("a tab", A.replace(" ", "\t")),
+    ("capitals", A.replace("ssh", "SSH")),
+    ("a part of the key", A[:-1]),
+    ("more than the key", A + "AAAA"),
+    ("another length of the key", f"ssh-ed25519 {base64.b64encode(key_blob(0x41) + bytes(3)).decode()}"),
+    ("a key of 31 bytes", "ssh-ed25519 " + base64.b64encode(string(b"ssh-ed25519") + string(31 * b"A")).decode()),
+    ("a letter that is none of base64", A[:-1] + "*"),
+    ("a carriage return inside", f"{A}\r{FALSE}"),
+    ("a form feed behind the key", f"{A}\f{FALSE}"),
+    ("a letter of the shell", "ssh-ed25519 $(touch taken)"),
+    ("another page", "<html>sign in to the network</html>"),
+    ("bytes", "\1\2\3é"),
+    ("a fingerprint", "SHA256:" + 43 * "A"),
+]
+
+
+@pytest.mark.parametrize("line", [it[1] for it in TRICKS], ids=[it[0] for it in TRICKS])
+def test_a_line_of_another_form_is_left_out(fetch, room, line):
+    (room / "keys").write_text(text(B))
+    status, errors = fetch(line.encode() + b"\n" + body(B), A, B)
+    assert 1 == status
+    assert "1 of the lines that came are no Ed25519 public keys; they were left out" in errors
+    assert text(B) == of()
+    assert ["keys"] == os.listdir()
+
+
+def test_a_key_of_another_kind_that_comes_is_left_out(fetch):
+    assert 1 == fetch(body(RSA, A), RSA, A)[0]
+    assert text(A) == of()
+
+
+# A comment of A's line, or what stands around it: the line of A alone comes of each.
+COMMENTS = [
+    ("another key", f"{A} {FALSE}"),
+    ("the name of the named key", f"{A} {fingerprint(A)}"),
+    ("options", f'{A} cert-authority command="sh"'),
+    ("letters of the shell", f"{A} $(touch taken) `touch taken` ; touch taken"),
+    ("an escape", f"{A} \x1b]0;taken\x07 \\n{FALSE}"),
+    ("a letter beyond ASCII", f"{A} é"),
+    ("a long one", f"{A} {'a' * 9000}"),
+    ("a carriage return", f"{A}\r"),
+    ("lines without keys", f"# {FALSE}\n\n \n{A}\n#{FALSE}"),
+]
+
+
+@pytest.mark.parametrize("lines", [it[1] for it in COMMENTS], ids=[it[0] for it in COMMENTS])
+def test_no_comment_is_taken(fetch, lines):
+    assert (0, []) == fetch(f"{lines}\n".encode(), A)
+    assert text(A) == of()
+    assert ["keys"] == os.listdir()
+
+
+def test_a_false_key_with_a_named_fingerprint_in_its_comment_is_left_out(fetch, names):
+    assert 1 == fetch(body(f"{FALSE} {names[A]}", A), A)[0]
+    assert text(A) == of()
+
+
+def test_a_last_line_without_an_end(fetch):
+    assert (0, []) == fetch(A.encode() + b"\r\n" + B.encode(), A, B)
+    assert text(A, B) == of()
+
+
+FAILURES = [
+    ("an empty body", response(b""), "no keys came from {url}"),
+    ("empty lines", response(b"\n\n# nothing\n"), "no keys came from {url}"),
+    ("no such path", response(body(A), "404 Not Found"), "no keys came from {url}"),
+    ("an error", response(body(A), "502 Bad Gateway"), "no keys came from {url}"),
+    ("another place", response(b"", "302 Found\r\nlocation: /other"), "no keys came from {url}"),
+    ("half of what was announced", response(body(B), length=700), "no keys came from {url}"),
+    ("a long body", response(body(B) * 300), "what came from {url} is longer than 16384 bytes"),
+    ("a long line", response(b"ssh-ed25519 " + 20000 * b"A"), "what came from {url} is longer than 16384 bytes"),
+    ("no HTTP", b"HTTP/1.1", "no keys came from {url}"),
+]
+
+
+@pytest.mark.parametrize("answer, why", [it[1:] for it in FAILURES], ids=[it[0] for it in FAILURES])
+def test_if_no_keys_come_those_in_place_stay(fetch, web, room, answer, why):
+    (room / "keys").write_text(text(A))
+    os.utime("keys", (1000, 1000))
+    status, errors = fetch(answer, A, B)
+    assert (1, why.format(url=web.url)) == (status, errors[0])
+    assert text(A) == of()
+    assert 1000 == os.stat("keys").st_mtime
+    assert ["keys"] == os.listdir()
+
+
+def test_an_endless_body_ends(fetch, web, room):
+    (room / "keys").write_text(text(A))
+    web.endless = body(B) * 100
+    status, errors = fetch(response(b"", length=""), A, B)
+    assert (1, f"what came from {web.url} is longer than 16384 bytes") == (status, errors[0])
+    assert text(A) == of()
+
+
+# ---- the file
+
+def test_a_folder_in_place_of_the_file(fetch, room):
+    (room / "keys").mkdir()
+    assert (1, ["keys is a folder; keys is as it was"]) == fetch(body(A), A)
+    assert [] == os.listdir("keys")
+
+
+def test_a_link_in_place_of_the_file_is_replaced_and_not_followed(fetch, room):
+    (room / "other").write_text("other")
+    (room / "keys").symlink_to("other")
+    assert (0, []) == fetch(body(A), A)
+    assert not (room / "keys").is_symlink()
+    assert (text(A), "other") == (of(), of("other"))
+
+
+def test_a_link_to_a_folder_or_to_nothing(fetch, room):
+    (room / "folder").mkdir()
+    (room / "keys").symlink_to("folder")
+    assert (1, ["keys is a folder; keys is as it was"]) == fetch(body(A), A)
+    (room / "keys").unlink()
+    (room / "keys").symlink_to("nothing")
+    assert (0, []) == fetch(body(A), A)
+    assert text(A) == of()
+
+
+@pytest.mark.parametrize("name", ["with space", "two\nlines", "-o", "$HOME", "a[1]*{b}", "x" * 250])
+def test_the_file_may_have_any_name(fetch, room, name):
+    assert (0, []) == fetch(body(A), A, file=name)
+    assert text(A) == of(room / name)
+    assert [name] == os.listdir()
+
+
+def test_a_folder_that_is_not_there(fetch, room):
+    status, errors = fetch(body(A), A, file="none/keys")
+    assert (1, "can't lock none; none/keys is as it was") == (status, errors[-1])
+
+
+@pytest.mark.root
+def test_a_full_disk_loses_nothing(fetch, room):
+    with small_disk(room / "disk") as fill:
+        (room / "disk/keys").write_text(text(A))
+        results = []
+        for left in (0, 1, 2):
+            fill(left)
+            status, errors = fetch(body(A + " " + "a" * 6000, B), A, B, file="disk/keys")
+            results.append(status)
+            assert of("disk/keys") == (text(A) if status else text(A, B))
+            assert not status or "disk may be full" in "".join(errors)
+            assert {"filling", "keys"} == {*os.listdir("disk")}
+        assert [1, 0] == [results[0], results[-1]]
+
+
+def test_many_at_once(fetch, web, names, room):
+    (room / "keys").write_text(text(A))
+    web.answer = response(body(A, B))
+    words = ["fetch-ca-keys", "--fingerprint", names[A], "--fingerprint", names[B], web.url, "keys"]
+    with concurrent.futures.ThreadPoolExecutor(8) as threads:
+        assert [(0, "", [])] * 8 == list(threads.map(lambda _: script(*words), range(8)))
+    assert text(A, B) == of()
+    assert ["keys"] == os.listdir()
+
+
+def test_a_kill_at_any_moment_leaves_the_old_or_the_new(web, names, room):
+    web.answer = response(body(A, B))
+    words = [EXAMPLES / "fetch-ca-keys", "--fingerprint", names[A], "--fingerprint", names[B], web.url, "keys"]
+    for number in range(12):
+        (room / "keys").write_text(text(A))
+        process = subprocess.Popen(words, stdout=subprocess.DEVNULL, stderr=subprocess.DEVNULL, start_new_session=True)
+        time.sleep(number / 40)
+        with contextlib.suppress(ProcessLookupError):
+            os.killpg(process.pid, signal.SIGKILL)
+        process.wait()
+        assert of() in (text(A), text(A, B))
+    assert (0, "", []) == script(*["fetch-ca-keys", *words[1:]])
+    assert ["keys"] == os.listdir()
+
+
+# ---- what is named
+
+def test_fingerprints_in_a_file(web, names, room):
+    """As ssh-keygen prints them, or alone, with comments and ends of other systems."""
+    printed = run(["ssh-keygen", "-l", "-f", "-"], input=f"{A} the first CA\n".encode(), stdin=None).stdout.decode()
+    (room / "named").write_text(f"# our CAs\n\n{printed}{names[B]} the second\r\n")
+    web.answer = response(body(A, B))
+    assert (0, "", []) == script("fetch-ca-keys", "--named", "named", web.url, "keys")
+    assert text(A, B) == of()
+
+
+BAD_NAMES = [
+    ("no fingerprint is named", []),
+    ("no fingerprint: SHA256:short", ["--fingerprint", "SHA256:short"]),
+    ("no fingerprint: MD5:00", ["--fingerprint", "MD5:00"]),
+    ("can't read none", ["--named", "none"]),
+    (f"named has a line without a fingerprint: {A}", ["--named", "named"]),
+]
+
+
+@pytest.mark.parametrize("why, words", BAD_NAMES, ids=[" ".join(it[1]) for it in BAD_NAMES])
+def test_bad_names_are_bad_words(web, room, why, words):
+    (room / "named").write_text(text(A))
+    (room / "keys").write_text(text(A))
+    assert (2, "", [f"fetch-ca-keys: {why}"]) == script("fetch-ca-keys", *words, web.url, "keys")
+    assert [] == web.requests
+
+
+@pytest.mark.parametrize("words", [[], ["--cacert"], ["--no-such-word", "x"], ["url"], ["url", "keys", "x"]], ids=str)
+def test_bad_words(words, names):
+    status, _, errors = script("fetch-ca-keys", *words)
+    assert (2, "fetch-ca-keys [--cacert FILE]") == (status, errors[0][:29])
+
+
+def test_the_help():
+    status, out, _ = script("fetch-ca-keys", "--help")
+    assert (0, True) == (status, out.startswith("fetch-ca-keys ["))
+
+
+# ---- through the front
+
+def test_the_keys_of_the_front(front, names, room):
+    line = front.office.ca.read_text().strip()
+    words = ["--cacert", front.authority / "ca.crt", "--fingerprint", fingerprint(line), front.url, room / "keys"]
+    status, _, errors = script("fetch-ca-keys", *words)
+    assert (1, f"fetch-ca-keys: no key that is named came or is in place; {room}/keys is as it was") \
+        == (status, errors[-1])
+    (front.conf / "ca-keys").write_text(f"{line} our CA\n")
+    assert (0, "", []) == script("fetch-ca-keys", *words)
+    assert " ".join(line.split()[:2]) + "\n" == of(room / "keys")
+    # A front that isn't the one whose authority was given.
+    run([EXAMPLES / "front/authority", "new", "other", "localhost"], check=True)
+    status, _, errors = script("fetch-ca-keys", "--cacert", "other/ca.crt", *words[2:])
+    assert (1, f"fetch-ca-keys: no keys came from {front.url}") == (status, errors[-1])
+
+
+def test_sshd_reads_the_file(fetch, room):
+    """sshd reads only lines that begin with a type and a key: ssh-keygen reads each of the file as such a line."""
+    assert (0, []) == fetch(body(A, B), A, B)
+    read = run(["ssh-keygen", "-l", "-f", "keys"], check=True).stdout.decode().splitlines()
+    assert [fingerprint(A), fingerprint(B)] == [it.split()[1] for it in read]
