@@ -1,11 +1,11 @@
 -- What the calls do, from what their texts mean.
 use Rattle.store_sql.proofs.Words.{Begin, Changes, Command, Commit, CommitsBy, CommitsShowing, Compiled, Contents}
 use Rattle.store_sql.proofs.Words.{Database, Delete, Does, Error, Executes, FailsBy, FailsIn, FailsToQuery, Fault}
-use Rattle.store_sql.proofs.Words.{Finds, FindsIn, FindsOne, Global, HasCause, HasCleanDisk, Holds, IfErr, IfOk, Insert}
-use Rattle.store_sql.proofs.Words.{InsertOr, IsAnswer, IsDone, IsFirstRead, IsPermutation, IsPlain, IsRead, IsUnchanged}
-use Rattle.store_sql.proofs.Words.{IsWrite, Leaves, List, Means, Never, None, Ok, OnOk, OnlyReads, Option}
+use Rattle.store_sql.proofs.Words.{Finds, FindsIn, FindsOne, Found, Global, HasCause, HasCleanDisk, Holds, IfErr, IfOk}
+use Rattle.store_sql.proofs.Words.{Insert, InsertOr, IsAnswer, IsDone, IsFirstRead, IsPermutation, IsPlain, IsRead}
+use Rattle.store_sql.proofs.Words.{IsUnchanged, IsWrite, List, Means, None, Ok, OnOk, OnlyReads, Option}
 use Rattle.store_sql.proofs.Words.{ProgramOverflows, Query, Release, Result, Rollback, RollbackTo, Row, Runs, Schema}
-use Rattle.store_sql.proofs.Words.{Select, Shown, State, Stays, Survives, Tally, Trees, Update, Vec, Writes, []}
+use Rattle.store_sql.proofs.Words.{Select, Shown, State, Survives, Tally, Trees, Update, Vec, Writes, Wrote, []}
 use Rattle.store_sql.proofs.Words.{accepts_program, ap, command_of, false, fault_of, inl, inr, is_pragma, is_query}
 use Rattle.store_sql.proofs.Words.{is_select, length, map, overlay, reads_listing, refl, statement_of, subst, sym, true}
 use Rattle.store_sql.proofs.Words.{understood, whole, ℕ, ◌||◌, ◌∙◌, ◌≡◌, ◌⊎◌}
@@ -76,20 +76,13 @@ closes_none (Update at q) on = refl
 closes_none (Delete at q) on = refl
 closes_none _ on = absurd on
 
--- all that a call of such a text does, which fails for these reasons
-pub record Wrote {X : Type 0} (after : Contents → Contents) (Refuses : State → State → Result X Fault → Type 0)
-    (old new : State) (r : Result X Fault) : Type 0 where
-  pub changes : HasCleanDisk new → Changes after old new r
-  pub fault : HasCleanDisk new → Refuses old new r
-  pub stays : HasCleanDisk new → Stays old new r
-  pub survives : Survives old new (Leaves after old)
-
+-- all that a call of such a text does, which fails for these causes
 pub wrote : {X : Type 0} {sql : List ℕ} {params : Row} {after : Contents → Contents}
-    {Refuses : State → State → Result X Fault → Type 0} {old new : State} (w : Write sql params after)
-    → ((old new : State) (r : Result X Fault) → FailsBy (HasWriteCause sql params) old new r → Refuses old new r)
+    {Causes : State → State → Result X Fault → Type 0} {old new : State} (w : Write sql params after)
+    → ((old new : State) (r : Result X Fault) → FailsBy (HasWriteCause sql params) old new r → Causes old new r)
     → (answer : Result ℕ Error) (r : Result X Fault)
     → (HasCleanDisk new → Executes sql params old new answer) → Survives old new (CommitsBy sql params old)
-    → IsDone answer r → Wrote after Refuses old new r
+    → IsDone answer r → Wrote after Causes old new r
 wrote {sql = sql} {params = params} {after = after} {old = old} {new = new} w fails answer r ran lives done =
     let write = is_write w.command w.on_rows in
     let writing = writes w.command w.on_rows params in
@@ -191,13 +184,6 @@ module _ {X : Type 0} {sql : List ℕ} {params : Row} {cells : X → Row} {of : 
   )
 
 -- all that a call of such a text does
-pub record Found {X : Type 0} (Finding : State → State → Result X Fault → Type 0) (old new : State)
-    (r : Result X Fault) : Type 0 where
-  pub finds : HasCleanDisk new → Finding old new r
-  pub reads : HasCleanDisk new → OnlyReads old new r
-  pub fault : HasCleanDisk new → FailsBy HasCause old new r
-  pub survives : Survives old new Never
-
 module _ {X : Type 0} {sql : List ℕ} {params : Row} {cells : X → Row} {of : Contents → List X}
     (f : Find sql params cells of) {old new : State} (answer : Result (Vec Row Global) Error)
     (ok : HasCleanDisk new → IfOk answer (λ rows. Shown sql params old new rows.items))

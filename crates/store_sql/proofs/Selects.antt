@@ -1,12 +1,12 @@
 -- SELECT of the rows of one table that pass a test, and ORDER BY one column.
-use Rattle.store_sql.proofs.Words.{Binary, Bool, CommitsShowing, Contents, Equal, Err, Error, FailsBy, FailsToQuery}
-use Rattle.store_sql.proofs.Words.{Fault, Finds, Global, Greater, HasCause, HasCleanDisk, Holds, IfErr, IfOk, Int}
-use Rattle.store_sql.proofs.Words.{IsAnswer, IsPermutation, IsRead, IsSorted, IsSorted-from_map, Key, Less, List, Lists}
-use Rattle.store_sql.proofs.Words.{Never, Null, Ok, OnlyReads, Ordering, Result, Rises, Row, RunRow, Schema, Shown}
-use Rattle.store_sql.proofs.Words.{State, Survives, Term, Text, Trees, Vec, [], accepts_program, arith, ascending}
-use Rattle.store_sql.proofs.Words.{at_places, column, eval_all, filter, holds, inl, inr, int_cmp, key_cmp, length}
-use Rattle.store_sql.proofs.Words.{list_all, map, nat_cmp, overlay, pos, reads_as, refl, run_cells, slice_cmp, subst}
-use Rattle.store_sql.proofs.Words.{true, value_cmp, value_cmp-Int, value_cmp-Text, whole, ℕ, ◌∙◌, ◌∷◌, ◌≡◌}
+use Rattle.store_sql.proofs.Words.{Binary, Bool, CommitsShowing, Contents, Equal, Err, Error, FailsToQuery, Fault}
+use Rattle.store_sql.proofs.Words.{FoundSorted, Global, Greater, HasCleanDisk, Holds, IfErr, IfOk, Int, IsAnswer}
+use Rattle.store_sql.proofs.Words.{IsPermutation, IsRead, IsSorted, IsSorted-from_map, Key, Less, List, Lists, Means}
+use Rattle.store_sql.proofs.Words.{Null, Ok, Ordering, Result, Rises, Row, RunRow, Schema, Shown, State, Survives, Term}
+use Rattle.store_sql.proofs.Words.{Text, Trees, Vec, [], accepts_program, arith, ascending, at_places, column, eval_all}
+use Rattle.store_sql.proofs.Words.{filter, holds, inl, inr, int_cmp, key_cmp, length, list_all, map, nat_cmp, overlay}
+use Rattle.store_sql.proofs.Words.{pos, reads_as, refl, run_cells, slice_cmp, subst, true, value_cmp, value_cmp-Int}
+use Rattle.store_sql.proofs.Words.{value_cmp-Text, whole, ℕ, ◌∙◌, ◌∷◌, ◌≡◌}
 use Rattle.store_sql.proofs.CallLemmas.{IsSelect, FindIn, Find, found}
 use Rattle.store_sql.proofs.FaultLemmas.{none_overflows}
 use Rattle.store_sql.proofs.Queries.{chosen, on_table, selected, in_order}
@@ -115,14 +115,6 @@ select_all {of = of} t is shows showed showing typed keyed told =
     (λ c. keep_all (of c)) keyed told
 
 -- all that a call of such a text does
-pub record FoundSorted {X K : Type 0} (of : Contents → List X) (key : X → K) (cmp : K → K → Ordering) (old new : State)
-    (r : Result (Vec X Global) Fault) : Type 0 where
-  pub finds : HasCleanDisk new → Finds of old new r
-  pub sorted : HasCleanDisk new → Rises key cmp old new r
-  pub reads : HasCleanDisk new → OnlyReads old new r
-  pub fault : HasCleanDisk new → FailsBy HasCause old new r
-  pub survives : Survives old new Never
-
 module _ {X K : Type 0} {sql : List ℕ} {params : Row} {cells : X → Row} {of : Contents → List X} {key : X → K}
     {cmp : K → K → Ordering} (f : FindSorted sql params cells of key cmp) where
   sorts : (old new : State) (answer : Result (Vec Row Global) Error) → IfOk answer
@@ -144,7 +136,7 @@ module _ {X K : Type 0} {sql : List ℕ} {params : Row} {cells : X → Row} {of 
       → (HasCleanDisk new → IfOk answer (λ rows. Shown sql params old new rows.items))
       → (HasCleanDisk new → IfErr answer (FailsToQuery sql params old new))
       → Survives old new (CommitsShowing sql params old) → (r : Result (Vec X Global) Fault) → IsRead cells answer r
-      → FoundSorted of key cmp old new r
+      → FoundSorted (λ c db. Means db c) of key cmp old new r
   found_sorted {old = old} {new = new} answer ok err lives r read =
       let all = found f.find answer ok err lives r read in
       record {

@@ -127,6 +127,7 @@ pub use Rattle.store_sql.specs.Refusals.{HasCauseOr, HasOne, IsTooLong, RefusedF
 pub use Rattle.store_sql.specs.Runs.{last_run}
 pub use Rattle.store_sql.specs.Schema.{ca, ca_at, cert_at, department_at, office_at, request_at, revoked_at, run_at}
 pub use Rattle.store_sql.specs.Schema.{whole}
+pub use Rattle.store_sql.specs.Statements.{Found, FoundSorted, Wrote}
 pub use Rattle.store_sql.specs.declared.cas.CaRow.{CaRow}
 pub use Rattle.store_sql.specs.declared.certs.CertRow.{CertRow}
 pub use Rattle.store_sql.specs.declared.creation.TableName.{TableName}

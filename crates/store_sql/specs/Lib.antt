@@ -12,3 +12,4 @@ pub mod Done
 pub mod Granted
 pub mod Look
 pub mod Refusals
+pub mod Statements

@@ -4,10 +4,8 @@ ghost use Rattle.std.specs.Prelude.{◌≡◌, ◌∷◌, []};
 ghost use Rattle.std.specs.Ordering.{nat_cmp};
 ghost use Rattle.store_sql.specs.Cells.{ca_cells};
 ghost use Rattle.store_sql.specs.Changes.{with_ca};
-ghost use Rattle.store_sql.specs.Calls.{Changes, FailsBy, Finds, Leaves, Never, OnlyReads, Rises, Stays};
-ghost use Rattle.store_sql.specs.Honest.{On, Outlives, OutlivesBy};
-ghost use Rattle.store_sql.specs.Faults.{HasCause};
-ghost use Rattle.store_sql.specs.Refusals.{RefusedFor, RefusesCa};
+ghost use Rattle.store_sql.specs.Refusals.{RefusesCa};
+ghost use Rattle.store_sql.specs.Statements.{ReadsSorted, Writes};
 
 use crate::columns::{Columns, found};
 use crate::kind::{Kind, blob_at, is_row_of, number_at};
@@ -74,21 +72,14 @@ impl Columns for CaRow {
 
 /// Keeps a CA. `Device` also where its number or its key blob is taken, or the row is too long.
 pub fn insert_ca<S: Alter>(conn: &mut Connection<S>, ca: &CaRow) -> Result<(), Fault>
-    ensures changes { On S.Store (Changes (with_ca ca.now)) conn.old conn.new result }
-    ensures fault { On S.Store (RefusedFor (RefusesCa ca.now)) conn.old conn.new result }
-    ensures stays { On S.Store Stays conn.old conn.new result }
-    ensures survives { OutlivesBy S.Store (Leaves (with_ca ca.now)) conn.old conn.new }
+    ensures { Writes S.Store (with_ca ca.now) (RefusesCa ca.now) conn.old conn.new result }
 {
     done(conn.execute(INSERT_CA, &ca.values()))
 }
 
 /// Each CA, by number. `Damaged` where a row has another form.
 pub fn every_ca<S: Alter>(alloc: Global, conn: &mut Connection<S>) -> Result<Vec<CaRow>, Fault>
-    ensures finds { On S.Store (Finds (λ c. c.cas)) conn.old conn.new result }
-    ensures sorted { On S.Store (Rises (λ a. a.number) nat_cmp) conn.old conn.new result }
-    ensures reads { On S.Store OnlyReads conn.old conn.new result }
-    ensures fault { On S.Store (FailsBy HasCause) conn.old conn.new result }
-    ensures survives { Outlives S.Store Never conn.old conn.new }
+    ensures { ReadsSorted S.Store (λ c. c.cas) (λ a. a.number) nat_cmp conn.old conn.new result }
 {
     found(alloc, conn.query_all(EVERY_CA, &[]))
 }

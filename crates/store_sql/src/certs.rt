@@ -5,10 +5,9 @@ ghost use Rattle.std.specs.Ordering.{nat_cmp};
 ghost use Rattle.sqlite.specs.declared.types.Value.TheVariants.{Blob};
 ghost use Rattle.store_sql.specs.Cells.{cert_cells};
 ghost use Rattle.store_sql.specs.Changes.{certs_numbered, certs_within, with_cert, with_signature};
-ghost use Rattle.store_sql.specs.Calls.{Changes, FailsBy, Finds, FindsOne, Leaves, Never, OnlyReads, Rises, Stays};
-ghost use Rattle.store_sql.specs.Honest.{On, Outlives, OutlivesBy};
-ghost use Rattle.store_sql.specs.Faults.{HasCause};
-ghost use Rattle.store_sql.specs.Refusals.{RefusedFor, RefusesCert, RefusesSignature};
+ghost use Rattle.store_sql.specs.Calls.{FindsOne};
+ghost use Rattle.store_sql.specs.Refusals.{RefusesCert, RefusesSignature};
+ghost use Rattle.store_sql.specs.Statements.{Reads, ReadsSorted, Writes};
 
 use crate::columns::{Columns, found, found_first};
 use crate::kind::{Kind, blob_at, is_row_of, number_at, optional_blob, optional_blob_at, text_at};
@@ -91,10 +90,7 @@ impl Columns for CertRow {
 
 /// Keeps a certificate. `Device` also where its serial is taken, its department is missing, or the row is too long.
 pub fn insert_cert<S: Alter>(conn: &mut Connection<S>, cert: &CertRow) -> Result<(), Fault>
-    ensures changes { On S.Store (Changes (with_cert cert.now)) conn.old conn.new result }
-    ensures fault { On S.Store (RefusedFor (RefusesCert cert.now)) conn.old conn.new result }
-    ensures stays { On S.Store Stays conn.old conn.new result }
-    ensures survives { OutlivesBy S.Store (Leaves (with_cert cert.now)) conn.old conn.new }
+    ensures { Writes S.Store (with_cert cert.now) (RefusesCert cert.now) conn.old conn.new result }
 {
     done(conn.execute(INSERT_CERT, &cert.values()))
 }
@@ -105,10 +101,7 @@ pub fn find_cert<S: Alter>(
     conn: &mut Connection<S>,
     serial: Number,
 ) -> Result<Option<CertRow>, Fault>
-    ensures finds { On S.Store (FindsOne (certs_numbered serial)) conn.old conn.new result }
-    ensures reads { On S.Store OnlyReads conn.old conn.new result }
-    ensures fault { On S.Store (FailsBy HasCause) conn.old conn.new result }
-    ensures survives { Outlives S.Store Never conn.old conn.new }
+    ensures { Reads S.Store (FindsOne (certs_numbered serial)) conn.old conn.new result }
 {
     found_first(alloc, conn.query_all(FIND_CERT, &[serial.value()]))
 }
@@ -121,11 +114,7 @@ pub fn certs_within<S: Alter>(
     lo: Number,
     hi: Number,
 ) -> Result<Vec<CertRow>, Fault>
-    ensures finds { On S.Store (Finds (certs_within lo hi)) conn.old conn.new result }
-    ensures sorted { On S.Store (Rises (λ c. c.serial) nat_cmp) conn.old conn.new result }
-    ensures reads { On S.Store OnlyReads conn.old conn.new result }
-    ensures fault { On S.Store (FailsBy HasCause) conn.old conn.new result }
-    ensures survives { Outlives S.Store Never conn.old conn.new }
+    ensures { ReadsSorted S.Store (certs_within lo hi) (λ c. c.serial) nat_cmp conn.old conn.new result }
 {
     found(
         alloc,
@@ -139,10 +128,8 @@ pub fn update_signature<S: Alter>(
     serial: Number,
     signature: &[u8],
 ) -> Result<(), Fault>
-    ensures changes { On S.Store (Changes (with_signature serial signature.now)) conn.old conn.new result }
-    ensures fault { On S.Store (RefusedFor (RefusesSignature serial signature.now)) conn.old conn.new result }
-    ensures stays { On S.Store Stays conn.old conn.new result }
-    ensures survives { OutlivesBy S.Store (Leaves (with_signature serial signature.now)) conn.old conn.new }
+    ensures { Writes S.Store (with_signature serial signature.now) (RefusesSignature serial signature.now)
+        conn.old conn.new result }
 {
     done(conn.execute(SIGN_CERT, &[serial.value(), ValueRef::Blob(signature)]))
 }

@@ -5,10 +5,9 @@ ghost use Rattle.std.specs.Ordering.{nat_cmp};
 ghost use Rattle.std.specs.Cmp.Lexicographic.{slice_cmp};
 ghost use Rattle.store_sql.specs.Cells.{department_cells};
 ghost use Rattle.store_sql.specs.Changes.{departments_named, with_department};
-ghost use Rattle.store_sql.specs.Calls.{Changes, FailsBy, Finds, FindsOne, Leaves, Never, OnlyReads, Rises, Stays};
-ghost use Rattle.store_sql.specs.Honest.{On, Outlives, OutlivesBy};
-ghost use Rattle.store_sql.specs.Faults.{HasCause};
-ghost use Rattle.store_sql.specs.Refusals.{RefusedFor, RefusesDepartment};
+ghost use Rattle.store_sql.specs.Calls.{FindsOne};
+ghost use Rattle.store_sql.specs.Refusals.{RefusesDepartment};
+ghost use Rattle.store_sql.specs.Statements.{Reads, ReadsSorted, Writes};
 
 use crate::columns::{Columns, found, found_first};
 use crate::kind::{Kind, is_row_of, number_at, text_at};
@@ -104,10 +103,7 @@ pub fn put_department<S: Alter>(
     conn: &mut Connection<S>,
     department: &DepartmentRow,
 ) -> Result<(), Fault>
-    ensures changes { On S.Store (Changes (with_department department.now)) conn.old conn.new result }
-    ensures fault { On S.Store (RefusedFor (RefusesDepartment department.now)) conn.old conn.new result }
-    ensures stays { On S.Store Stays conn.old conn.new result }
-    ensures survives { OutlivesBy S.Store (Leaves (with_department department.now)) conn.old conn.new }
+    ensures { Writes S.Store (with_department department.now) (RefusesDepartment department.now) conn.old conn.new result }
 {
     done(conn.execute(PUT_DEPARTMENT, &department.values()))
 }
@@ -118,10 +114,7 @@ pub fn find_department<S: Alter>(
     conn: &mut Connection<S>,
     name: &[u8],
 ) -> Result<Option<DepartmentRow>, Fault>
-    ensures finds { On S.Store (FindsOne (departments_named name.now)) conn.old conn.new result }
-    ensures reads { On S.Store OnlyReads conn.old conn.new result }
-    ensures fault { On S.Store (FailsBy HasCause) conn.old conn.new result }
-    ensures survives { Outlives S.Store Never conn.old conn.new }
+    ensures { Reads S.Store (FindsOne (departments_named name.now)) conn.old conn.new result }
 {
     found_first(
         alloc,
@@ -134,11 +127,7 @@ pub fn every_department<S: Alter>(
     alloc: Global,
     conn: &mut Connection<S>,
 ) -> Result<Vec<DepartmentRow>, Fault>
-    ensures finds { On S.Store (Finds (λ c. c.departments)) conn.old conn.new result }
-    ensures sorted { On S.Store (Rises (λ d. d.name) (slice_cmp nat_cmp)) conn.old conn.new result }
-    ensures reads { On S.Store OnlyReads conn.old conn.new result }
-    ensures fault { On S.Store (FailsBy HasCause) conn.old conn.new result }
-    ensures survives { Outlives S.Store Never conn.old conn.new }
+    ensures { ReadsSorted S.Store (λ c. c.departments) (λ d. d.name) (slice_cmp nat_cmp) conn.old conn.new result }
 {
     found(alloc, conn.query_all(EVERY_DEPARTMENT, &[]))
 }

@@ -5,11 +5,9 @@ ghost use Rattle.std.specs.Ordering.{nat_cmp};
 ghost use Rattle.sqlite.specs.Effect.{Database};
 ghost use Rattle.store_sql.specs.Cells.{office_cells, counter_cells};
 ghost use Rattle.store_sql.specs.Changes.{with_office, with_counters, with_schema};
-ghost use Rattle.store_sql.specs.Calls.{Changes, FailsIn, FindsIn, Leaves, Never, OnlyReads, Rises, Stays};
-ghost use Rattle.store_sql.specs.Honest.{On, Outlives, OutlivesBy};
 ghost use Rattle.store_sql.specs.Contents.{Contents, HasOffices, Means, MeansWithoutCa};
-ghost use Rattle.store_sql.specs.Faults.{HasCause};
-ghost use Rattle.store_sql.specs.Refusals.{RefusedFor, RefusesCounters, RefusesNumber, RefusesOffice};
+ghost use Rattle.store_sql.specs.Refusals.{RefusesCounters, RefusesNumber, RefusesOffice};
+ghost use Rattle.store_sql.specs.Statements.{ReadsSortedIn, Writes};
 
 use crate::columns::{Columns, found};
 use crate::kind::{Kind, blob_at, is_row_of, number_at, text_at};
@@ -140,10 +138,7 @@ impl Columns for OfficeRow {
 
 /// Puts the row of an office. `Device` also where its id is taken, or the row is too long.
 pub fn insert_office<S: Alter>(conn: &mut Connection<S>, office: &OfficeRow) -> Result<(), Fault>
-    ensures changes { On S.Store (Changes (with_office office.now)) conn.old conn.new result }
-    ensures fault { On S.Store (RefusedFor (RefusesOffice office.now)) conn.old conn.new result }
-    ensures stays { On S.Store Stays conn.old conn.new result }
-    ensures survives { OutlivesBy S.Store (Leaves (with_office office.now)) conn.old conn.new }
+    ensures { Writes S.Store (with_office office.now) (RefusesOffice office.now) conn.old conn.new result }
 {
     done(conn.execute(INSERT_OFFICE, &office.values()))
 }
@@ -154,11 +149,7 @@ pub fn every_office<S: Alter>(
     conn: &mut Connection<S>,
 ) -> Result<Vec<OfficeRow>, Fault>
     // Of any tables, of which that of the office is the first.
-    ensures finds { On S.Store (FindsIn HasOffices (λ rows. rows)) conn.old conn.new result }
-    ensures sorted { On S.Store (Rises (λ o. o.id) nat_cmp) conn.old conn.new result }
-    ensures reads { On S.Store OnlyReads conn.old conn.new result }
-    ensures fault { On S.Store (FailsIn HasOffices HasCause) conn.old conn.new result }
-    ensures survives { Outlives S.Store Never conn.old conn.new }
+    ensures { ReadsSortedIn S.Store HasOffices (λ rows. rows) (λ o. o.id) nat_cmp conn.old conn.new result }
 {
     found(alloc, conn.query_all(EVERY_OFFICE, &[]))
 }
@@ -171,10 +162,7 @@ pub fn the_office_is_first()
 
 /// Moves the counters of the office, the row of id 1, if it is there. `Device` also where the row is then too long.
 pub fn update_office<S: Alter>(conn: &mut Connection<S>, counters: &Counters) -> Result<(), Fault>
-    ensures changes { On S.Store (Changes (with_counters counters.now)) conn.old conn.new result }
-    ensures fault { On S.Store (RefusedFor (RefusesCounters counters.now)) conn.old conn.new result }
-    ensures stays { On S.Store Stays conn.old conn.new result }
-    ensures survives { OutlivesBy S.Store (Leaves (with_counters counters.now)) conn.old conn.new }
+    ensures { Writes S.Store (with_counters counters.now) (RefusesCounters counters.now) conn.old conn.new result }
 {
     done(conn.execute(COUNT_OFFICE, &counters.values()))
 }
@@ -182,10 +170,7 @@ pub fn update_office<S: Alter>(conn: &mut Connection<S>, counters: &Counters) ->
 /// Sets the number of the schema in the office, the row of id 1, if it is there. `Device` also where the row is then
 /// too long.
 pub fn update_schema<S: Alter>(conn: &mut Connection<S>, schema: Number) -> Result<(), Fault>
-    ensures changes { On S.Store (Changes (with_schema schema)) conn.old conn.new result }
-    ensures fault { On S.Store (RefusedFor (RefusesNumber schema)) conn.old conn.new result }
-    ensures stays { On S.Store Stays conn.old conn.new result }
-    ensures survives { OutlivesBy S.Store (Leaves (with_schema schema)) conn.old conn.new }
+    ensures { Writes S.Store (with_schema schema) (RefusesNumber schema) conn.old conn.new result }
 {
     done(conn.execute(NUMBER_OFFICE, &[schema.value()]))
 }

@@ -3,10 +3,9 @@
 ghost use Rattle.std.specs.Prelude.{◌≡◌, ◌∷◌, []};
 ghost use Rattle.store_sql.specs.Cells.{request_cells};
 ghost use Rattle.store_sql.specs.Changes.{requests_for, with_request};
-ghost use Rattle.store_sql.specs.Calls.{Changes, FailsBy, FindsOne, Leaves, Never, OnlyReads, Stays};
-ghost use Rattle.store_sql.specs.Honest.{On, Outlives, OutlivesBy};
-ghost use Rattle.store_sql.specs.Faults.{HasCause};
-ghost use Rattle.store_sql.specs.Refusals.{RefusedFor, RefusesRequest};
+ghost use Rattle.store_sql.specs.Calls.{FindsOne};
+ghost use Rattle.store_sql.specs.Refusals.{RefusesRequest};
+ghost use Rattle.store_sql.specs.Statements.{Reads, Writes};
 
 use crate::columns::{Columns, found_first};
 use crate::kind::{Kind, blob_at, is_row_of, text_at};
@@ -72,10 +71,7 @@ impl Columns for RequestRow {
 /// Keeps a request that was accepted. `Device` also where its caller has used its key, the row is too long, or there
 /// are as many rows as numbers for them.
 pub fn insert_request<S: Alter>(conn: &mut Connection<S>, request: &RequestRow) -> Result<(), Fault>
-    ensures changes { On S.Store (Changes (with_request request.now)) conn.old conn.new result }
-    ensures fault { On S.Store (RefusedFor (RefusesRequest request.now)) conn.old conn.new result }
-    ensures stays { On S.Store Stays conn.old conn.new result }
-    ensures survives { OutlivesBy S.Store (Leaves (with_request request.now)) conn.old conn.new }
+    ensures { Writes S.Store (with_request request.now) (RefusesRequest request.now) conn.old conn.new result }
 {
     done(conn.execute(INSERT_REQUEST, &request.values()))
 }
@@ -87,10 +83,7 @@ pub fn find_request<S: Alter>(
     caller: &[u8],
     key: &[u8],
 ) -> Result<Option<RequestRow>, Fault>
-    ensures finds { On S.Store (FindsOne (requests_for caller.now key.now)) conn.old conn.new result }
-    ensures reads { On S.Store OnlyReads conn.old conn.new result }
-    ensures fault { On S.Store (FailsBy HasCause) conn.old conn.new result }
-    ensures survives { Outlives S.Store Never conn.old conn.new }
+    ensures { Reads S.Store (FindsOne (requests_for caller.now key.now)) conn.old conn.new result }
 {
     found_first(
         alloc,

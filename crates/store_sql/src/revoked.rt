@@ -4,10 +4,9 @@ ghost use Rattle.std.specs.Ordering.{nat_cmp};
 ghost use Rattle.std.specs.Cmp.Lexicographic.{slice_cmp};
 ghost use Rattle.store_sql.specs.Cells.{key_id_cells};
 ghost use Rattle.store_sql.specs.Changes.{revoked_as, with_revoked};
-ghost use Rattle.store_sql.specs.Calls.{Changes, FailsBy, Finds, FindsOne, Leaves, Never, OnlyReads, Rises, Stays};
-ghost use Rattle.store_sql.specs.Honest.{On, Outlives, OutlivesBy};
-ghost use Rattle.store_sql.specs.Faults.{HasCause};
-ghost use Rattle.store_sql.specs.Refusals.{RefusedFor, RefusesKeyId};
+ghost use Rattle.store_sql.specs.Calls.{FindsOne};
+ghost use Rattle.store_sql.specs.Refusals.{RefusesKeyId};
+ghost use Rattle.store_sql.specs.Statements.{Reads, ReadsSorted, Writes};
 
 use crate::columns::{Columns, found, found_first};
 use crate::kind::{Kind, is_row_of, text_at};
@@ -42,10 +41,7 @@ impl Columns for Text {
 /// Keeps a revoked key id. `Device` also where it is there, the row is too long, or there are as many rows as numbers
 /// for them.
 pub fn insert_revoked<S: Alter>(conn: &mut Connection<S>, key_id: &[u8]) -> Result<(), Fault>
-    ensures changes { On S.Store (Changes (with_revoked key_id.now)) conn.old conn.new result }
-    ensures fault { On S.Store (RefusedFor (RefusesKeyId key_id.now)) conn.old conn.new result }
-    ensures stays { On S.Store Stays conn.old conn.new result }
-    ensures survives { OutlivesBy S.Store (Leaves (with_revoked key_id.now)) conn.old conn.new }
+    ensures { Writes S.Store (with_revoked key_id.now) (RefusesKeyId key_id.now) conn.old conn.new result }
 {
     done(conn.execute(INSERT_REVOKED, &[ValueRef::Text(key_id)]))
 }
@@ -56,10 +52,7 @@ pub fn find_revoked<S: Alter>(
     conn: &mut Connection<S>,
     key_id: &[u8],
 ) -> Result<Option<Text>, Fault>
-    ensures finds { On S.Store (FindsOne (revoked_as key_id.now)) conn.old conn.new result }
-    ensures reads { On S.Store OnlyReads conn.old conn.new result }
-    ensures fault { On S.Store (FailsBy HasCause) conn.old conn.new result }
-    ensures survives { Outlives S.Store Never conn.old conn.new }
+    ensures { Reads S.Store (FindsOne (revoked_as key_id.now)) conn.old conn.new result }
 {
     found_first(
         alloc,
@@ -69,11 +62,7 @@ pub fn find_revoked<S: Alter>(
 
 /// Each revoked key id, in byte order. `Damaged` where a row has another form.
 pub fn every_revoked<S: Alter>(alloc: Global, conn: &mut Connection<S>) -> Result<Vec<Text>, Fault>
-    ensures finds { On S.Store (Finds (λ c. c.revoked)) conn.old conn.new result }
-    ensures sorted { On S.Store (Rises (λ k. k) (slice_cmp nat_cmp)) conn.old conn.new result }
-    ensures reads { On S.Store OnlyReads conn.old conn.new result }
-    ensures fault { On S.Store (FailsBy HasCause) conn.old conn.new result }
-    ensures survives { Outlives S.Store Never conn.old conn.new }
+    ensures { ReadsSorted S.Store (λ c. c.revoked) (λ k. k) (slice_cmp nat_cmp) conn.old conn.new result }
 {
     found(alloc, conn.query_all(EVERY_REVOKED, &[]))
 }

@@ -5,10 +5,8 @@ ghost use Rattle.std.specs.Ordering.{nat_cmp};
 ghost use Rattle.store_sql.specs.Cells.{run_cells};
 ghost use Rattle.store_sql.specs.Changes.{with_run};
 ghost use Rattle.store_sql.specs.Runs.{FindsIts, last_run, without_runs};
-ghost use Rattle.store_sql.specs.Calls.{Changes, FailsBy, Finds, Leaves, Never, OnlyReads, Rises, Stays};
-ghost use Rattle.store_sql.specs.Honest.{On, Outlives, OutlivesBy};
-ghost use Rattle.store_sql.specs.Faults.{HasCause};
-ghost use Rattle.store_sql.specs.Refusals.{RefusedFor, RefusesRun};
+ghost use Rattle.store_sql.specs.Refusals.{RefusesRun};
+ghost use Rattle.store_sql.specs.Statements.{Deletes, Reads, ReadsSorted, Writes};
 
 use crate::columns::{Columns, found, found_first};
 use crate::kind::{Kind, is_row_of, number_at};
@@ -65,21 +63,14 @@ impl Columns for RunRow {
 
 /// Keeps a run. `Device` also where another begins with its first serial.
 pub fn insert_run<S: Alter>(conn: &mut Connection<S>, run: &RunRow) -> Result<(), Fault>
-    ensures changes { On S.Store (Changes (with_run run.now)) conn.old conn.new result }
-    ensures fault { On S.Store (RefusedFor (RefusesRun run.now)) conn.old conn.new result }
-    ensures stays { On S.Store Stays conn.old conn.new result }
-    ensures survives { OutlivesBy S.Store (Leaves (with_run run.now)) conn.old conn.new }
+    ensures { Writes S.Store (with_run run.now) (RefusesRun run.now) conn.old conn.new result }
 {
     done(conn.execute(INSERT_RUN, &run.values()))
 }
 
 /// Each run, ascending. `Damaged` where a row has another form.
 pub fn every_run<S: Alter>(alloc: Global, conn: &mut Connection<S>) -> Result<Vec<RunRow>, Fault>
-    ensures finds { On S.Store (Finds (λ c. c.runs)) conn.old conn.new result }
-    ensures sorted { On S.Store (Rises (λ r. r.lo) nat_cmp) conn.old conn.new result }
-    ensures reads { On S.Store OnlyReads conn.old conn.new result }
-    ensures fault { On S.Store (FailsBy HasCause) conn.old conn.new result }
-    ensures survives { Outlives S.Store Never conn.old conn.new }
+    ensures { ReadsSorted S.Store (λ c. c.runs) (λ r. r.lo) nat_cmp conn.old conn.new result }
 {
     found(alloc, conn.query_all(EVERY_RUN, &[]))
 }
@@ -91,20 +82,14 @@ pub fn last_run<S: Alter>(
     conn: &mut Connection<S>,
     serial: Number,
 ) -> Result<Option<RunRow>, Fault>
-    ensures finds { On S.Store (FindsIts (last_run serial)) conn.old conn.new result }
-    ensures reads { On S.Store OnlyReads conn.old conn.new result }
-    ensures fault { On S.Store (FailsBy HasCause) conn.old conn.new result }
-    ensures survives { Outlives S.Store Never conn.old conn.new }
+    ensures { Reads S.Store (FindsIts (last_run serial)) conn.old conn.new result }
 {
     found_first(alloc, conn.query_all(LAST_RUN, &[serial.value()]))
 }
 
 /// Takes out the runs that begin between these ends, both included. The tables never refuse that.
 pub fn delete_runs<S: Alter>(conn: &mut Connection<S>, ends: &RunRow) -> Result<(), Fault>
-    ensures changes { On S.Store (Changes (without_runs ends.now)) conn.old conn.new result }
-    ensures fault { On S.Store (FailsBy HasCause) conn.old conn.new result }
-    ensures stays { On S.Store Stays conn.old conn.new result }
-    ensures survives { OutlivesBy S.Store (Leaves (without_runs ends.now)) conn.old conn.new }
+    ensures { Deletes S.Store (without_runs ends.now) conn.old conn.new result }
 {
     done(conn.execute(DELETE_RUNS, &ends.values()))
 }

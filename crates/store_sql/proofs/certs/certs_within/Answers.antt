@@ -5,6 +5,5 @@ use Rattle.store_sql.proofs.certs.certs_within.Goals as goal
 pub returns : goal.returns
 returns g c =
     let q = rw (c.value.ensures.is, c.value-2.ensures.is) at c.query_all.ensures in
-    let f = found_sorted (within c.args.lo c.args.hi) c.query_all.result q.ok q.err q.survives c.found.result
-    c.found.ensures in
-    record { finds = f.finds; sorted = f.sorted; reads = f.reads; fault = f.fault; survives = f.survives }
+    found_sorted (within c.args.lo c.args.hi) c.query_all.result q.ok q.err q.survives c.found.result
+    c.found.ensures

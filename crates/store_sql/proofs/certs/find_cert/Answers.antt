@@ -5,6 +5,5 @@ use Rattle.store_sql.proofs.certs.find_cert.Goals as goal
 pub returns : goal.returns
 returns g c =
     let q = rw c.value.ensures.is at c.query_all.ensures in
-    let f = found_one (find c.args.serial) c.query_all.result q.ok q.err q.survives c.found_first.result
-    c.found_first.ensures in
-    record { finds = f.finds; reads = f.reads; fault = f.fault; survives = f.survives }
+    found_one (find c.args.serial) c.query_all.result q.ok q.err q.survives c.found_first.result
+    c.found_first.ensures

@@ -5,7 +5,6 @@ use Rattle.store_sql.proofs.certs.update_signature.Goals as goal
 pub returns : goal.returns
 returns g c =
     let ran = rw c.value.ensures.is at c.execute.ensures in
-    let w = wrote (sign c.args.serial c.args.signature.now)
+    wrote (sign c.args.serial c.args.signature.now)
     (signature_fails c.args.serial c.args.signature.now c.value.ensures.low) c.execute.result c.done.result ran.runs
-    ran.survives c.done.ensures.is in
-    record { changes = w.changes; fault = w.fault; stays = w.stays; survives = w.survives }
+    ran.survives c.done.ensures.is

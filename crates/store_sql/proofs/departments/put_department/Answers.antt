@@ -6,6 +6,5 @@ use Rattle.store_sql.proofs.departments.put_department.Goals as goal
 pub returns : goal.returns
 returns g c =
     let ran = rw c.values.ensures at c.execute.ensures in
-    let w = wrote (put c.args.department.now) (department_fails c.args.department.now) c.execute.result c.done.result
-    ran.runs ran.survives c.done.ensures.is in
-    record { changes = w.changes; fault = w.fault; stays = w.stays; survives = w.survives }
+    wrote (put c.args.department.now) (department_fails c.args.department.now) c.execute.result c.done.result
+    ran.runs ran.survives c.done.ensures.is

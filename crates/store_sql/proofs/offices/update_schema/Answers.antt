@@ -5,6 +5,5 @@ use Rattle.store_sql.proofs.offices.update_schema.Goals as goal
 pub returns : goal.returns
 returns g c =
     let ran = rw c.value.ensures.is at c.execute.ensures in
-    let w = wrote (number c.args.schema) (number_fails c.args.schema) c.execute.result c.done.result ran.runs
-    ran.survives c.done.ensures.is in
-    record { changes = w.changes; fault = w.fault; stays = w.stays; survives = w.survives }
+    wrote (number c.args.schema) (number_fails c.args.schema) c.execute.result c.done.result ran.runs
+    ran.survives c.done.ensures.is

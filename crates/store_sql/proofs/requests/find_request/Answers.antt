@@ -5,6 +5,5 @@ use Rattle.store_sql.proofs.requests.find_request.Goals as goal
 pub returns : goal.returns
 returns g c =
     let q = c.query_all.ensures in
-    let f = found_one (find_request c.args.caller.now c.args.key.now) c.query_all.result q.ok q.err q.survives
-    c.found_first.result c.found_first.ensures in
-    record { finds = f.finds; reads = f.reads; fault = f.fault; survives = f.survives }
+    found_one (find_request c.args.caller.now c.args.key.now) c.query_all.result q.ok q.err q.survives
+    c.found_first.result c.found_first.ensures

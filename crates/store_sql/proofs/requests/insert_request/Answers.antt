@@ -5,6 +5,5 @@ use Rattle.store_sql.proofs.requests.insert_request.Goals as goal
 pub returns : goal.returns
 returns g c =
     let ran = rw c.values.ensures at c.execute.ensures in
-    let w = wrote (put_request c.args.request.now) (request_fails c.args.request.now) c.execute.result c.done.result
-    ran.runs ran.survives c.done.ensures.is in
-    record { changes = w.changes; fault = w.fault; stays = w.stays; survives = w.survives }
+    wrote (put_request c.args.request.now) (request_fails c.args.request.now) c.execute.result c.done.result
+    ran.runs ran.survives c.done.ensures.is

@@ -5,5 +5,4 @@ use Rattle.store_sql.proofs.revoked.every_revoked.Goals as goal
 pub returns : goal.returns
 returns g c =
     let q = c.query_all.ensures in
-    let f = found_sorted every_revoked c.query_all.result q.ok q.err q.survives c.found.result c.found.ensures in
-    record { finds = f.finds; sorted = f.sorted; reads = f.reads; fault = f.fault; survives = f.survives }
+    found_sorted every_revoked c.query_all.result q.ok q.err q.survives c.found.result c.found.ensures

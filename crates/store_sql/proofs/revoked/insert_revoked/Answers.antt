@@ -5,6 +5,5 @@ use Rattle.store_sql.proofs.revoked.insert_revoked.Goals as goal
 pub returns : goal.returns
 returns g c =
     let ran = c.execute.ensures in
-    let w = wrote (put_revoked c.args.key_id.now) (key_id_fails c.args.key_id.now) c.execute.result c.done.result
-    ran.runs ran.survives c.done.ensures.is in
-    record { changes = w.changes; fault = w.fault; stays = w.stays; survives = w.survives }
+    wrote (put_revoked c.args.key_id.now) (key_id_fails c.args.key_id.now) c.execute.result c.done.result
+    ran.runs ran.survives c.done.ensures.is

@@ -6,6 +6,5 @@ use Rattle.store_sql.proofs.runs.delete_runs.Goals as goal
 pub returns : goal.returns
 returns g c =
     let ran = rw c.values.ensures.is at c.execute.ensures in
-    let w = wrote (delete c.args.ends.now) (deletion_fails c.args.ends.now) c.execute.result c.done.result ran.runs
-    ran.survives c.done.ensures.is in
-    record { changes = w.changes; fault = w.fault; stays = w.stays; survives = w.survives }
+    wrote (delete c.args.ends.now) (deletion_fails c.args.ends.now) c.execute.result c.done.result ran.runs
+    ran.survives c.done.ensures.is

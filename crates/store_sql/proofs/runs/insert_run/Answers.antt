@@ -6,6 +6,5 @@ use Rattle.store_sql.proofs.runs.insert_run.Goals as goal
 pub returns : goal.returns
 returns g c =
     let ran = rw c.values.ensures.is at c.execute.ensures in
-    let w = wrote (put c.args.run.now) (run_fails c.args.run.now c.values.ensures.low) c.execute.result c.done.result
-    ran.runs ran.survives c.done.ensures.is in
-    record { changes = w.changes; fault = w.fault; stays = w.stays; survives = w.survives }
+    wrote (put c.args.run.now) (run_fails c.args.run.now c.values.ensures.low) c.execute.result c.done.result
+    ran.runs ran.survives c.done.ensures.is
