@@ -16,8 +16,8 @@ use Rattle.store.specs.Faults.{fault_of, told}
 use Rattle.store.specs.Transactions.{IsAsBefore}
 use Rattle.store.proofs.Before.{fails_before}
 use Rattle.store.specs.Meaning.{DiskFailed, HasFailed, Tells}
-use Rattle.store.specs.Showing.{ShowsOffice}
-use Rattle.store.proofs.Reading.{At, Reads}
+use Rattle.store.specs.Showing.{Reading, ShowsOffice}
+use Rattle.store.proofs.Reading.{At}
 use Rattle.store.proofs.Telling.{disk_failed, tells_still}
 
 -- what is promised of a call that shows this
@@ -57,10 +57,10 @@ module _ {X : Type 0} (Shown : State → List Kept → X → Type 0) (old new : 
   caused Device shows = λ clean. failed (shows clean)
 
 pub answered : {X : Type 0} {Shown : State → List Kept → X → Type 0} {old new : Connection} {r : Result X Fault}
-    {q : Result X StoreFault} → q ≡ told r → Reads Shown old new r → Answered Shown old new q
+    {q : Result X StoreFault} → q ≡ told r → Reading Shown old new r → Answered Shown old new q
 answered {X} {Shown} {old} {new} {r} {q} is read = subst (λ z. Answered Shown old new z) (sym is) (go r read)
   where
-    go : (r : Result X Fault) → Reads Shown old new r → Answered Shown old new (told r)
+    go : (r : Result X Fault) → Reading Shown old new r → Answered Shown old new (told r)
     go (Ok x) read = record {
       honest = λ clean. omega (arith, read.survives.clean);
       was_open = λ clean. (fails_before old new (inl (read.reads clean))).was_open;

@@ -46,7 +46,8 @@ use Rattle.store.specs.Meaning.{IsHistory}
 use Rattle.store.specs.Arriving.{ExceedsTables, FailsAt, IsAfter, IsAnswered, IsAsked, IsNew, Past, Settles}
 use Rattle.store.specs.Arriving.{contents_with, kept_at, state_at, stopped}
 use Rattle.store.proofs.Lawful.{lawful_after}
-use Rattle.store.proofs.Reading.{Reads, still_means}
+use Rattle.store.proofs.Reading.{still_means}
+use Rattle.store.specs.Showing.{Reading}
 
 -- ---- one arrival more
 
@@ -205,7 +206,7 @@ waits_never Known a b one = survives_weaker a b Never (Waits (IsAfter Known) a) 
 
 -- ---- a reading call, and then the rest
 
-module _ {X : Type 0} {First : State → List Kept → X → Type 0} {a b : Connection} {x : X} (one : Reads First a b (Ok x))
+module _ {X : Type 0} {First : State → List Kept → X → Type 0} {a b : Connection} {x : X} (one : Reading First a b (Ok x))
     {Known Later : Past → Type 0}
     (both : (p : Past) → IsHistory p.0 p.1 → Known p → First (state_at p) (kept_at p) x → Later p) where
   -- the connection is open then

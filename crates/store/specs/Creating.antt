@@ -1,6 +1,8 @@
 -- How an office is made, and when it can't be.
 use Rattle.std.specs.Prelude.{◌⊎◌, [], IfErr, Result}
+use Rattle.sqlite_trees.specs.declared.store.Store.{Ghosts}
 use Rattle.sqlite.specs.Tree.{Trees}
+use Rattle.sqlite.specs.Held.{Held}
 use Rattle.sqlite.specs.State.{State}
 use Rattle.office.specs.declared.opening.Opening.{Opening}
 use Rattle.office.specs.State.{first_ca, opened}
@@ -13,7 +15,7 @@ use Rattle.store_sql.specs.Changes.{with_ca, with_office}
 use Rattle.store_sql.specs.Contents.{Contents, no_contents}
 use Rattle.store_sql.specs.Refusals.{HasCauseOr, RefusesCa, RefusesOffice}
 use Rattle.store.specs.Rows.{ca_row, office_contents, office_row}
-use Rattle.store.specs.Transactions.{Ends, FailsFor, Leaves, Makes, Rests, Waits}
+use Rattle.store.specs.Transactions.{DoesIn, Ends, Leaves, Rests}
 
 -- the row of the office is refused, or then that of its CA
 abbrev pub RefusesFirst : OfficeRow → CaRow → Contents → Type 0
@@ -29,19 +31,11 @@ FailsOnBlank refused old new r = Rests (IsBare no_schema) old → IfErr r (HasCa
 
 -- ---- with these rows
 
--- the tables are made, and have these two rows
-abbrev pub MakesFirst : OfficeRow → CaRow → State → State → Result (Unit {0}) Fault → Type 0
-MakesFirst office ca old new r =
-    Makes (λ _. IsBare no_schema) (λ (_ : Unit {0}). with_ca ca (with_office office no_contents)) old new r
-
--- a fault has its cause, or the tables refuse one of these two rows
-abbrev pub FailsFirst : OfficeRow → CaRow → State → State → Result (Unit {0}) Fault → Type 0
-FailsFirst office ca old new r =
-    FailsFor (λ (_ : Unit {0}). IsBare no_schema) (λ _. RefusesFirst office ca no_contents) old new r
-
--- a crash in its midst commits nothing
-abbrev pub WaitsFirst : State → Trees → Type 0
-WaitsFirst old trees = Waits (λ (_ : Unit {0}). IsBare no_schema) old trees
+-- the tables are made, and have these two rows; or it fails, perhaps because they refuse one of the rows
+abbrev pub DoesFirst : {S : Type 0} → Ghosts S → OfficeRow → CaRow → Held S → Held S → Result (Unit {0}) Fault → Type 0
+DoesFirst g office ca old new r =
+    DoesIn g (λ (_ : Unit {0}). IsBare no_schema) (λ _. with_ca ca (with_office office no_contents))
+    (λ _. RefusesFirst office ca no_contents) old new r
 
 -- in a transaction of its own they are made, or all is as before
 abbrev pub EndsFirst : OfficeRow → CaRow → State → State → Result (Unit {0}) Fault → Type 0

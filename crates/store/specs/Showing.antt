@@ -1,8 +1,10 @@
 -- What a reading call shows of the tables of an office after a history.
 use Rattle.std.specs.Prelude.{List, Result, Ok, Err}
-use Rattle.sqlite.specs.State.{State as Connection, IsUnchanged}
+use Rattle.sqlite_trees.specs.declared.store.Store.{Ghosts}
+use Rattle.sqlite.specs.Held.{Held, state as state_of}
+use Rattle.sqlite.specs.State.{State as Connection, HasCleanDisk, IsUnchanged, Survives}
 use Rattle.store_sql.specs.Contents.{Means}
-use Rattle.store_sql.specs.Calls.{Fails}
+use Rattle.store_sql.specs.Calls.{Fails, Never, OnlyReads}
 use Rattle.store_sql.specs.Faults.{HasCause}
 use Rattle.store_sql.specs.declared.table_fault.Fault.{Fault}
 use Rattle.office.specs.declared.opening.Opening.{Opening}
@@ -23,3 +25,15 @@ ShowsOffice Shown old new (Ok x) =
 ShowsOffice Shown old new (Err f) =
     (o : Opening) (l : List Arrival) → IsHistory o l → Means old.now (office_contents o l)
     → Fails old new × HasCause old new f
+
+-- all that a reading call does: this is shown, and nothing changes
+pub record Reading {X : Type 0} (Shown : State → List Kept → X → Type 0) (old new : Connection) (r : Result X Fault)
+    : Type 0 where
+  pub shows : HasCleanDisk new → ShowsOffice Shown old new r
+  pub reads : HasCleanDisk new → OnlyReads old new r
+  pub survives : Survives old new Never
+
+-- of a connection
+abbrev pub Reads : {S X : Type 0} → Ghosts S → (State → List Kept → X → Type 0) → Held S → Held S → Result X Fault
+    → Type 0
+Reads g Shown old new r = Reading Shown (state_of g old) (state_of g new) r

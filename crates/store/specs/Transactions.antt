@@ -1,8 +1,11 @@
 -- What a part of a transaction does to the connection, and what the whole of one does.
 use Rattle.std.specs.Prelude.{◌≡◌, false, true, IfErr, IsTrue, OnErr, Result, Ok, Err}
+use Rattle.sqlite_trees.specs.declared.store.Store.{Ghosts}
 use Rattle.sqlite.specs.Tree.{Trees}
 use Rattle.sqlite.specs.Effect.{Database}
-use Rattle.sqlite.specs.State.{State, KeepsCommit, Shows}
+use Rattle.sqlite.specs.Held.{Held, state}
+use Rattle.sqlite.specs.State.{State, HasCleanDisk, KeepsCommit, Shows, Survives}
+use Rattle.store_sql.specs.Calls.{Stays}
 use Rattle.store_sql.specs.Contents.{Contents, Kept, Means}
 use Rattle.store_sql.specs.declared.table_fault.Fault.{Fault}
 use Rattle.store_sql.specs.Faults.{HasCause}
@@ -47,6 +50,25 @@ FailsFor {A} Before Refused old new r = IfErr r (λ f. (a : A) → Before a old.
 -- a crash in its midst leaves what was committed before
 abbrev pub Waits : {A : Type 0} → (A → Database → Type 0) → State → Trees → Type 0
 Waits {A} Before old trees = (a : A) → Before a old.now → old.in_transaction ≡ false
+
+-- All of it, of a database that is as one of these says: the tables hold what comes after it, or it fails, perhaps
+-- because this is refused.
+pub record Part {A X : Type 0} (Before : A → Database → Type 0) (after : A → Contents) (refused : A → Type 0)
+    (old new : State) (r : Result X Fault) : Type 0 where
+  pub makes : HasCleanDisk new → Makes Before after old new r
+  pub fault : HasCleanDisk new → FailsFor Before refused old new r
+  pub stays : HasCleanDisk new → Stays old new r
+  pub survives : Survives old new (Waits Before old)
+
+-- of a connection
+abbrev pub DoesIn : {S A X : Type 0} → Ghosts S → (A → Database → Type 0) → (A → Contents) → (A → Type 0) → Held S
+    → Held S → Result X Fault → Type 0
+DoesIn g Before after refused old new r = Part Before after refused (state g old) (state g new) r
+
+-- of a connection, and of tables with contents
+abbrev pub Does : {S X : Type 0} → Ghosts S → (Contents → Contents) → (Contents → Type 0) → Held S → Held S
+    → Result X Fault → Type 0
+Does g f refused old new r = DoesIn g Has f refused old new r
 
 -- ---- its end
 

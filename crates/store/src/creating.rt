@@ -2,15 +2,14 @@
 
 ghost use Rattle.std.specs.Prelude.{◌≡◌, ◌∷◌, [], ◌<◌, ◌^◌, IfOk};
 ghost use Rattle.store_sql.specs.Contents.{no_contents};
-ghost use Rattle.store_sql.specs.Calls.{Stays};
 ghost use Rattle.store_sql.specs.Honest.{On, OutlivesBy};
 ghost use Rattle.store_sql.specs.Changes.{with_ca, with_office};
 ghost use Rattle.office.specs.Openings.{IsOpening};
 ghost use Rattle.office.specs.State.{first_ca, opened};
 ghost use Rattle.store.specs.Rows.{ca_row, office_row};
-ghost use Rattle.store.specs.Transactions.{FailsFor, Has, KeepsOnErr, Makes, Waits};
-ghost use Rattle.store.specs.Creating.{EndsFirst, EndsOpening, FailsFirst, FailsOnBlank, LeavesFirst, LeavesOpening};
-ghost use Rattle.store.specs.Creating.{MakesFirst, RefusesFirst, RefusesOpening, WaitsFirst};
+ghost use Rattle.store.specs.Transactions.{Does, KeepsOnErr};
+ghost use Rattle.store.specs.Creating.{DoesFirst, EndsFirst, EndsOpening, FailsOnBlank, LeavesFirst, LeavesOpening};
+ghost use Rattle.store.specs.Creating.{RefusesFirst, RefusesOpening};
 
 use crate::rows::{conclude, number};
 use lines::key_blob_of;
@@ -53,20 +52,15 @@ fn ca_row(alloc: Global, opening: &Opening) -> Result<CaRow, NoMemory>
 }
 
 fn fill<S: Alter>(conn: &mut Connection<S>, office: &OfficeRow, ca: &CaRow) -> Result<(), Fault>
-    ensures makes { On S.Store (Makes Has (λ c. with_ca ca.now (with_office office.now c))) conn.old conn.new result }
-    ensures fails { On S.Store (FailsFor Has (RefusesFirst office.now ca.now)) conn.old conn.new result }
-    ensures stays { On S.Store Stays conn.old conn.new result }
-    ensures survives { OutlivesBy S.Store (Waits Has) conn.old conn.new }
+    ensures { Does S.Store (λ c. with_ca ca.now (with_office office.now c)) (RefusesFirst office.now ca.now)
+        conn.old conn.new result }
 {
     insert_office(conn, office)?;
     insert_ca(conn, ca)
 }
 
 fn make<S: Alter>(conn: &mut Connection<S>, office: &OfficeRow, ca: &CaRow) -> Result<(), Fault>
-    ensures makes { On S.Store (MakesFirst office.now ca.now) conn.old conn.new result }
-    ensures fails { On S.Store (FailsFirst office.now ca.now) conn.old conn.new result }
-    ensures stays { On S.Store Stays conn.old conn.new result }
-    ensures survives { OutlivesBy S.Store WaitsFirst conn.old conn.new }
+    ensures { DoesFirst S.Store office.now ca.now conn.old conn.new result }
 {
     create_tables(conn)?;
     fill(conn, office, ca)

@@ -2,12 +2,10 @@
 
 ghost use Rattle.std.specs.Prelude.{◌≡◌, IfOk};
 ghost use Rattle.std.specs.List.Sorted.{IsNonDecreasing};
-ghost use Rattle.store_sql.specs.Calls.{Never, OnlyReads};
-ghost use Rattle.store_sql.specs.Honest.{On, Outlives};
 ghost use Rattle.office.specs.Publication.{AreRevoked};
 ghost use Rattle.office.specs.Parts.{numbers};
 ghost use Rattle.store.specs.Parts.{AreOrdered, AreShown, IsMadeOf, are_ordered};
-ghost use Rattle.store.specs.Showing.{ShowsOffice};
+ghost use Rattle.store.specs.Showing.{Reads};
 
 use crate::answer::made;
 use crate::listing::read_revocations;
@@ -44,10 +42,8 @@ fn ordered(cas: Vec<Ca>) -> Result<Vec<Ca>, Fault>
 
 /// The CAs by number, of which none serves from an earlier serial on than the one before it.
 fn read_serving_cas<S: Alter>(alloc: Global, conn: &mut Connection<S>) -> Result<Vec<Ca>, Fault>
-    ensures shows { On S.Store (ShowsOffice (λ s kept cas. cas.items ≡ s.cas)) conn.old conn.new result }
+    ensures reads { Reads S.Store (λ s kept cas. cas.items ≡ s.cas) conn.old conn.new result }
     ensures ordered { IfOk result (λ cas. IsNonDecreasing (numbers cas.items)) }
-    ensures reads { On S.Store OnlyReads conn.old conn.new result }
-    ensures survives { Outlives S.Store Never conn.old conn.new }
 {
     let cas = read_cas(alloc, conn)?;
     ordered(cas)
@@ -77,10 +73,7 @@ fn revoked_under<S: Alter>(
     cas: &[Ca],
 ) -> Result<Revoked, Fault>
     requires { IsNonDecreasing (numbers cas.now) }
-    ensures shows { On S.Store (ShowsOffice (λ s kept revoked. AreShown revoked head cas.now s))
-        conn.old conn.new result }
-    ensures reads { On S.Store OnlyReads conn.old conn.new result }
-    ensures survives { Outlives S.Store Never conn.old conn.new }
+    ensures { Reads S.Store (λ s kept revoked. AreShown revoked head cas.now s) conn.old conn.new result }
 {
     let revocations = read_revocations(alloc, conn)?;
     made(revoked_of(alloc, head, cas, revocations))
@@ -91,10 +84,7 @@ fn revoked_with<S: Alter>(
     conn: &mut Connection<S>,
     head: KrlHead,
 ) -> Result<Revoked, Fault>
-    ensures shows { On S.Store (ShowsOffice (λ s kept revoked. AreShown revoked head s.cas s))
-        conn.old conn.new result }
-    ensures reads { On S.Store OnlyReads conn.old conn.new result }
-    ensures survives { Outlives S.Store Never conn.old conn.new }
+    ensures { Reads S.Store (λ s kept revoked. AreShown revoked head s.cas s) conn.old conn.new result }
 {
     let cas = read_serving_cas(alloc, conn)?;
     revoked_under(alloc, conn, head, cas.as_slice())
@@ -105,9 +95,7 @@ pub(crate) fn read_revoked<S: Alter>(
     alloc: Global,
     conn: &mut Connection<S>,
 ) -> Result<Revoked, Fault>
-    ensures shows { On S.Store (ShowsOffice (λ s kept revoked. AreRevoked revoked s)) conn.old conn.new result }
-    ensures reads { On S.Store OnlyReads conn.old conn.new result }
-    ensures survives { Outlives S.Store Never conn.old conn.new }
+    ensures { Reads S.Store (λ s kept revoked. AreRevoked revoked s) conn.old conn.new result }
 {
     let office = read_office(alloc, conn)?;
     revoked_with(

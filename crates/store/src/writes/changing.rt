@@ -9,7 +9,7 @@ ghost use Rattle.office.specs.Certificates.{IsCertificate};
 ghost use Rattle.office.specs.Decided.{IsLawfulChange};
 ghost use Rattle.store_sql.specs.Refusals.{RefusesCa, RefusesCert, RefusesDepartment};
 ghost use Rattle.store.specs.Rows.{cert_row, department_row};
-ghost use Rattle.store.specs.Transactions.{FailsFor, Has, Makes, Waits};
+ghost use Rattle.store.specs.Transactions.{Does, FailsFor, Has, Makes, Waits};
 ghost use Rattle.store.specs.Changing.{ca_from, with_change, with_key_id};
 ghost use Rattle.store.specs.Refused.{RefusesChange};
 
@@ -32,12 +32,8 @@ fn change_department<S: Alter>(
     department: &Department,
 ) -> Result<(), Fault>
     requires { IsTrue (is_department department.now) }
-    ensures makes { On S.Store (Makes Has (with_change 0 0 (change.Department department.now)))
-        conn.old conn.new result }
-    ensures fault { On S.Store (FailsFor Has (RefusesDepartment (department_row department.now)))
-        conn.old conn.new result }
-    ensures stays { On S.Store Stays conn.old conn.new result }
-    ensures survives { OutlivesBy S.Store (Waits Has) conn.old conn.new }
+    ensures { Does S.Store (with_change 0 0 (change.Department department.now))
+        (RefusesDepartment (department_row department.now)) conn.old conn.new result }
 {
     let row = department_row(alloc, department)?;
     put_department(conn, &row)
@@ -49,21 +45,16 @@ fn add_certificate<S: Alter>(
     certificate: &Certificate,
 ) -> Result<(), Fault>
     requires { IsCertificate certificate.now }
-    ensures makes { On S.Store (Makes Has (with_change 0 0 (change.Certificate certificate.now)))
+    ensures { Does S.Store (with_change 0 0 (change.Certificate certificate.now)) (RefusesCert (cert_row certificate.now))
         conn.old conn.new result }
-    ensures fault { On S.Store (FailsFor Has (RefusesCert (cert_row certificate.now))) conn.old conn.new result }
-    ensures stays { On S.Store Stays conn.old conn.new result }
-    ensures survives { OutlivesBy S.Store (Waits Has) conn.old conn.new }
 {
     let row = cert_row(alloc, certificate)?;
     insert_cert(conn, &row)
 }
 
 fn add_key_id<S: Alter>(alloc: Global, conn: &mut Connection<S>, key_id: &Text) -> Result<(), Fault>
-    ensures makes { On S.Store (Makes Has (with_key_id key_id.now)) conn.old conn.new result }
-    ensures fault { On S.Store (FailsFor Has (RefusesChange 0 0 (change.KeyId key_id.now))) conn.old conn.new result }
-    ensures stays { On S.Store Stays conn.old conn.new result }
-    ensures survives { OutlivesBy S.Store (Waits Has) conn.old conn.new }
+    ensures { Does S.Store (with_key_id key_id.now) (RefusesChange 0 0 (change.KeyId key_id.now))
+        conn.old conn.new result }
 {
     match find_revoked(alloc, conn, key_id.as_slice())? {
         None => insert_revoked(conn, key_id.as_slice()),
@@ -78,10 +69,8 @@ fn add_ca<S: Alter>(
     since: Number,
     ca: &Ca,
 ) -> Result<(), Fault>
-    ensures makes { On S.Store (Makes Has (with_change number since (change.Ca ca.now))) conn.old conn.new result }
-    ensures fault { On S.Store (FailsFor Has (RefusesCa (ca_from number since ca.now))) conn.old conn.new result }
-    ensures stays { On S.Store Stays conn.old conn.new result }
-    ensures survives { OutlivesBy S.Store (Waits Has) conn.old conn.new }
+    ensures { Does S.Store (with_change number since (change.Ca ca.now)) (RefusesCa (ca_from number since ca.now))
+        conn.old conn.new result }
 {
     let row = ca_row(alloc, number, since, ca)?;
     insert_ca(conn, &row)

@@ -1,10 +1,8 @@
 //! Ranges of serials among the runs.
 
 ghost use Rattle.std.specs.Prelude.{◌≡◌, ◌<◌, ◌≤◌, ◌^◌, IsTrue};
-ghost use Rattle.store_sql.specs.Calls.{Stays};
-ghost use Rattle.store_sql.specs.Honest.{On, OutlivesBy};
 ghost use Rattle.message.specs.Values.{is_range};
-ghost use Rattle.store.specs.Transactions.{FailsFor, Has, Makes, Waits};
+ghost use Rattle.store.specs.Transactions.{Does};
 ghost use Rattle.store.specs.Ranges.{joined_high, joined_low, run_from, with_joined, with_range};
 ghost use Rattle.store.specs.Refused.{RefusesJoined, RefusesRange};
 
@@ -43,10 +41,7 @@ fn joined_high(hi: u64, found: Option<RunRow>) -> Number
 }
 
 fn replace<S: Alter>(conn: &mut Connection<S>, run: &RunRow) -> Result<(), Fault>
-    ensures makes { On S.Store (Makes Has (with_joined run.now)) conn.old conn.new result }
-    ensures fault { On S.Store (FailsFor Has (RefusesJoined run.now)) conn.old conn.new result }
-    ensures stays { On S.Store Stays conn.old conn.new result }
-    ensures survives { OutlivesBy S.Store (Waits Has) conn.old conn.new }
+    ensures { Does S.Store (with_joined run.now) (RefusesJoined run.now) conn.old conn.new result }
 {
     delete_runs(conn, run)?;
     insert_run(conn, run)
@@ -60,10 +55,8 @@ fn put_from<S: Alter>(
     lo: Number,
 ) -> Result<(), Fault>
     requires { IsTrue (is_range range) }
-    ensures makes { On S.Store (Makes Has (λ c. with_joined (run_from lo range c) c)) conn.old conn.new result }
-    ensures fault { On S.Store (FailsFor Has (λ c. RefusesJoined (run_from lo range c) c)) conn.old conn.new result }
-    ensures stays { On S.Store Stays conn.old conn.new result }
-    ensures survives { OutlivesBy S.Store (Waits Has) conn.old conn.new }
+    ensures { Does S.Store (λ c. with_joined (run_from lo range c) c) (λ c. RefusesJoined (run_from lo range c) c)
+        conn.old conn.new result }
 {
     let found = last_run(alloc, conn, number(range.hi + 1))?;
     let hi = joined_high(range.hi, found);
@@ -78,10 +71,7 @@ pub(crate) fn put_range<S: Alter>(
     range: SerialRange,
 ) -> Result<(), Fault>
     requires { IsTrue (is_range range) }
-    ensures makes { On S.Store (Makes Has (with_range range)) conn.old conn.new result }
-    ensures fault { On S.Store (FailsFor Has (RefusesRange range)) conn.old conn.new result }
-    ensures stays { On S.Store Stays conn.old conn.new result }
-    ensures survives { OutlivesBy S.Store (Waits Has) conn.old conn.new }
+    ensures { Does S.Store (with_range range) (RefusesRange range) conn.old conn.new result }
 {
     let found = last_run(alloc, conn, number(range.lo))?;
     put_from(alloc, conn, range, joined_low(range.lo, found))

@@ -1,11 +1,9 @@
 //! The whole of what was decided.
 
-ghost use Rattle.store_sql.specs.Calls.{Stays};
-ghost use Rattle.store_sql.specs.Honest.{On, OutlivesBy};
 ghost use Rattle.office.specs.Decided.{IsLawfulChange};
 ghost use Rattle.store_sql.specs.Changes.{with_counters, with_request};
 ghost use Rattle.store.specs.Rows.{contents_of};
-ghost use Rattle.store.specs.Transactions.{FailsFor, Has, Makes, Waits};
+ghost use Rattle.store.specs.Transactions.{Does, DoesIn};
 ghost use Rattle.store.specs.Changing.{with_change};
 ghost use Rattle.store.specs.Refused.{RefusesDecision, RefusesRecord, RefusesRows};
 ghost use Rattle.store.specs.Due.{IsDue, contents_after};
@@ -23,11 +21,8 @@ fn record<S: Alter>(
     counters: &Counters,
     request: &RequestRow,
 ) -> Result<(), Fault>
-    ensures makes { On S.Store (Makes Has (λ c. with_request request.now (with_counters counters.now c)))
-        conn.old conn.new result }
-    ensures fault { On S.Store (FailsFor Has (RefusesRecord counters.now request.now)) conn.old conn.new result }
-    ensures stays { On S.Store Stays conn.old conn.new result }
-    ensures survives { OutlivesBy S.Store (Waits Has) conn.old conn.new }
+    ensures { Does S.Store (λ c. with_request request.now (with_counters counters.now c))
+        (RefusesRecord counters.now request.now) conn.old conn.new result }
 {
     update_office(conn, counters)?;
     insert_request(conn, request)
@@ -42,12 +37,10 @@ fn write_rows<S: Alter>(
     request: &RequestRow,
 ) -> Result<(), Fault>
     requires { IsLawfulChange change.now }
-    ensures makes { On S.Store (Makes Has (λ c. with_change number counters.now.next change.now
-        (with_request request.now (with_counters counters.now c)))) conn.old conn.new result }
-    ensures fault { On S.Store (FailsFor Has (RefusesRows number change.now counters.now request.now))
-        conn.old conn.new result }
-    ensures stays { On S.Store Stays conn.old conn.new result }
-    ensures survives { OutlivesBy S.Store (Waits Has) conn.old conn.new }
+    ensures { Does S.Store
+        (λ c. with_change number counters.now.next change.now
+        (with_request request.now (with_counters counters.now c)))
+        (RefusesRows number change.now counters.now request.now) conn.old conn.new result }
 {
     record(conn, counters, request)?;
     make(alloc, conn, number, counters.next, change)
@@ -71,17 +64,10 @@ pub fn write<S: Alter>(
     requires lawful { IsLawfulChange decision.now.change }
 
     // Of tables that hold the rows of a lawful state those of the state with what was decided come out, and a row for
-    // the arrival; or, with an error, nothing is committed.
-    ensures makes { On S.Store (Makes (IsDue decision.now cas.now) (contents_after decision.now arrival.now))
-        conn.old conn.new result }
-
-    // Of such tables a fault is want of memory, or the database failed, or its rules refuse a row that is due.
-    ensures fault { On S.Store (FailsFor (IsDue decision.now cas.now)
-        (λ x. RefusesDecision decision.now arrival.now cas.now (contents_of x.0 x.1))) conn.old conn.new result }
-    ensures stays { On S.Store Stays conn.old conn.new result }
-
-    // A crash in its midst commits nothing.
-    ensures survives { OutlivesBy S.Store (Waits (IsDue decision.now cas.now)) conn.old conn.new }
+    // the arrival; or, with an error, nothing is committed. Of such tables a fault is want of memory, or the database
+    // failed, or its rules refuse a row that is due. A crash in its midst commits nothing.
+    ensures { DoesIn S.Store (IsDue decision.now cas.now) (contents_after decision.now arrival.now)
+        (λ x. RefusesDecision decision.now arrival.now cas.now (contents_of x.0 x.1)) conn.old conn.new result }
 {
     let Some(counters) = counters_of(decision) else {
         return Err(Fault::Damaged);

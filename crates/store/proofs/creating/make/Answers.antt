@@ -1,4 +1,5 @@
 use Rattle.std.proofs.Common.{arith, refl}
+use Rattle.std.proofs.lemmas.Result.{err_from_is_err_and}
 use Rattle.sqlite.specs.State.{State, Survives, HasCleanDisk}
 use Rattle.sqlite.proofs.StateLemmas.{survives_weaker}
 use Rattle.sqlite.specs.Held.{state}
@@ -9,7 +10,7 @@ use Rattle.store_sql.specs.Changes.{with_ca, with_office}
 use Rattle.store_sql.proofs.Staying.{stays_then}
 use Rattle.store.specs.Transactions.{Has, Waits}
 use Rattle.store.proofs.Steps.{Leads, goes, answers_then, waits_then}
-use Rattle.store.proofs.Causes.{fails_then}
+use Rattle.store.proofs.Causes.{cause_of, fails_then}
 use Rattle.store.specs.Creating.{RefusesFirst}
 use Rattle.store.proofs.creating.make.Goals as goal
 
@@ -39,15 +40,25 @@ returns g c =
           (λ _. with_ca c.args.ca.now (with_office c.args.office.now no_contents)) Has (λ _ _. Unit {0})
           (λ x. with_ca c.args.ca.now (with_office c.args.office.now x)) (λ _. no_contents) old mid new c.fill.result
           (bare_leads old mid (one.completes (still clean))) (rest.makes clean) (λ _ _ _. tt) (λ _. refl);
-      fails = λ clean. fails_then (λ (_ : Unit {0}). IsBare no_schema) Has refused (λ _. refused no_contents)
+      fault = λ clean. fails_then (λ (_ : Unit {0}). IsBare no_schema) Has refused (λ _. refused no_contents)
           (λ _. no_contents) (WaitsAt no_schema old) old mid new c.fill.result
           (bare_leads old mid (one.completes (still clean))) (λ x bare why. why) started (still clean)
-          rest.survives.counts (rest.fails clean);
+          rest.survives.counts (rest.fault clean);
       stays = λ clean. stays_then {X = Unit {0}} old mid new tt c.fill.result (one.stays (still clean))
           (rest.stays clean);
       survives = waits_then (λ (_ : Unit {0}). IsBare no_schema) Has (λ _. no_contents) old mid new
           (λ clean. bare_leads old mid (one.completes clean)) (bare_waits old mid started) rest.survives;
     }
 
-pub returns-in_err-create_tables-clause-survives : goal.returns-in_err-create_tables-clause-survives
-returns-in_err-create_tables-clause-survives g c = bare_waits _ _ c.create_tables.ensures.survives
+pub returns-in_err-create_tables : goal.returns-in_err-create_tables
+returns-in_err-create_tables g c =
+    let p = err_from_is_err_and c.from_residual.result c.from_residual.ensures.1 in
+    let e = c.in_err-create_tables.ensures in
+    rw (p.1, p.2) (record {
+      makes = λ clean x bare inside. e.completes clean bare inside;
+      fault = λ clean x bare. cause_of (RefusesFirst c.args.office.now c.args.ca.now no_contents)
+          (state g.S.Store c.args.conn.now) (state g.S.Store c.create_tables.new.conn) c.in_err-create_tables.field-0.0
+          (e.fault clean bare);
+      stays = λ clean. e.stays clean;
+      survives = bare_waits _ _ c.create_tables.ensures.survives;
+    })

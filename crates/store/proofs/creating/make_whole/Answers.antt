@@ -37,7 +37,7 @@ returns g c =
       cause = λ clean rests. IfErr-weaker q _ _ (λ f stops. stops tt (λ _. rests)) (stops_for Bare (λ _ _. Unit {0})
           after (λ _. RefusesFirst c.args.office.now c.args.ca.now no_contents) (Waits Bare first) old first last new
           started part.survives (early clean) (late clean) end.survives.counts r q (begins (early clean))
-          (part.makes (late clean)) (part.fails (late clean)) (end.concludes clean) (end.cause clean));
+          (part.makes (late clean)) (part.fault (late clean)) (end.concludes clean) (end.cause clean));
       before = λ clean. concludes_before old first last new r q (begins (early clean)) (part.stays (late clean))
           (end.concludes clean);
       survives = left Bare (λ _ _. Unit {0}) after old first last new r begins part.makes started part.survives

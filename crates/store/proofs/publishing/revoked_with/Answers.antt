@@ -1,19 +1,17 @@
-use Rattle.std.proofs.Common.{◌≡◌, Ok, ◌∙◌}
+use Rattle.std.proofs.Common.{◌∙◌}
 use Rattle.store.specs.Parts.{AreShown}
-use Rattle.store.proofs.Reading.{and_then, of_office}
+use Rattle.store.proofs.Reading.{and_then, reading_failed}
 use Rattle.store.proofs.publishing.revoked_with.Goals as goal
 
 pub returns : goal.returns
 returns g c =
-    let one = c.in_ok-cas.ensures in
-    let rest = c.revoked_under.ensures in
-    let w = and_then (of_office c.read_serving_cas.ensures.survives (Ok c.in_ok-cas.cas)
-    (λ s kept cas. cas.items ≡ s.cas) one.shows one.reads) (λ s kept revoked. AreShown revoked c.args.head s.cas s)
-    (of_office rest.survives c.revoked_under.result
-    (λ s kept revoked. AreShown revoked c.args.head c.as_slice.result.now s) rest.shows rest.reads)
+    and_then c.in_ok-cas.ensures.reads (λ s kept revoked. AreShown revoked c.args.head s.cas s)
+    c.revoked_under.ensures
     (λ o l revoked history same is. record {
       head = is.head;
       parts = λ _. is.parts (c.as_slice.ensures.value ∙ same);
       key_ids = is.key_ids;
-    }) in
-    record { shows = w.shows; reads = w.reads; survives = w.survives }
+    })
+
+pub returns-in_err-cas : goal.returns-in_err-cas
+returns-in_err-cas g c = reading_failed c.in_err-cas.ensures.reads c.from_residual.ensures.1
