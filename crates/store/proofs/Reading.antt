@@ -3,10 +3,10 @@ use Rattle.std.proofs.Common.{◌≡◌, inl, List, Ok, Err, Result, sym, subst,
 use Rattle.std.specs.Prelude.{IfOk, IsErrAnd}
 use Rattle.std.proofs.lemmas.Result.{err_from_is_err_and}
 use Rattle.sqlite.specs.Effect.{Database}
-use Rattle.sqlite.specs.State.{State as Connection, HasCleanDisk, IsUnchanged, Survives}
+use Rattle.sqlite.specs.State.{State as Connection, HasCleanDisk, IsUnchanged}
 use Rattle.sqlite.proofs.Callers.{unchanged_then}
 use Rattle.text.specs.declared.memory.NoMemory.{NoMemory as Refusal}
-use Rattle.store_sql.specs.Calls.{Never, OnlyReads}
+use Rattle.store_sql.specs.Calls.{Never}
 use Rattle.store_sql.specs.Contents.{Means}
 use Rattle.store_sql.specs.declared.table_fault.Fault.{Fault}
 use Rattle.store_sql.proofs.Later.{cause_then, stops_then}
@@ -17,7 +17,7 @@ use Rattle.office.specs.declared.arrival.Kept.{Kept}
 use Rattle.office.specs.State.{State}
 use Rattle.office.specs.History.{first_accepted, kept_by, state}
 use Rattle.store.specs.Rows.{office_contents}
-use Rattle.store.specs.ShowingRows.{Shows}
+use Rattle.store.specs.ShowingRows.{Asking, Shows}
 use Rattle.store.proofs.Sorting.{asked}
 use Rattle.store.specs.Histories.{IsOfHistory}
 use Rattle.store.proofs.OfHistory.{of_history}
@@ -48,19 +48,21 @@ shows_office P old new r shows =
 
 -- ---- all that is said of a reading call
 
--- a call on offices, on lawful states, and on those of a history
-module _ {X : Type 0} {old new : Connection} (survives : Survives old new Never) (r : Result X Fault)
-    (P : State → List Kept → X → Type 0) where
-  pub of_office : (HasCleanDisk new → ShowsOffice P old new r) → (HasCleanDisk new → OnlyReads old new r)
-      → Reading P old new r
-  of_office shows reads = record { shows = shows; reads = reads; survives = survives }
+-- a call on lawful states, and on those of a history
+module _ {X : Type 0} {P : State → List Kept → X → Type 0} {old new : Connection} {r : Result X Fault} where
+  pub of_state : Asking (Unit {0}) P old new r → Reading P old new r
+  of_state asks = record {
+    shows = λ clean. shows_office P old new r (asks.shows clean tt);
+    reads = λ clean. asks.reads clean tt;
+    survives = asks.survives;
+  }
 
-  pub of_state : (HasCleanDisk new → Shows P old new r) → (HasCleanDisk new → OnlyReads old new r) → Reading P old new r
-  of_state shows = of_office (λ clean. shows_office P old new r (shows clean))
-
-  pub of_past : (HasCleanDisk new → Shows (λ s kept x. IsOfHistory s kept → P s kept x) old new r)
-      → (HasCleanDisk new → OnlyReads old new r) → Reading P old new r
-  of_past shows = of_office (λ clean. shows_of_history P old new r (shows clean))
+  pub of_past : Asking (Unit {0}) (λ s kept x. IsOfHistory s kept → P s kept x) old new r → Reading P old new r
+  of_past asks = record {
+    shows = λ clean. shows_of_history P old new r (asks.shows clean tt);
+    reads = λ clean. asks.reads clean tt;
+    survives = asks.survives;
+  }
 
 -- the fault of a call, as it is handed on
 pub reading_failed : {X Y : Type 0} {First : State → List Kept → X → Type 0} {Whole : State → List Kept → Y → Type 0}

@@ -6,7 +6,7 @@ use Rattle.std.specs.List.{list_any}
 use Rattle.std.specs.Str.{bytes_eq}
 use Rattle.values.specs.declared.refusal.Refusal.{Refusal}
 use Rattle.sqlite.specs.Effect.{Database}
-use Rattle.sqlite.specs.State.{State as Connection, HasCleanDisk, IsUnchanged, Survives}
+use Rattle.sqlite.specs.State.{State as Connection, HasCleanDisk, Survives}
 use Rattle.sqlite.proofs.StateLemmas.{survives_weaker}
 use Rattle.krl.proofs.Items.{all_more}
 use Rattle.message.specs.declared.kinds.Message.{Message}
@@ -29,13 +29,12 @@ use Rattle.office.proofs.Texts.{bad_is}
 use Rattle.office.specs.declared.arrival.Outcome.TheVariants as outcome
 use Rattle.office.specs.declared.view.Stop.TheVariants as stop
 use Rattle.store_sql.specs.Contents.{Contents, Means}
-use Rattle.store_sql.specs.Calls.{Fails, Never, Stays}
+use Rattle.store_sql.specs.Calls.{Never, Stays}
 use Rattle.store_sql.specs.Faults.{HasCause}
 use Rattle.store_sql.specs.declared.table_fault.Fault.{Fault}
-use Rattle.store_sql.specs.declared.table_fault.Fault.TheVariants.{Damaged, NoMemory}
+use Rattle.store_sql.specs.declared.table_fault.Fault.TheVariants.{NoMemory}
 use Rattle.store_sql.proofs.Later.{stops}
 use Rattle.store_sql.proofs.Staying.{reads_stay, stays_then}
-use Rattle.store.specs.Lawful.{IsLawful}
 use Rattle.store.specs.Rows.{contents_of, office_contents}
 use Rattle.store.specs.Transactions.{Answers, Waits}
 use Rattle.store.proofs.Causes.{cause_of, fails_then, fails_weaker}
@@ -48,6 +47,7 @@ use Rattle.store.specs.Arriving.{contents_with, kept_at, state_at, stopped}
 use Rattle.store.proofs.Lawful.{lawful_after}
 use Rattle.store.proofs.Reading.{still_means}
 use Rattle.store.specs.Showing.{Reading}
+use Rattle.store.specs.ShowingRows.{Asking}
 
 -- ---- one arrival more
 
@@ -253,17 +253,15 @@ module _ {X : Type 0} {First : State → List Kept → X → Type 0} {a b : Conn
       opened (Err f) rest = λ p after. rest after.1 p after.0
 
 -- a reading call that fails
-pub read_failed : {a b : Connection} → Survives a b Never → (arrival : Arrival) (Known : Past → Type 0) (f : Fault)
-    (r : Result Outcome Fault) → IsErrAnd r (λ e. e ≡ f)
-    → (HasCleanDisk b → (s : State) (kept : List Kept) → IsLawful s → Means a.now (contents_of s kept)
-    → Fails a b × HasCause a b f) → (HasCleanDisk b → Fails a b × (f ≡ Damaged → IsUnchanged a b))
-    → Settling (Unit {0}) arrival Known a b r
-read_failed one arrival Known f (Ok v) is shows reads = absurd is
-read_failed {a} {b} one arrival Known f (Err e) is shows reads = record {
-  settles = λ clean _ p after inside. stops a b (reads clean).0;
+pub read_failed : {X : Type 0} {P : State → List Kept → X → Type 0} {a b : Connection} {f : Fault}
+    → Asking (Unit {0}) P a b (Err f) → (arrival : Arrival) (Known : Past → Type 0) (r : Result Outcome Fault)
+    → IsErrAnd r (λ e. e ≡ f) → Settling (Unit {0}) arrival Known a b r
+read_failed asks arrival Known (Ok v) is = absurd is
+read_failed {a = a} {b = b} asks arrival Known (Err e) is = record {
+  settles = λ clean _ p after inside. stops a b (asks.reads clean tt).0;
   fails = λ clean p after.
-      let q = shows clean (state_at p) (kept_at p) (lawful_after p.0 p.1 after.history) after.means in
+      let q = asks.shows clean tt (state_at p) (kept_at p) (lawful_after p.0 p.1 after.history) after.means in
       cause_of (ExceedsTables arrival p) a b e (subst (λ (g : Fault). HasCause a b g) (sym is) q.1);
-  stays = λ clean inside. stops a b (reads clean).0;
-  survives = waits_never Known a b one;
+  stays = λ clean inside. stops a b (asks.reads clean tt).0;
+  survives = waits_never Known a b asks.survives;
 }

@@ -7,16 +7,16 @@ use Rattle.sqlite.specs.Tree.{Trees}
 use Rattle.sqlite.specs.State.{State as Connection, HasCleanDisk, Survives, IsUnchanged}
 use Rattle.store_sql.specs.Contents.{Means}
 use Rattle.store_sql.specs.declared.table_fault.Fault.{Fault}
-use Rattle.store_sql.specs.Calls.{Fails, Never, OnlyReads}
-use Rattle.store_sql.specs.Faults.{HasCause}
+use Rattle.store_sql.specs.Calls.{Never}
 use Rattle.sqlite.proofs.Callers.{unchanged_then}
+use Rattle.sqlite.proofs.StateLemmas.{unchanged}
 use Rattle.store_sql.proofs.Later.{cause_then, stops_then}
 use Rattle.store_sql.proofs.Staying.{never_then, reads_then}
 use Rattle.office.specs.declared.arrival.Kept.{Kept}
 use Rattle.office.specs.State.{State}
 use Rattle.store.specs.Lawful.{IsLawful}
 use Rattle.store.specs.Rows.{contents_of}
-use Rattle.store.specs.ShowingRows.{Shows}
+use Rattle.store.specs.ShowingRows.{Asking, Shows}
 
 -- what is shown says less
 pub shows_weaker : {X : Type 0} (P Q : State → List Kept → X → Type 0) (old new : Connection) (r : Result X Fault)
@@ -46,40 +46,6 @@ shows_then First Rest Whole a b c x (Err f) P one both first rest = λ s kept la
     let q = rest p.1.0.is_open s kept lawful (still_means a b s kept p.1 means) in
     (stops_then a b c p.1 q.0, cause_then a b c f P one p.1.0.is_open q.1)
 
--- what a reading call does, where this is given
-pub record Asks {X : Type 0} (Given : Type 0) (Shown : State → List Kept → X → Type 0) (old new : Connection)
-    (r : Result X Fault) : Type 0 where
-  pub shows : HasCleanDisk new → Given → Shows Shown old new r
-  pub reads : HasCleanDisk new → Given → OnlyReads old new r
-  pub survives : Survives old new Never
-
--- two calls, of which the second asks for an open connection and gives the whole
-pub asks_both : {X Y : Type 0} (Given : Type 0) (First : State → List Kept → X → Type 0)
-    (Rest Whole : State → List Kept → Y → Type 0) (a b c : Connection) (x : X) (r : Result Y Fault)
-    → (HasCleanDisk b → Given → Shows First a b (Ok x)) → (HasCleanDisk b → Given → OnlyReads a b (Ok x))
-    → Survives a b Never → (HasCleanDisk c → IsTrue b.is_open → Shows Rest b c r)
-    → (HasCleanDisk c → IsTrue b.is_open → OnlyReads b c r) → Survives b c Never
-    → ((s : State) (kept : List Kept) (y : Y) → IsLawful s → First s kept x → Rest s kept y → Whole s kept y)
-    → Asks Given Whole a c r
-asks_both Given First Rest Whole a b c x r shows reads one shows_rest reads_rest two both = record {
-  shows = λ clean given.
-      shows_then First Rest Whole a b c x r Never one both (shows (omega (arith, two.clean)) given) (shows_rest clean);
-  reads = λ clean given. reads_then a b c x r (reads (omega (arith, two.clean)) given) (reads_rest clean);
-  survives = never_then a b c one two;
-}
-
--- the fault of the first call, as it is handed on
-pub handed_on : {X : Type 0} (Whole : State → List Kept → X → Type 0) (a b : Connection)
-    (r : Result X Fault) (f : Fault)
-    → IsErrAnd r (λ e. e ≡ f)
-    → ((s : State) (kept : List Kept) → IsLawful s → Means a.now (contents_of s kept) → Fails a b × HasCause a b f)
-    → Shows Whole a b r
-handed_on Whole a b r f told shows = let p = err_from_is_err_and r told in rw (p.1, p.2) shows
-
-pub asks_fault : {X : Type 0} (Given : Type 0) (Shown : State → List Kept → X → Type 0) (a b : Connection) (f : Fault)
-    (r : Result X Fault) → IsErrAnd r (λ e. e ≡ f) → Asks Given Shown a b (Err f) → Asks Given Shown a b r
-asks_fault Given Shown a b f r told asks = let p = err_from_is_err_and r told in rw (p.1, p.2) asks
-
 -- ---- crashes
 
 pub survives_still : (a : Connection) (P : Trees → Type 0) → Survives a a P
@@ -90,4 +56,57 @@ survives_still a P = record {
   limit = refl;
   closes = λ clean is_open. inl is_open;
   crash = λ clean trees h. inl h;
+}
+
+-- ---- all that a call does that reads rows
+
+module _ {X Given : Type 0} {P : State → List Kept → X → Type 0} {a b : Connection} where
+  -- more is given, and what is shown says less
+  pub asks_weaker : {More : Type 0} {Q : State → List Kept → X → Type 0} {r : Result X Fault} → Asking Given P a b r
+      → (More → Given) → ((s : State) (kept : List Kept) (x : X) → IsLawful s → P s kept x → Q s kept x)
+      → Asking More Q a b r
+  asks_weaker {Q = Q} {r = r} asks given less = record {
+    shows = λ clean more. shows_weaker P Q a b r less (asks.shows clean (given more));
+    reads = λ clean more. asks.reads clean (given more);
+    survives = asks.survives;
+  }
+
+  -- what is made of its answer
+  pub asks_shown : {Y : Type 0} {Q : State → List Kept → Y → Type 0} {x : X} {y : Y} → Asking Given P a b (Ok x)
+      → ((s : State) (kept : List Kept) → IsLawful s → P s kept x → Q s kept y) → Asking Given Q a b (Ok y)
+  asks_shown asks shown = record {
+    shows = λ clean given s kept lawful means.
+        let p = asks.shows clean given s kept lawful means in (shown s kept lawful p.0, p.1);
+    reads = asks.reads;
+    survives = asks.survives;
+  }
+
+  -- its fault, as it is handed on
+  pub asks_failed : {Y : Type 0} {Q : State → List Kept → Y → Type 0} {f : Fault} {r : Result Y Fault}
+      → Asking Given P a b (Err f) → IsErrAnd r (λ e. e ≡ f) → Asking Given Q a b r
+  asks_failed {r = r} asks told =
+      let p = err_from_is_err_and r told in
+      rw (p.1, p.2) (record { shows = asks.shows; reads = asks.reads; survives = asks.survives })
+
+  -- another call, which asks for an open connection and gives the whole
+  pub asks_both : {Y : Type 0} {Rest Whole : State → List Kept → Y → Type 0} {c : Connection} {x : X}
+      {r : Result Y Fault} → Asking Given P a b (Ok x) → Asking (IsTrue b.is_open) Rest b c r
+      → ((s : State) (kept : List Kept) (y : Y) → IsLawful s → P s kept x → Rest s kept y → Whole s kept y)
+      → Asking Given Whole a c r
+  asks_both {Rest = Rest} {Whole = Whole} {c = c} {x = x} {r = r} one rest both =
+      let still : HasCleanDisk c → HasCleanDisk b = λ clean. omega (arith, rest.survives.clean) in
+      record {
+        shows = λ clean given. shows_then P Rest Whole a b c x r Never one.survives both (one.shows (still clean) given)
+            (rest.shows clean);
+        reads = λ clean given. reads_then a b c x r (one.reads (still clean) given) (rest.reads clean);
+        survives = never_then a b c one.survives rest.survives;
+      }
+
+-- a call that reads no row
+pub asks_nothing : {X : Type 0} {P : State → List Kept → X → Type 0} {a : Connection} {x : X}
+    → ((s : State) (kept : List Kept) → IsLawful s → P s kept x) → Asking (IsTrue a.is_open) P a a (Ok x)
+asks_nothing {a = a} shown = record {
+  shows = λ clean is_open s kept lawful means. (shown s kept lawful, unchanged a is_open);
+  reads = λ clean is_open. unchanged a is_open;
+  survives = survives_still a Never;
 }

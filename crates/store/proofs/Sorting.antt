@@ -11,9 +11,9 @@ use Rattle.std.proofs.lemmas.Option.{same_Some}
 use Rattle.std.proofs.lemmas.Result.{err_from_is_err_and}
 use Rattle.sqlite_keyed.proofs.SortLemmas.{sorted_unique}
 use Rattle.sqlite.specs.Tree.{IsAscending}
-use Rattle.sqlite.specs.State.{State as Connection, IsUnchanged}
+use Rattle.sqlite.specs.State.{State as Connection, HasCleanDisk, IsUnchanged, Survives}
 use Rattle.store_sql.specs.Contents.{Contents, Means}
-use Rattle.store_sql.specs.Calls.{Fails, FailsBy, Finds, Rises, OnlyReads}
+use Rattle.store_sql.specs.Calls.{FailsBy, Finds, Never, Rises, OnlyReads}
 use Rattle.store_sql.specs.Faults.{HasCause}
 use Rattle.store_sql.specs.declared.table_fault.Fault.{Fault}
 use Rattle.store_sql.specs.declared.table_fault.Fault.TheVariants.{Damaged, Device, NoMemory}
@@ -22,20 +22,35 @@ use Rattle.office.specs.State.{State}
 use Rattle.store.specs.Lawful.{IsLawful}
 use Rattle.store.specs.Reading.{IsRead, each, vec_of}
 use Rattle.store.specs.Rows.{contents_of}
-use Rattle.store.specs.ShowingRows.{Shows}
+use Rattle.store.specs.ShowingRows.{Asking, Shows}
 
 -- what is made of an answer changes nothing either
 pub asked : {X : Type 0} (old new : Connection) → IsUnchanged old new → (r : Result X Fault) → OnlyReads old new r
 asked old new same (Ok x) = same
 asked old new same (Err f) = (inl same, λ _. same)
 
--- what a query tells that fails
-pub fails_shown : {X : Type 0} (Shown : State → List Kept → X → Type 0) (old new : Connection) (r : Result X Fault)
-    (f : Fault) → IsErrAnd r (λ e. e ≡ f) → ((c : Contents) → Means old.now c → Fails old new)
-    → ((c : Contents) → Means old.now c → HasCause old new f) → Shows Shown old new r
-fails_shown Shown old new r f told fails cause =
+-- a query whose rows are read
+pub rows_asked : {X Given : Type 0} {P : State → List Kept → X → Type 0} {old new : Connection} {r : Result X Fault}
+    → Survives old new Never → (HasCleanDisk new → IsUnchanged old new) → (HasCleanDisk new → Shows P old new r)
+    → Asking Given P old new r
+rows_asked {old = old} {new = new} {r = r} survives same shows = record {
+  shows = λ clean _. shows clean;
+  reads = λ clean _. asked old new (same clean) r;
+  survives = survives;
+}
+
+-- a query that fails
+pub rows_failed : {X Given : Type 0} {P : State → List Kept → X → Type 0} {old new : Connection} {f : Fault}
+    {r : Result X Fault} → Survives old new Never → (HasCleanDisk new → OnlyReads {X = Unit {0}} old new (Err f))
+    → (HasCleanDisk new → (c : Contents) → Means old.now c → HasCause old new f) → IsErrAnd r (λ e. e ≡ f)
+    → Asking Given P old new r
+rows_failed {r = r} survives reads cause told =
     let p = err_from_is_err_and r told in
-    rw (p.1, p.2) (λ s kept lawful means. (fails (contents_of s kept) means, cause (contents_of s kept) means))
+    rw (p.1, p.2) (record {
+      shows = λ clean _ s kept lawful means. ((reads clean).0, cause clean (contents_of s kept) means);
+      reads = λ clean _. reads clean;
+      survives = survives;
+    })
 
 -- what is read is shown, where of a lawful state there is something to read, of which this holds
 pub shows_read : {X : Type 0} (Shown : State → List Kept → X → Type 0) (old new : Connection) (value : Option X)

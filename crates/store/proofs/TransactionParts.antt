@@ -13,6 +13,7 @@ use Rattle.store.specs.Transactions.{FailsFor, Goes, Has, Makes, Part, Waits}
 use Rattle.store.proofs.Causes.{cause_of, fails_then, fails_weaker}
 use Rattle.store.proofs.Steps.{Leads, goes_still, goes_then, leads, makes, stops_then, waits, waits_then}
 
+-- a query commits nothing
 waits_never : (a b : State) → Survives a b Never → Survives a b (Waits Has a)
 waits_never a b one = survives_weaker a b Never (Waits Has a) (λ clean trees h. absurd h) one
 

@@ -1,9 +1,11 @@
 -- What a reading call shows of the tables of an office.
-use Rattle.std.specs.Prelude.{◌≡◌, ℕ, List, filter, Result, Ok, Err, Vec}
+use Rattle.std.specs.Prelude.{◌≡◌, ℕ, List, filter, IsTrue, Result, Ok, Err, Vec}
 use Rattle.std.specs.declared.alloc.Global.{Global}
-use Rattle.sqlite.specs.State.{State as Connection, IsUnchanged}
+use Rattle.sqlite_trees.specs.declared.store.Store.{Ghosts}
+use Rattle.sqlite.specs.Held.{Held, state as state_of}
+use Rattle.sqlite.specs.State.{State as Connection, HasCleanDisk, IsUnchanged, Survives}
 use Rattle.store_sql.specs.Contents.{Means}
-use Rattle.store_sql.specs.Calls.{Fails}
+use Rattle.store_sql.specs.Calls.{Fails, Never, OnlyReads}
 use Rattle.store_sql.specs.Faults.{HasCause}
 use Rattle.store_sql.specs.declared.table_fault.Fault.{Fault}
 use Rattle.office.specs.declared.arrival.Kept.{Kept}
@@ -22,6 +24,23 @@ Shows Shown old new (Ok x) =
 Shows Shown old new (Err f) =
     (s : State) (kept : List Kept) → IsLawful s → Means old.now (contents_of s kept)
     → Fails old new × HasCause old new f
+
+-- all that such a call does, if this is so: this is shown, and nothing changes
+pub record Asking {X : Type 0} (Given : Type 0) (Shown : State → List Kept → X → Type 0) (old new : Connection)
+    (r : Result X Fault) : Type 0 where
+  pub shows : HasCleanDisk new → Given → Shows Shown old new r
+  pub reads : HasCleanDisk new → Given → OnlyReads old new r
+  pub survives : Survives old new Never
+
+-- of a connection
+abbrev pub Asks : {S X : Type 0} → Ghosts S → (State → List Kept → X → Type 0) → Held S → Held S → Result X Fault
+    → Type 0
+Asks g Shown old new r = Asking (Unit {0}) Shown (state_of g old) (state_of g new) r
+
+-- of a connection, if it is open
+abbrev pub AsksOpen : {S X : Type 0} → Ghosts S → (State → List Kept → X → Type 0) → Held S → Held S → Result X Fault
+    → Type 0
+AsksOpen g Shown old new r = Asking (IsTrue (state_of g old).is_open) Shown (state_of g old) (state_of g new) r
 
 -- the certificates whose serials are from the one to the other
 abbrev pub AreWithin : (lo hi : ℕ) → State → List Kept → Vec Certificate Global → Type 0

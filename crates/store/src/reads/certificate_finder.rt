@@ -3,13 +3,11 @@
 //! Large values are dropped by name: the proof of a function that ends with one takes each of its fields apart.
 
 ghost use Rattle.std.specs.Prelude.{◌≡◌, IfOk, IfSome};
-ghost use Rattle.store_sql.specs.Calls.{Never, OnlyReads};
-ghost use Rattle.store_sql.specs.Honest.{On, Outlives};
 ghost use Rattle.office.specs.Certificates.{IsCertificate};
 ghost use Rattle.office.specs.State.{certificate_of};
 ghost use Rattle.store.specs.Certificates.{certificate_in};
 ghost use Rattle.store.specs.Reading.{IsRead};
-ghost use Rattle.store.specs.ShowingRows.{Shows};
+ghost use Rattle.store.specs.ShowingRows.{Asks};
 ghost use Rattle.store.specs.Finding.{asked_serial, value_in};
 ghost use Rattle.store.specs.Histories.{IsOfHistory};
 
@@ -49,11 +47,9 @@ pub fn find_certificate<S: Alter>(
     conn: &mut Connection<S>,
     serial: u64,
 ) -> Result<Option<Certificate>, Fault>
-    ensures shows { On S.Store (Shows (λ s kept found. IsOfHistory s kept → found ≡ certificate_of s serial))
+    ensures asks { Asks S.Store (λ s kept found. IsOfHistory s kept → found ≡ certificate_of s serial)
         conn.old conn.new result }
     ensures lawful { IfOk result (λ found. IfSome found IsCertificate) }
-    ensures reads { On S.Store OnlyReads conn.old conn.new result }
-    ensures survives { Outlives S.Store Never conn.old conn.new }
 {
     let found = find_cert(alloc, conn, asked_serial(serial))?;
     read_found(alloc, found)

@@ -8,10 +8,8 @@ ghost use Rattle.message.specs.Values.{is_message};
 ghost use Rattle.office.specs.Decided.{Agrees};
 ghost use Rattle.office.specs.State.{State};
 ghost use Rattle.office.specs.Views.{IsView};
-ghost use Rattle.store_sql.specs.Calls.{Never, OnlyReads};
-ghost use Rattle.store_sql.specs.Honest.{On, OnOpen, Outlives};
 ghost use Rattle.store.specs.Offices.{IsLawfulOffice};
-ghost use Rattle.store.specs.ShowingRows.{Shows};
+ghost use Rattle.store.specs.ShowingRows.{Asks, AsksOpen};
 ghost use Rattle.store.specs.Concerning.{AreConcerned, AreConcernedAt, AreConcernedBeside, AreConcernedUnder};
 ghost use Rattle.store.specs.Concerning.{AreLawful, IsLawfulSubject};
 ghost use Rattle.store.specs.Histories.{IsOfHistory};
@@ -66,11 +64,8 @@ fn with_subject<S: Alter>(
     requires message { IsTrue (is_message message.now) }
     requires office { IsLawfulOffice office }
     requires subject { IsLawfulSubject subject }
-    ensures shows { OnOpen S.Store (Shows (AreConcernedBeside office cas.items subject message.now))
-        conn.old conn.new result }
+    ensures asks { AsksOpen S.Store (AreConcernedBeside office cas.items subject message.now) conn.old conn.new result }
     ensures lawful { IfOk result AreLawful }
-    ensures reads { OnOpen S.Store OnlyReads conn.old conn.new result }
-    ensures survives { Outlives S.Store Never conn.old conn.new }
 {
     match marks_of(alloc, conn, message, subject.certificate.as_ref()) {
         Ok(marks) => Ok(Concerned {
@@ -97,10 +92,8 @@ fn with_cas<S: Alter>(
 ) -> Result<Concerned, Fault>
     requires message { IsTrue (is_message message.now) }
     requires office { IsLawfulOffice office }
-    ensures shows { OnOpen S.Store (Shows (AreConcernedUnder office cas.items message.now)) conn.old conn.new result }
+    ensures asks { AsksOpen S.Store (AreConcernedUnder office cas.items message.now) conn.old conn.new result }
     ensures lawful { IfOk result AreLawful }
-    ensures reads { OnOpen S.Store OnlyReads conn.old conn.new result }
-    ensures survives { Outlives S.Store Never conn.old conn.new }
 {
     match subject_of(alloc, conn, message) {
         Ok(subject) => with_subject(alloc, conn, message, office, cas, subject),
@@ -120,10 +113,8 @@ fn with_office<S: Alter>(
 ) -> Result<Concerned, Fault>
     requires message { IsTrue (is_message message.now) }
     requires office { IsLawfulOffice office }
-    ensures shows { On S.Store (Shows (AreConcernedAt office message.now)) conn.old conn.new result }
+    ensures asks { Asks S.Store (AreConcernedAt office message.now) conn.old conn.new result }
     ensures lawful { IfOk result AreLawful }
-    ensures reads { On S.Store OnlyReads conn.old conn.new result }
-    ensures survives { Outlives S.Store Never conn.old conn.new }
 {
     match read_cas(alloc, conn) {
         Ok(cas) => with_cas(alloc, conn, message, office, cas),
@@ -142,11 +133,9 @@ pub fn concerned_rows<S: Alter>(
     message: &Message,
 ) -> Result<Concerned, Fault>
     requires { IsTrue (is_message message.now) }
-    ensures shows { On S.Store (Shows (λ s kept rows. IsOfHistory s kept → AreConcerned rows s message.now))
+    ensures asks { Asks S.Store (λ s kept rows. IsOfHistory s kept → AreConcerned rows s message.now)
         conn.old conn.new result }
     ensures lawful { IfOk result AreLawful }
-    ensures reads { On S.Store OnlyReads conn.old conn.new result }
-    ensures survives { Outlives S.Store Never conn.old conn.new }
 {
     let office = read_office(alloc, conn)?;
     with_office(alloc, conn, message, office)

@@ -3,13 +3,11 @@
 //! Large values are dropped by name: the proof of a function that ends with one takes each of its fields apart.
 
 ghost use Rattle.std.specs.Prelude.{◌≡◌, IfOk, IfSome, IsTrue};
-ghost use Rattle.store_sql.specs.Calls.{Never, OnlyReads};
-ghost use Rattle.store_sql.specs.Honest.{On, Outlives};
 ghost use Rattle.message.specs.Values.{is_department};
 ghost use Rattle.office.specs.State.{department_named};
 ghost use Rattle.store.specs.Departments.{department_in};
 ghost use Rattle.store.specs.Reading.{IsRead};
-ghost use Rattle.store.specs.ShowingRows.{Shows};
+ghost use Rattle.store.specs.ShowingRows.{Asks};
 ghost use Rattle.store.specs.Finding.{value_in};
 
 use crate::rows::read_department;
@@ -38,10 +36,8 @@ pub fn find_department<S: Alter>(
     conn: &mut Connection<S>,
     name: &[u8],
 ) -> Result<Option<Department>, Fault>
-    ensures shows { On S.Store (Shows (λ s kept found. found ≡ department_named s name.now)) conn.old conn.new result }
+    ensures asks { Asks S.Store (λ s kept found. found ≡ department_named s name.now) conn.old conn.new result }
     ensures lawful { IfOk result (λ found. IfSome found (λ d. IsTrue (is_department d))) }
-    ensures reads { On S.Store OnlyReads conn.old conn.new result }
-    ensures survives { Outlives S.Store Never conn.old conn.new }
 {
     let found = find_row(alloc, conn, name)?;
     read_found(alloc, found)

@@ -2,9 +2,7 @@
 
 ghost use Rattle.std.specs.Prelude.{◌≡◌, find};
 ghost use Rattle.std.specs.Option.{option_map};
-ghost use Rattle.store_sql.specs.Calls.{Never, OnlyReads};
-ghost use Rattle.store_sql.specs.Honest.{On, Outlives};
-ghost use Rattle.store.specs.ShowingRows.{Shows};
+ghost use Rattle.store.specs.ShowingRows.{Asks};
 ghost use Rattle.store.specs.Finding.{kept_in};
 ghost use Rattle.store.specs.Histories.{IsOfHistory, is_for};
 
@@ -34,10 +32,8 @@ pub fn kept_for<S: Alter>(
     caller: &[u8],
     key: &[u8],
 ) -> Result<Option<Kept>, Fault>
-    ensures shows { On S.Store (Shows
-        (λ s kept found. IsOfHistory s kept → found ≡ find (is_for caller.now key.now) kept)) conn.old conn.new result }
-    ensures reads { On S.Store OnlyReads conn.old conn.new result }
-    ensures survives { Outlives S.Store Never conn.old conn.new }
+    ensures { Asks S.Store (λ s kept found. IsOfHistory s kept → found ≡ find (is_for caller.now key.now) kept)
+        conn.old conn.new result }
 {
     let found = find_request(alloc, conn, caller, key)?;
     Ok(kept_of(found))

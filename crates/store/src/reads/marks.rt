@@ -3,10 +3,8 @@
 ghost use Rattle.std.specs.Prelude.{IsTrue, option_copied};
 ghost use Rattle.message.specs.Values.{is_message};
 ghost use Rattle.office.specs.Decided.{SaysAnyKeyIdRevoked, SaysRevoked};
-ghost use Rattle.store_sql.specs.Calls.{Never, OnlyReads};
 ghost use Rattle.store.specs.Concerning.{AreMarksOf, SaysKeyIdBeside};
-ghost use Rattle.store_sql.specs.Honest.{OnOpen, Outlives};
-ghost use Rattle.store.specs.ShowingRows.{Shows};
+ghost use Rattle.store.specs.ShowingRows.{AsksOpen};
 ghost use Rattle.store.specs.Histories.{IsOfHistory};
 
 use crate::reads::key_ids::{has_revoked_key_ids, is_key_id_revoked};
@@ -34,10 +32,8 @@ fn is_revoked<S: Alter>(
     message: &Message,
 ) -> Result<bool, Fault>
     requires { IsTrue (is_message message.now) }
-    ensures shows { OnOpen S.Store (Shows (λ s kept is. IsOfHistory s kept → SaysRevoked is s message.now))
+    ensures { AsksOpen S.Store (λ s kept is. IsOfHistory s kept → SaysRevoked is s message.now)
         conn.old conn.new result }
-    ensures reads { OnOpen S.Store OnlyReads conn.old conn.new result }
-    ensures survives { Outlives S.Store Never conn.old conn.new }
 {
     let concern = concerned(message);
     match (concern.serial, concern.range) {
@@ -53,10 +49,8 @@ fn is_concerned_key_id_revoked<S: Alter>(
     message: &Message,
     certificate: Option<&Certificate>,
 ) -> Result<bool, Fault>
-    ensures shows { OnOpen S.Store (Shows (SaysKeyIdBeside (option_copied certificate.entry) message.now))
+    ensures { AsksOpen S.Store (SaysKeyIdBeside (option_copied certificate.entry) message.now)
         conn.old conn.new result }
-    ensures reads { OnOpen S.Store OnlyReads conn.old conn.new result }
-    ensures survives { Outlives S.Store Never conn.old conn.new }
 {
     match (certificate, concerned(message).key_id) {
         (Some(certificate), _) => {
@@ -72,10 +66,7 @@ fn is_any_key_id_revoked<S: Alter>(
     conn: &mut Connection<S>,
     message: &Message,
 ) -> Result<bool, Fault>
-    ensures shows { OnOpen S.Store (Shows (λ s kept is. SaysAnyKeyIdRevoked is s message.now))
-        conn.old conn.new result }
-    ensures reads { OnOpen S.Store OnlyReads conn.old conn.new result }
-    ensures survives { Outlives S.Store Never conn.old conn.new }
+    ensures { AsksOpen S.Store (λ s kept is. SaysAnyKeyIdRevoked is s message.now) conn.old conn.new result }
 {
     match message {
         Message::Rollover(_) => has_revoked_key_ids(alloc, conn),
@@ -91,10 +82,7 @@ pub(crate) fn marks_of<S: Alter>(
     certificate: Option<&Certificate>,
 ) -> Result<Marks, Fault>
     requires { IsTrue (is_message message.now) }
-    ensures shows { OnOpen S.Store (Shows (AreMarksOf (option_copied certificate.entry) message.now))
-        conn.old conn.new result }
-    ensures reads { OnOpen S.Store OnlyReads conn.old conn.new result }
-    ensures survives { Outlives S.Store Never conn.old conn.new }
+    ensures { AsksOpen S.Store (AreMarksOf (option_copied certificate.entry) message.now) conn.old conn.new result }
 {
     let is_revoked = is_revoked(alloc, conn, message)?;
     let is_key_id_revoked = is_concerned_key_id_revoked(alloc, conn, message, certificate)?;

@@ -6,9 +6,7 @@ ghost use Rattle.std.specs.Prelude.{◌≡◌, IfOk, IfSome, IsTrue, option_copi
 ghost use Rattle.message.specs.Values.{is_department};
 ghost use Rattle.office.specs.Certificates.{IsCertificate};
 ghost use Rattle.office.specs.Decided.{certificate_concerned};
-ghost use Rattle.store_sql.specs.Calls.{Never, OnlyReads};
-ghost use Rattle.store_sql.specs.Honest.{OnOpen, Outlives};
-ghost use Rattle.store.specs.ShowingRows.{Shows};
+ghost use Rattle.store.specs.ShowingRows.{AsksOpen};
 ghost use Rattle.store.specs.Concerning.{IsDepartmentBeside, IsLawfulSubject, IsSubject};
 ghost use Rattle.store.specs.Histories.{IsOfHistory};
 
@@ -32,11 +30,9 @@ fn certificate_of<S: Alter>(
     conn: &mut Connection<S>,
     message: &Message,
 ) -> Result<Option<Certificate>, Fault>
-    ensures shows { OnOpen S.Store (Shows
-        (λ s kept found. IsOfHistory s kept → found ≡ certificate_concerned s message.now)) conn.old conn.new result }
+    ensures asks { AsksOpen S.Store (λ s kept found. IsOfHistory s kept → found ≡ certificate_concerned s message.now)
+        conn.old conn.new result }
     ensures lawful { IfOk result (λ found. IfSome found IsCertificate) }
-    ensures reads { OnOpen S.Store OnlyReads conn.old conn.new result }
-    ensures survives { Outlives S.Store Never conn.old conn.new }
 {
     match concerned(message).serial {
         Some(serial) => find_certificate(alloc, conn, serial),
@@ -51,11 +47,9 @@ fn department_of<S: Alter>(
     message: &Message,
     certificate: Option<&Certificate>,
 ) -> Result<Option<Department>, Fault>
-    ensures shows { OnOpen S.Store (Shows (IsDepartmentBeside (option_copied certificate.entry) message.now))
+    ensures asks { AsksOpen S.Store (IsDepartmentBeside (option_copied certificate.entry) message.now)
         conn.old conn.new result }
     ensures lawful { IfOk result (λ found. IfSome found (λ d. IsTrue (is_department d))) }
-    ensures reads { OnOpen S.Store OnlyReads conn.old conn.new result }
-    ensures survives { Outlives S.Store Never conn.old conn.new }
 {
     match (certificate, concerned(message).department) {
         (Some(certificate), _) => {
@@ -72,11 +66,9 @@ pub(crate) fn subject_of<S: Alter>(
     conn: &mut Connection<S>,
     message: &Message,
 ) -> Result<Subject, Fault>
-    ensures shows { OnOpen S.Store (Shows (λ s kept subject. IsOfHistory s kept → IsSubject subject s message.now))
+    ensures asks { AsksOpen S.Store (λ s kept subject. IsOfHistory s kept → IsSubject subject s message.now)
         conn.old conn.new result }
     ensures lawful { IfOk result IsLawfulSubject }
-    ensures reads { OnOpen S.Store OnlyReads conn.old conn.new result }
-    ensures survives { Outlives S.Store Never conn.old conn.new }
 {
     let certificate = certificate_of(alloc, conn, message)?;
     match department_of(alloc, conn, message, certificate.as_ref()) {

@@ -1,9 +1,7 @@
 //! The CAs of the tables.
 
 ghost use Rattle.std.specs.Prelude.{◌≡◌};
-ghost use Rattle.store_sql.specs.Calls.{Never, OnlyReads};
-ghost use Rattle.store_sql.specs.Honest.{On, Outlives};
-ghost use Rattle.store.specs.ShowingRows.{Shows};
+ghost use Rattle.store.specs.ShowingRows.{Asks};
 
 use crate::rows::row_reader::{OfRow, read_each};
 use lines::read_key_blob;
@@ -30,9 +28,7 @@ impl OfRow<CaRow> for Ca {
 
 /// The CAs by number. `Damaged` where a row is that of no CA.
 pub fn read_cas<S: Alter>(alloc: Global, conn: &mut Connection<S>) -> Result<Vec<Ca>, Fault>
-    ensures shows { On S.Store (Shows (λ s kept cas. cas.items ≡ s.cas)) conn.old conn.new result }
-    ensures reads { On S.Store OnlyReads conn.old conn.new result }
-    ensures survives { Outlives S.Store Never conn.old conn.new }
+    ensures { Asks S.Store (λ s kept cas. cas.items ≡ s.cas) conn.old conn.new result }
 {
     let rows = every_ca(alloc, conn)?;
     read_each(alloc, rows.as_slice())

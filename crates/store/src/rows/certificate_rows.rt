@@ -1,8 +1,6 @@
 //! The certificates of the tables.
 
-ghost use Rattle.store_sql.specs.Calls.{Never, OnlyReads};
-ghost use Rattle.store_sql.specs.Honest.{On, Outlives};
-ghost use Rattle.store.specs.ShowingRows.{AreWithin, Shows};
+ghost use Rattle.store.specs.ShowingRows.{AreWithin, Asks};
 
 use crate::rows::cert_rows::read_certificate;
 use crate::rows::row_reader::{OfRow, read_each};
@@ -29,9 +27,7 @@ pub fn read_certificates<S: Alter>(
     lo: Number,
     hi: Number,
 ) -> Result<Vec<Certificate>, Fault>
-    ensures shows { On S.Store (Shows (AreWithin lo hi)) conn.old conn.new result }
-    ensures reads { On S.Store OnlyReads conn.old conn.new result }
-    ensures survives { Outlives S.Store Never conn.old conn.new }
+    ensures { Asks S.Store (AreWithin lo hi) conn.old conn.new result }
 {
     let rows = certs_within(alloc, conn, lo, hi)?;
     read_each(alloc, rows.as_slice())

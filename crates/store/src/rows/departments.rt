@@ -1,10 +1,8 @@
 //! The departments of the tables.
 
 ghost use Rattle.std.specs.Prelude.{◌≡◌};
-ghost use Rattle.store_sql.specs.Calls.{Never, OnlyReads};
-ghost use Rattle.store_sql.specs.Honest.{On, Outlives};
 ghost use Rattle.office.specs.Publication.{departments_of};
-ghost use Rattle.store.specs.ShowingRows.{Shows};
+ghost use Rattle.store.specs.ShowingRows.{Asks};
 
 use crate::rows::department_rows::read_department;
 use crate::rows::row_reader::{OfRow, read_each};
@@ -28,9 +26,7 @@ pub fn read_departments<S: Alter>(
     alloc: Global,
     conn: &mut Connection<S>,
 ) -> Result<Vec<Department>, Fault>
-    ensures shows { On S.Store (Shows (λ s kept rows. rows.items ≡ departments_of s)) conn.old conn.new result }
-    ensures reads { On S.Store OnlyReads conn.old conn.new result }
-    ensures survives { Outlives S.Store Never conn.old conn.new }
+    ensures { Asks S.Store (λ s kept rows. rows.items ≡ departments_of s) conn.old conn.new result }
 {
     let rows = every_department(alloc, conn)?;
     read_each(alloc, rows.as_slice())

@@ -1,9 +1,7 @@
 //! The revoked key ids of the tables.
 
 ghost use Rattle.std.specs.Prelude.{◌≡◌};
-ghost use Rattle.store_sql.specs.Calls.{Never, OnlyReads};
-ghost use Rattle.store_sql.specs.Honest.{On, Outlives};
-ghost use Rattle.store.specs.ShowingRows.{Shows};
+ghost use Rattle.store.specs.ShowingRows.{Asks};
 
 use sqlite::{Alter, Connection};
 use std::alloc::Global;
@@ -12,9 +10,7 @@ use text::Text;
 
 /// The revoked key ids in byte order. `Damaged` where a row has another form.
 pub fn read_key_ids<S: Alter>(alloc: Global, conn: &mut Connection<S>) -> Result<Vec<Text>, Fault>
-    ensures shows { On S.Store (Shows (λ s kept ids. ids.items ≡ s.revoked_key_ids)) conn.old conn.new result }
-    ensures reads { On S.Store OnlyReads conn.old conn.new result }
-    ensures survives { Outlives S.Store Never conn.old conn.new }
+    ensures { Asks S.Store (λ s kept ids. ids.items ≡ s.revoked_key_ids) conn.old conn.new result }
 {
     every_revoked(alloc, conn)
 }

@@ -3,13 +3,11 @@
 //! Large values are dropped by name: the proof of a function that ends with one takes each of its fields apart.
 
 ghost use Rattle.std.specs.Prelude.{◌≡◌, IfOk, IsTrue, length};
-ghost use Rattle.store_sql.specs.Calls.{Never, OnlyReads};
-ghost use Rattle.store_sql.specs.Honest.{On, Outlives};
 ghost use Rattle.office.specs.Openings.{IsOpening};
 ghost use Rattle.store.specs.Reading.{IsRead};
 ghost use Rattle.store.specs.Offices.{IsLawfulOffice, IsOfficeOf, if_office, is_opening, office_in, office_of};
 ghost use Rattle.store.specs.Offices.{only_office};
-ghost use Rattle.store.specs.ShowingRows.{Shows};
+ghost use Rattle.store.specs.ShowingRows.{Asks};
 
 use lines::read_key_blob;
 use office::Opening;
@@ -107,10 +105,8 @@ fn only_office(alloc: Global, rows: &[OfficeRow]) -> Result<Office, Fault>
 
 /// The office's opening and its counters. `Damaged` where its table has not one row, or that is of no lawful office.
 pub fn read_office<S: Alter>(alloc: Global, conn: &mut Connection<S>) -> Result<Office, Fault>
-    ensures shows { On S.Store (Shows (λ s kept office. IsOfficeOf office s)) conn.old conn.new result }
+    ensures asks { Asks S.Store (λ s kept office. IsOfficeOf office s) conn.old conn.new result }
     ensures lawful { IfOk result IsLawfulOffice }
-    ensures reads { On S.Store OnlyReads conn.old conn.new result }
-    ensures survives { Outlives S.Store Never conn.old conn.new }
 {
     let rows = every_office(alloc, conn)?;
     only_office(alloc, rows.as_slice())

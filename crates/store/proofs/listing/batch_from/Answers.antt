@@ -1,5 +1,4 @@
 use Rattle.std.proofs.Common.{◌≡◌, ◌+◌, arith}
-use Rattle.store.specs.ShowingRows.{AreWithin}
 use Rattle.store.specs.Batches.{numbered}
 use Rattle.store.proofs.Reading.{of_state}
 use Rattle.store.proofs.listing.batch_from.Goals as goal
@@ -12,6 +11,4 @@ returns g c =
     omega (arith, c.column_number.ensures, c.saturating_add-lo.ensures) in
     let hi : c.column_number-2.result ≡ numbered first (place + 999) =
     omega (arith, c.column_number-2.ensures, c.saturating_add-lo.ensures, c.saturating_add-hi.ensures) in
-    let q = c.read_certificates.ensures in
-    of_state q.survives c.read_certificates.result (AreWithin (numbered first place) (numbered first (place + 999)))
-    (λ clean. rw (lo, hi) at q.shows clean) q.reads
+    of_state (rw (lo, hi) at c.read_certificates.ensures)

@@ -1,9 +1,8 @@
-use Rattle.std.proofs.Common.{◌≡◌, ℕ, Ok, Err, ap, ◌∙◌, ◌+◌, filter}
+use Rattle.std.proofs.Common.{◌≡◌, ℕ, ap, ◌∙◌, ◌+◌, filter}
 use Rattle.office.specs.declared.opening.Opening.{Opening}
 use Rattle.office.specs.History.{state as after}
 use Rattle.office.specs.Listing.{batch_of}
 use Rattle.store.specs.Certificates.{is_within}
-use Rattle.store.specs.Offices.{IsOfficeOf}
 use Rattle.store.specs.Batches.{numbered}
 use Rattle.store.proofs.Batches.{batch_is}
 use Rattle.store.proofs.Reading.{and_then, of_state, reading_failed}
@@ -12,9 +11,7 @@ use Rattle.store.proofs.listing.read_batch.Goals as goal
 pub returns : goal.returns
 returns g c =
     let place = c.args.place in
-    let one = c.in_ok-office.ensures in
-    and_then (of_state c.read_office.ensures.survives (Ok c.in_ok-office.office)
-    (λ s kept office. IsOfficeOf office s) one.shows one.reads) (λ s kept rows. rows.items ≡ batch_of s place)
+    and_then (of_state c.in_ok-office.ensures.asks) (λ s kept rows. rows.items ≡ batch_of s place)
     c.batch_from.ensures
     (λ o l rows history of is. is
     ∙ ap (λ (n : ℕ). filter (is_within (numbered n place) (numbered n (place + 999))) (after o l).certificates)
@@ -22,7 +19,4 @@ returns g c =
     ∙ batch_is o l history place)
 
 pub returns-in_err-office : goal.returns-in_err-office
-returns-in_err-office g c =
-    let e = c.in_err-office.ensures in
-    reading_failed (of_state c.read_office.ensures.survives (Err c.in_err-office.field-0.0)
-    (λ s kept office. IsOfficeOf office s) e.shows e.reads) c.from_residual.ensures.1
+returns-in_err-office g c = reading_failed (of_state c.in_err-office.ensures.asks) c.from_residual.ensures.1
