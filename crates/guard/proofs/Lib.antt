@@ -1,0 +1,5 @@
+pub mod Refused
+pub mod Allowed
+pub mod Histories
+pub mod PolicyLines
+pub mod BodyTexts

@@ -1,0 +1,90 @@
+-- The plain guard: one question at a time.
+use Rattle.std.specs.Prelude.{◌+◌, List, [], ◌∷◌, ◌++◌, Bool, false, not, ◌&&◌, ◌||◌, nat_lt, nat_le}
+use Rattle.std.specs.Prelude.{if◌then◌else◌, Option, Some, None, is_none, is_some}
+use Rattle.std.specs.Option.{option_map_or}
+use Rattle.std.specs.Str.{bytes_eq}
+use Rattle.values.specs.Names.{department_of}
+use Rattle.message.specs.declared.department.Department.{Department}
+use Rattle.cert.specs.declared.fields.CertFields.{CertFields}
+use Rattle.office.specs.Permissions.{meet_rules, are_listed, is_life_permitted}
+use Rattle.office.specs.Refusals.{has_other_kind, is_missing}
+use Rattle.guard.specs.declared.approved.Approved.{Approved}
+use Rattle.guard.specs.declared.refusal.Refusal.{Refusal}
+use Rattle.guard.specs.declared.refusal.Refusal.TheVariants.{
+  NotABody,
+  OtherCa,
+  OtherSerial,
+  SerialTaken,
+  NoDepartment,
+  OtherKind,
+  NotPermitted,
+  AlreadyEnded,
+  TooFarAhead,
+}
+pub use Rattle.guard.specs.State.{State, Question, opened, fields_of, department_named, body_of, is_same, is_other}
+
+-- ---- what is refused
+
+-- the office's own words: each principal meets a rule, options and extensions are listed, the life isn't too long
+abbrev pub permits : Department → CertFields → Bool
+permits d c =
+    meet_rules d c.principals
+    && (are_listed d.options c.options
+    && (are_listed d.extensions c.extensions
+    && is_life_permitted d c.after c.before))
+
+abbrev pub is_permitted_by : Option Department → CertFields → Bool
+is_permitted_by (Some d) c = permits d c
+is_permitted_by None c = false
+
+-- the department that the key id names
+abbrev pub department_for : List Department → CertFields → Option Department
+department_for policy c = department_named policy (department_of c.key_id)
+
+-- of a body that wasn't approved before
+abbrev pub refusals_of_new : State → Question → CertFields → List (Refusal × Bool)
+refusals_of_new s q c =
+    (SerialTaken, is_other q.body (body_of s c.serial))
+    ∷ (NoDepartment, is_missing (department_for q.policy c))
+    ∷ (OtherKind, has_other_kind (department_for q.policy c) c.kind)
+    ∷ (NotPermitted, not (is_permitted_by (department_for q.policy c) c))
+    ∷ (AlreadyEnded, nat_le c.before q.moment)
+    ∷ (TooFarAhead, nat_lt (q.moment + q.ahead) c.after)
+    ∷ []
+
+-- of a body with these fields; one that was approved before is judged by neither the policy nor the moment
+abbrev pub refusals_of_body : State → Question → CertFields → List (Refusal × Bool)
+refusals_of_body s q c =
+    (OtherCa, not (bytes_eq c.ca s.scope.ca))
+    ∷ (OtherSerial, nat_lt c.serial s.scope.first || nat_lt s.scope.last c.serial)
+    ∷ (if is_same q.body (body_of s c.serial) then [] else refusals_of_new s q c)
+
+-- the table: the refusals by their numbers, each with the test whether it applies
+abbrev pub refusals : State → Question → List (Refusal × Bool)
+refusals s q =
+    (NotABody, is_none (fields_of q.body)) ∷ option_map_or (λ c. refusals_of_body s q c) (fields_of q.body) []
+
+-- the first that applies
+abbrev pub first_holding : List (Refusal × Bool) → Option Refusal
+first_holding [] = None
+first_holding (r ∷ rs) = if r.1 then Some r.0 else first_holding rs
+
+-- the refusal of a question. Where there is none, the body may be signed
+abbrev pub refusal_of : State → Question → Option Refusal
+refusal_of s q = first_holding (refusals s q)
+
+-- ---- what a question leaves
+
+-- what is kept of a body
+abbrev pub row_of : Question → CertFields → Approved
+row_of q c = record { serial = c.serial; moment = q.moment; body = q.body }
+
+-- a body that was approved before is kept once
+abbrev pub with_fields : State → Question → Option CertFields → State
+with_fields s q (Some c) =
+    if is_same q.body (body_of s c.serial) then s else record s { approved = s.approved ++ row_of q c ∷ [] }
+with_fields s q None = s
+
+-- the state that is left: what is refused leaves it as it was
+abbrev pub after : State → Question → State
+after s q = if is_some (refusal_of s q) then s else with_fields s q (fields_of q.body)

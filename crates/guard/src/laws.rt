@@ -1,0 +1,50 @@
+//! Laws of every list of questions. The functions do nothing: their clauses are what is proved.
+
+ghost use Rattle.std.specs.Prelude.{◌≡◌, ℕ, List, ◌∷◌, ◌++◌, All, Contains, true, Some, None};
+ghost use Rattle.krl.specs.Reading.{IsBytes};
+ghost use Rattle.cert.specs.declared.fields.CertFields.{CertFields};
+ghost use Rattle.guard.specs.declared.approved.Approved.{Approved};
+ghost use Rattle.guard.specs.declared.refusal.Refusal.{Refusal};
+ghost use Rattle.guard.specs.declared.scope.Scope.{Scope};
+ghost use Rattle.guard.specs.Machine.{State, Question, after, fields_of, refusal_of, refusals};
+ghost use Rattle.guard.specs.History.{IsStill, WasAsked, state};
+ghost use Rattle.guard.specs.Laws.{IsBodyOf, ascend_from};
+
+/// The refusals stand in the order of their numbers, from 31 on: so the first that applies is the one with the least.
+pub fn refusals_ascend()
+    ensures { (s : State) (q : Question) → ascend_from 31 (refusals s q) ≡ true }
+{}
+
+/// A refusal leaves all as it was.
+pub fn a_refusal_changes_nothing()
+    ensures { (s : State) (q : Question) (r : Refusal) → refusal_of s q ≡ Some r → after s q ≡ s }
+{}
+
+/// Each body that a guard keeps was asked for, and might be signed when it was: a body of the profile for the guard's
+/// CA and one of its serials, permitted by the policy that was given, within its time.
+pub fn an_approved_body_was_permitted()
+    ensures { (scope : Scope) (l : List Question) → All (WasAsked scope l) (state scope l).approved }
+{}
+
+/// What has fields is a body of the profile: at most 16384 bytes, which are the text of lawful fields, of these alone.
+pub fn what_has_fields_is_a_body()
+    ensures { (bytes : List ℕ) (c : CertFields) → IsBytes bytes → fields_of bytes ≡ Some c → IsBodyOf bytes c }
+{}
+
+/// Two bodies of one serial are the same, byte by byte.
+pub fn a_serial_has_one_body()
+    ensures { (scope : Scope) (l : List Question) (a b : Approved) → Contains (state scope l).approved a
+        → Contains (state scope l).approved b → a.serial ≡ b.serial → a ≡ b }
+{}
+
+/// What was approved is kept, whatever is asked later.
+pub fn a_body_that_was_approved_stays()
+    ensures { (scope : Scope) (l later : List Question) → IsStill (state scope l) (state scope (l ++ later)) }
+{}
+
+/// What may be signed is kept from then on, and may be signed again, whatever is asked in between, by whichever policy
+/// and at whichever moment.
+pub fn an_approved_body_is_signed_again()
+    ensures { (scope : Scope) (l later : List Question) (q again : Question) → refusal_of (state scope l) q ≡ None
+        → again.body ≡ q.body → refusal_of (state scope (l ++ q ∷ later)) again ≡ None }
+{}

@@ -1,0 +1,34 @@
+//! The guard beside the CA's key: which certificate bodies may be signed.
+//!
+//! A guard keeps each body that it approved, and approves no second body under a serial. The plain guard (`specs/`)
+//! says which refusal of one table applies to a body, after any list of questions. `decide` answers the same from the
+//! one row that the body's serial concerns.
+#![tactic(auto)]
+
+mod approved;
+mod body;
+mod deciding;
+mod laws;
+mod permission;
+mod policy;
+mod policy_fault;
+mod policy_reader;
+mod refusal;
+mod scope;
+#[cfg(test)]
+mod tests;
+mod verdict;
+
+pub use approved::Approved;
+pub use body::{BodyFault, LONGEST_BODY, fields_of};
+pub use deciding::decide;
+pub use laws::{
+    a_body_that_was_approved_stays, a_refusal_changes_nothing, a_serial_has_one_body,
+    an_approved_body_is_signed_again, an_approved_body_was_permitted, refusals_ascend,
+    what_has_fields_is_a_body,
+};
+pub use policy::{LONGEST_POLICY, Policy};
+pub use policy_fault::PolicyFault;
+pub use refusal::Refusal;
+pub use scope::Scope;
+pub use verdict::{Verdict, View, Window};

@@ -1,0 +1,48 @@
+//! The departments that a guard is told of.
+
+ghost use Rattle.std.specs.Prelude.{◌≡◌, option_copied};
+ghost use Rattle.guard.specs.State.{department_named};
+
+use message::Department;
+use std::marker::Model;
+
+/// The most bytes of a policy file.
+pub const LONGEST_POLICY: usize = 1048576;
+
+/// What may be signed: departments of different names. Contracts see it as their list.
+#[derive(Drop)]
+pub struct Policy {
+    departments: Vec<Department>,
+}
+
+impl Model for Policy {
+    ghost use Rattle.std.specs.Prelude.{List};
+    ghost use Rattle.message.specs.declared.department.Department.{Department};
+
+    ghost Value = { List Department };
+
+    ghost view = { λ p. p.departments.items };
+}
+
+/// The department of a name.
+pub(crate) fn named<'a>(departments: &'a [Department], name: &[u8]) -> Option<&'a Department>
+    ensures { option_copied result ≡ department_named departments.now name.now }
+{
+    departments.iter().find(|d| d.name.is(name))
+}
+
+impl Policy {
+    /// These departments.
+    pub(crate) fn of(departments: Vec<Department>) -> Policy
+        ensures { result ≡ departments.items }
+    {
+        Policy { departments }
+    }
+
+    /// The department of a name.
+    pub fn named(&self, name: &[u8]) -> Option<&Department>
+        ensures { option_copied result ≡ department_named self.now name.now }
+    {
+        named(self.departments.as_slice(), name)
+    }
+}

@@ -1,0 +1,24 @@
+//! Why a policy could not be read.
+
+ghost use Rattle.std.specs.Prelude.{◌≡◌};
+ghost use Rattle.guard.specs.declared.policy_fault.PolicyFault.TheVariants.{NoMemory};
+
+/// Why a policy could not be read.
+#[derive(Clone, Copy, Debug, PartialEq, Eq)]
+pub enum PolicyFault {
+    /// More than 1048576 bytes.
+    TooLong,
+    /// The file's line, from 1, that doesn't fit in the text of a department, or with which a text begins that is none,
+    /// or that names a department for the second time.
+    BadPolicy(u64),
+    /// A growth was refused.
+    NoMemory,
+}
+
+impl From<text::NoMemory> for PolicyFault {
+    ghost from_gives = { λ _ e. e ≡ NoMemory };
+
+    fn from(_e: text::NoMemory) -> PolicyFault {
+        PolicyFault::NoMemory
+    }
+}

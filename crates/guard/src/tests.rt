@@ -1,0 +1,140 @@
+//! What only calls can show: that they answer where memory suffices.
+//!
+//! The body has the form that `docs/FORMATS.md` gives: a key of bytes 0x22, a nonce of 0x33 and a CA of 0x11; serial 1,
+//! a user, key id web/alice, principal alice, from 1000 to 2000.
+
+use crate::{Policy, PolicyFault, Refusal, Scope, Verdict, View, Window, decide, fields_of};
+use std::alloc::Global;
+use text::Text;
+
+const BODY: &[u8; 229] =
+    b"\x00\x00\x00 ssh-ed25519-cert-v01@openssh.com\x00\x00\x00 33333333333333333333333333333333\x00\x00\x00\
+    \x20\"\"\"\"\"\"\"\"\"\"\"\"\"\"\"\"\"\"\"\"\"\"\"\"\"\"\"\"\"\"\"\"\x00\x00\x00\x00\x00\x00\x00\x01\
+    \x00\x00\x00\x01\x00\x00\x00\x09web/alice\x00\x00\x00\x09\x00\x00\x00\x05alice\x00\x00\x00\x00\x00\x00\
+    \x03\xe8\x00\x00\x00\x00\x00\x00\x07\xd0\x00\x00\x00\x00\x00\x00\x00\x00\x00\x00\x00\x00\x00\x00\x00\
+    3\x00\x00\x00\x0bssh-ed25519\x00\x00\x00 \x11\x11\x11\x11\x11\x11\x11\x11\x11\x11\x11\x11\x11\x11\x11\
+    \x11\x11\x11\x11\x11\x11\x11\x11\x11\x11\x11\x11\x11\x11\x11\x11\x11";
+
+/// The department, with a comment before it and an empty line behind it.
+const WEB: &[u8] = b"# for people\n\
+department web\nkind user\nadmins ana\nprincipals alice\noptions\nextensions\nmaxlife 1000\nnamespaces\n\n";
+
+const HOSTS: &[u8] =
+    b"department web\nkind host\nadmins\nprincipals alice\noptions\nextensions\nmaxlife 1000\nnamespaces\n";
+
+const SHORT: &[u8] =
+    b"department web\nkind user\nadmins\nprincipals alice\noptions\nextensions\nmaxlife 999\nnamespaces\n";
+
+/// The CA's byte, the first serial, the policy, the moment and the seconds ahead, and the verdict.
+type Case = (u8, u64, &'static [u8], u64, u64, Verdict);
+
+const CASES: [Case; 11] = [
+    (0x11, 1, WEB, 1500, 0, Verdict::Approve),
+    (0x11, 1, WEB, 1999, 0, Verdict::Approve),
+    (0x11, 1, WEB, 400, 600, Verdict::Approve),
+    (0x12, 2, b"", 2000, 0, Verdict::Refuse(Refusal::OtherCa)),
+    (0x11, 2, b"", 2000, 0, Verdict::Refuse(Refusal::OtherSerial)),
+    (
+        0x11,
+        1,
+        b"# none\n",
+        2000,
+        0,
+        Verdict::Refuse(Refusal::NoDepartment),
+    ),
+    (0x11, 1, HOSTS, 2000, 0, Verdict::Refuse(Refusal::OtherKind)),
+    (
+        0x11,
+        1,
+        SHORT,
+        2000,
+        0,
+        Verdict::Refuse(Refusal::NotPermitted),
+    ),
+    (
+        0x11,
+        1,
+        WEB,
+        2000,
+        0,
+        Verdict::Refuse(Refusal::AlreadyEnded),
+    ),
+    (
+        0x11,
+        1,
+        WEB,
+        399,
+        600,
+        Verdict::Refuse(Refusal::TooFarAhead),
+    ),
+    (0x11, 1, WEB, 0, 999, Verdict::Refuse(Refusal::TooFarAhead)),
+];
+
+/// The verdict of a case, where this body is kept under the serial.
+fn verdict_of(alloc: Global, case: &Case, kept: Option<&Text>) -> Option<Verdict> {
+    let (ca, first, policy, moment, ahead, _) = *case;
+    let Ok(policy) = Policy::read(alloc, policy) else {
+        return None;
+    };
+    let Ok(fields) = fields_of(alloc, BODY) else {
+        return None;
+    };
+    let scope = Scope {
+        ca: [ca; 32],
+        first,
+        last: 9,
+    };
+    let view = View {
+        scope: &scope,
+        kept,
+    };
+    Some(decide(&view, &policy, Window { moment, ahead }, BODY, &fields))
+}
+
+#[test]
+fn a_body_is_judged_by_the_table(rt: HostRuntime) {
+    for case in &CASES {
+        assert_eq!(rt; verdict_of(rt.alloc(), case, None), Some(case.5));
+    }
+}
+
+#[test]
+fn what_is_kept_is_signed_again_and_no_other(rt: HostRuntime) {
+    let again = Text::from_slice(rt.alloc(), BODY).expect(&rt, "memory suffices");
+    let other = Text::from_slice(rt.alloc(), b"other").expect(&rt, "memory suffices");
+    let late = &CASES[8];
+    assert_eq!(rt;
+        verdict_of(rt.alloc(), late, Some(&again)),
+        Some(Verdict::Again)
+    );
+    let taken = Verdict::Refuse(Refusal::SerialTaken);
+    assert_eq!(rt; verdict_of(rt.alloc(), late, Some(&other)), Some(taken));
+}
+
+/// Policies, and the lines that are answered. The first four are made of the one in `docs/FORMATS.md`, as it says.
+const POLICIES: [(&[u8], u64); 7] = [
+    (b" # people\n", 1),
+    (b"# people\ndepartment web\nki", 3),
+    (
+        b"# people\ndepartment web\nkind user\nadmins ana\nprincipals alice\noptions\nextensions permit-pty\n\
+        maxlife 86400\nnamespaces",
+        9,
+    ),
+    (
+        b"# people\ndepartment web\nkind user\nadmins ana\nprincipals alice\noptions\nextensions permit-pty\n\
+        maxlife 86400\nnamespaces\ndepartment web\nkind user\nadmins ana\nprincipals alice\noptions\n\
+        extensions permit-pty\nmaxlife 86400\nnamespaces\n",
+        10,
+    ),
+    (b"\n\n# a message of another kind\n\nrevoke-serial 1\n", 5),
+    (b"\n# a comment\n no comment\n", 3),
+    (b"#\ndepartment web\nkind user\n", 4),
+];
+
+#[test]
+fn the_bad_line_of_a_policy_is_that_of_the_file(rt: HostRuntime) {
+    for (policy, line) in &POLICIES {
+        let fault = Policy::read(rt.alloc(), policy).err();
+        assert_eq!(rt; fault, Some(PolicyFault::BadPolicy(*line)));
+    }
+}
