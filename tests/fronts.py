@@ -61,6 +61,10 @@ class Front:
             text = text.replace(old, new)
         file.write_text(text)
 
+    def __getstate__(self):
+        """What another process needs to ask the front."""
+        return {name: getattr(self, name) for name in ("port", "url", "authority", "conf", "state")}
+
     def begin(self):
         """Starts nginx, and waits until it listens."""
         user = pwd.getpwuid(os.getuid()).pw_name
@@ -99,14 +103,18 @@ class Front:
         made.trust_env = False
         return made
 
+    def connect_plainly(self, address="127.0.0.1"):
+        """A connection before TLS."""
+        plain = socket.create_connection(("127.0.0.1", self.port), timeout=20, source_address=(address, 0))
+        plain.setsockopt(socket.IPPROTO_TCP, socket.TCP_NODELAY, 1)
+        return plain
+
     def connect(self, name=None, address="127.0.0.1"):
         """A connection of the client of this name, by which bytes go as they are."""
         of = ssl.create_default_context(cafile=self.authority / "ca.crt")
         if name:
             of.load_cert_chain(self.certificate(name))
-        plain = socket.create_connection(("127.0.0.1", self.port), timeout=20, source_address=(address, 0))
-        plain.setsockopt(socket.IPPROTO_TCP, socket.TCP_NODELAY, 1)
-        return of.wrap_socket(plain, server_hostname="localhost")
+        return of.wrap_socket(self.connect_plainly(address), server_hostname="localhost")
 
     def ask(self, request, name=None):
         """All that comes back for these bytes, until the connection ends."""
