@@ -100,8 +100,9 @@ def test_a_slow_office_is_asked_once_for_each_ten_seconds(make_front, path, name
 
 
 def test_an_office_that_stands_still_is_not_asked_by_all_who_have_waited(make_front):
-    """After a minute, here six seconds, those who wait ask the office themselves. Eight may, and the others are told."""
-    edits = [(f"{name} 60s;", f"{name} 6s;") for name in ("proxy_read_timeout", "cache_lock_timeout", "cache_lock_age")]
+    """After a minute, here six seconds, those who wait ask the office themselves: eight may, and the others are
+    told."""
+    edits = [(f"{it} 60s;", f"{it} 6s;") for it in ("proxy_read_timeout", "cache_lock_timeout", "cache_lock_age")]
     with Recorder(seconds=30) as recorder:
         got = asked_together(make_front(recorder.port, edits=edits), "/v1/krl", 100)
         print(f"the office was asked {len(recorder.requests)} times")

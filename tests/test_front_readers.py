@@ -63,8 +63,8 @@ def is_open(peer):
 
 @contextlib.contextmanager
 def four_hundred_slow(front):
-    """100 clients that say nothing at all, 100 that say nothing by TLS, and 200 that send a byte every half second: half
-    of them of a head, and half of a body."""
+    """100 clients that say nothing at all, 100 that say nothing by TLS, and 200 that send a byte every half second:
+    half of them of a head, and half of a body."""
     head = posting("/v1/requests/drip", b"", b"Content-Length: 16384")
     silent = [front.connect_plainly() for _ in range(100)] + [front.connect("ana") for _ in range(100)]
     dripping = [front.connect(f"other-{number % 5}") for number in range(200)]
@@ -96,8 +96,8 @@ def test_beside_slow_clients_issues_are_answered_at_once(put):
         time.sleep(1)
         beside = paced(put, "beside", 20)
         held = sum(map(is_open, peers))
-    print(f"{PROCESSORS} processors: an issue takes {statistics.median(alone):.1f} ms alone, and beside 200 silent and 200 "
-          f"dripping clients {statistics.median(beside):.1f} ms, {max(beside):.1f} ms at most")
+    print(f"{PROCESSORS} processors: an issue takes {statistics.median(alone):.1f} ms alone, and beside 200 silent and "
+          f"200 dripping clients {statistics.median(beside):.1f} ms, {max(beside):.1f} ms at most")
     assert (400, True) == (held, max(beside) < 1000)
 
 
@@ -144,9 +144,9 @@ def test_the_list_is_given_10000_times_while_issues_go_on(put):
     issuing.join()
     until(lambda: times_asked(put, "/v1/krl")[1] >= 10000)
     asked, given = times_asked(put, "/v1/krl")
-    print(f"{PROCESSORS} processors: the list of {len(wanted)} bytes 10,000 times in {took:.1f} s, for which the office was "
-          f"asked {asked} times; meanwhile {len(beside)} issues, {statistics.median(beside):.0f} ms by the median, "
-          f"{max(beside):.0f} ms at most")
+    print(f"{PROCESSORS} processors: the list of {len(wanted)} bytes 10,000 times in {took:.1f} s, for which the "
+          f"office was asked {asked} times; meanwhile {len(beside)} issues, {statistics.median(beside):.0f} ms by the "
+          f"median, {max(beside):.0f} ms at most")
     assert (10000, 10000) == (right, given)
     assert asked <= took / 2 + took / 10 + 3
     assert len(beside) >= 10
@@ -207,8 +207,8 @@ def large_office(make_office):
 
 
 class Readers:
-    """So many connections of one reader, each of which asks for the table again and again until the block ends. They are
-    a process of their own, so that they take no time from the client that is measured."""
+    """So many connections of one reader, each of which asks for the table again and again until the block ends. They
+    are a process of their own, so that they take no time from the client that is measured."""
     def __init__(self, front, count):
         self.front, self.count, self.ended = front, count, FORK.Event()
         self.statuses = {200: FORK.Value("i"), 429: FORK.Value("i")}
@@ -271,9 +271,10 @@ def test_beside_60_readers_of_tables_root_revokes_as_fast_as_beside_one(large_of
             with Readers(front, count) as readers:
                 time.sleep(3)
                 took[count] = revocations(front, 1 + 1000 * count, 60)
-            print(f"{PROCESSORS} processors: beside {count} readers of tables of {COUNT} certificates, which take the office "
-                  f"{table:.0f} ms, {len(took[count])} revocations take {statistics.mean(took[count]):.1f} ms on average, "
-                  f"{statistics.median(took[count]):.1f} ms by the median and {max(took[count]):.0f} ms at most; the "
-                  f"readers were answered {readers.said()}")
+            its = took[count]
+            print(f"{PROCESSORS} processors: beside {count} readers of tables of {COUNT} certificates, of which the "
+                  f"first took the office {table:.0f} ms, {len(its)} revocations take {statistics.mean(its):.1f} ms on "
+                  f"average, {statistics.median(its):.1f} ms by the median and {max(its):.0f} ms at most; the readers "
+                  f"were answered {readers.said()}")
         assert statistics.mean(took[60]) <= 2 * statistics.mean(took[1])
         assert statistics.median(took[60]) <= 2 * statistics.median(took[1])

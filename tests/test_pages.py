@@ -44,22 +44,22 @@ ELSEWHERE = {
     "examples/station http://127.0.0.1:8022 ca.pem":
         Elsewhere("it asks an office", "tests/fronts.py", 'EXAMPLES / "station"'),
     "examples/request --cert ana.pem --cacert ca.crt https://office.example.org:8443 web web/alice alice.pub alice 8h":
-        Elsewhere(A_FRONT, "interop/front", "request "),
+        Elsewhere(A_FRONT, "tests/test_scripts.py", 'script("request"'),
     "examples/fetch-list --cacert ca.crt https://office.example.org:8443 revoked.krl":
-        Elsewhere(A_FRONT, "interop/front", "fetch-list --cacert"),
+        Elsewhere(A_FRONT, "tests/test_scripts.py", '"fetch-list", "--cacert"'),
     "examples/fetch-ca-keys --cacert ca.crt --named trusted https://office.example.org:8443 cas.pub":
         Elsewhere(A_FRONT, "tests/test_ca_keys.py", "fetch-ca-keys"),
     "curl -sSf --cacert ca.crt --cert watch.pem https://office.example.org:8443/v1/table | examples/list-of-table":
-        Elsewhere(A_FRONT, "interop/front", "list-of-table"),
+        Elsewhere(A_FRONT, "tests/test_scripts.py", "list-of-table"),
     "examples/figures --cacert ca.crt --cert watch.pem https://office.example.org:8443":
-        Elsewhere(A_FRONT, "interop/front", "figures --cacert"),
-    "systemctl kill -s STOP office": Elsewhere("it wants the units in service", "interop/front", "kill -STOP"),
+        Elsewhere(A_FRONT, "tests/test_scripts.py", 'script("figures", "--cacert"'),
+    "systemctl kill -s STOP office": Elsewhere("it wants the units in service", "tests/test_growing.py", "SIGSTOP"),
     "fsfreeze -f /var/lib/office && COPY; fsfreeze -u /var/lib/office":
-        Elsewhere("it wants a file system of its own, and root", "interop/front", "fsfreeze -f"),
+        Elsewhere("it wants a file system of its own, and root", "tests/test_growing.py", '"fsfreeze", "-f"'),
     "sqlite3 office.db 'PRAGMA integrity_check'":
-        Elsewhere("it looks at a copy of an office", "interop/front", "PRAGMA integrity_check"),
+        Elsewhere("it looks at a copy of an office", "tests/test_growing.py", "PRAGMA integrity_check"),
     "fetch-list --cacert ca.crt https://a.example.org:8443 a.krl":
-        Elsewhere("it asks two fronts", "interop/front", "tail -c +45"),
+        Elsewhere("it asks two fronts", "tests/test_growing.py", "tail -c +45"),
     "office-restore /var/backups/office/office.db":
         Elsewhere("it wants the units in service", "tests/test_boxes.py", "office-restore"),
     "cat /etc/vethlumi/alert": Elsewhere("it wants the units in service", "tests/test_boxes.py", "etc/vethlumi/alert"),
@@ -68,7 +68,7 @@ ELSEWHERE = {
 PAGES_ELSEWHERE = {"docs/OPERATING.md": "tests/test_operating.py"}
 
 LINK = re.compile(r"\[((?:[^\[\]]|\[[^\]]*\])*)\]\(([^()\s]+)\)")
-PATH = re.compile(r"`(?:\./)?((?:bench|crates|docs|examples|interop|tests|tools)/[\w./-]+)`")
+PATH = re.compile(r"`(?:\./)?((?:bench|crates|docs|examples|tests|tools)/[\w./-]+)`")
 QUOTED = re.compile(r"\bfrom `(crates/[\w/]+\.rt)`:\n\n```text\n(.*?)^```$", re.M | re.S)
 DECLARED = r"(?:pub(?:\([a-z]+\))? )?(?:(?:fn|struct|trait|enum|const|type|abbrev|record|data) (?:pub )?)"
 
