@@ -29,7 +29,7 @@ use Rattle.office.proofs.Texts.{bad_is}
 use Rattle.office.specs.declared.arrival.Outcome.TheVariants as outcome
 use Rattle.office.specs.declared.view.Stop.TheVariants as stop
 use Rattle.store_sql.specs.Contents.{Contents, Means}
-use Rattle.store_sql.specs.Calls.{Never, Stays}
+use Rattle.store_sql.specs.Calls.{Never}
 use Rattle.store_sql.specs.Faults.{HasCause}
 use Rattle.store_sql.specs.declared.table_fault.Fault.{Fault}
 use Rattle.store_sql.specs.declared.table_fault.Fault.TheVariants.{NoMemory}
@@ -42,10 +42,11 @@ use Rattle.store.proofs.Steps.{Leads, answers_then, goes_still, waits_then}
 use Rattle.store.specs.Histories.{AreApart, is_for}
 use Rattle.store.proofs.Keeping.{known_by_kept, no_repeat, reply_by_kept, reply_of}
 use Rattle.store.specs.Meaning.{IsHistory}
-use Rattle.store.specs.Arriving.{ExceedsTables, FailsAt, IsAfter, IsAnswered, IsAsked, IsNew, Past, Settles}
+use Rattle.store.specs.Arriving.{ExceedsTables, IsAfter, IsAnswered, IsAsked, IsNew, Past, Settles, Settling}
 use Rattle.store.specs.Arriving.{contents_with, kept_at, state_at, stopped}
 use Rattle.store.proofs.Lawful.{lawful_after}
 use Rattle.store.proofs.Reading.{still_means}
+use Rattle.store.proofs.Showing.{survives_still}
 use Rattle.store.specs.Showing.{Reading}
 use Rattle.store.specs.ShowingRows.{Asking}
 
@@ -146,36 +147,51 @@ step_refused p a m r is refused =
     let unknown = is.unknown in
     rw (message, in_time, unknown, refused) refl
 
--- a message that isn't accepted now changes nothing
-pub stopped_settles : (a : Arrival) (m : Message) (Known : Past → Type 0) (c : Connection) (s : Stop)
-    (r : Result Outcome Fault) → r ≡ stopped s → length a.nonce ≡ 32 → IsTrue c.is_open
-    → ((p : Past) → Known p → IsNew a m p)
-    → ((p : Past) → Known p → Decided (Err s) (state_at p) a.caller m a.moment a.nonce) → Settles a Known c c r
-stopped_settles a m Known c s r is size is_open new decided = subst (λ q. Settles a Known c c q) (sym is) (go s decided)
-  where
-    go : (s : Stop) → ((p : Past) → Known p → Decided (Err s) (state_at p) a.caller m a.moment a.nonce)
-        → Settles a Known c c (stopped s)
-    go (Refused x) decided =
-        settles_still a Known c (outcome.Refused x) size is_open
-        (λ p h known. refused_still a p x h (new p known).new (step_refused p a m x (new p known) (decided p known)))
-    go stop.NoMemory decided = settles_not a Known c NoMemory
-
 -- ---- all that is said of a part
 
--- what a part does with an arrival of which this is known, if this is so of the connection
-pub record Settling (Asked : Type 0) (a : Arrival) (Known : Past → Type 0) (old new : Connection)
-    (r : Result Outcome Fault) : Type 0 where
-  pub settles : HasCleanDisk new → Asked → Settles a Known old new r
-  pub fails : HasCleanDisk new → FailsAt a Known old new r
-  pub stays : HasCleanDisk new → Stays old new r
-  pub survives : Survives old new (Waits (IsAfter Known) old)
+-- a part that answers without a change
+pub settling_still : {a : Arrival} {Known : Past → Type 0} {c : Connection} {x : Outcome}
+    → (IsTrue c.is_open → Settles a Known c c (Ok x)) → Settling (IsTrue c.is_open) a Known c c (Ok x)
+settling_still {Known = Known} {c = c} settles = record {
+  settles = λ clean is_open. settles is_open;
+  fails = λ clean. tt;
+  stays = λ clean inside. (record { was_open = λ still. still; committed = λ _. refl }, refl);
+  survives = survives_still c (Waits (IsAfter Known) c);
+}
 
-pub settling : {Asked : Type 0} {Known : Past → Type 0} {old new : Connection}
-    → Survives old new (Waits (IsAfter Known) old) → (a : Arrival) (r : Result Outcome Fault)
-    → (HasCleanDisk new → Asked → Settles a Known old new r) → (HasCleanDisk new → FailsAt a Known old new r)
-    → (HasCleanDisk new → Stays old new r) → Settling Asked a Known old new r
-settling survives a r settles fails stays =
-    record { settles = settles; fails = fails; stays = stays; survives = survives }
+-- a part that fails for want of memory, before it does anything
+pub settling_not : {Given : Type 0} {a : Arrival} {Known : Past → Type 0} {c : Connection}
+    → Settling Given a Known c c (Err NoMemory)
+settling_not {a = a} {Known = Known} {c = c} = record {
+  settles = λ clean given. settles_not a Known c NoMemory;
+  fails = λ clean p after. tt;
+  stays = λ clean inside. record { was_open = λ still. still; committed = λ _. refl };
+  survives = survives_still c (Waits (IsAfter Known) c);
+}
+
+-- a part that asks for no open connection
+pub settling_open : {Given : Type 0} {a : Arrival} {Known : Past → Type 0} {old new : Connection}
+    {r : Result Outcome Fault} → Settling (Unit {0}) a Known old new r → Settling Given a Known old new r
+settling_open part = record {
+  settles = λ clean _. part.settles clean tt;
+  fails = part.fails;
+  stays = part.stays;
+  survives = part.survives;
+}
+
+-- a message that isn't accepted now changes nothing
+pub stopped_settles : (a : Arrival) (m : Message) (Known : Past → Type 0) (c : Connection) (s : Stop)
+    (r : Result Outcome Fault) → r ≡ stopped s → length a.nonce ≡ 32 → ((p : Past) → Known p → IsNew a m p)
+    → ((p : Past) → Known p → Decided (Err s) (state_at p) a.caller m a.moment a.nonce)
+    → Settling (IsTrue c.is_open) a Known c c r
+stopped_settles a m Known c s r is size new decided =
+    subst (λ q. Settling (IsTrue c.is_open) a Known c c q) (sym is) (go s decided)
+  where
+    go : (s : Stop) → ((p : Past) → Known p → Decided (Err s) (state_at p) a.caller m a.moment a.nonce)
+        → Settling (IsTrue c.is_open) a Known c c (stopped s)
+    go (Refused x) decided = settling_still (λ is_open. settles_still a Known c (outcome.Refused x) size is_open
+        (λ p h known. refused_still a p x h (new p known).new (step_refused p a m x (new p known) (decided p known))))
+    go stop.NoMemory decided = settling_not
 
 -- what is known says less
 pub settling_weaker : {Asked : Type 0} {a : Arrival} {Known Later : Past → Type 0} {old new : Connection}

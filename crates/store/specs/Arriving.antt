@@ -1,13 +1,16 @@
 -- One arrival more, in one transaction.
 use Rattle.std.specs.Prelude.{◌≡◌, ◌⊎◌, ◌<◌, false, nat_lt, Bool, List, [], ◌∷◌, ◌++◌, find, IfErr, IsOkAnd, Option}
-use Rattle.std.specs.Prelude.{Some, None, Result, Ok, Err}
+use Rattle.std.specs.Prelude.{Some, None, Result, Ok, Err, IsTrue}
 use Rattle.std.specs.List.{list_any}
 use Rattle.values.specs.declared.limits.TheConstants.{LATEST_MOMENT}
 use Rattle.sqlite.specs.Effect.{Database}
-use Rattle.sqlite.specs.State.{State as Connection, HasCleanDisk}
+use Rattle.sqlite_trees.specs.declared.store.Store.{Ghosts}
+use Rattle.sqlite.specs.Held.{Held, state as state_of}
+use Rattle.sqlite.specs.State.{State as Connection, HasCleanDisk, Survives}
 use Rattle.message.specs.declared.kinds.Message.{Message}
 use Rattle.store_sql.specs.declared.table_fault.Fault.{Fault}
 use Rattle.store_sql.specs.declared.table_fault.Fault.TheVariants.{Damaged, Device, NoMemory}
+use Rattle.store_sql.specs.Calls.{Stays}
 use Rattle.store_sql.specs.Contents.{Contents, Means}
 use Rattle.store_sql.specs.Cells.{cert_cells, request_cells}
 use Rattle.store_sql.specs.Refusals.{IsFull, IsTooLong, RefusesDepartment, RefusesSignature}
@@ -28,7 +31,7 @@ use Rattle.office.specs.Messages.{message_with_text}
 use Rattle.office.specs.State.{State, next_serial}
 use Rattle.office.specs.History.{change as change_by, due, first_accepted, has_key, judged, kept_by, reply_kept, state}
 use Rattle.store.specs.Rows.{cert_row, department_row, office_contents, request_row}
-use Rattle.store.specs.Transactions.{Answers, FailsFor, StopsFor}
+use Rattle.store.specs.Transactions.{Answers, FailsFor, StopsFor, Waits}
 use Rattle.store.specs.declared.reads.concerning.Concerned.{Concerned}
 use Rattle.store.specs.Concerning.{AreConcerned}
 use Rattle.store.specs.Histories.{is_for}
@@ -145,6 +148,25 @@ ExceedsTables a p =
 -- of tables as these a fault is want of memory, or the database failed, or what is decided is more than they hold
 abbrev pub FailsAt : Arrival → (Past → Type 0) → Connection → Connection → Result Outcome Fault → Type 0
 FailsAt a Known old new r = FailsFor (IsAfter Known) (ExceedsTables a) old new r
+
+-- all that a part does with an arrival of which this is known, if this is so
+pub record Settling (Given : Type 0) (a : Arrival) (Known : Past → Type 0) (old new : Connection)
+    (r : Result Outcome Fault) : Type 0 where
+  pub settles : HasCleanDisk new → Given → Settles a Known old new r
+  pub fails : HasCleanDisk new → FailsAt a Known old new r
+  pub stays : HasCleanDisk new → Stays old new r
+  pub survives : Survives old new (Waits (IsAfter Known) old)
+
+-- of a connection
+abbrev pub SettlesOn : {S : Type 0} → Ghosts S → Arrival → (Past → Type 0) → Held S → Held S → Result Outcome Fault
+    → Type 0
+SettlesOn g a Known old new r = Settling (Unit {0}) a Known (state_of g old) (state_of g new) r
+
+-- of a connection, if it is open
+abbrev pub SettlesOpen : {S : Type 0} → Ghosts S → Arrival → (Past → Type 0) → Held S → Held S → Result Outcome Fault
+    → Type 0
+SettlesOpen g a Known old new r =
+    Settling (IsTrue (state_of g old).is_open) a Known (state_of g old) (state_of g new) r
 
 -- ---- the whole
 

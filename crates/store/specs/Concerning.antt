@@ -1,5 +1,5 @@
 -- The rows that a message concerns.
-use Rattle.std.specs.Prelude.{◌≡◌, ◌≤◌, Bool, List, Option, IfSome, IsTrue}
+use Rattle.std.specs.Prelude.{◌≡◌, Bool, List, Option, IfSome, IsTrue}
 use Rattle.message.specs.declared.kinds.Message.{Message}
 use Rattle.message.specs.declared.department.Department.{Department}
 use Rattle.message.specs.Values.{is_department}

@@ -3,15 +3,12 @@
 //! Large values are dropped by name: the proof of a function that ends with one takes each of its fields apart.
 
 ghost use Rattle.std.specs.Prelude.{◌≡◌, IsTrue, Some, length};
-ghost use Rattle.store_sql.specs.Calls.{Stays};
-ghost use Rattle.store_sql.specs.Honest.{On, OnOpen, OutlivesBy};
 ghost use Rattle.message.specs.Values.{is_message};
 ghost use Rattle.office.specs.Decided.{IsLawfulChange};
 ghost use Rattle.office.specs.Messages.{message_with_text};
-ghost use Rattle.store.specs.Transactions.{Waits};
 ghost use Rattle.store.specs.Concerning.{AreLawful};
-ghost use Rattle.store.specs.Arriving.{FailsAt, IsAccepted, IsAfter, IsAny, IsAsked, IsDecided, IsFound, IsNew};
-ghost use Rattle.store.specs.Arriving.{IsWeighed, Settles, stopped};
+ghost use Rattle.store.specs.Arriving.{IsAccepted, IsAny, IsAsked, IsDecided, IsFound, IsNew, IsWeighed};
+ghost use Rattle.store.specs.Arriving.{SettlesOn, SettlesOpen, stopped};
 
 use crate::reads::{Concerned, concerned_rows, kept_for};
 use crate::writes::write;
@@ -35,13 +32,7 @@ fn accept<S: Alter>(
 ) -> Result<Outcome, Fault>
     requires lawful { IsLawfulChange decision.now.change }
     requires nonce { length arrival.now.nonce ≡ 32 }
-    ensures settles { On S.Store (Settles arrival.now (IsAccepted arrival.now decision.now cas.now))
-        conn.old conn.new result }
-    ensures fails { On S.Store (FailsAt arrival.now (IsAccepted arrival.now decision.now cas.now))
-        conn.old conn.new result }
-    ensures stays { On S.Store Stays conn.old conn.new result }
-    ensures survives { OutlivesBy S.Store (Waits (IsAfter (IsAccepted arrival.now decision.now cas.now)))
-        conn.old conn.new }
+    ensures { SettlesOn S.Store arrival.now (IsAccepted arrival.now decision.now cas.now) conn.old conn.new result }
 {
     let reply = decision.reply.copied(alloc)?;
     write(alloc, conn, arrival, decision, cas)?;
@@ -58,13 +49,7 @@ fn accept_version<S: Alter>(
 ) -> Result<Outcome, Fault>
     requires lawful { IsLawfulChange decision.now.change }
     requires nonce { length arrival.now.nonce ≡ 32 }
-    ensures settles { On S.Store (Settles arrival.now (IsDecided arrival.now decision.now cas.now))
-        conn.old conn.new result }
-    ensures fails { On S.Store (FailsAt arrival.now (IsDecided arrival.now decision.now cas.now))
-        conn.old conn.new result }
-    ensures stays { On S.Store Stays conn.old conn.new result }
-    ensures survives { OutlivesBy S.Store (Waits (IsAfter (IsDecided arrival.now decision.now cas.now)))
-        conn.old conn.new }
+    ensures { SettlesOn S.Store arrival.now (IsDecided arrival.now decision.now cas.now) conn.old conn.new result }
 {
     if LAST_VERSION < decision.version {
         return Err(Fault::NoMemory);
@@ -92,13 +77,7 @@ fn weigh<S: Alter>(
     requires message { IsTrue (is_message message.now) }
     requires rows { AreLawful rows.now }
     requires nonce { length arrival.now.nonce ≡ 32 }
-    ensures settles { OnOpen S.Store (Settles arrival.now (IsWeighed arrival.now message.now rows.now))
-        conn.old conn.new result }
-    ensures fails { On S.Store (FailsAt arrival.now (IsWeighed arrival.now message.now rows.now))
-        conn.old conn.new result }
-    ensures stays { On S.Store Stays conn.old conn.new result }
-    ensures survives { OutlivesBy S.Store (Waits (IsAfter (IsWeighed arrival.now message.now rows.now)))
-        conn.old conn.new }
+    ensures { SettlesOpen S.Store arrival.now (IsWeighed arrival.now message.now rows.now) conn.old conn.new result }
 {
     let view = rows.view();
     if LAST_VERSION < view.version {
@@ -130,10 +109,7 @@ fn consider<S: Alter>(
 ) -> Result<Outcome, Fault>
     requires message { IsTrue (is_message message.now) }
     requires nonce { length arrival.now.nonce ≡ 32 }
-    ensures settles { On S.Store (Settles arrival.now (IsNew arrival.now message.now)) conn.old conn.new result }
-    ensures fails { On S.Store (FailsAt arrival.now (IsNew arrival.now message.now)) conn.old conn.new result }
-    ensures stays { On S.Store Stays conn.old conn.new result }
-    ensures survives { OutlivesBy S.Store (Waits (IsAfter (IsNew arrival.now message.now))) conn.old conn.new }
+    ensures { SettlesOn S.Store arrival.now (IsNew arrival.now message.now) conn.old conn.new result }
 {
     let rows = concerned_rows(alloc, conn, message)?;
     let outcome = weigh(alloc, conn, arrival, message, &rows);
@@ -152,10 +128,7 @@ fn admit<S: Alter>(
     requires message { IsTrue (is_message message.now) }
     requires read { message_with_text arrival.now.bytes ≡ Some message.now }
     requires nonce { length arrival.now.nonce ≡ 32 }
-    ensures settles { OnOpen S.Store (Settles arrival.now (IsAsked arrival.now is_known)) conn.old conn.new result }
-    ensures fails { On S.Store (FailsAt arrival.now (IsAsked arrival.now is_known)) conn.old conn.new result }
-    ensures stays { On S.Store Stays conn.old conn.new result }
-    ensures survives { OutlivesBy S.Store (Waits (IsAfter (IsAsked arrival.now is_known))) conn.old conn.new }
+    ensures { SettlesOpen S.Store arrival.now (IsAsked arrival.now is_known) conn.old conn.new result }
 {
     if LATEST_MOMENT < arrival.moment {
         return Ok(Outcome::Refused(Refusal::BadMoment));
@@ -174,10 +147,7 @@ fn judge<S: Alter>(
     is_known: bool,
 ) -> Result<Outcome, Fault>
     requires { length arrival.now.nonce ≡ 32 }
-    ensures settles { OnOpen S.Store (Settles arrival.now (IsAsked arrival.now is_known)) conn.old conn.new result }
-    ensures fails { On S.Store (FailsAt arrival.now (IsAsked arrival.now is_known)) conn.old conn.new result }
-    ensures stays { On S.Store Stays conn.old conn.new result }
-    ensures survives { OutlivesBy S.Store (Waits (IsAfter (IsAsked arrival.now is_known))) conn.old conn.new }
+    ensures { SettlesOpen S.Store arrival.now (IsAsked arrival.now is_known) conn.old conn.new result }
 {
     match read_message(alloc, arrival.bytes.as_slice()) {
         Ok(message) => {
@@ -198,10 +168,7 @@ fn settle_beside<S: Alter>(
     found: Option<Kept>,
 ) -> Result<Outcome, Fault>
     requires { length arrival.now.nonce ≡ 32 }
-    ensures settles { OnOpen S.Store (Settles arrival.now (IsFound arrival.now found)) conn.old conn.new result }
-    ensures fails { On S.Store (FailsAt arrival.now (IsFound arrival.now found)) conn.old conn.new result }
-    ensures stays { On S.Store Stays conn.old conn.new result }
-    ensures survives { OutlivesBy S.Store (Waits (IsAfter (IsFound arrival.now found))) conn.old conn.new }
+    ensures { SettlesOpen S.Store arrival.now (IsFound arrival.now found) conn.old conn.new result }
 {
     let Some(kept) = found else {
         return judge(alloc, conn, arrival, false);
@@ -219,10 +186,7 @@ pub(crate) fn settle<S: Alter>(
     arrival: &Arrival,
 ) -> Result<Outcome, Fault>
     requires { length arrival.now.nonce ≡ 32 }
-    ensures settles { On S.Store (Settles arrival.now IsAny) conn.old conn.new result }
-    ensures fails { On S.Store (FailsAt arrival.now IsAny) conn.old conn.new result }
-    ensures stays { On S.Store Stays conn.old conn.new result }
-    ensures survives { OutlivesBy S.Store (Waits (IsAfter IsAny)) conn.old conn.new }
+    ensures { SettlesOn S.Store arrival.now IsAny conn.old conn.new result }
 {
     let found = kept_for(
         alloc,

@@ -1,7 +1,7 @@
 use Rattle.std.proofs.Common.{arith}
 use Rattle.store.specs.Meaning.{IsHistory}
 use Rattle.store.specs.Arriving.{IsAccepted, IsDecided, Past}
-use Rattle.store.proofs.Settled.{settling, settling_weaker}
+use Rattle.store.proofs.Settled.{settling_weaker}
 use Rattle.store.proofs.settling.accept_version.Goals as goal
 
 pub returns : goal.returns
@@ -9,9 +9,6 @@ returns g c =
     let a = c.args.arrival.now in
     let d = c.args.decision.now in
     let cas = c.args.cas.now in
-    let q = c.accept.ensures in
     let less : (p : Past) → IsHistory p.0 p.1 → IsDecided a d cas p → IsAccepted a d cas p =
     λ p history is. is (omega (arith, c.if-decision-gt-LAST_VERSION.false)) in
-    let w = settling_weaker less
-    (settling q.survives a c.accept.result (λ clean (_ : Unit {0}). q.settles clean) q.fails q.stays) in
-    record { settles = λ clean. w.settles clean tt; fails = w.fails; stays = w.stays; survives = w.survives }
+    settling_weaker less c.accept.ensures

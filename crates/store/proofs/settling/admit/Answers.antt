@@ -5,29 +5,28 @@ use Rattle.values.specs.declared.limits.TheConstants.{LATEST_MOMENT}
 use Rattle.sqlite.specs.Held.{state}
 use Rattle.store.specs.Meaning.{IsHistory}
 use Rattle.store.specs.Arriving.{IsAsked, IsNew, Past}
-use Rattle.store.proofs.Settled.{settles_refused, settling, settling_weaker}
+use Rattle.store.proofs.Settled.{settles_refused, settling_open, settling_still, settling_weaker}
 use Rattle.store.proofs.settling.admit.Goals as goal
 
-pub returns-then-arrival-gt-LATEST_MOMENT-clause-settles : goal.returns-then-arrival-gt-LATEST_MOMENT-clause-settles
-returns-then-arrival-gt-LATEST_MOMENT-clause-settles g c clean is_open =
+pub returns-then-arrival-gt-LATEST_MOMENT : goal.returns-then-arrival-gt-LATEST_MOMENT
+returns-then-arrival-gt-LATEST_MOMENT g c =
     let a = c.args.arrival.now in
     let is = c.requires.read in
     let late : nat_lt LATEST_MOMENT a.moment ≡ true = lt-ltb _ _ c.if-arrival-gt-LATEST_MOMENT.true in
-    settles_refused a c.args.is_known (state g.S.Store c.args.conn.now) _ c.requires.nonce is_open
-    (λ p asked. rw (is, late) refl)
+    settling_still (λ is_open. settles_refused a c.args.is_known (state g.S.Store c.args.conn.now) _ c.requires.nonce
+    is_open (λ p asked. rw (is, late) refl))
 
-pub returns-then-is_known-clause-settles : goal.returns-then-is_known-clause-settles
-returns-then-is_known-clause-settles g c clean is_open =
+pub returns-then-is_known : goal.returns-then-is_known
+returns-then-is_known g c =
     let a = c.args.arrival.now in
     let is = c.requires.read in
     let in_time : nat_lt LATEST_MOMENT a.moment ≡ false = le-ltb _ _ c.if-arrival-gt-LATEST_MOMENT.false in
-    settles_refused a c.args.is_known (state g.S.Store c.args.conn.now) _ c.requires.nonce is_open
-    (λ p asked. rw (is, in_time, asked.known ∙ c.if-is_known.true) refl)
+    settling_still (λ is_open. settles_refused a c.args.is_known (state g.S.Store c.args.conn.now) _ c.requires.nonce
+    is_open (λ p asked. rw (is, in_time, asked.known ∙ c.if-is_known.true) refl))
 
 pub returns : goal.returns
 returns g c =
     let a = c.args.arrival.now in
-    let q = c.consider.ensures in
     let less : (p : Past) → IsHistory p.0 p.1 → IsAsked a c.args.is_known p → IsNew a c.args.message.now p =
     λ p history asked. record {
       new = asked.new;
@@ -35,6 +34,4 @@ returns g c =
       in_time = le-ltb _ _ c.if-arrival-gt-LATEST_MOMENT.false;
       unknown = asked.known ∙ c.if-is_known.false;
     } in
-    let w = settling_weaker less
-    (settling q.survives a c.consider.result (λ clean (_ : Unit {0}). q.settles clean) q.fails q.stays) in
-    record { settles = λ clean _. w.settles clean tt; fails = w.fails; stays = w.stays; survives = w.survives }
+    settling_open (settling_weaker less c.consider.ensures)

@@ -4,7 +4,7 @@ use Rattle.office.specs.Decided.{Decided}
 use Rattle.store.specs.Meaning.{IsHistory}
 use Rattle.store.specs.Arriving.{IsDecided, IsWeighed, Past, state_at}
 use Rattle.store.proofs.Accepted.{decided_accepted}
-use Rattle.store.proofs.Settled.{settling, settling_weaker, stopped_settles}
+use Rattle.store.proofs.Settled.{settling_open, settling_weaker, stopped_settles}
 use Rattle.store.proofs.settling.weigh.Goals as goal
 
 pub returns-in-Ok : goal.returns-in-Ok
@@ -13,7 +13,6 @@ returns-in-Ok g c =
     let m = c.args.message.now in
     let d = c.in-Ok.decision in
     let v = c.view-view.result in
-    let q = c.accept_version-outcome.ensures in
     let less : (p : Past) → IsHistory p.0 p.1 → IsWeighed a m c.args.rows.now p → IsDecided a d v.cas.now p =
     λ p history is small.
     let agrees = c.view-view.ensures.agrees (state_at p) m is.rows in
@@ -21,16 +20,14 @@ returns-in-Ok g c =
     (subst (λ (x : List ℕ). Decided (Ok d) (state_at p) x m a.moment a.nonce) c.as_slice.ensures
     (c.in-Ok.ensures.decided (state_at p) agrees))
     (c.in-Ok.ensures.room (state_at p) agrees) agrees small in
-    let w = settling_weaker less
-    (settling q.survives a c.accept_version-outcome.result (λ clean (_ : Unit {0}). q.settles clean) q.fails q.stays) in
-    record { settles = λ clean _. w.settles clean tt; fails = w.fails; stays = w.stays; survives = w.survives }
+    settling_open (settling_weaker less c.accept_version-outcome.ensures)
 
-pub returns-in-Err-clause-settles : goal.returns-in-Err-clause-settles
-returns-in-Err-clause-settles g c clean is_open =
+pub returns-in-Err : goal.returns-in-Err
+returns-in-Err g c =
     let a = c.args.arrival.now in
     let m = c.args.message.now in
     let rows = c.args.rows.now in
     stopped_settles a m (IsWeighed a m rows) (state g.S.Store c.args.conn.now) c.in-Err.stop c.stopped.result
-    c.stopped.ensures c.requires.nonce is_open (λ p is. is.new)
+    c.stopped.ensures c.requires.nonce (λ p is. is.new)
     (λ p is. subst (λ (x : List ℕ). Decided (Err c.in-Err.stop) (state_at p) x m a.moment a.nonce) c.as_slice.ensures
     (c.in-Err.ensures.decided (state_at p) (c.view-view.ensures.agrees (state_at p) m is.rows)))

@@ -26,13 +26,14 @@ returns-in-Ok g c =
     omega (arith, end.survives.clean, part.survives.clean) in
     record {
       ends = λ clean. ends (IsAfter IsAny) (IsAnswered a) (contents_with a) old first last new r q
-          (begins (early clean)) (part.settles (late clean)) (end.concludes clean);
+          (begins (early clean)) (part.settles (late clean) tt) (end.concludes clean);
       cause = λ clean. stops_for (IsAfter IsAny) (IsAnswered a) (contents_with a) (ExceedsTables a)
           (Waits (IsAfter IsAny) first) old first last new started part.survives (early clean) (late clean)
-          end.survives.counts r q (begins (early clean)) (part.settles (late clean)) (part.fails (late clean))
+          end.survives.counts r q (begins (early clean)) (part.settles (late clean) tt) (part.fails (late clean))
           (end.concludes clean) (end.cause clean);
       before = λ clean. concludes_before old first last new r q (begins (early clean)) (part.stays (late clean))
           (end.concludes clean);
-      survives = left (IsAfter IsAny) (IsAnswered a) (contents_with a) old first last new r begins part.settles started
+      survives = left (IsAfter IsAny) (IsAnswered a) (contents_with a) old first last new r begins
+          (λ clean. part.settles clean tt) started
           part.survives end.survives;
     }
