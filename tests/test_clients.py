@@ -1,0 +1,249 @@
+"""station and request: what they send is bounded in time and size, names no secret, and happens once."""
+import concurrent.futures
+import os
+import pathlib
+import shutil
+import signal
+import subprocess
+
+import pytest
+
+from asking import department, issue, lasting
+from fetching import Web, response, script
+from recording import whole_request
+from running import EXAMPLES, run, until
+
+CALLS = "calls"
+
+
+@pytest.fixture
+def watched(room, monkeypatch):
+    """Programs that write their arguments into the file `calls` before they do their work."""
+    (room / "bin").mkdir()
+    for name in ("curl", "openssl", "ssh-keygen"):
+        file = room / "bin" / name
+        file.write_text(f'#!/bin/sh\nprintf "%s\\n" "{name} $*" >>{room}/{CALLS}\nexec {shutil.which(name)} "$@"\n')
+        file.chmod(0o755)
+    monkeypatch.setenv("PATH", f"{room}/bin:{os.environ['PATH']}")
+    return room / CALLS
+
+
+def new_key(name="alice"):
+    run(["ssh-keygen", "-q", "-t", "ed25519", "-N", "", "-C", name, "-f", name], check=True)
+    return pathlib.Path(f"{name}.pub").read_text().strip()
+
+
+@pytest.fixture
+def asked(served):
+    """An office that serves, with the department web."""
+    assert 200 == served.post("root", "web", department()).status
+    return served
+
+
+def request(office, name="alice", *more, keyid="web/alice", wait=1):
+    return script("request", "--caller", "ana", "--wait", wait, *more, office.url, "web", keyid, f"{name}.pub", "alice",
+                  "1h")
+
+
+def calls_of(watched, name):
+    return [it for it in watched.read_text().splitlines() if it.startswith(f"{name} ")]
+
+
+# ---- what programs are told
+
+def test_each_request_has_a_time_limit_and_its_url_is_taken_as_it_is(asked, watched):
+    new_key()
+    assert 1 == request(asked)[0]
+    assert 0 == script("station", asked.url, asked.office.ca_key)[0]
+    assert 0 == request(asked)[0]
+    for name in ("fetch-list", "fetch-ca-keys"):
+        script(name, *["--fingerprint", "SHA256:" + 43 * "A"] * (name != "fetch-list"), asked.url, "fetched")
+    calls = calls_of(watched, "curl")
+    assert len(calls) >= 8
+    assert [] == [it for it in calls if "--max-time " not in it or "--globoff" not in it or " --url http" not in it]
+
+
+def test_no_secret_is_an_argument(asked, watched):
+    new_key()
+    assert 1 == request(asked)[0]
+    assert 0 == script("station", asked.url, asked.office.ca_key)[0]
+    text = watched.read_text()
+    signature = asked.get("/v1/certs/1").text.split()[1][-20:-4]
+    for secret in (*asked.office.ca_key.read_text().splitlines(), *(pathlib.Path("alice").read_text().splitlines())):
+        assert secret not in text
+    assert signature not in text and "keyid" not in text
+
+
+@pytest.mark.parametrize("name, words", [
+    ("station", ["{url}/{{a,b}}[1-3]", "key.pem"]),
+    ("fetch-list", ["{url}/{{a,b}}[1-3]", "list"]),
+    ("request", ["--caller", "ana", "--wait", "1", "{url}/{{a,b}}[1-3]", "web", "web/a", "alice.pub", "alice", "1h"]),
+], ids=lambda it: it if isinstance(it, str) else "")
+def test_braces_of_a_url_are_no_pattern(room, name, words):
+    new_key()
+    run(["openssl", "genpkey", "-algorithm", "ed25519", "-out", "key.pem"], check=True)
+    with Web(response(b"no", "404 Not Found")) as web:
+        script(name, *[it.format(url=web.url) for it in words])
+        assert 1 == len(web.requests)
+        assert b" /{a,b}[1-3]/v1/" in web.requests[0].split(b"\r\n")[0]
+
+
+# ---- station
+
+def test_a_body_that_cannot_be_had_starves_no_other(asked):
+    for name in ("one", "two", "three"):
+        asked.post("ana", name, issue(f"web/{name}", **lasting(3600)))
+    pending = asked.get("/v1/pending").body
+    serials = [it.split()[0] for it in pending.decode().splitlines()]
+    assert ["1", "2", "3"] == serials
+    lines = pending.decode().splitlines()
+    with Forwarding(asked, pending=f"{lines[0]}\n9 {lines[0].split()[1]}\n{lines[2]}\n".encode()) as false:
+        status, out, errors = script("station", false.url, asked.office.ca_key)
+    assert (1, "signed 1\nsigned 3\n") == (status, out)
+    assert "station: serial 9 isn't signed" == errors[-1]
+    assert (0, "signed 2\n", []) == script("station", asked.url, asked.office.ca_key)
+    assert (0, "", []) == script("station", asked.url, asked.office.ca_key)
+
+
+class Forwarding(Web):
+    """A server before an office that says of its own what waits."""
+
+    def __init__(self, served, pending):
+        super().__init__()
+        self.served, self.pending = served, pending
+
+    def finish_request(self, peer, address):
+        came = whole_request(peer)
+        if came.startswith(b"GET /v1/pending "):
+            peer.sendall(response(self.pending))
+        else:
+            peer.sendall(self.served.ask(came).bytes)
+
+
+PENDING = [
+    ("a serial with a path", b"1/../2 " + 64 * b"a" + b"\n"),
+    ("a serial that is an option", b"--output " + 64 * b"a" + b"\n"),
+    ("no digest", b"1\n"),
+    ("another page", b"<html>sign in to the network</html>\n"),
+]
+
+
+@pytest.mark.parametrize("body", [it[1] for it in PENDING], ids=[it[0] for it in PENDING])
+def test_what_is_no_list_of_what_waits_is_not_followed(office, body):
+    with Web(response(body)) as web:
+        status, out, errors = script("station", web.url, office.ca_key)
+        assert (1, "", f"station: {web.url} says something else than what waits") == (status, out, errors[-1])
+        assert 1 == len(web.requests)
+
+
+def test_an_endless_body_is_not_signed(office):
+    class Endless(Web):
+        def finish_request(self, peer, address):
+            self.endless = b""
+            if not self.requests:
+                self.answer = response(b"1 " + 64 * b"a" + b"\n")
+            else:
+                self.answer, self.endless = response(b"", length=""), bytes(1 << 16)
+            super().finish_request(peer, address)
+
+    with Endless() as web:
+        status, out, errors = script("station", web.url, office.ca_key)
+        assert (1, "", "station: serial 1 isn't signed") == (status, out, errors[-1])
+
+
+@pytest.mark.parametrize("words, status, why", [
+    ([], 2, None), (["url"], 2, None), (["a", "b", "c", "d"], 2, None), (["--no-such-word", "x"], 2, None),
+    (["http://127.0.0.1:1", "none"], 1, "station: can't read none"),
+    (["http://127.0.0.1:1", "no-key"], 1, "station: no-key is no private key"),
+], ids=str)
+def test_bad_words_of_the_station(room, words, status, why):
+    (room / "no-key").write_text("no key\n")
+    got, out, errors = script("station", *words)
+    assert (status, "", why or "station URL KEY [CALLER]") == (got, out, errors[-1] if why else errors[0])
+
+
+def test_the_stations_help():
+    assert (0, "station URL KEY [CALLER]") == (lambda it: (it[0], it[1].splitlines()[0]))(script("station", "--help"))
+
+
+# ---- request
+
+def test_two_at_once_get_one_certificate(asked):
+    new_key()
+    with concurrent.futures.ThreadPoolExecutor(4) as threads:
+        done = list(threads.map(lambda _: request(asked, wait=2), range(4)))
+    assert {1} == {it[0] for it in done}
+    assert b"total 1 version 0\n" in asked.get("/v1/table").body
+    script("station", asked.url, asked.office.ca_key)
+    assert (0, "alice-cert.pub serial 1\n", []) == request(asked)
+
+
+def test_a_command_that_was_killed_may_be_run_again_at_once(asked):
+    new_key()
+    words = [EXAMPLES / "request", "--caller", "ana", asked.url, "web", "web/alice", "alice.pub", "alice", "1h"]
+    with subprocess.Popen(words, stderr=subprocess.DEVNULL, start_new_session=True) as process:
+        until(lambda: b"total 1 " in asked.get("/v1/table").body)
+        os.killpg(process.pid, signal.SIGKILL)
+    script("station", asked.url, asked.office.ca_key)
+    assert (0, "alice-cert.pub serial 1\n", []) == request(asked)
+
+
+@pytest.mark.parametrize("name", ["with space", "-dash", "a$b`c", "a*[b]"])
+def test_a_key_may_have_any_name(asked, name, room):
+    new_key()
+    for end in ("", ".pub"):
+        (room / f"alice{end}").rename(room / f"{name}{end}")
+    assert 1 == request(asked, name)[0]
+    script("station", asked.url, asked.office.ca_key)
+    status, out, errors = request(asked, name)
+    assert (0, []) == (status, errors)
+    assert f"{name}-cert.pub serial 1\n" == out.removeprefix("./")
+    assert b"-cert-v01" in (room / f"{name}-cert.pub").read_bytes()
+
+
+@pytest.mark.parametrize("name", ["a:b.pem", "a\\b.pem", "with space.pem"])
+def test_a_clients_certificate_may_have_any_name(front, name, room):
+    front.session("root").post(f"{front.url}/v1/requests/web", data=department())
+    new_key()
+    shutil.copy(front.certificate("ana"), room / name)
+    words = ["--cert", name, "--cacert", front.authority / "ca.crt", "--wait", 1, front.url, "web", "web/alice"]
+    status, _, errors = script("request", *words, "alice.pub", "alice", "1h")
+    assert (1, "request: serial 1 has no signature yet; alice.request is kept: run the same command again") \
+        == (status, errors[-1])
+
+
+def test_half_an_answer_is_none(room):
+    new_key()
+    with Web(response(b"issued 1", length=500)) as web:
+        status, out, errors = request(web)
+    assert (1, "") == (status, out)
+    assert errors[-1].startswith("request: no answer: ") and errors[-1].endswith("run the same command again")
+    assert (room / "alice.request").exists()
+
+
+def test_an_endless_answer_ends(room):
+    new_key()
+    with Web(response(b"", length="")) as web:
+        web.endless = bytes(1 << 16)
+        status, _, errors = request(web)
+    assert (1, True) == (status, errors[-1].startswith("request: no answer: "))
+
+
+def test_a_folder_in_place_of_the_certificate(asked, room):
+    new_key()
+    (room / "alice-cert.pub").mkdir()
+    request(asked)
+    script("station", asked.url, asked.office.ca_key)
+    assert 1 == request(asked)[0]
+    assert [] == os.listdir("alice-cert.pub")
+    assert (room / "alice.request").exists()
+
+
+def test_what_is_kept_is_the_users_alone(asked, room):
+    new_key()
+    (room / "alice.request.new").write_text("left of a kill\n")
+    (room / "alice.request.new").chmod(0o666)
+    done = run([EXAMPLES / "request", "--caller", "ana", "--wait", "1", asked.url, "web", "web/alice", "alice.pub",
+                "alice", "1h"], umask=0)
+    assert 1 == done.returncode
+    assert 0o600 == (room / "alice.request").stat().st_mode & 0o777
