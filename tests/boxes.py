@@ -140,7 +140,7 @@ def descendants(pid):
         yield from descendants(it)
 
 
-def wait_until(is_so, what, seconds=30):
+def wait_until(is_so, what, seconds=60):
     """Waits until a function returns something true, and returns that."""
     end = time.monotonic() + seconds
     while time.monotonic() < end:

@@ -58,9 +58,10 @@ class Site(boxes.Rack):
             place = box.files / "root/vethlumi"
             if not place.exists():
                 shutil.copytree(TOP / "examples", place / "examples")
-                out = place / "crates/sshoffice/out"
-                out.mkdir(parents=True)
-                shutil.copy2(self.program, out / "sshoffice")
+                if box.name in ("office", "spare"):
+                    out = place / "crates/sshoffice/out"
+                    out.mkdir(parents=True)
+                    shutil.copy2(self.program, out / "sshoffice")
         return made
 
     def shell(self, name):
@@ -406,3 +407,14 @@ def test_drill_a_lost_office(site):
     printed = drill(site, "A lost office")
     assert ["refused", "granted"] == of(printed, "granted", "refused")
     assert "alice-cert.pub serial 1000000" in printed
+
+
+def test_drill_another_machine(site):
+    printed = drill(site, "Another machine")
+    assert ["inactive"] * 3 + ["same", "granted"] == of(printed, "active", "inactive", "same", "granted")
+    # The first machine stays out of it, also after it was switched on again.
+    first = site.boxes["office"]
+    site.shells.pop("office").end()
+    first.reboot()
+    assert ["inactive"] * 3 == states(first)
+    assert ["active"] * 3 == states(site.boxes["spare"])
