@@ -22,6 +22,8 @@ IN_SERVICE = "In service"
 MACHINES = ["admin", "office", "station", "server"]
 # What stays in a shell when its commands have ended.
 NAMES = re.compile(r"^(?:export |front=|send\(\)).*$", re.M)
+# The CAs that a server trusts.
+CAS = "/var/lib/office-list/cas.pub"
 UNITS = "office office-door.socket office-front"
 # What a caller is answered by the front, for a route of which the front keeps no answer.
 ASK = ("curl -s -o /dev/null -w '%{{http_code}}' --cacert authority/ca.crt --cert authority/{}.pem "
@@ -399,7 +401,9 @@ def test_drill_a_lost_ca(site):
 
 def test_drill_a_taken_front(site):
     printed = drill(site, "A taken front")
-    assert ["granted", "refused", "granted"] == of(printed, "granted", "refused")
+    assert ["granted", "amiss", "refused", "granted"] == of(printed, "granted", "refused", "amiss")
+    key = site.boxes["station"].says("ssh-keygen -l -f first.pub").split()[1]
+    assert [key] == [it.split()[1] for it in site.boxes["server"].says(f"ssh-keygen -l -f {CAS}").splitlines()]
     assert any(it.startswith("front: the certificate is another authority's") for it in printed)
 
 
