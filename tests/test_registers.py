@@ -25,7 +25,8 @@ from asking import (CA, LAST_SERIAL, LATEST, answers, deliver, department, excha
 from plain_office import PlainOffice
 from running import ROWS, Office, run
 
-STEPS_OF_A_HISTORY = 50
+# A history has so many steps at most, and twenty or more by the mean.
+MOST_STEPS, MEAN_STEPS = 50, 20
 DEPARTMENT = exchanges_of((ROWS / "the-department-of-the-trial-office.exchange").read_bytes())
 
 # Rows whose requests have heads that are no good ones. The office in Python reads none of these.
@@ -51,7 +52,7 @@ def test_the_office_in_python_gives_the_rows(name):
 
 CALLERS = some.sampled_from(["ana", "bob", "root", "station"])
 KEYS = some.sampled_from([f"k{place}" for place in range(40)])
-MOMENTS = some.sampled_from([1000, 1000, 1000, 1500, 1999, 0, 3000, LATEST, LATEST + 1])
+MOMENTS = some.sampled_from([1000] * 8 + [1500, 1999, 0, 3000, LATEST, LATEST + 1])
 NONCES = some.integers(0, 255)
 DEPARTMENTS = some.sampled_from(["web", "web", "web2", "db"])
 KEY_IDS = some.builds("{}/{}".format, DEPARTMENTS, some.sampled_from(["a", "b", "c/d", "x"]))
@@ -66,7 +67,7 @@ CAS = some.integers(0x11, 0x1a).map(key_line)
 OTHERS = some.sampled_from(["issue web\n", "deliver 9\n", "revoke-range 3 2\n", "revoke-serial 0\n", "", "renew 1\n"])
 PAGES = some.sampled_from(["pending", "krl", "signers", "table", "cas", "certs/0", "certs/01", "keys"])
 # A serial that is near to one that was handed out: so many before the next.
-BEFORE = some.integers(-1, 8)
+BEFORE = some.integers(-1, 6)
 
 COLUMNS = {
     "office": "id, schema, hex(ca), root, station, first, last, next, version, date",
@@ -91,12 +92,20 @@ class Registers(RuleBasedStateMachine):
     program = None
     count = itertools.count()
 
-    @initialize(last=some.sampled_from([LAST_SERIAL, LAST_SERIAL, 4, 12]), piece=some.sampled_from([1000, 17]))
-    def begin(self, last, piece):
-        """The office, and how many exchanges the program answers before the file is opened again."""
+    @initialize(last=some.sampled_from([LAST_SERIAL, LAST_SERIAL, 5, 12]), piece=some.sampled_from([1000, 17]),
+                count=some.sampled_from([0, 3, 4]), cas=some.sampled_from([0, 0, 7]))
+    def begin(self, last, piece, count, cas):
+        """The office, and how many exchanges the program answers before the file is opened again; and then perhaps some
+        certificates, of which the last isn't signed, and CAs."""
         self.last, self.piece, self.exchanges, self.given, self.office = last, piece, [], [], plain_office(1, last)
         for one in DEPARTMENT:
             self.office.answer(*one)
+        for serial in range(1, count + 1):
+            self.send(("ana", f"k{serial}", 1000, serial), issue(f"web/{'abx'[serial % 3]}", after=1000, before=2000))
+            if serial < count:
+                self.deliver_what_waits(("station", f"k{serial}", 1000, 0), 0)
+        for byte in range(0x12, 0x12 + cas):
+            self.send(("root", f"k{byte}", 1000, 0), rollover(key_line(byte)))
 
     def ask(self, request, moment, nonce):
         one = exchange(request, moment, nonce)
@@ -129,13 +138,19 @@ class Registers(RuleBasedStateMachine):
         self.send(to, issue(key_id, department=None if is_its_own else of, key=key, principals=principals,
                             after=ends[0], before=ends[1], options=options, extensions=extensions))
 
-    @rule(to=FROM_ANA, key_id=some.sampled_from(["web/a", "web/b", "web/c"]))
-    def ask_for_what_is_permitted(self, to, key_id):
-        self.send(to, issue(key_id, after=1000, before=2000))
+    @rule(key=KEYS, nonce=NONCES, key_id=KEY_IDS, options=OPTIONS, extensions=EXTENSIONS, principals=PRINCIPALS)
+    def ask_for_what_is_permitted(self, key, nonce, key_id, options, extensions, principals):
+        self.send(("root", key, 1000, nonce), issue(key_id, after=1000, before=2000))
+        self.send(("root", key[::-1], 1000, nonce), issue(
+            key_id, principals=principals, after=1000, before=2000, options=options, extensions=extensions))
 
     @rule(to=FROM_ANA, before=BEFORE, ends=ENDS)
     def renew_one(self, to, before, ends):
         self.send(to, renew(self.serial(before), after=ends[0], before=ends[1]))
+
+    @rule(to=FROM_ANA, before=BEFORE)
+    def renew_for_as_long(self, to, before):
+        self.send(to, renew(self.serial(before), after=1500, before=3500))
 
     @precondition(lambda self: self.office.waiting())
     @rule(to=FROM_STATION, place=some.integers(0, 9))
@@ -222,6 +237,6 @@ def test_registers_answer_alike(request, program, room):
     Machine.program = program
     steps = request.config.getoption("--steps")
     run_state_machine_as_test(Machine, settings=settings(
-        max_examples=max(1, steps // STEPS_OF_A_HISTORY), stateful_step_count=STEPS_OF_A_HISTORY, deadline=None,
+        max_examples=max(1, steps // MEAN_STEPS), stateful_step_count=MOST_STEPS, deadline=None,
         database=None, suppress_health_check=HealthCheck.all(), print_blob=False,
         phases=(Phase.generate, Phase.shrink)))
