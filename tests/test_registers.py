@@ -5,14 +5,15 @@ The office in Python is written from the formats alone. First it has to give the
 whose requests have good heads. Then hypothesis asks it histories of messages of each kind and of each GET, many of
 which are refused, and makes a history that fails as short as it can. The program has to give the same bytes, in a file
 that is opened again and again; and so once more, with each request at another moment and with another nonce. Then the
-reports, each certificate and its body have to be the same, and sqlite3 has to find the rows in the file that the office
+reports, each certificate and its body have to be the same, and SQLite has to find the rows in the file that the office
 in Python has.
 
 `--steps 20000` asks more than the thousand exchanges of the check, and `--hypothesis-seed` the same ones as before.
 """
+import contextlib
 import itertools
-import json
 import pathlib
+import sqlite3
 
 import pytest
 from hypothesis import HealthCheck, Phase, settings
@@ -78,13 +79,15 @@ COLUMNS = {
     "revoked_keyid": "keyid",
     "ca": "number, hex(ca), since",
 }
+KEYS_OF = {"request": "1, 2"}
 
 
-def rows_of(db, table):
-    """The rows that sqlite3 finds in a table, in the order of its key."""
-    keys = "1, 2" if table == "request" else "1"
-    found = run(["sqlite3", "-json", db, f"SELECT {COLUMNS[table]} FROM {table} ORDER BY {keys}"], check=True).stdout
-    return [list(row.values()) for row in json.loads(found or b"[]")]
+def rows_of(db):
+    """The rows that SQLite finds in each table, in the order of its key, in a sound file."""
+    with contextlib.closing(sqlite3.connect(f"file:{db}?mode=ro", uri=True)) as file:
+        assert [("ok",)] == file.execute("PRAGMA integrity_check").fetchall()
+        return {table: [[*row] for row in file.execute(f"SELECT {columns} FROM {table} ORDER BY {key}")]
+                for table, columns in COLUMNS.items() for key in [KEYS_OF.get(table, "1")]}
 
 
 class Registers(RuleBasedStateMachine):
@@ -222,8 +225,7 @@ class Registers(RuleBasedStateMachine):
         for place in range(0, len(asked), self.piece):
             given += office.apply(asked[place:place + self.piece])
         assert due == given, "in a file"
-        assert self.office.rows() == {table: rows_of(office.db, table) for table in COLUMNS}
-        assert b"ok\n" == run(["sqlite3", office.db, "PRAGMA integrity_check"]).stdout
+        assert self.office.rows() == rows_of(office.db)
         for file in pathlib.Path().glob(f"{office.db.stem}.*"):
             file.unlink()
 
