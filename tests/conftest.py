@@ -7,7 +7,6 @@ import signal
 
 import pytest
 
-from asking import CA
 from browsing import Relay, new_browser
 from differences import difference
 from fronts import Front, Station, new_authority
@@ -51,13 +50,18 @@ def pytest_unconfigure(config):
 
 
 def pytest_collection_modifyitems(items):
-    """Marks tests by what they use, and leaves out what only root can run."""
+    """Marks tests by what they use, gives slow ones more time, and leaves out what only root can run."""
     for item in items:
+        if item.get_closest_marker("slow") and not item.get_closest_marker("timeout"):
+            item.add_marker(pytest.mark.timeout(600))
         for name in ("front", "browser"):
             if {name, f"make_{name}"} & {*getattr(item, "fixturenames", ())}:
                 item.add_marker(name)
         if item.get_closest_marker("root") and os.getuid():
             item.add_marker(pytest.mark.skip(reason="left out: root alone can run it"))
+    # Side by side, the tests that take long come first, so that no processor is idle at the end.
+    if "PYTEST_XDIST_WORKER" in os.environ:
+        items.sort(key=lambda item: item.get_closest_marker("slow") is None)
 
 
 def pytest_assertrepr_compare(op, left, right):
@@ -69,7 +73,7 @@ def pytest_assertrepr_compare(op, left, right):
 
 def built(path):
     if not os.access(path, os.X_OK):
-        pytest.fail(f"{path} isn't there: ./build makes the program", pytrace=False)
+        pytest.fail(f"{path} isn't there: tests/README.md says what makes it", pytrace=False)
     return path.resolve()
 
 
@@ -104,12 +108,6 @@ def make_office(program, room):
 @pytest.fixture
 def office(make_office):
     return make_office()
-
-
-@pytest.fixture
-def rows_office(make_office):
-    """An office under the CA of the worked rows."""
-    return make_office(ca=CA)
 
 
 @pytest.fixture
