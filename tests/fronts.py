@@ -85,7 +85,7 @@ class Front:
         """Has nginx read its files again, and waits until the processes of before are gone."""
         old = self.workers()
         self.process.send_signal(signal.SIGHUP)
-        until(lambda: not set(old) & set(self.workers()))
+        until(lambda: not set(old) & set(self.workers()), seconds=30)
 
     def certificate(self, name):
         """The file with a client's key and certificate."""

@@ -133,7 +133,7 @@ def sent_on_each(front, request, count, connections, name=None):
 def logged(front):
     """The bytes of the front's logs, once nothing comes any more."""
     time.sleep(1.5)
-    return sum(file.stat().st_size for file in front.state.glob("*.log"))
+    return sum(file.stat().st_size for pattern in ("*.log", "nginx.faults") for file in front.state.glob(pattern))
 
 
 LONG = "/" + 8000 * "a"
@@ -194,6 +194,27 @@ def test_a_flood_of_paths_that_do_not_exist_is_refused(make_front, recorder):
         other = statuses(rest(peer))
     assert ([404] * 1000, True, [404], [200]) == (first, second.count(429) >= 450, other,
                                                   statuses(front.ask(getting("/v1/krl"))))
+
+
+def test_an_ipv6_address_counts_as_its_network_of_64_bits(make_front, recorder):
+    """Whoever has such a network has all of its addresses. The byte 10, a line feed, is one like others."""
+    front = make_front(recorder.port, edits=[
+        ("server_tokens off;", "server_tokens off; set_real_ip_from 127.0.0.1; real_ip_header X-Address;"),
+        ("zone=refused:10m rate=1r/s", "zone=refused:10m rate=1r/m")])
+
+    def nothing_there(address, count=1):
+        request = getting("/none", "GET", b"X-Address: " + address.encode())
+        with front.connect() as peer:
+            peer.sendall((count - 1) * staying(request) + request)
+            return statuses(rest(peer))
+
+    for network, addresses, others in (("2001:db8:0:a::/64", ["2001:db8:0:a::1", "2001:db8:0:a:a0a::ffff"],
+                                        ["2001:db8:0:b::1", "2001:db8:a::1", "2001:db8:0:0:a::1"]),
+                                       ("192.0.2.10/32", ["192.0.2.10"], ["192.0.2.11"])):
+        assert {404} == set(nothing_there(addresses[0], 1000)), network
+        assert 10 >= nothing_there(addresses[0], 20).count(404), network
+        assert [[429]] * len(addresses) == [nothing_there(it) for it in addresses], network
+        assert [[404]] * len(others) == [nothing_there(it) for it in others], network
 
 
 def test_a_line_of_the_log(make_front, recorder):
