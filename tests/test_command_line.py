@@ -1,6 +1,7 @@
 """Commands: words, a status, and what is printed to standard output and to standard error."""
 import pathlib
 import resource
+import subprocess
 
 import pytest
 
@@ -189,6 +190,15 @@ def test_what_is_printed(program, files, words, output):
 def test_words_that_are_no_command(program, files, words):
     status, out, err = come(program, words, files)
     assert (2, b"", True) == (status, out, len(err) > 0)
+
+
+@pytest.mark.parametrize("words", [
+    [b"\xff"], [b"krl", b"--db", b"\xff"], [b"check", b"--ca", b"ca\xc3", b"k", b"1", b"x"]])
+def test_a_word_that_is_not_utf_8(program, words):
+    """It is bad words, and says so."""
+    done = subprocess.run([program, *words], capture_output=True, timeout=100)
+    assert (2, b"") == (done.returncode, done.stdout)
+    assert b"UTF-8" in done.stderr
 
 
 # ---- outputs that take nothing, or a part

@@ -4,6 +4,9 @@ ssh-keygen writes and reads the same.
 krl_tool makes lists of specifications. The lists of ssh-keygen that stand here as bytes were made with OpenSSH 9.2; the
 last part has ssh-keygen make new ones at each run.
 """
+import contextlib
+import sqlite3
+
 import pytest
 
 from asking import key_blob, key_line, string
@@ -157,6 +160,12 @@ def with_byte(place, byte):
     return RANGE[:place] + bytes([byte]) + RANGE[place + 1:]
 
 
+def longer(size):
+    """The list with a range of so many bytes, in a section of the length that belongs to it."""
+    part = b"\x21" + string((RANGE[113:] + bytes(16))[:size])
+    return RANGE[:44] + b"\1" + string(RANGE[49:108] + part)
+
+
 EVERY_CA = bytes.fromhex("01 00000015 00000000 00000000 20 00000008 0000000000000009")
 EXCHANGED = RANGE[:120] + b"\7" + RANGE[121:128] + b"\5"
 NO_SERIALS = RANGE[:48] + b"\x40" + RANGE[49:104] + bytes.fromhex("00000000 20 00000000")
@@ -190,10 +199,14 @@ CHECKED = [
         (108, 0x20, "clear"),
         (108, 0x23, "BadSection"),
         (112, 0x0f, "BadSection"),
+        (112, 0x11, "BadSection"),
         (120, 9, "clear"),
     ]],
     *[(RANGE + EVERY_CA, "and a section of every CA", key, serial, "x", answer) for key, serial, answer in [
         (OTHER, 9, "revoked"), (OTHER, 6, "clear"), (FIRST, 9, "revoked"), (FIRST, 6, "revoked")]],
+    *[(longer(size), f"with a range of {size} bytes", FIRST, 6, "x", "revoked" if size == 16 else "BadSection")
+      for size in (0, 8, 15, 16, 17, 24, 32)],
+    *[(RANGE, "a range", FIRST, serial, "web/x", "clear") for serial in (2 ** 63 - 1, 2 ** 63, LAST_OF_ALL)],
     (RANGE + bytes.fromhex("0200000000"), "and a section of another type", FIRST, 6, "x", "Unsupported(2)"),
     *[(EXCHANGED, "with its ends exchanged", FIRST, serial, "x", "clear") for serial in range(4, 9)],
     *[(NO_SERIALS, "with no serials in its place", FIRST, serial, "x", "clear")
@@ -333,3 +346,34 @@ def test_we_refuse_parts_that_no_office_writes(lists, words, specification, faul
     _, _, by_reader = lists
     made_by_keygen([(words, specification)])
     assert {fault} == by_reader()
+
+
+# ---- long lists
+
+def long_list(count):
+    """A list of this many ranges of three serials, ten apart, under the first CA: the ranges, and the list's bytes."""
+    ranges = [(10 * it + 1, 10 * it + 3) for it in range(count)]
+    return ranges, header(count, 3000) + section(0x11, *[ranged(*it) for it in ranges])
+
+
+def test_a_list_of_over_a_megabyte_is_read(program, room):
+    ranges, content = long_list(50_000)
+    assert len(content) > 1_000_000
+    (room / "list.krl").write_bytes(content)
+    (room / "ca.pub").write_text(FIRST)
+    low, high = ranges[-1]
+    for serial, verdict in ((low - 1, b"clear\n"), (low, b"revoked\n"), (high, b"revoked\n"), (high + 1, b"clear\n")):
+        assert (0, verdict, b"") == said(run([program, "check", "--ca", "ca.pub", "list.krl", serial, "web/x"]))
+
+
+def test_a_list_of_over_64_kilobytes_is_served(make_office):
+    """The runs are put into the file by SQLite, as that many revocations leave them."""
+    ranges, content = long_list(5_000)
+    assert len(content) > 64 * 1024
+    office = make_office(ca=FIRST)
+    with contextlib.closing(sqlite3.connect(office.db)) as file, file:
+        file.executemany("INSERT INTO run VALUES (?, ?)", ranges)
+        file.execute("UPDATE office SET version = 5000, date = 3000, next = ?", [ranges[-1][1] + 1])
+    assert content == office.krl()
+    with office.serving() as served:
+        assert content == served.get("/v1/krl").body

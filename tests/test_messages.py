@@ -1,9 +1,11 @@
 """Which texts are messages, each limit at and past its end: a text that is none is refused as BadMessage.
 
 A message of each kind is given another line in one place, and is posted by root to the trial office in memory. Of each
-worked message each beginning is posted as well, and the message with one line feed more.
+worked message each beginning is posted as well, and the message with some bytes more. Of networks Python and ssh-keygen
+are asked at each run.
 """
 import base64
+import ipaddress
 
 import pytest
 
@@ -159,7 +161,8 @@ def all_rows():
     for lines, _ in WORKED:
         whole = text(lines)
         yield f"{lines[0]!r} whole", whole, True
-        yield f"{lines[0]!r} with one line feed more", whole + b"\n", False
+        for more in (b"\n", b"x", b"\0", b" ", whole):
+            yield f"{lines[0]!r} with {shown(more.decode())} behind it", whole + more, False
         for size in range(len(whole)):
             yield f"the first {size} bytes of {lines[0]!r}", whole[:size], False
 
@@ -192,3 +195,31 @@ def test_a_text_is_a_message_or_none(replies, place, is_message):
         assert BAD != replies[place]
     else:
         assert BAD == replies[place]
+
+
+def by_python(network):
+    """Whether Python takes it for a network of IPv4, with its size, without leading zeros in its numbers."""
+    try:
+        return "/" in network and str(ipaddress.IPv4Network(network)) == network
+    except ValueError:
+        return False
+
+
+@pytest.fixture(scope="module")
+def keys(tmp_path_factory):
+    folder = tmp_path_factory.mktemp("keys")
+    for name in ("ca", "user"):
+        run(["ssh-keygen", "-q", "-t", "ed25519", "-N", "", "-f", folder / name], check=True)
+    return folder
+
+
+@pytest.mark.parametrize("networks", NETWORKS[0] + NETWORKS[1], ids=repr)
+def test_python_and_ssh_keygen_agree_on_networks(keys, networks):
+    """ssh-keygen takes more: a network without its size, of IPv6, and more than eight of them."""
+    is_ours = networks in NETWORKS[0]
+    assert is_ours == (len(networks.split(",")) <= 8 and all(map(by_python, networks.split(","))))
+    if is_ours:
+        words = ["-I", "x", "-O", f"source-address={networks}", keys / "user.pub"]
+        run(["ssh-keygen", "-q", "-s", keys / "ca", *words], check=True)
+        shown_by_keygen = run(["ssh-keygen", "-L", "-f", keys / "user-cert.pub"], check=True).stdout.decode()
+        assert f"source-address {networks}\n" in shown_by_keygen

@@ -52,6 +52,15 @@ LENGTHS = [(post(lines), refusal) for lines, refusal in [
     (b"transfer-encoding: chunked\r\n", "LengthRequired"),
     (b"content-length: 1\r\nTransfer-Encoding: chunked\r\n", "LengthRequired"),
     (b"content-length: 16385\r\ntransfer-encoding: chunked\r\n", "LengthRequired"),
+    *[(b"content-length: 0\r\ntransfer-encoding: %s\r\n" % it, "LengthRequired")
+      for it in (b"gzip", b"identity", b"gzip, chunked", b"")],
+]]
+
+# A line is found behind so many others: one that asks for more than is there, and one that smuggles a body.
+BEHIND = [row for count in range(1, 32) for row in [
+    (post(b"a: b\r\n" * count + b"content-length: 16385\r\n"), "TooLong"),
+    (post(b"content-length: 0\r\n" + b"a: b\r\n" * (count - 1) + b"Transfer-Encoding: gzip\r\n"), "LengthRequired"),
+    (post(b"content-length: 0\r\n" + b"a: b\r\n" * (count - 1) + b"content-length: 0\r\n"), "BadHead"),
 ]]
 
 # A head has at most 32 header lines and 8192 bytes.
@@ -125,6 +134,7 @@ PATHS = [(get(path, method), wanted) for method, path, wanted in [
 TABLES = {
     "posted": POSTS,
     "length": LENGTHS,
+    "behind": BEHIND,
     "limit": LIMITS,
     "resource": [(get(path), (OK[0], body)) for path, body in RESOURCES],
     "around": AROUND,

@@ -15,7 +15,7 @@ import time
 
 import pytest
 
-from asking import LATEST, answers, department, exchanges_of, get, key_line, post, rollover
+from asking import LATEST, answers, department, exchanges_of, get, issue, key_line, post, rollover
 from running import ROWS, Office, preloaded, run
 
 
@@ -249,6 +249,36 @@ def test_a_port_that_can_not_be_printed_is_a_fault(program, offices, room):
     with open("/dev/full", "wb") as full:
         done = run([program, *words], capture_output=False, stdout=full, stderr=subprocess.PIPE)
     assert (1, b"sshoffice: Write\n") == (done.returncode, done.stderr)
+
+
+def test_it_listens_on_loopback_alone(system):
+    """What Linux says of the sockets that listen: the address is 127.0.0.1, and there is none of IPv6."""
+    with system.serving(1) as server:
+        def listening(family):
+            lines = pathlib.Path(f"/proc/{server.process.pid}/net/{family}").read_text().splitlines()[1:]
+            return [line.split()[1] for line in lines
+                    if line.split()[3] == "0A" and line.split()[1].endswith(f":{server.port:04X}")]
+
+        assert [f"0100007F:{server.port:04X}"] == listening("tcp")
+        assert [] == listening("tcp6")
+
+
+def test_a_longest_body_is_served(system):
+    """It is read whole, and is no message."""
+    longest = post("ana", "i1", b"a" * 16384)
+    (refused, other), end = system.met(longest, LIST)
+    assert (b"refused 7 BadMessage\n", NO_LIST, ends()) == (refused.partition(b"\r\n\r\n")[2], other, end)
+
+
+def nonce(body):
+    """The nonce of a certificate's body: a string behind the name of the format."""
+    return body[40:72]
+
+
+def test_each_certificate_has_a_nonce_of_its_own(served):
+    served.post("root", "web", department())
+    assert [200] * 20 == [served.post("ana", f"k{it}", issue(f"web/{it}")).status for it in range(20)]
+    assert 20 == len({nonce(served.get(f"/v1/certs/{it}/body").body) for it in range(1, 21)})
 
 
 # ---- clocks
