@@ -248,7 +248,7 @@ def test_an_endless_body_ends(fetch, web, room):
 
 def test_a_folder_in_place_of_the_file(fetch, room):
     (room / "keys").mkdir()
-    assert (1, ["keys is a folder; keys is as it was"]) == fetch(body(A), A)
+    assert (1, ["keys is no file; keys is as it was"]) == fetch(body(A), A)
     assert [] == os.listdir("keys")
 
 
@@ -263,7 +263,7 @@ def test_a_link_in_place_of_the_file_is_replaced_and_not_followed(fetch, room):
 def test_a_link_to_a_folder_or_to_nothing(fetch, room):
     (room / "folder").mkdir()
     (room / "keys").symlink_to("folder")
-    assert (1, ["keys is a folder; keys is as it was"]) == fetch(body(A), A)
+    assert (1, ["keys is no file; keys is as it was"]) == fetch(body(A), A)
     (room / "keys").unlink()
     (room / "keys").symlink_to("nothing")
     assert (0, []) == fetch(body(A), A)

@@ -9,7 +9,7 @@ import subprocess
 import pytest
 
 from asking import department, issue, lasting
-from fetching import Web, response, script
+from fetching import Web, response, script, small_disk
 from recording import whole_request
 from running import EXAMPLES, run, until
 
@@ -234,7 +234,8 @@ def test_a_folder_in_place_of_the_certificate(asked, room):
     (room / "alice-cert.pub").mkdir()
     request(asked)
     script("station", asked.url, asked.office.ca_key)
-    assert 1 == request(asked)[0]
+    why = "request: can't write alice-cert.pub; alice.request is kept: run the same command again"
+    assert (1, "", [why]) == request(asked)
     assert [] == os.listdir("alice-cert.pub")
     assert (room / "alice.request").exists()
 
@@ -247,3 +248,51 @@ def test_what_is_kept_is_the_users_alone(asked, room):
                 "alice", "1h"], umask=0)
     assert 1 == done.returncode
     assert 0o600 == (room / "alice.request").stat().st_mode & 0o777
+
+
+@pytest.mark.root
+@pytest.mark.parametrize("blocks", range(3))
+def test_a_full_disk_keeps_what_was_asked(asked, room, blocks):
+    with small_disk(room / "disk") as fill:
+        new_key("disk/alice")
+        fill(blocks)
+        status, _, errors = request(asked, "disk/alice")
+        assert 1 == status
+        assert blocks or errors == ["request: can't write disk/alice.request"]
+        script("station", asked.url, asked.office.ca_key)
+        request(asked, "disk/alice")
+        (room / "disk/filling").unlink()
+        request(asked, "disk/alice")
+        script("station", asked.url, asked.office.ca_key)
+        assert 0 == request(asked, "disk/alice")[0] or (room / "disk/alice-cert.pub").exists()
+        assert b"-cert-v01" in (room / "disk/alice-cert.pub").read_bytes()
+
+
+BAD_WORDS = [
+    (["--caller", "a b"], "http://127.0.0.1:1", "no caller's name: a b"),
+    (["--caller", "a/../b"], "http://127.0.0.1:1", "no caller's name: a/../b"),
+    ([], "file:///etc/passwd", "no URL: file:///etc/passwd"),
+    ([], "-o", "no such option: -o"),
+    ([], "http://a b", "no URL: http://a b"),
+    (["--wait", "0"], "http://127.0.0.1:1", "no number of seconds: 0"),
+    (["--cert", "none"], "http://127.0.0.1:1", "can't read none"),
+]
+
+
+@pytest.mark.parametrize("words, url, why", BAD_WORDS, ids=str)
+def test_bad_words_send_nothing(room, words, url, why):
+    new_key()
+    status, out, errors = script("request", *words, url, "web", "web/alice", "alice.pub", "alice", "1h")
+    assert (True, "", [f"request: {why}"]) == (status in (1, 2), out, errors)
+    assert not (room / "alice.request").exists()
+
+
+@pytest.mark.parametrize("name, words, missing", [
+    ("request", ["http://127.0.0.1:1", "web", "web/alice", "alice.pub", "alice", "1h"], "curl"),
+    ("station", ["http://127.0.0.1:1", "alice"], "base64")])
+def test_a_program_that_is_missing_is_named(room, name, words, missing):
+    new_key()
+    (room / "bin").mkdir()
+    for program in ("env", "bash"):
+        (room / "bin" / program).symlink_to(f"/usr/bin/{program}")
+    assert (1, "", [f"{name}: {missing} is missing"]) == script(name, *words, env={"PATH": str(room / "bin")})

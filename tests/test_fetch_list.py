@@ -117,10 +117,15 @@ def test_an_endless_body_ends(fetch, web, room):
 
 def test_a_folder_in_place_of_the_list(fetch, room):
     (room / "list").mkdir()
-    assert (1, "list is a folder; list is as it was") == fetch(LIST)
+    assert (1, "list is no file; list is as it was") == fetch(LIST)
     (room / "link").symlink_to("list")
-    assert (1, "link is a folder; link is as it was") == fetch(LIST, file="link")
+    assert (1, "link is no file; link is as it was") == fetch(LIST, file="link")
     assert [] == os.listdir("list")
+
+
+def test_a_pipe_in_place_of_the_list_is_not_waited_for(fetch, room):
+    os.mkfifo("list")
+    assert (1, "list is no file; list is as it was") == fetch(LIST)
 
 
 def test_a_link_in_place_of_the_list_is_replaced_and_not_followed(fetch, room):
