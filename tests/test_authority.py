@@ -24,7 +24,7 @@ def authority(*words, **how):
     """Status, output, and the last line of errors."""
     done = run([AUTHORITY, *words], **how)
     errors = done.stderr.decode(errors="replace").splitlines()
-    return done.returncode, done.stdout.decode(), errors[-1] if errors else ""
+    return done.returncode, os.fsdecode(done.stdout), errors[-1] if errors else ""
 
 
 def must(*words, **how):

@@ -1,4 +1,4 @@
-"""station and request: what they send is bounded in time and size, names no secret, and happens once."""
+"""station, request, figures and list-of-table: what they ask is bounded, names no secret, and what fails is said."""
 import concurrent.futures
 import os
 import pathlib
@@ -296,3 +296,28 @@ def test_a_program_that_is_missing_is_named(room, name, words, missing):
     for program in ("env", "bash"):
         (room / "bin" / program).symlink_to(f"/usr/bin/{program}")
     assert (1, "", [f"{name}: {missing} is missing"]) == script(name, *words, env={"PATH": str(room / "bin")})
+
+
+# ---- figures and list-of-table
+
+@pytest.mark.parametrize("url", ["ftp://127.0.0.1", "file:///etc", "nonsense", ""])
+def test_figures_ask_an_office_alone(url):
+    status, out, errors = script("figures", url)
+    assert (1, "office_up 0", [f"figures: {url}: OFFICE is no URL of http or https"]) \
+        == (status, out.splitlines()[-1], errors)
+
+
+def test_figures_of_half_a_page_are_none():
+    with Web(response(b"1 1 SHA256:x\n", length=999)) as web:
+        status, out, errors = script("figures", web.url)
+    assert (1, "office_up 0", [f"figures: {web.url}: what came as /v1/cas was cut off"]) \
+        == (status, out.splitlines()[-1], errors)
+
+
+def test_output_that_cannot_be_written_is_said(room):
+    (room / "table").write_text(f"{1:19d}  user  signed   {0:12d}  {1:12d}  web/a\ntotal 1 version 0\n")
+    with open("/dev/full", "wb") as full, Web(response(b"", "500 Fault")) as web:
+        for name, what in (("list-of-table", "table"), ("figures", web.url)):
+            done = subprocess.run([EXAMPLES / name, what], stdout=full, stderr=subprocess.PIPE, timeout=60)
+            assert (1, f"{name}: [Errno 28] No space left on device") \
+                == (done.returncode, done.stderr.decode().splitlines()[-1])
