@@ -45,5 +45,5 @@ leaves_at_least c it numbered sound fewer o l tells image may =
 pub run_keeps_office : {D : Type 0} {g : Ghosts D} (files : Files D) → RunKeepsOffice g files
 run_keeps_office files image opened last told did copied o l history held =
     let honest = did copied.was_clean in
-    let tells = honest.1 o l (told honest.0 o l history held) in
+    let tells = honest.1 copied.was_open o l (told honest.0 o l history held) in
     (tells.0, tells.1.history, leaves_what_is_told last files copied o (l ++ tells.0) tells.1)

@@ -1,5 +1,5 @@
 -- One run of the program, from the two files that it finds to those that it leaves.
-use Rattle.std.specs.Prelude.{◌≡◌, List, ◌++◌, None}
+use Rattle.std.specs.Prelude.{◌≡◌, List, ◌++◌, IsTrue, None}
 use Rattle.sqlite_disk.specs.declared.Disk.{Ghosts}
 use Rattle.sqlite_disk.specs.declared.Files.{Files}
 use Rattle.sqlite_wal.specs.Recovery.{Image}
@@ -59,13 +59,17 @@ KeepsOffice image may_leave =
     → (more : List Arrival) × IsHistory o (l ++ more)
     × ((after : Image) → may_leave after → HoldsOffice after o (l ++ more))
 
--- What was done between the open and the close: a disk that is clean was clean, and each history that was told is told
--- with arrivals after it.
+-- each history that was told is told with arrivals after it
+abbrev pub AddsArrivals : State → State → Type 0
+AddsArrivals old new =
+    (o : Opening) (l : List Arrival) → Tells old o l → (more : List Arrival) × Tells new o (l ++ more)
+
+-- What was done between the open and the close: a disk that is clean was clean, and a connection that is open tells each
+-- history that was told, with arrivals after it.
 abbrev pub Extends : {D : Type 0} {g : Ghosts D} → (opened last : Held (FileStore D g)) → Type 0
 Extends opened last =
     HasCleanDisk (file_state last) → HasCleanDisk (file_state opened)
-    × ((o : Opening) (l : List Arrival) → Tells (file_state opened) o l
-    → (more : List Arrival) × Tells (file_state last) o (l ++ more))
+    × (IsTrue (file_state last).is_open → AddsArrivals (file_state opened) (file_state last))
 
 -- a run that opened, did so and closed well keeps the office
 abbrev pub RunKeepsOffice : {D : Type 0} (g : Ghosts D) → Files D → Type 0

@@ -4,7 +4,7 @@ ghost use Rattle.std.specs.Prelude.{IfOk};
 ghost use Rattle.sqlite_wal.specs.Files.{image_at, outcomes};
 ghost use Rattle.sqlite.specs.Held.{IsNew};
 ghost use Rattle.sqlite.specs.State.{HasCleanDisk};
-ghost use Rattle.sqlite.specs.Files.{file_state};
+ghost use Rattle.sqlite.specs.Files.{IsOpened, file_state};
 ghost use Rattle.restart.specs.Runs.{IsBlankIfNone, TellsAfter, TellsWhatIsHeld};
 
 use crate::laws::what_is_found_is_told;
@@ -22,6 +22,7 @@ pub fn open_at<S: Start>(
     start: S,
 ) -> Result<Connection<FileStore<FileFrom<S>>>, Error>
     ensures new { IfOk result IsNew }
+    ensures opened { IfOk result (λ c. HasCleanDisk (file_state c) → IsOpened c) }
 
     // The connection tells each history whose office the files held.
     ensures told { IfOk result (λ c. HasCleanDisk (file_state c)
