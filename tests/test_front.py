@@ -315,34 +315,42 @@ def test_a_refusal_says_why(recorded, name, request_bytes, text):
 KEPT = ("/v1/krl", "/v1/signers", "/v1/cas", "/v1/table", "/v1/pending")
 
 
+@pytest.fixture(scope="module")
+def keeping(authority, tmp_path_factory):
+    """A front that doesn't count what a reader asks for, so that nobody waits while a page gets old."""
+    programs = Programs()
+    with Recorder() as recorder:
+        front = Front(programs, tmp_path_factory.mktemp("keeping") / "front", authority, recorder.port,
+                      edits=[("zone=reports:1m rate=1r/s", "zone=reports:1m rate=1000r/s")])
+        front.recorder = recorder
+        yield front
+        programs.end_all()
+
+
 def asked_for(front, *names_and_paths):
-    """How often the office is asked when these clients ask for these pages, one after the other and at once."""
+    """How often the office is asked when these clients ask for these pages, within ten seconds of the clock."""
     forget(front)
+    until(lambda: time.time() % 10 < 7)
     for name, path in names_and_paths:
         assert [200] == statuses(front.ask(getting(path), name))
     return len(front.recorder.requests)
 
 
-def test_a_page_is_kept_for_two_seconds(make_front, recorded):
-    front = with_own_limits(make_front, recorded)
+def test_a_page_is_kept_for_two_seconds(keeping):
+    forget(keeping)
     begun = time.monotonic()
     while time.monotonic() < begun + 7:
         for path in KEPT:
-            assert [200] == statuses(front.ask(getting(path), "watch"))
+            assert [200] == statuses(keeping.ask(getting(path), "watch"))
+    took = time.monotonic() - begun
     # nginx counts whole seconds: a page is asked for again after two to three, and when ten of the clock have ended.
-    asked = collections.Counter(it.split()[1].decode() for it in recorded.recorder.requests)
-    assert dict.fromkeys(KEPT, True) == {path: 3 <= asked[path] <= 5 for path in KEPT}, asked
+    asked = collections.Counter(it.split()[1].decode() for it in keeping.recorder.requests)
+    assert dict.fromkeys(KEPT, True) == {path: 2 <= asked[path] <= took / 2 + took / 10 + 2 for path in KEPT}, asked
 
 
-def with_own_limits(make_front, recorded):
-    """A front whose pages nobody has asked for, and that counts no reader's requests."""
-    recorded.recorder.requests.clear()
-    return make_front(recorded.recorder.port, edits=[("zone=reports:1m rate=1r/s", "zone=reports:1m rate=1000r/s")])
-
-
-def test_what_a_caller_reads_is_kept_for_each_page_alone(recorded):
-    assert 2 == asked_for(recorded, ("ana", "/v1/table"), ("watch", "/v1/table"), ("watch", "/v1/pending"))
-    assert 3 == asked_for(recorded, *3 * [("ana", "/v1/certs/1")])
+def test_what_a_caller_reads_is_kept_for_each_page_alone(keeping):
+    assert 2 == asked_for(keeping, ("ana", "/v1/table"), ("watch", "/v1/table"), ("watch", "/v1/pending"))
+    assert 3 == asked_for(keeping, *3 * [("ana", "/v1/certs/1")])
 
 
 def test_a_kept_page_is_given_to_no_stranger(recorded):
@@ -352,22 +360,24 @@ def test_a_kept_page_is_given_to_no_stranger(recorded):
     assert [403] == statuses(recorded.ask(getting("/v1/table"), "bob"))
 
 
-def test_the_station_is_given_no_kept_page(recorded):
-    assert 4 == asked_for(recorded, ("ana", "/v1/pending"), *3 * [("station", "/v1/pending")])
+def test_the_station_is_given_no_kept_page(keeping):
+    assert 4 == asked_for(keeping, ("ana", "/v1/pending"), *3 * [("station", "/v1/pending")])
 
 
-def test_what_the_station_is_given_is_not_kept(recorded):
-    assert 2 == asked_for(recorded, ("station", "/v1/pending"), ("ana", "/v1/pending"), ("ana", "/v1/pending"))
+def test_what_the_station_is_given_is_not_kept(keeping):
+    assert 2 == asked_for(keeping, ("station", "/v1/pending"), ("ana", "/v1/pending"), ("ana", "/v1/pending"))
 
 
 def test_a_reader_is_given_one_table_a_second_and_the_station_any_number(make_front, recorded):
-    front = make_front(recorded.recorder.port)
-    for name, slowed in (("station", False), ("watch", True)):
+    front, took = make_front(recorded.recorder.port), {}
+    for name in ("station", "watch"):
         begun = time.monotonic()
         for _ in range(6):
             assert [200] == statuses(front.ask(getting("/v1/table"), name))
-        # Three at once, and one more in each second.
-        assert slowed == (time.monotonic() - begun > 2.5), name
+        took[name] = time.monotonic() - begun
+    # Three at once, and one more in each second.
+    assert took["watch"] > 2.5
+    assert took["station"] < took["watch"]
 
 
 def test_no_error_is_kept(make_front):
@@ -450,6 +460,7 @@ def test_a_broken_list_of_certificates_is_reported_before_nginx_reads_it(recorde
         (recorded.conf / "crl.pem").write_bytes(good)
 
 
+@pytest.mark.slow
 def test_a_request_that_began_before_its_certificate_was_taken_back_does_not_end_long_after(make_front, recorded):
     front = make_front(recorded.recorder.port)
     front.make("caller", "carl")

@@ -63,11 +63,10 @@ def answer_so_far(peer):
 def test_the_station_waits_for_no_limit(make_front, recorder):
     front = make_front(recorder.port)
     begun = time.monotonic()
-    answers = side_by_side([lambda: front.ask(posting(MESSAGE), "station")] * 300)
-    took = time.monotonic() - begun
-    assert ([[200]] * 300, 300) == ([statuses(it) for it in answers], len(recorder.requests))
-    # 280 of them would have waited for a second each 20.
-    assert took < 10
+    answers = sent_on_each(front, posting(MESSAGE), 30, 10, "station")
+    assert (300, 300) == (answers, len(recorder.requests))
+    # At the pace of callers, 20 a second, the last one of them would have waited for 14 seconds.
+    assert time.monotonic() - begun < 13
 
 
 # ---- a slow office
@@ -84,6 +83,7 @@ def asked_together(front, path, count, name=None, patience=90):
     return got
 
 
+@pytest.mark.slow
 @pytest.mark.parametrize("path, name", [("/v1/krl", None), ("/v1/pending", "watch")])
 def test_a_slow_office_is_asked_once_for_each_ten_seconds(make_front, path, name):
     no_limits = [("zone=reports:1m rate=1r/s", "zone=reports:1m rate=1000r/s"),
@@ -99,6 +99,7 @@ def test_a_slow_office_is_asked_once_for_each_ten_seconds(make_front, path, name
         assert 1 <= len(recorder.requests) <= windows
 
 
+@pytest.mark.slow
 def test_an_office_that_stands_still_is_not_asked_by_all_who_have_waited(make_front):
     """After a minute, here six seconds, those who wait ask the office themselves: eight may, and the others are
     told."""

@@ -166,6 +166,7 @@ def test_a_certificate_that_is_taken_back_works_no_more(put):
 
 # ---- an office that stands still
 
+@pytest.mark.slow
 def test_an_office_that_stands_still_has_no_old_list_given(put):
     """For eleven seconds, while a client fetches the list all the time."""
     fetch = ["curl", "-s", "--max-time", "1", "-o", "list", "-w", "%{http_code}", "--cacert", put.authority / "ca.crt",

@@ -98,7 +98,7 @@ def test_beside_slow_clients_issues_are_answered_at_once(put):
         held = sum(map(is_open, peers))
     print(f"{PROCESSORS} processors: an issue takes {statistics.median(alone):.1f} ms alone, and beside 200 silent and "
           f"200 dripping clients {statistics.median(beside):.1f} ms, {max(beside):.1f} ms at most")
-    assert (400, True) == (held, max(beside) < 1000)
+    assert (400, True) == (held, max(beside) < max(1000, 10 * max(alone)))
 
 
 # ---- many servers that fetch the list
@@ -254,7 +254,7 @@ def revocations(front, first, count):
         answer = front.ask(posting(f"/v1/requests/revoke-{serial}", revoke_serial(serial).encode()), "root")
         took.append(1000 * (time.monotonic() - begun))
         assert (200, "revoked") == (answer.status, answer.text.splitlines()[0])
-        time.sleep(0.17)
+        time.sleep(0.11)
     return took
 
 
@@ -266,15 +266,18 @@ def test_beside_60_readers_of_tables_root_revokes_as_fast_as_beside_one(large_of
         begun = time.monotonic()
         assert f"total {COUNT} version 0" == served.get("/v1/table").text.splitlines()[-1]
         table = 1000 * (time.monotonic() - begun)
-        took = {}
-        for count in (1, 60):
+        took = {1: [], 60: []}
+        # In turns, so that other work of the machine comes to both.
+        for turn, count in enumerate((1, 60, 1, 60)):
             with Readers(front, count) as readers:
                 time.sleep(3)
-                took[count] = revocations(front, 1 + 1000 * count, 60)
-            its = took[count]
+                its = revocations(front, 1 + 1000 * turn, 60)
+            took[count] += its
             print(f"{PROCESSORS} processors: beside {count} readers of tables of {COUNT} certificates, of which the "
                   f"first took the office {table:.0f} ms, {len(its)} revocations take {statistics.mean(its):.1f} ms on "
                   f"average, {statistics.median(its):.1f} ms by the median and {max(its):.0f} ms at most; the readers "
                   f"were answered {readers.said()}")
-        assert statistics.mean(took[60]) <= 2 * statistics.mean(took[1])
-        assert statistics.median(took[60]) <= 2 * statistics.median(took[1])
+        for average in (statistics.mean, statistics.median):
+            print(f"beside 60 readers {average(took[60]) / average(took[1]):.2f} times as long as beside one, by the "
+                  f"{average.__name__}")
+            assert average(took[60]) <= 2 * average(took[1])
