@@ -100,12 +100,13 @@ def make_root(folder):
 # ---- control groups
 
 def group_folders():
-    """Where this process may make control groups: in the hierarchy of systemd, of version 1 and 2."""
+    """Where this process may make control groups: in the one hierarchy of version 2, or in those of version 1 that
+    systemd needs to run and to limit memory."""
     top = pathlib.Path("/sys/fs/cgroup")
     if (top / "cgroup.controllers").exists():
         found = [(top, "")]
     else:
-        found = [(top / "unified", ""), (top / "systemd", "name=systemd")]
+        found = [(top / "unified", ""), (top / "systemd", "name=systemd"), (top / "memory", "memory")]
     own = dict(line.split(":")[1:] for line in pathlib.Path("/proc/self/cgroup").read_text().splitlines())
     return [place / own.get(name, "/").lstrip("/") for place, name in found if place.is_dir()]
 
@@ -224,7 +225,7 @@ class Box:
     def __init__(self, rack, name, address):
         self.rack, self.name, self.address, self.host = rack, name, address, f"{name}.{DOMAIN}"
         self.files = rack.files / name / "root"
-        # One name in both hierarchies: systemd-nspawn takes that of version 2 for version 1 too.
+        # One name in all hierarchies: systemd-nspawn takes that of version 2 for version 1 too.
         group = f"sshoffice-box-{os.getpid()}-{name}-{uuid.uuid4().hex[:8]}"
         self.groups = [it / group for it in group_folders()]
         self.running = self.init = None
@@ -245,6 +246,7 @@ class Box:
         (self.files / "etc/machine-id").unlink()
         self.write("etc/machine-id", uuid.uuid4().hex + "\n")
         self.write("etc/hostname", self.name + "\n")
+        self.write("etc/systemd/journald.conf.d/box.conf", "[Journal]\nStorage=volatile\n")
         self.write("etc/systemd/network/10-host0.network", NETWORK.format(self.address))
         for target, unit in (("multi-user", "systemd-networkd"), ("network-online", "systemd-networkd-wait-online")):
             wants = self.files / f"etc/systemd/system/{target}.target.wants"
@@ -315,6 +317,12 @@ class Box:
     def says(self, command):
         """What a command prints."""
         return self.run(command).stdout.strip()
+
+    def limit_memory(self):
+        """Has systemd limit the memory of units in this box. systemd-nspawn gives the box control groups of version 1
+        for reading only."""
+        memory = "/sys/fs/cgroup/memory"
+        self.run(f"[ ! -e {memory} ] || mount -o remount,bind,rw,nosuid,nodev,noexec {memory}; systemctl daemon-reexec")
 
     def reboot(self):
         with contextlib.suppress(AssertionError):

@@ -312,6 +312,19 @@ def test_the_units_are_limited(office):
     assert ["0", "0"] == next(it for it in limits.splitlines() if it.startswith("Max core")).split()[4:6]
 
 
+def test_the_memory_of_the_units_is_limited(office):
+    """As the kernel sees it, in control groups of version 1 or 2."""
+    office.limit_memory()
+    office.run("systemctl restart office office-front")
+    wait_until_up(office)
+    limit = ("cd /sys/fs/cgroup; cat memory/system.slice/{0}.service/memory.limit_in_bytes "
+             "system.slice/{0}.service/memory.max 2>/dev/null || true")
+    found = [office.says(limit.format(it)) for it in ("office", "office-door", "office-front")]
+    if found == [""] * 3:
+        left_out("this machine gives a box no control group that limits memory")
+    assert [str(it << 20) for it in (1024, 512, 1024)] == found
+
+
 # ---- a restore
 
 KEEP_A_COPY = """
