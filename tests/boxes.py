@@ -1,7 +1,7 @@
 #!/usr/bin/python3
 """Boxes: machines of Debian 12, each with a systemd of its own, for tests of units and of pages.
 
-    tests/boxes.py prepare    makes the folder that every box starts from, if it isn't there. This takes a minute
+    tests/boxes.py prepare    makes the folder that every box starts from, if it isn't there. This takes some minutes
     tests/boxes.py folder     prints where this folder is: $OFFICE_BOXES, or /var/cache/sshoffice-boxes
 
 The boxes of a `Rack` have a network of their own. They run in namespaces that end with the process that made the rack,

@@ -21,7 +21,7 @@ pytestmark = [pytest.mark.boxes, pytest.mark.root, pytest.mark.slow, pytest.mark
 IN_SERVICE = "In service"
 MACHINES = ["admin", "office", "station", "server"]
 # What stays in a shell when its commands have ended.
-NAMES = re.compile(r"^(?:export |front=|send\(\)).*$", re.M)
+NAMES = re.compile(r"^(?:export |front=|\w+\(\)).*$", re.M)
 # The CAs that a server trusts.
 CAS = "/var/lib/office-list/cas.pub"
 UNITS = "office office-door.socket office-front"
@@ -415,6 +415,7 @@ def test_drill_a_lost_ca(site):
 def test_drill_a_taken_front(site):
     printed = drill(site, "A taken front")
     assert ["granted", "amiss", "refused", "granted"] == of(printed, "granted", "refused", "amiss")
+    assert "other|eve|*e" in printed and "web|ana|alice" in printed
     key = site.boxes["station"].says("ssh-keygen -l -f first.pub").split()[1]
     assert [key] == [it.split()[1] for it in site.boxes["server"].says(f"ssh-keygen -l -f {CAS}").splitlines()]
     assert any(it.startswith("front: the certificate is another authority's") for it in printed)
