@@ -198,6 +198,17 @@ module _ (s : State) (q : Question) (none : refusal_of s q ≡ None) where
       ap (λ (r : Option Refusal). cond (is_some r) s (with_fields s q (fields_of q.body))) none in
       (is.0, subst (IsSigned s q.body is.0) (sym left) is.1)
 
+-- a body that isn't refused is kept under its serial then
+pub signed_kept : (s : State) (q : Question) (c : CertFields) → refusal_of s q ≡ None → fields_of q.body ≡ Some c
+    → body_of (after s q) c.serial ≡ Some q.body
+signed_kept s q c none fields =
+    let is = signed s q none in
+    let same : is.0 ≡ c = same_some (sym is.1.fields ∙ fields) in
+    subst (λ (x : CertFields). body_of (after s q) x.serial ≡ Some q.body) same is.1.kept
+  where
+    same_some : {x y : CertFields} → Some x ≡ Some y → x ≡ y
+    same_some e = cc
+
 -- a body that is kept may be signed, whatever the policy and the moment
 pub signed_again : (s : State) (q : Question) (c : CertFields) → fields_of q.body ≡ Some c → IsInScope s.scope c
     → body_of s c.serial ≡ Some q.body → refusal_of s q ≡ None

@@ -3,3 +3,4 @@ pub mod Allowed
 pub mod Histories
 pub mod PolicyLines
 pub mod BodyTexts
+pub mod PolicyReadings

@@ -13,7 +13,7 @@ question policy w body = record { policy = policy; moment = w.moment; ahead = w.
 
 -- the view shows the guard's scope, and the body that was approved under the serial of these fields
 pub record Agrees (v : View) (s : State) (c : CertFields) : Type 0 where
-  pub scope : v.scope.now ≡ s.scope
+  pub scope : v.scope ≡ s.scope
   pub kept : option_copied v.kept ≡ body_of s c.serial
 
 -- the state with the body of these fields at the end

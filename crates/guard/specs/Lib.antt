@@ -6,3 +6,5 @@ pub mod Reading
 pub mod Decided
 pub mod Laws
 pub mod Policies
+pub mod Judged
+pub mod PolicyTexts

@@ -1,6 +1,6 @@
 //! Laws of every list of questions. The functions do nothing: their clauses are what is proved.
 
-ghost use Rattle.std.specs.Prelude.{◌≡◌, ℕ, List, ◌∷◌, ◌++◌, All, Contains, true, Some, None};
+ghost use Rattle.std.specs.Prelude.{◌≡◌, ℕ, List, [], ◌∷◌, ◌++◌, All, Contains, true, Some, None, Ok, map};
 ghost use Rattle.krl.specs.Reading.{IsBytes};
 ghost use Rattle.cert.specs.declared.fields.CertFields.{CertFields};
 ghost use Rattle.guard.specs.declared.approved.Approved.{Approved};
@@ -8,6 +8,8 @@ ghost use Rattle.guard.specs.declared.refusal.Refusal.{Refusal};
 ghost use Rattle.guard.specs.declared.scope.Scope.{Scope};
 ghost use Rattle.guard.specs.Machine.{State, Question, after, fields_of, refusal_of, refusals};
 ghost use Rattle.guard.specs.History.{IsStill, WasAsked, state};
+ghost use Rattle.guard.specs.Policies.{policy_at};
+ghost use Rattle.guard.specs.PolicyTexts.{AreBetween, AreParts, Part, policy_text};
 ghost use Rattle.guard.specs.Laws.{IsBodyOf, ascend_from};
 
 /// The refusals stand in the order of their numbers, from 31 on: so the first that applies is the one with the least.
@@ -26,6 +28,13 @@ pub fn an_approved_body_was_permitted()
     ensures { (scope : Scope) (l : List Question) → All (WasAsked scope l) (state scope l).approved }
 {}
 
+/// The text of lawful departments of different names, with empty lines and comments between them, is read as these
+/// departments in order.
+pub fn a_policy_is_read_as_its_departments()
+    ensures { (parts : List Part) (last : List (List ℕ)) → AreParts [] parts → AreBetween last
+        → policy_at (policy_text parts last) ≡ Ok (map (λ p. p.department) parts) }
+{}
+
 /// What has fields is a body of the profile: at most 16384 bytes, which are the text of lawful fields, of these alone.
 pub fn what_has_fields_is_a_body()
     ensures { (bytes : List ℕ) (c : CertFields) → IsBytes bytes → fields_of bytes ≡ Some c → IsBodyOf bytes c }
@@ -35,6 +44,11 @@ pub fn what_has_fields_is_a_body()
 pub fn a_serial_has_one_body()
     ensures { (scope : Scope) (l : List Question) (a b : Approved) → Contains (state scope l).approved a
         → Contains (state scope l).approved b → a.serial ≡ b.serial → a ≡ b }
+{}
+
+/// The state after one question more is what that question leaves.
+pub fn a_question_is_one_step()
+    ensures { (scope : Scope) (l : List Question) (q : Question) → state scope (l ++ q ∷ []) ≡ after (state scope l) q }
 {}
 
 /// What was approved is kept, whatever is asked later.

@@ -8,12 +8,15 @@
 mod approved;
 mod body;
 mod deciding;
+mod judging;
 mod laws;
+mod memory;
 mod permission;
 mod policy;
 mod policy_fault;
 mod policy_reader;
 mod refusal;
+mod register;
 mod scope;
 #[cfg(test)]
 mod tests;
@@ -22,13 +25,16 @@ mod verdict;
 pub use approved::Approved;
 pub use body::{BodyFault, LONGEST_BODY, fields_of};
 pub use deciding::decide;
+pub use judging::{Answer, judge};
 pub use laws::{
-    a_body_that_was_approved_stays, a_refusal_changes_nothing, a_serial_has_one_body,
-    an_approved_body_is_signed_again, an_approved_body_was_permitted, refusals_ascend,
-    what_has_fields_is_a_body,
+    a_body_that_was_approved_stays, a_policy_is_read_as_its_departments, a_question_is_one_step,
+    a_refusal_changes_nothing, a_serial_has_one_body, an_approved_body_is_signed_again,
+    an_approved_body_was_permitted, refusals_ascend, what_has_fields_is_a_body,
 };
+pub use memory::MemoryGuard;
 pub use policy::{LONGEST_POLICY, Policy};
 pub use policy_fault::PolicyFault;
 pub use refusal::Refusal;
+pub use register::{Register, RegisterFault};
 pub use scope::Scope;
 pub use verdict::{Verdict, View, Window};

@@ -3,7 +3,11 @@
 //! The body has the form that `docs/FORMATS.md` gives: a key of bytes 0x22, a nonce of 0x33 and a CA of 0x11; serial 1,
 //! a user, key id web/alice, principal alice, from 1000 to 2000.
 
-use crate::{Policy, PolicyFault, Refusal, Scope, Verdict, View, Window, decide, fields_of};
+use crate::{
+    Answer, BodyFault, MemoryGuard, Policy, PolicyFault, Refusal, Register, Scope, Verdict, View,
+    Window, decide, fields_of, judge,
+};
+use cert::CertFault;
 use std::alloc::Global;
 use text::Text;
 
@@ -84,10 +88,7 @@ fn verdict_of(alloc: Global, case: &Case, kept: Option<&Text>) -> Option<Verdict
         first,
         last: 9,
     };
-    let view = View {
-        scope: &scope,
-        kept,
-    };
+    let view = View { scope, kept };
     Some(decide(&view, &policy, Window { moment, ahead }, BODY, &fields))
 }
 
@@ -109,6 +110,58 @@ fn what_is_kept_is_signed_again_and_no_other(rt: HostRuntime) {
     );
     let taken = Verdict::Refuse(Refusal::SerialTaken);
     assert_eq!(rt; verdict_of(rt.alloc(), late, Some(&other)), Some(taken));
+}
+
+/// The SHA-256 of the body, by sha256sum(1).
+const DIGEST: &[u8; 64] = b"82e0c34fe67da3fc3dc1be6682073994ec021449271b641cdd36180e95572e79";
+
+/// The answer of a guard to some bytes, judged by the policy `WEB` without seconds ahead.
+fn answer_to<R: Register>(
+    alloc: Global,
+    guard: &mut R,
+    moment: u64,
+    body: &[u8],
+) -> Option<Answer> {
+    let Ok(policy) = Policy::read(alloc, WEB) else {
+        return None;
+    };
+    let window = Window { moment, ahead: 0 };
+    judge(alloc, guard, &policy, window, body).ok()
+}
+
+#[test]
+fn a_guard_signs_one_body_a_serial(rt: HostRuntime) {
+    let scope = Scope {
+        ca: [0x11; 32],
+        first: 1,
+        last: 1,
+    };
+    let mut guard = MemoryGuard::new(rt.alloc(), scope);
+    let mut second = *BODY;
+    second[44] = b'4';
+    let signed = Answer::Sign {
+        serial: 1,
+        digest: *DIGEST,
+    };
+    let late = Answer::Refuse(Refusal::AlreadyEnded);
+    let taken = Answer::Refuse(Refusal::SerialTaken);
+    let cut = Answer::NotABody(BodyFault::NotOfTheProfile(CertFault::Truncated));
+    let long = Answer::NotABody(BodyFault::TooLong);
+    assert_eq!(rt; answer_to(rt.alloc(), &mut guard, 2000, BODY), Some(late));
+    assert_eq!(rt;
+        answer_to(rt.alloc(), &mut guard, 1500, &BODY[..228]),
+        Some(cut)
+    );
+    assert_eq!(rt;
+        answer_to(rt.alloc(), &mut guard, 1500, &[0; 16385]),
+        Some(long)
+    );
+    assert_eq!(rt; answer_to(rt.alloc(), &mut guard, 1500, BODY), Some(signed));
+    assert_eq!(rt;
+        answer_to(rt.alloc(), &mut guard, 1500, &second),
+        Some(taken)
+    );
+    assert_eq!(rt; answer_to(rt.alloc(), &mut guard, 2000, BODY), Some(signed));
 }
 
 /// Policies, and the lines that are answered. The first four are made of the one in `docs/FORMATS.md`, as it says.

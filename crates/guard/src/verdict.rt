@@ -7,7 +7,7 @@ use text::Text;
 /// What a guard has of the body that is judged.
 #[derive(Drop)]
 pub struct View<'a> {
-    pub scope: &'a Scope,
+    pub scope: Scope,
     /// The body that was approved under the serial that the body names, if there is one.
     pub kept: Option<&'a Text>,
 }

@@ -1,0 +1,104 @@
+-- The text of a policy is read as its departments.
+use Rattle.std.proofs.Common.{◌≡◌, ◌+◌, ℕ, List, [], ◌∷◌, ◌++◌, true, false, Ok, map, refl, sym, ap, subst, ◌∙◌, append_assoc}
+use Rattle.std.specs.Prelude.{All, None, ◌==◌}
+use Rattle.std.specs.List.{AllByRecursion, flat_map}
+use Rattle.std.proofs.lemmas.List.{append-nil}
+use Rattle.std.proofs.lemmas.List.Splits.{slice_split_at}
+use Rattle.message.specs.declared.department.Department.{Department}
+use Rattle.message.specs.declared.kinds.Message.TheVariants as message
+use Rattle.message.specs.Reading.{pieces}
+use Rattle.message.specs.Texts.{department_lines, lines_text}
+use Rattle.message.specs.Values.{is_department}
+use Rattle.message.proofs.Messages.{messages_read}
+use Rattle.message.proofs.TextLaws.{message_again}
+use Rattle.guard.specs.State.{department_named}
+use Rattle.guard.specs.Policies.{policy_from, policy_at}
+use Rattle.guard.specs.PolicyTexts.{Part, part_lines, policy_text, AreBetween, AreParts}
+
+-- no byte of a line is a line feed
+abbrev IsLine : List ℕ → Type 0
+IsLine l = All (λ b. (b == 10) ≡ false) l
+
+-- the pieces of lines are the lines, and a last piece of no bytes
+pieces_of : (ls : List (List ℕ)) → AllByRecursion IsLine ls → pieces (lines_text ls) ≡ ls ++ [] ∷ []
+pieces_of [] h = refl
+pieces_of (l ∷ ls) h =
+    slice_split_at (λ b. b == 10) l 10 (lines_text ls) h.0 refl
+    ∙ ap (λ (xs : List (List ℕ)). l ∷ xs) (pieces_of ls h.1)
+
+both_lines : (xs ys : List (List ℕ)) → AllByRecursion IsLine xs → AllByRecursion IsLine ys → AllByRecursion IsLine (xs ++ ys)
+both_lines [] ys h k = k
+both_lines (x ∷ xs) ys h k = (h.0, both_lines xs ys h.1 k)
+
+between_lines : (ls : List (List ℕ)) → AreBetween ls → AllByRecursion IsLine ls
+between_lines [] h = tt
+between_lines (l ∷ ls) h = (h.0.1, between_lines ls h.1)
+
+part_is_lines : (known : List Department) (parts : List Part) → AreParts known parts
+    → AllByRecursion IsLine (flat_map part_lines parts)
+part_is_lines known [] h = tt
+part_is_lines known (p ∷ parts) h =
+    both_lines (part_lines p) (flat_map part_lines parts)
+    (both_lines p.before (department_lines p.department) (between_lines p.before h.0)
+    (messages_read.are_lines (message.Department p.department) h.1))
+    (part_is_lines (known ++ p.department ∷ []) parts h.3)
+
+-- whatever number the next line has, the departments are these
+abbrev Reads : (known : List Department) → List (List ℕ) → List Department → Type 0
+Reads known ps ds = (number : ℕ) → policy_from 0 number known ps ≡ Ok ds
+
+-- lines between texts change nothing
+between_skipped : (known : List Department) (ls ps : List (List ℕ)) (ds : List Department) → AreBetween ls
+    → Reads known ps ds → Reads known (ls ++ ps) ds
+between_skipped known [] ps ds h reads = reads
+between_skipped known (l ∷ ls) ps ds h reads = λ number.
+    rw h.0.0 (between_skipped known ls ps ds h.1 reads (number + 1))
+
+-- the text of a department is read, and then what follows it
+department_read : (known : List Department) (d : Department) (p : List ℕ) (ps : List (List ℕ)) (ds : List Department)
+    → is_department d ≡ true → department_named known d.name ≡ None → Reads (known ++ d ∷ []) (p ∷ ps) ds
+    → Reads known (department_lines d ++ p ∷ ps) ds
+department_read known d p ps ds lawful first reads = λ number.
+    rw (message_again (message.Department d) lawful, first) (reads _)
+
+-- a piece follows each list of lines
+ended : (ls : List (List ℕ)) → (p : List ℕ) × (ps : List (List ℕ)) × (ls ++ [] ∷ [] ≡ p ∷ ps)
+ended [] = ([], [], refl)
+ended (l ∷ ls) = (l, ls ++ [] ∷ [], refl)
+
+department_then : (known : List Department) (d : Department) (ls : List (List ℕ)) (ds : List Department)
+    → is_department d ≡ true → department_named known d.name ≡ None → Reads (known ++ d ∷ []) (ls ++ [] ∷ []) ds
+    → Reads known (department_lines d ++ (ls ++ [] ∷ [])) ds
+department_then known d ls ds lawful first reads =
+    let end = ended ls in
+    subst (λ (r : List (List ℕ)). Reads known (department_lines d ++ r) ds) (sym end.2)
+    (department_read known d end.0 end.1 ds lawful first
+    (subst (λ (r : List (List ℕ)). Reads (known ++ d ∷ []) r ds) end.2 reads))
+
+parts_read : (known : List Department) (parts : List Part) (last : List (List ℕ)) → AreParts known parts → AreBetween last
+    → Reads known ((flat_map part_lines parts ++ last) ++ [] ∷ []) (known ++ map (λ p. p.department) parts)
+parts_read known [] last h between =
+    subst (λ (ds : List Department). Reads known (last ++ [] ∷ []) ds) (sym (append-nil known))
+    (between_skipped known last ([] ∷ []) known between (λ number. refl))
+parts_read known (p ∷ parts) last h between =
+    let d = p.department in
+    let lines = flat_map part_lines parts ++ last in
+    let end : List (List ℕ) = [] ∷ [] in
+    let later = map (λ (x : Part). x.department) parts in
+    let same : ((part_lines p ++ flat_map part_lines parts) ++ last) ++ end ≡ p.before ++ (department_lines d ++ (lines ++ end)) =
+    ap (λ (x : List (List ℕ)). x ++ end) (append_assoc (part_lines p) (flat_map part_lines parts) last)
+    ∙ append_assoc (part_lines p) lines end ∙ append_assoc p.before (department_lines d) (lines ++ end) in
+    let reads : Reads (known ++ d ∷ []) (lines ++ end) (known ++ d ∷ later) =
+    subst (λ (ds : List Department). Reads (known ++ d ∷ []) (lines ++ end) ds) (append_assoc known (d ∷ []) later)
+    (parts_read (known ++ d ∷ []) parts last h.3 between) in
+    subst (λ (ps : List (List ℕ)). Reads known ps (known ++ d ∷ later)) (sym same)
+    (between_skipped known p.before (department_lines d ++ (lines ++ end)) (known ++ d ∷ later) h.0
+    (department_then known d lines (known ++ d ∷ later) h.1 h.2 reads))
+
+pub policy_read : (parts : List Part) (last : List (List ℕ)) → AreParts [] parts → AreBetween last
+    → policy_at (policy_text parts last) ≡ Ok (map (λ p. p.department) parts)
+policy_read parts last h between =
+    let lines = flat_map part_lines parts ++ last in
+    ap (λ (ps : List (List ℕ)). policy_from 0 1 [] ps)
+    (pieces_of lines (both_lines (flat_map part_lines parts) last (part_is_lines [] parts h) (between_lines last between)))
+    ∙ parts_read [] parts last h between 1

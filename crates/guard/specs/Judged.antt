@@ -1,0 +1,28 @@
+-- What judging a body answers, whatever keeps the guard.
+use Rattle.std.specs.Prelude.{◌≡◌, ℕ, List, [], ◌∷◌, ◌++◌, Some, None}
+use Rattle.std.specs.Option.{option_map}
+use Rattle.lines.specs.Digests.{digest_text}
+use Rattle.guard.specs.declared.approved.Approved.{Approved}
+use Rattle.guard.specs.declared.judging.Answer.{Answer}
+use Rattle.guard.specs.declared.judging.Answer.TheVariants as answer
+use Rattle.guard.specs.declared.refusal.Refusal.TheVariants.{NotABody}
+use Rattle.guard.specs.Machine.{State, Question, body_of, fields_of, refusal_of}
+use Rattle.guard.specs.Reading.{IsFault}
+
+-- the state with one row more
+abbrev pub with_approved : State → Approved → State
+with_approved s row = record s { approved = s.approved ++ row ∷ [] }
+
+-- the answer is the plain guard's
+abbrev pub Answers : Answer → State → Question → Type 0
+Answers (answer.Sign serial digest) s q =
+    (refusal_of s q ≡ None) × (option_map (λ c. c.serial) (fields_of q.body) ≡ Some serial)
+    × (digest ≡ digest_text q.body)
+Answers (answer.NotABody e) s q = (refusal_of s q ≡ Some NotABody) × IsFault q.body e
+Answers (answer.Refuse r) s q = refusal_of s q ≡ Some r
+
+-- what is signed is kept under its serial
+abbrev pub IsKept : Answer → State → List ℕ → Type 0
+IsKept (answer.Sign serial digest) s body = body_of s serial ≡ Some body
+IsKept (answer.NotABody e) s body = Unit {0}
+IsKept (answer.Refuse r) s body = Unit {0}

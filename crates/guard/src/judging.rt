@@ -1,0 +1,177 @@
+//! Bodies judged, one after the other.
+
+ghost use Rattle.std.specs.Prelude.{◌≡◌, Some, IfOk, OnOk, OnErr};
+ghost use Rattle.cert.specs.declared.fields.CertFields.{CertFields};
+ghost use Rattle.guard.specs.Decided.{Decided, question};
+ghost use Rattle.guard.specs.Judged.{Answers, IsKept};
+ghost use Rattle.guard.specs.Machine.{State, Question, after, fields_of};
+
+use crate::approved::Approved;
+use crate::body::{BodyFault, fields_of};
+use crate::deciding::decide;
+use crate::policy::Policy;
+use crate::refusal::Refusal;
+use crate::register::{Register, RegisterFault};
+use crate::verdict::{Verdict, View, Window};
+use cert::CertFields;
+use lines::body_digest;
+use std::alloc::Global;
+use text::Text;
+
+/// What is answered of a body.
+#[derive(Clone, Copy, Debug, PartialEq, Eq)]
+pub enum Answer {
+    /// The guard keeps the body, which may be signed.
+    Sign {
+        serial: u64,
+        /// The SHA-256 of the body, as 64 hexadecimal digits in lower case.
+        digest: [u8; 64],
+    },
+    /// The bytes are no body.
+    NotABody(BodyFault),
+    /// The body isn't signed, for another reason.
+    Refuse(Refusal),
+}
+
+/// The verdict on a body with these fields.
+fn verdict_on<R: Register>(
+    alloc: Global,
+    register: &mut R,
+    policy: &Policy,
+    window: Window,
+    body: &[u8],
+    fields: &CertFields,
+) -> Result<Verdict, RegisterFault>
+    requires { fields_of body.now ≡ Some fields.now }
+    ensures honest { R.is_honest register.new → R.is_honest register.old }
+    ensures decided { R.is_honest register.new → (s : State) → R.keeps register.old s
+        → IfOk result (λ v. Decided v s (question policy.now window body.now) fields.now) }
+    ensures same { R.is_honest register.new → (s : State) → R.keeps register.old s → R.keeps register.new s }
+{
+    let scope = register.scope()?;
+    let kept = register.body_of(alloc, fields.serial)?;
+    let view = View {
+        scope,
+        kept: kept.as_ref(),
+    };
+    Ok(decide(&view, policy, window, body, fields))
+}
+
+/// What is kept of a body by this verdict.
+fn settle<R: Register>(
+    alloc: Global,
+    register: &mut R,
+    moment: u64,
+    body: &[u8],
+    serial: u64,
+    verdict: Verdict,
+) -> Result<(), RegisterFault>
+    ensures honest { R.is_honest register.new → R.is_honest register.old }
+    ensures next { R.is_honest register.new → (s : State) → R.keeps register.old s
+        → (q : Question) (c : CertFields) → q.moment ≡ moment → q.body ≡ body.now → c.serial ≡ serial
+        → Decided verdict s q c → OnOk result (R.keeps register.new (after s q)) }
+    ensures fault { R.is_honest register.new → (s : State) → R.keeps register.old s
+        → OnErr result (R.keeps register.new s) }
+{
+    match verdict {
+        Verdict::Approve => {
+            let body = Text::from_slice(alloc, body)?;
+            register.keep(Approved {
+                serial,
+                moment,
+                body,
+            })
+        }
+        Verdict::Again => Ok(()),
+        Verdict::Refuse(_) => Ok(()),
+    }
+}
+
+/// What is answered by this verdict.
+fn answer_of(serial: u64, body: &[u8], verdict: Verdict) -> Answer
+    ensures answered { (s : State) (q : Question) (c : CertFields) → q.body ≡ body.now → c.serial ≡ serial
+        → fields_of q.body ≡ Some c → Decided verdict s q c → Answers result s q }
+    ensures kept { (s : State) (q : Question) (c : CertFields) → q.body ≡ body.now → c.serial ≡ serial
+        → fields_of q.body ≡ Some c → Decided verdict s q c → IsKept result (after s q) body.now }
+{
+    match verdict {
+        Verdict::Refuse(refusal) => Answer::Refuse(refusal),
+        Verdict::Approve => Answer::Sign {
+            serial,
+            digest: body_digest(body),
+        },
+        Verdict::Again => Answer::Sign {
+            serial,
+            digest: body_digest(body),
+        },
+    }
+}
+
+/// What is answered of a body with these fields, once the register keeps it if it is signed.
+fn judge_fields<R: Register>(
+    alloc: Global,
+    register: &mut R,
+    policy: &Policy,
+    window: Window,
+    body: &[u8],
+    fields: &CertFields,
+) -> Result<Answer, RegisterFault>
+    requires { fields_of body.now ≡ Some fields.now }
+    ensures honest { R.is_honest register.new → R.is_honest register.old }
+    ensures answered { R.is_honest register.new → (s : State) → R.keeps register.old s
+        → IfOk result (λ a. Answers a s (question policy.now window body.now)) }
+    ensures next { R.is_honest register.new → (s : State) → R.keeps register.old s
+        → OnOk result (R.keeps register.new (after s (question policy.now window body.now))) }
+    ensures kept { R.is_honest register.new → (s : State) → R.keeps register.old s
+        → IfOk result (λ a. IsKept a (after s (question policy.now window body.now)) body.now) }
+    ensures fault { R.is_honest register.new → (s : State) → R.keeps register.old s
+        → OnErr result (R.keeps register.new s) }
+{
+    let verdict = verdict_on(alloc, register, policy, window, body, fields)?;
+    let answer = answer_of(fields.serial, body, verdict);
+    match settle(alloc, register, window.moment, body, fields.serial, verdict) {
+        Ok(()) => Ok(answer),
+        Err(fault) => Err(fault),
+    }
+}
+
+/// Judges a body: whether it may be signed, and if not, why. What may be signed is kept before it is answered.
+///
+/// # Errors
+///
+/// Where the register fails or memory is refused, the register keeps what it kept before.
+pub fn judge<R: Register>(
+    alloc: Global,
+    register: &mut R,
+    policy: &Policy,
+    window: Window,
+    body: &[u8],
+) -> Result<Answer, RegisterFault>
+    ensures honest { R.is_honest register.new → R.is_honest register.old }
+
+    // The answer is the plain guard's.
+    ensures answered { R.is_honest register.new → (s : State) → R.keeps register.old s
+        → IfOk result (λ a. Answers a s (question policy.now window body.now)) }
+
+    // Then the register keeps what the plain guard does.
+    ensures next { R.is_honest register.new → (s : State) → R.keeps register.old s
+        → OnOk result (R.keeps register.new (after s (question policy.now window body.now))) }
+
+    // What is signed is kept by then.
+    ensures kept { R.is_honest register.new → (s : State) → R.keeps register.old s
+        → IfOk result (λ a. IsKept a (after s (question policy.now window body.now)) body.now) }
+
+    // After a fault it keeps what it kept.
+    ensures fault { R.is_honest register.new → (s : State) → R.keeps register.old s
+        → OnErr result (R.keeps register.new s) }
+{
+    match fields_of(alloc, body) {
+        Ok(fields) => {
+            let answer = judge_fields(alloc, register, policy, window, body, &fields);
+            drop(fields);
+            answer
+        }
+        Err(BodyFault::NoMemory) => Err(RegisterFault::NoMemory),
+        Err(fault) => Ok(Answer::NotABody(fault)),
+    }
+}

@@ -1,0 +1,82 @@
+//! A guard's register in memory.
+
+ghost use Rattle.std.specs.Prelude.{◌≡◌, ◌==◌, IfOk, find, option_copied};
+ghost use Rattle.std.specs.Option.{option_map};
+ghost use Rattle.guard.specs.State.{opened};
+
+use crate::approved::Approved;
+use crate::register::{Register, RegisterFault};
+use crate::scope::Scope;
+use std::alloc::Global;
+use std::marker::Model;
+use text::{NoMemory, Text};
+
+/// A guard's register as a list in memory. Contracts see it as the plain guard's state.
+#[derive(Drop)]
+pub struct MemoryGuard {
+    scope: Scope,
+    // in the order of their approval
+    approved: Vec<Approved>,
+}
+
+impl Model for MemoryGuard {
+    ghost use Rattle.guard.specs.State.{State};
+
+    ghost Value = { State };
+
+    ghost view = { λ g. record { scope = g.scope; approved = g.approved.items } };
+}
+
+fn body_in(approved: &[Approved], serial: u64) -> Option<&Text>
+    ensures { option_copied result ≡ option_map (λ a. a.body) (find (λ a. a.serial == serial) approved.now) }
+{
+    match approved.iter().find(|row| row.serial == serial) {
+        Some(row) => Some(&row.body),
+        None => None,
+    }
+}
+
+fn copied(alloc: Global, body: Option<&Text>) -> Result<Option<Text>, NoMemory>
+    ensures { IfOk result (λ copy. copy ≡ option_copied body.entry) }
+{
+    match body {
+        Some(body) => Ok(Some(body.copied(alloc)?)),
+        None => Ok(None),
+    }
+}
+
+impl MemoryGuard {
+    /// A guard that has approved nothing yet.
+    pub fn new(alloc: Global, scope: Scope) -> MemoryGuard
+        ensures { result ≡ opened scope }
+    {
+        MemoryGuard {
+            scope,
+            approved: Vec::new(alloc),
+        }
+    }
+}
+
+impl Register for MemoryGuard {
+    ghost is_honest = { λ _. Unit {0} };
+
+    ghost keeps = { λ g s. g ≡ s };
+
+    fn scope(&mut self) -> Result<Scope, RegisterFault> {
+        Ok(self.scope)
+    }
+
+    fn body_of(&mut self, alloc: Global, serial: u64) -> Result<Option<Text>, RegisterFault> {
+        Ok(copied(alloc, body_in(self.approved.as_slice(), serial))?)
+    }
+
+    fn keep(&mut self, row: Approved) -> Result<(), RegisterFault> {
+        match self.approved.push(row) {
+            Ok(()) => Ok(()),
+            Err(refused) => {
+                drop(refused);
+                Err(RegisterFault::NoMemory)
+            }
+        }
+    }
+}
