@@ -128,13 +128,15 @@ FAULTS = [
     ("apply -- -one", "File"),
     ("apply --db no/where.db no.exchange", "File"),
     ("apply --db no/where.db request-cut.exchange", "BadExchange 1"),
-    ("apply --db no/where.db /dev/null", "Device"),
+    ("apply --db no/where.db /dev/null", "NotAnOffice"),
+    ("apply --db ca.pub/where.db /dev/null", "Device"),
     ("apply --db none.db /dev/null", "NotAnOffice"),
-    ("krl --db no/where.db", "Device"),
+    ("krl --db no/where.db", "NotAnOffice"),
+    ("krl --db ca.pub/where.db", "Device"),
     ("signers --db none.db", "NotAnOffice"),
     ("migrate --db none.db", "NotAnOffice"),
     ("serve --db no/where.db --port 0 --connections 1 --nonces no.nonces", "File"),
-    ("serve --db no/where.db --port 0 --connections 1 --nonces /dev/zero", "Device"),
+    ("serve --db ca.pub/where.db --port 0 --connections 1 --nonces /dev/zero", "Device"),
     ("serve --db none.db --port 0 --connections 1 --nonces /dev/zero", "NotAnOffice"),
 ]
 

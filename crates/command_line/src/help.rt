@@ -30,6 +30,7 @@ pub const INIT: &str = "Makes an office in a new database";
 pub const INIT_MORE: &str = "Example:
   sshoffice init --db office.db --ca ca.pub --root root --station station --first 1 --last 1000000
 
+The file is made if it isn't there, and then you alone may read and write it.
 A value that begins with '-' is written --root=-value.";
 
 /// What `apply` does.
@@ -105,7 +106,7 @@ pub const SELFTEST_MORE: &str = "Example:
   sshoffice selftest";
 
 /// What `--db` is, where an office is in it.
-pub const DATABASE: &str = "The office's database";
+pub const DATABASE: &str = "The office's database, which init has made";
 
 /// What `--db` of `init` is.
 pub const NEW_DATABASE: &str = "The database to make";

@@ -4,7 +4,8 @@ use Rattle.std.specs.Prelude.{IfErr, IsOk, OnOk}
 use Rattle.std.specs.Io.KnownBytes.{Appends}
 use Rattle.sshoffice.specs.declared.job_fault.JobFault.{JobFault}
 use Rattle.sshoffice.specs.declared.job_fault.JobFault.TheVariants.{Write}
-use Rattle.sshoffice.specs.Whole.{Follows, Prints}
+use Rattle.sshoffice.specs.Steps.{Follows}
+use Rattle.sshoffice.specs.Whole.{Prints}
 
 pub told : (text : List ℕ) (held holds : Option (List ℕ)) (done result : Result Unit JobFault)
     → IfErr done (λ e. result ≡ Err e) → IfErr done (λ _. holds ≡ held) → OnOk result (Appends held holds text)

@@ -5,6 +5,7 @@ pub mod Bodies
 pub mod Carried
 pub mod Causes
 pub mod Ended
+pub mod Found
 pub mod Made
 pub mod Meeting
 pub mod Printed

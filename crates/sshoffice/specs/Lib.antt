@@ -11,6 +11,8 @@ pub mod Serving
 pub mod Checking
 pub mod TrialOffice
 pub mod Trial
+pub mod Steps
+pub mod Finding
 pub mod Whole
 pub mod Tasks
 pub mod Words

@@ -1,11 +1,12 @@
 -- What is asked of a database, whole.
 use Rattle.std.specs.Prelude.{◌≡◌, ℕ, List, Option, Result, Ok, Err}
-use Rattle.sqlite_trees.specs.declared.store.Store.{Ghosts}
-use Rattle.sqlite.specs.declared.error.Error.{Error}
+use Rattle.sqlite_trees.specs.declared.store.Store as store
 use Rattle.sqlite.specs.Held.{Held}
+use Rattle.sshoffice.specs.declared.database.Database.{Ghosts}
 use Rattle.sshoffice.specs.declared.job_fault.JobFault.{JobFault}
 use Rattle.sshoffice.specs.declared.task.Task.{Task}
 use Rattle.sshoffice.specs.declared.task.Task.TheVariants.{Do, Apply, Init, Serve}
+use Rattle.sshoffice.specs.Finding.{OpensFor}
 use Rattle.sshoffice.specs.Jobs.{Does, IsLawful, told_text}
 use Rattle.sshoffice.specs.Whole.{AppliesIn, DoesIn, FoundsIn, ServesIn}
 
@@ -24,20 +25,21 @@ abbrev pub after_job : Result (Unit {0}) JobFault → Result ℕ JobFault
 after_job (Ok done) = Ok 0
 after_job (Err e) = Err e
 
--- A database is opened and closed so, and as it was before it is `db`, and as it is afterwards `db'`. A file is left to
--- read so.
-module _ {S D F : Type 0} (store : Ghosts S) (opens : D → Result (Held S) Error → D → Type 0)
-    (closes : D → Held S → Result (Unit {0}) Error → D → Type 0) (db db' : D) (remaining : F → Option (List ℕ)) where
+-- A database is looked for, made, opened and closed so, and as it was before it is `db`, and as it is afterwards `db'`.
+-- A file is left to read so.
+module _ {S D F : Type 0} (store : store.Ghosts S) (database : Ghosts D (Held S)) (db db' : D)
+    (remaining : F → Option (List ℕ)) where
   -- The task was run, whole, with this result.
   abbrev pub RunsIn : Task F → (held holds : Option (List ℕ)) → Result ℕ JobFault → Type 0
   RunsIn (Do job) held holds result =
       (done : Result (Unit {0}) JobFault)
-      × DoesIn store opens closes db db' (Does job) (told_text job) held holds done × (result ≡ after_job done)
+      × DoesIn store database db db' (OpensFor database job) (Does job) (told_text job) held holds done
+      × (result ≡ after_job done)
   RunsIn (Apply file) held holds result =
       (done : Result (Unit {0}) JobFault)
-      × AppliesIn store opens closes db db' (remaining file) held holds done × (result ≡ after_job done)
+      × AppliesIn store database db db' (remaining file) held holds done × (result ≡ after_job done)
   RunsIn (Init ca founding) held holds result =
       (done : Result (Unit {0}) JobFault)
-      × FoundsIn store opens closes db db' founding (remaining ca) held holds done × (result ≡ after_job done)
+      × FoundsIn store database db db' founding (remaining ca) held holds done × (result ≡ after_job done)
   RunsIn (Serve nonces port connections) held holds result =
-      ServesIn store opens closes db db' connections (remaining nonces) held holds result
+      ServesIn store database db db' connections (remaining nonces) held holds result

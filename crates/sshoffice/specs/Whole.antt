@@ -1,7 +1,7 @@
 -- The whole of a job, from the opening of its database to the closing.
 use Rattle.std.specs.Prelude.{◌≡◌, ◌⊎◌, ℕ, List, [], Option, Result, Ok, Err, IfOk, IfSome}
 use Rattle.std.specs.Io.KnownBytes.{Appends}
-use Rattle.sqlite_trees.specs.declared.store.Store.{Ghosts}
+use Rattle.sqlite_trees.specs.declared.store.Store as store
 use Rattle.sqlite.specs.declared.error.Error.{Error}
 use Rattle.sqlite.specs.Held.{Held}
 use Rattle.sqlite.specs.State.{State}
@@ -12,34 +12,26 @@ use Rattle.office.specs.declared.opening.OpeningFault.{OpeningFault}
 use Rattle.office.specs.Openings.{made_opening}
 use Rattle.web.specs.declared.exchange.Exchange.{Exchange}
 use Rattle.exchanges.specs.Exchanges.{AreExchanges, IsBadRecord, exchanges_text}
+use Rattle.sshoffice.specs.declared.database.Database.{Ghosts}
 use Rattle.sshoffice.specs.declared.founding.Founding.{Founding}
 use Rattle.sshoffice.specs.declared.job_fault.JobFault.{JobFault}
 use Rattle.sshoffice.specs.declared.job_fault.JobFault.TheVariants.{BadExchange, Write}
 use Rattle.sshoffice.specs.Applying.{Applies}
-use Rattle.sshoffice.specs.Ending.{closed, of_database}
+use Rattle.sshoffice.specs.Ending.{closed}
 use Rattle.sshoffice.specs.Faults.{IsOfAKey, IsOfAnOpening, IsOfExchanges}
+use Rattle.sshoffice.specs.Finding.{OpensNew, OpensThere}
 use Rattle.sshoffice.specs.Making.{Makes, ready_text}
 use Rattle.sshoffice.specs.Reading.{IsKeyText}
 use Rattle.sshoffice.specs.Serving.{Serves}
+use Rattle.sshoffice.specs.Steps.{Follows}
 
 -- ---- steps
 
--- Two steps: what the first gave was used by the second. Where the first met a fault, that is what came of both.
-abbrev pub Follows : {A B : Type 0} → (Used : A → Result B JobFault → Type 0) → (Nothing : Type 0) → Result A JobFault
-    → Result B JobFault → Type 0
-Follows Used Nothing (Ok x) result = Used x result
-Follows Used Nothing (Err e) result = (result ≡ Err e) × Nothing
-
 -- No transaction is open on what is opened, and its queries may take any number of steps.
-abbrev pub OpensFree : {S D : Type 0} → Ghosts S → (Result (Held S) Error → D → Type 0) → Type 0
-OpensFree {S} {D} store opens =
-    (found : Result (Held S) Error) (db : D) → opens found db
+abbrev pub OpensFree : {S D : Type 0} → store.Ghosts S → Ghosts D (Held S) → Type 0
+OpensFree {S} {D} store database =
+    (db : D) (found : Result (Held S) Error) (db' : D) → database.opens db found db'
     → IfOk found (λ conn. IsOutside store conn × IsUnlimited store conn)
-
--- the connection that was opened, or the fault of the database
-abbrev pub found_open : {A : Type 0} → Result A Error → Result A JobFault
-found_open (Ok conn) = Ok conn
-found_open (Err error) = Err (of_database error)
 
 -- this was printed, or the output failed
 abbrev pub Prints : List ℕ → (held holds : Option (List ℕ)) → Result (Unit {0}) JobFault → Type 0
@@ -67,9 +59,8 @@ Begins file founding (Err e) =
 
 -- ---- jobs
 
--- A database is opened and closed so. As it was before it is `db`, and as it is afterwards `db'`.
-module _ {S D : Type 0} (store : Ghosts S) (opens : D → Result (Held S) Error → D → Type 0)
-    (closes : D → Held S → Result (Unit {0}) Error → D → Type 0) (db db' : D) where
+-- A database is looked for, made, opened and closed so. As it was before it is `db`, and as it is afterwards `db'`.
+module _ {S D : Type 0} (store : store.Ghosts S) (database : Ghosts D (Held S)) (db db' : D) where
   -- This was done over the connection, and what it left was closed. A fault of either is what came of it.
   pub record RunsOver {A : Type 0} (Did : State → State → Result A JobFault → Type 0) (opened : D) (conn : Held S)
       (result : Result A JobFault) : Type 0 where
@@ -77,41 +68,46 @@ module _ {S D : Type 0} (store : Ghosts S) (opens : D → Result (Held S) Error 
     pub last : Held S
     pub did : On store Did conn last outcome
     pub closing : Result (Unit {0}) Error
-    pub is_closed : closes opened last closing db'
+    pub is_closed : database.closes opened last closing db'
     pub came : result ≡ closed outcome closing
 
-  -- The database was opened once, and this was done over its connection. Or it wasn't opened, and nothing was done.
-  pub record RunsIn {A : Type 0} (Did : State → State → Result A JobFault → Type 0) (Nothing : Type 0)
-      (result : Result A JobFault) : Type 0 where
-    pub found : Result (Held S) Error
+  -- The database was opened so, once, and this was done over its connection. Or it wasn't opened, and nothing was done.
+  pub record RunsIn {A : Type 0} (Opens : D → Result (Held S) JobFault → D → Type 0)
+      (Did : State → State → Result A JobFault → Type 0) (Nothing : Type 0) (result : Result A JobFault) : Type 0 where
+    pub found : Result (Held S) JobFault
     pub opened : D
-    pub is_opened : opens db found opened
-    pub ran : Follows (RunsOver Did opened) ((db' ≡ opened) × Nothing) (found_open found) result
+    pub is_opened : Opens db found opened
+    pub ran : Follows (RunsOver Did opened) ((db' ≡ opened) × Nothing) found result
 
   -- The same, and once the database was closed what is told of it is printed.
-  pub record DoesIn (Did : State → State → Option (List ℕ) → Option (List ℕ) → Result (Unit {0}) JobFault → Type 0)
+  pub record DoesIn (Opens : D → Result (Held S) JobFault → D → Type 0)
+      (Did : State → State → Option (List ℕ) → Option (List ℕ) → Result (Unit {0}) JobFault → Type 0)
       (told : List ℕ) (held holds : Option (List ℕ)) (result : Result (Unit {0}) JobFault) : Type 0 where
     pub between : Option (List ℕ)
     pub done : Result (Unit {0}) JobFault
-    pub ran : RunsIn (λ old new. Did old new held between) (between ≡ held) done
+    pub ran : RunsIn Opens (λ old new. Did old new held between) (between ≡ held) done
     pub told_of : Follows (λ _. Prints told between holds) (holds ≡ between) done result
 
-  -- The exchanges of the file were applied. Or it has none, and then nothing was opened, and nothing is printed.
+  -- The exchanges of the file were applied. Or it has none, and then nothing was looked for or opened, and nothing is
+  -- printed.
   pub record AppliesIn (file held holds : Option (List ℕ)) (result : Result (Unit {0}) JobFault) : Type 0 where
     pub exchanges : Result (List Exchange) JobFault
     pub are_of : AreOf file exchanges
-    pub applied : Follows (λ es. DoesIn (Applies es) [] held holds) ((db' ≡ db) × (holds ≡ held)) exchanges result
+    pub applied : Follows (λ es. DoesIn (OpensThere database) (Applies es) [] held holds) ((db' ≡ db) × (holds ≡ held))
+        exchanges result
 
-  -- The office with the key of the file was made, and is told of. Or there is none, and then nothing was opened, and
-  -- nothing is printed.
+  -- The office with the key of the file was made, and is told of. Or there is none, and then nothing was made or
+  -- opened, and nothing is printed.
   pub record FoundsIn (founding : Founding) (file held holds : Option (List ℕ)) (result : Result (Unit {0}) JobFault)
       : Type 0 where
     pub opening : Result Opening JobFault
     pub begins : Begins file founding opening
-    pub made : Follows (λ o. DoesIn (λ old new from to r. Makes o old new r × (to ≡ from)) (ready_text o) held holds)
+    pub made : Follows
+        (λ o. DoesIn (OpensNew database) (λ old new from to r. Makes o old new r × (to ≡ from)) (ready_text o) held
+        holds)
         ((db' ≡ db) × (holds ≡ held)) opening result
 
   -- The office was served, with nonces from this source. Or it wasn't opened, and nothing is printed.
   abbrev pub ServesIn : (connections : ℕ) → (nonces held holds : Option (List ℕ)) → Result ℕ JobFault → Type 0
   ServesIn connections nonces held holds result =
-      RunsIn (λ old new. Serves connections nonces old new held holds) (holds ≡ held) result
+      RunsIn (OpensThere database) (λ old new. Serves connections nonces old new held holds) (holds ≡ held) result

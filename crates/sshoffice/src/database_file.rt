@@ -1,4 +1,4 @@
-//! Databases in files, opened and closed.
+//! Databases in files: looked for, made, opened and closed.
 
 ghost use Rattle.std.specs.Prelude.{◌≤◌, ⊤, IfOk};
 ghost use Rattle.sqlite.specs.Held.{IsNew};
@@ -7,14 +7,14 @@ ghost use Rattle.sshoffice.specs.Tasks.{IsLawfulTask};
 
 use crate::asked::Service;
 use crate::database::Database;
-use crate::files::open_file;
+use crate::files::{make_file, open_file};
 use crate::founding::Founding;
 use crate::job::OfficeJob;
 use crate::job_fault::JobFault;
 use crate::task::{Task, run_in};
 use sqlite::{Connection, Error, File, FileStore};
 use std::fs;
-use std::io::Write;
+use std::io::{ErrorKind, Write};
 
 /// A connection to the file at a path.
 type FileConnection = Connection<FileStore<File>>;
@@ -24,6 +24,11 @@ fn open_database(rt: &HostRuntime, path: &str) -> Result<FileConnection, Error>
     ensures new { IfOk result IsNew }
 {
     Connection::open(rt, path)
+}
+
+/// Whether SQLite takes this for something else than a path, so that opening it refuses it. Then no file is made.
+fn is_no_path(path: &str) -> bool {
+    path == ":memory:" || path.starts_with("file:")
 }
 
 /// The database at a path.
@@ -37,6 +42,17 @@ impl Database for DatabaseFile<'_> {
     type Conn = FileConnection;
 
     ghost opens = { λ _ found _. IfOk found IsNew };
+
+    fn is_there(&mut self) -> Result<bool, ErrorKind> {
+        fs::exists(self.rt, self.path).map_err(|error| error.kind())
+    }
+
+    fn make(&mut self) -> Result<(), ErrorKind> {
+        if is_no_path(self.path) {
+            return Ok(());
+        }
+        make_file(self.rt, self.path).map_err(|error| error.kind())
+    }
 
     fn open(&mut self) -> Result<FileConnection, Error> {
         open_database(self.rt, self.path)

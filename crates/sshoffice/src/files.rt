@@ -1,4 +1,4 @@
-//! Files, opened.
+//! Files, opened and made.
 
 ghost use Rattle.std.specs.Prelude.{IfErr};
 ghost use Rattle.sshoffice.specs.Faults.{IsOfAFile};
@@ -8,9 +8,28 @@ use crate::file_reader::{file_fault, read_key};
 use crate::job_fault::JobFault;
 use lines::KeyLine;
 use std::fs;
-use std::fs::File;
-use std::io::Write;
+use std::fs::{File, OpenOptions, Permissions};
+use std::io::{self, ErrorKind, Write};
+use std::os::unix::fs::{OpenOptionsExt, PermissionsExt};
 use std::rt::Files;
+
+/// The mode of a file that its owner alone may read and write.
+const OWNER_ALONE: u32 = 0o600;
+
+/// Makes an empty file that its owner alone may read and write, if nothing has the name. What is there stays as it is.
+pub(crate) fn make_file<R: Files<File = File>>(rt: &R, path: &str) -> io::Result<()> {
+    match OpenOptions::new()
+        .write(true)
+        .create_new(true)
+        .mode(OWNER_ALONE)
+        .open(rt, path)
+    {
+        // The umask may have taken away what the owner is to have.
+        Ok(file) => file.set_permissions(Permissions::from_mode(OWNER_ALONE)),
+        Err(error) if error.kind() == ErrorKind::AlreadyExists => Ok(()),
+        Err(error) => Err(error),
+    }
+}
 
 /// Opens the file at a path.
 pub(crate) fn open_file<R: Files<File = File>>(rt: &R, path: &str) -> Result<File, JobFault>

@@ -16,6 +16,7 @@ mod checking;
 mod command;
 mod database;
 mod database_file;
+mod database_opening;
 mod ending;
 mod file_reader;
 mod files;

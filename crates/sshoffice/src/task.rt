@@ -58,9 +58,9 @@ pub fn run_in<
     O: Write,
     E: Write,
 >(rt: &R, db: &mut D, task: Task<'_, F>, out: O, err: &mut E) -> (Result<u8, JobFault>, O)
-    requires free { OpensFree S.Store (D.opens db.old) }
+    requires free { OpensFree S.Store D.Database }
     requires lawful { IsLawfulTask task }
-    ensures runs { RunsIn S.Store D.opens D.closes db.old db.new F.remaining task.entry (O.contents out)
+    ensures runs { RunsIn S.Store D.Database db.old db.new F.remaining task.entry (O.contents out)
         (O.contents result.1) result.0 }
     ensures status { IfOk result.0 (λ status. status ≤ 1) }
     ensures silent { (IsOfAServer task.entry → ⊥) → err.new ≡ err.old }

@@ -1,14 +1,17 @@
 //! Whole jobs, from the opening of a database to its closing.
 //!
-//! A database is opened once, or not at all where a file can't be read. What is left of its connection is closed.
+//! A database is opened once, or not at all where a file can't be read or the database isn't there. What is left of its
+//! connection is closed.
 
 ghost use Rattle.std.specs.Prelude.{◌≡◌, ◌≤◌, IfOk};
 ghost use Rattle.office.specs.Openings.{IsOpening};
+ghost use Rattle.sshoffice.specs.Finding.{OpensFor};
 ghost use Rattle.sshoffice.specs.Jobs.{Does, IsLawful, told_text};
 ghost use Rattle.sshoffice.specs.Whole.{AppliesIn, Begins, DoesIn, FoundsIn, OpensFree, ServesIn};
 
 use crate::database::Database;
-use crate::ending::{closed, database_fault, finish};
+use crate::database_opening::{open_for, open_there};
+use crate::ending::{closed, finish};
 use crate::file_reader::{read_exchanges_from, read_key};
 use crate::founding::{Founding, opening_of};
 use crate::job::{Done, OfficeJob, do_on};
@@ -28,19 +31,19 @@ pub(crate) fn do_in<S: Alter, D: Database<Conn = Connection<S>>, W: Write>(
     job: &OfficeJob<'_>,
     out: W,
 ) -> (Result<(), JobFault>, W)
-    requires free { OpensFree S.Store (D.opens db.old) }
+    requires free { OpensFree S.Store D.Database }
     requires lawful { IsLawful job.now }
-    ensures { DoesIn S.Store D.opens D.closes db.old db.new (Does job.now) (told_text job.now) (W.contents out)
-        (W.contents result.1) result.0 }
+    ensures { DoesIn S.Store D.Database db.old db.new (OpensFor D.Database job.now) (Does job.now) (told_text job.now)
+        (W.contents out) (W.contents result.1) result.0 }
 {
-    match db.open() {
+    match open_for(db, job) {
         Ok(conn) => {
             let Done { outcome, conn, out } = do_on(alloc, conn, job, out);
             let mut out = out;
             let done = finish(&mut out, job, closed(outcome, db.close(conn)));
             (done, out)
         }
-        Err(error) => (Err(database_fault(error)), out),
+        Err(fault) => (Err(fault), out),
     }
 }
 
@@ -51,8 +54,8 @@ pub(crate) fn apply_in<R: Read + Drop, S: Alter, D: Database<Conn = Connection<S
     file: R,
     out: W,
 ) -> (Result<(), JobFault>, W)
-    requires { OpensFree S.Store (D.opens db.old) }
-    ensures { AppliesIn S.Store D.opens D.closes db.old db.new (R.remaining file) (W.contents out)
+    requires { OpensFree S.Store D.Database }
+    ensures { AppliesIn S.Store D.Database db.old db.new (R.remaining file) (W.contents out)
         (W.contents result.1) result.0 }
 {
     match read_exchanges_from(alloc, file) {
@@ -84,8 +87,8 @@ pub(crate) fn found_in<R: Read + Drop, S: Alter, D: Database<Conn = Connection<S
     founding: &Founding<'_>,
     out: W,
 ) -> (Result<(), JobFault>, W)
-    requires { OpensFree S.Store (D.opens db.old) }
-    ensures { FoundsIn S.Store D.opens D.closes db.old db.new founding.now (R.remaining ca) (W.contents out)
+    requires { OpensFree S.Store D.Database }
+    ensures { FoundsIn S.Store D.Database db.old db.new founding.now (R.remaining ca) (W.contents out)
         (W.contents result.1) result.0 }
 {
     match opening_from(alloc, ca, founding) {
@@ -99,8 +102,9 @@ pub(crate) fn found_in<R: Read + Drop, S: Alter, D: Database<Conn = Connection<S
 ///
 /// # Errors
 ///
-/// Why nobody could be served: the database can't be opened, it isn't that of an office, or nobody listens at the port.
-/// `NoMemory` or `Device` is also answered where all were served and the database couldn't be closed well.
+/// Why nobody could be served: the database isn't there or can't be opened, it isn't that of an office, or nobody
+/// listens at the port. `NoMemory` or `Device` is also answered where all were served and the database couldn't be closed
+/// well.
 pub(crate) fn serve_in<
     R: Net<Listener = TcpListener, Stream = TcpStream> + Clock + AllocGlobal,
     S: Alter,
@@ -117,16 +121,16 @@ pub(crate) fn serve_in<
     out: &mut O,
     err: &mut E,
 ) -> Result<u8, JobFault>
-    requires { OpensFree S.Store (D.opens db.old) }
-    ensures serves { ServesIn S.Store D.opens D.closes db.old db.new connections (N.remaining nonces)
+    requires { OpensFree S.Store D.Database }
+    ensures serves { ServesIn S.Store D.Database db.old db.new connections (N.remaining nonces)
         (O.contents out.old) (O.contents out.new) result }
     ensures status { IfOk result (λ status. status ≤ 1) }
 {
-    match db.open() {
+    match open_there(db) {
         Ok(conn) => {
             let (served, conn) = serve_at_port(rt, conn, nonces, port, connections, out, err);
             closed(served, db.close(conn))
         }
-        Err(error) => Err(database_fault(error)),
+        Err(fault) => Err(fault),
     }
 }

@@ -1,5 +1,6 @@
 use Rattle.std.proofs.Common.{[], Ok, Err, ap, refl, subst}
 use Rattle.sshoffice.specs.Applying.{Applies}
+use Rattle.sshoffice.specs.Finding.{OpensThere}
 use Rattle.sshoffice.specs.Whole.{DoesIn}
 use Rattle.sshoffice.proofs.whole.apply_in.Goals as goal
 
@@ -7,7 +8,7 @@ pub returns-in-Ok : goal.returns-in-Ok
 returns-in-Ok g c = record {
   exchanges = Ok c.in-Ok.exchanges.items;
   are_of = c.in-Ok.ensures.found;
-  applied = subst (λ es. DoesIn g.S.Store g.D.Database.opens g.D.Database.closes c.args.db.now c.do_in.new.db
+  applied = subst (λ es. DoesIn g.S.Store g.D.Database c.args.db.now c.do_in.new.db (OpensThere g.D.Database)
       (Applies es) [] (g.W.Write.contents c.args.out) (g.W.Write.contents c.do_in.result.1) c.do_in.result.0)
       c.as_slice.ensures.value c.do_in.ensures;
 }

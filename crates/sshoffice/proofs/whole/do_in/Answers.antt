@@ -1,6 +1,7 @@
 use Rattle.std.proofs.Common.{Ok, Err, ap, refl}
 use Rattle.std.proofs.lemmas.Result.{IfErr-weaker}
 use Rattle.sshoffice.proofs.Ended.{told}
+use Rattle.sshoffice.proofs.Found.{free_for}
 use Rattle.sshoffice.proofs.whole.do_in.Goals as goal
 
 pub returns-in-Ok : goal.returns-in-Ok
@@ -9,7 +10,7 @@ returns-in-Ok g c = record {
   done = c.closed.result;
   ran = record {
     found = Ok c.in-Ok.conn;
-    opened = c.«open».new.self;
+    opened = c.open_for.new.db;
     is_opened = c.in-Ok.ensures;
     ran = record {
       outcome = c.do_on-outcome.result.outcome;
@@ -28,12 +29,22 @@ returns-in-Ok g c = record {
 pub returns-in-Err : goal.returns-in-Err
 returns-in-Err g c = record {
   between = g.W.Write.contents c.args.out;
-  done = Err c.database_fault.result;
+  done = Err c.in-Err.fault;
   ran = record {
-    found = Err c.in-Err.error;
-    opened = c.«open».new.self;
+    found = Err c.in-Err.fault;
+    opened = c.open_for.new.db;
     is_opened = c.in-Err.ensures;
-    ran = (ap Err c.database_fault.ensures.value, (refl, refl));
+    ran = (refl, (refl, refl));
   };
   told_of = (refl, refl);
 }
+
+pub do_on-outcome-requires-clause-outside : goal.do_on-outcome-requires-clause-outside
+do_on-outcome-requires-clause-outside g c =
+    (free_for g.S.Store g.D.Database c.requires.free c.args.job.now c.args.db.now (Ok c.in-Ok.conn) c.open_for.new.db
+    c.in-Ok.ensures).0
+
+pub do_on-outcome-requires-clause-unlimited : goal.do_on-outcome-requires-clause-unlimited
+do_on-outcome-requires-clause-unlimited g c =
+    (free_for g.S.Store g.D.Database c.requires.free c.args.job.now c.args.db.now (Ok c.in-Ok.conn) c.open_for.new.db
+    c.in-Ok.ensures).1

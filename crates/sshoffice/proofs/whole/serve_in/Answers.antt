@@ -15,7 +15,7 @@ kept (Err e) closing small = tt
 pub returns-in-Ok-clause-serves : goal.returns-in-Ok-clause-serves
 returns-in-Ok-clause-serves g c = record {
   found = Ok c.in-Ok.conn;
-  opened = c.«open».new.self;
+  opened = c.open_there.new.db;
   is_opened = c.in-Ok.ensures;
   ran = record {
     outcome = c.serve_at_port-served.result.0;
@@ -34,8 +34,8 @@ returns-in-Ok-clause-status g c =
 
 pub returns-in-Err-clause-serves : goal.returns-in-Err-clause-serves
 returns-in-Err-clause-serves g c = record {
-  found = Err c.in-Err.error;
-  opened = c.«open».new.self;
+  found = Err c.in-Err.fault;
+  opened = c.open_there.new.db;
   is_opened = c.in-Err.ensures;
-  ran = (ap Err c.database_fault.ensures.value, (refl, refl));
+  ran = (refl, (refl, refl));
 }
