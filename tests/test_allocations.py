@@ -8,10 +8,13 @@ krl_tool makes a list of a specification, adds serials to a set, and gathers ser
 refused, either it fails and has printed nothing, or all is as without a refusal. The gathering itself takes memory too:
 it is refused at least twice, and then says NoMemory.
 """
+import contextlib
+import subprocess
+
 import pytest
 
-from asking import CA, answers, deliver, exchange, get, issue, post, revoke_serial, write_exchanges
-from running import preloaded, run
+from asking import CA, answers, deliver, department, exchange, get, issue, post, revoke_serial, write_exchanges
+from running import Office, Served, preloaded, run
 
 SPECIFICATION = f"ca: {CA}\nserial: 1\nserial: 3-4\nserial: 10-20\nid: web/alice\n"
 DIGEST = "82e0c34fe67da3fc3dc1be6682073994ec021449271b641cdd36180e95572e79"
@@ -87,3 +90,72 @@ def test_a_list_or_a_set_is_made(refuse, krl_tool, room, words):
 def test_serials_are_gathered(refuse, krl_tool):
     ends = in_turn(lambda number: refuse([krl_tool, "gather", *range(1, 40, 2)], number), fails_or_is_whole)
     assert 2 <= sum(errors == b"Error: NoMemory\n" for _, _, errors in ends), "the gathering itself grows twice"
+
+
+# ---- a server
+
+SERVED = post("ana", "i1", issue()), post("ana", "i1", issue()), get("/v1/table")
+
+
+class Refusing:
+    """A server of an office in which an allocation is refused, asked for an issue, the same again, and the table."""
+
+    def __init__(self, program, room):
+        self.library, self.mark = preloaded("refuse_allocation.c", room), room / "refused"
+        self.office = Office(program, ca=CA)
+        self.office.apply([post("root", "web", department())])
+        self.founded = self.office.db.read_bytes()
+
+    def ask(self, number):
+        """Whether it listened, what the connections were given up to its end, how it ended, and whether an allocation
+        was refused."""
+        self.office.db.write_bytes(self.founded)
+        self.mark.unlink(missing_ok=True)
+        words = f"serve --db {self.office.db} --port 0 --connections 3 --nonces /dev/zero".split()
+        refused = {"LD_PRELOAD": str(self.library), "REFUSED": str(number), "MARK": str(self.mark)}
+        process = subprocess.Popen([self.office.program, *words], stdout=subprocess.PIPE, stderr=subprocess.PIPE,
+                                   env=refused)
+        given = []
+        try:
+            line = process.stdout.readline()
+            for request in SERVED if line else ():
+                given.append(b"")
+                # A connection that is closed before all was read is reset.
+                with contextlib.suppress(OSError):
+                    given[-1] = Served(self.office, process, int(line.split()[1])).ask(request)
+            errors = process.communicate(timeout=60)[1]
+        finally:
+            process.kill()
+            process.wait()
+        return line, given, (process.returncode, errors), self.mark.exists()
+
+    def first_after_listening(self):
+        """The number of the first allocation behind the line that says the port."""
+        low, high = 1, 1 << 16
+        while low < high:
+            middle = (low + high) // 2
+            low, high = (low, middle) if self.ask(middle)[0] else (middle + 1, high)
+        return low
+
+
+@pytest.mark.slow
+def test_a_server_goes_on(program, room):
+    """Each fourth allocation of a server that listens is refused. Either it ends before it has answered anything; or
+    the connection that meets the refusal ends without a response and has its fault, and the others are given what is
+    due."""
+    server = Refusing(program, room)
+    _, due, end, _ = server.ask(0)
+    assert ((0, b""), [200, 200, 200], due[0]) == (end, [it.status for it in due], due[1])
+    number, was_refused, faults = server.first_after_listening(), True, 0
+    while was_refused:
+        _, given, end, was_refused = server.ask(number)
+        if end == (1, b"sshoffice: NoMemory\n"):
+            assert [] == [it for it in given if it], f"allocation {number} is refused"
+        else:
+            failed = [place for place, it in enumerate(given, 1) if not it]
+            wanted = b"".join(b"sshoffice: connection %d NoMemory\n" % it for it in failed)
+            assert (0, wanted) == end, f"allocation {number} is refused"
+            assert [it and wish for it, wish in zip(given, due)] == given, f"allocation {number} is refused"
+            faults += len(failed)
+        number += 4
+    assert faults > 10
