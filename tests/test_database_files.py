@@ -368,6 +368,7 @@ def init_on(disk, program, folder, fail):
     return done, mark.read_text().split() if mark.exists() else []
 
 
+@pytest.mark.slow
 @pytest.mark.parametrize("how", [str(errno.EIO), str(errno.ENOSPC), "kill"], ids=["fails", "is full", "kills"])
 def test_init_runs_again_over_what_it_left(program, laid, failing_disk, how):
     number, made = 0, 0
