@@ -210,6 +210,9 @@ def test_an_office_comes_back_after_a_kill_and_a_reboot(site, office):
 
 
 def test_a_stopped_office_stays_stopped(office):
+    # Requests come while it is stopped, and after.
+    ask = "while :; do curl -s --max-time 2 --unix-socket /run/office-door.sock http://office/v1/cas || sleep 0.01; done"
+    office.run(f"for it in 1 2 3 4; do systemd-run -q --unit=asking-$it bash -c '{ask}'; done; sleep 0.5")
     office.run("systemctl stop office")
     answers = set()
     for _ in range(20):
@@ -222,6 +225,7 @@ def test_a_stopped_office_stays_stopped(office):
     assert "inactive" == office.run("systemctl is-active office-door.service", False).stdout.strip()
     office.run("systemctl start office")
     wait_until_up(office, 5)
+    assert "4" == office.says("systemctl list-units --no-legend 'asking-*' | wc -l")
 
 
 def test_an_office_that_cannot_serve_ends_failed_and_raises_the_alert(office):
@@ -365,6 +369,21 @@ def test_a_failed_office_is_restored(site, office):
     boxes.wait_until(lambda: ["failed"] == states(office, "office"), "the office has failed", 60)
     office.run("office-restore copies/office.db")
     wait_until_up(office, 5)
+
+
+def test_a_restore_that_loses_its_terminal_leaves_an_office(site, office):
+    """It is given up before anything was changed, or it goes on to its end."""
+    site.type(KEEP_A_COPY)
+    ends = set()
+    for delay in (0.05, 0.2, 0.3, 0.4, 0.5, 0.7):
+        ended = office.run(f"office-restore copies/office.db & sleep {delay}; kill -HUP $! || true; wait $!", False)
+        ends.add(ended.returncode)
+        wait_until_up(office)
+    # The next one removes what was left.
+    office.run("office-restore copies/office.db")
+    assert [] == office.says("find /var/lib/office -maxdepth 1 -name 'restore*'").split()
+    # 129 is the end by the signal.
+    assert ends <= {0, 129}
 
 
 @pytest.mark.parametrize("spoil, why", [
