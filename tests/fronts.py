@@ -28,6 +28,13 @@ def new_authority(folder):
     return folder
 
 
+def has_ipv6():
+    """Whether a program of this machine may listen on IPv6's loopback address."""
+    with contextlib.suppress(OSError), socket.create_server(("::1", 0), family=socket.AF_INET6):
+        return True
+    return False
+
+
 class Front:
     """nginx before an office, as examples/front sets it up.
 
@@ -44,11 +51,11 @@ class Front:
         self.state.mkdir()
         for name in ("server.crt", "server.key", "ca.crt", "crl.pem"):
             shutil.copy(self.authority / name, self.conf)
-        own_folder = ("/etc/vethlumi/front;", f"{self.conf};")
+        by_ipv6 = f"listen [::1]:{self.port}" if has_ipv6() else "# listen"
         self.configure(("server 127.0.0.1:8022;", f"server 127.0.0.1:{office_port};"),
                        ("server 127.0.0.1:8022 max_conns", f"server 127.0.0.1:{office_port} max_conns"),
-                       ("listen 8443", f"listen 127.0.0.1:{self.port}"),
-                       ("listen [::]:8443", f"listen [::1]:{self.port}"), own_folder,
+                       ("listen 8443", f"listen 127.0.0.1:{self.port}"), ("listen [::]:8443", by_ipv6),
+                       ("/etc/vethlumi/front;", f"{self.conf};"),
                        ("/usr/local/share/office/page", str(EXAMPLES / "page")), *edits)
         self.begin()
 

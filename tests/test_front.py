@@ -2,15 +2,14 @@
 
 The office behind it is one that records what it is sent."""
 import collections
-import socket
 import subprocess
 import time
 
 import pytest
 
-from fronts import Front
+from fronts import Front, has_ipv6
 from recording import Recorder, composed, getting, posting, statuses, staying
-from running import Programs, run, until
+from running import Programs, left_out, run, until
 
 pytestmark = [pytest.mark.front, pytest.mark.xdist_group("front")]
 
@@ -430,10 +429,8 @@ def test_a_handshake(recorded, words, succeeds):
 
 
 def test_the_front_listens_on_ipv6_as_well(recorded):
-    try:
-        socket.create_server(("::1", 0), family=socket.AF_INET6).close()
-    except OSError:
-        pytest.skip("left out: this machine has no IPv6")
+    if not has_ipv6():
+        left_out("this machine has no IPv6")
     done = run(["curl", "-sSf", "--cacert", recorded.authority / "ca.crt", "--resolve",
                 f"localhost:{recorded.port}:[::1]", f"{recorded.url}/v1/cas"], check=True)
     assert b"heard\n" == done.stdout
