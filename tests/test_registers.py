@@ -92,7 +92,7 @@ def rows_of(db):
 
 class Registers(RuleBasedStateMachine):
     """A history of exchanges, which the office in Python answers at once, and the program at the end."""
-    program = None
+    program = failed = None
     count = itertools.count()
 
     @initialize(last=some.sampled_from([LAST_SERIAL, LAST_SERIAL, 5, 12]), piece=some.sampled_from([1000, 17]),
@@ -216,15 +216,27 @@ class Registers(RuleBasedStateMachine):
         again = [exchange(one.request, one.moment ^ 1, 0xee) for one in self.exchanges]
         asked = self.exchanges + again + self.reports()
         due = self.given + [self.office.answer(*one) for one in asked[len(self.given):]]
+        # Once one of these has failed, hypothesis looks for a shorter history by that alone.
+        for compare in (self.in_memory, self.in_a_file):
+            if type(self).failed in (None, compare.__name__):
+                try:
+                    compare(asked, due)
+                except AssertionError:
+                    type(self).failed = compare.__name__
+                    raise
+
+    def in_memory(self, asked, due):
+        """The trial office's lists. It has other serials than an office that may run out of them."""
         if self.last == LAST_SERIAL:
             file = write_exchanges("some.exchange", asked)
             assert due == answers(run([self.program, "apply", file]).stdout), "in memory"
+
+    def in_a_file(self, asked, due):
         office = Office(self.program, f"{next(self.count)}.db", ca=CA, last=self.last)
-        office.apply(DEPARTMENT)
-        given = []
+        given, asked = [], DEPARTMENT + asked
         for place in range(0, len(asked), self.piece):
             given += office.apply(asked[place:place + self.piece])
-        assert due == given, "in a file"
+        assert due == given[len(DEPARTMENT):], "in a file"
         assert self.office.rows() == rows_of(office.db)
         for file in pathlib.Path().glob(f"{office.db.stem}.*"):
             file.unlink()
