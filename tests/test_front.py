@@ -291,6 +291,18 @@ def test_a_client(recorded, name, wanted):
     assert sent in ([], [f"POST /v1/callers/{wanted[1]}/requests/k-1"])
 
 
+def test_an_office_may_have_other_names_for_root_and_the_station(make_front, recorded):
+    forget(recorded)
+    front = make_front(recorded.recorder.port, edits=[('OU=office\\z"                root;', 'OU=office\\z" chief;'),
+                                                      ('OU=office\\z"             station;', 'OU=office\\z" signer;')])
+    for name in ("root", "station"):
+        assert [200] == statuses(front.ask(posting(MESSAGE), name))
+    for _ in range(2):
+        assert [200] == statuses(front.ask(getting("/v1/pending"), "station"))
+    assert ["POST /v1/callers/chief/requests/k-1", "POST /v1/callers/signer/requests/k-1", "GET /v1/pending",
+            "GET /v1/pending"] == [it.split(b" HTTP")[0].decode() for it in recorded.recorder.requests]
+
+
 REFUSALS = [
     ("a message without a certificate", None, posting(MESSAGE), "the certificate names no caller, or there is none"),
     ("a page without a certificate", None, getting("/v1/table"), "only a client with a certificate may read this"),
