@@ -43,7 +43,7 @@ pub(crate) fn do_in<S: Alter, D: Database<Conn = Connection<S>>, W: Write>(
             let done = finish(&mut out, job, closed(outcome, db.close(conn)));
             (done, out)
         }
-        Err(fault) => (Err(fault), out),
+        Err(unopened) => (Err(unopened), out),
     }
 }
 
@@ -131,6 +131,6 @@ pub(crate) fn serve_in<
             let (served, conn) = serve_at_port(rt, conn, nonces, port, connections, out, err);
             closed(served, db.close(conn))
         }
-        Err(fault) => Err(fault),
+        Err(unopened) => Err(unopened),
     }
 }

@@ -29,9 +29,9 @@ returns-in-Ok g c = record {
 pub returns-in-Err : goal.returns-in-Err
 returns-in-Err g c = record {
   between = g.W.Write.contents c.args.out;
-  done = Err c.in-Err.fault;
+  done = Err c.in-Err.unopened;
   ran = record {
-    found = Err c.in-Err.fault;
+    found = Err c.in-Err.unopened;
     opened = c.open_for.new.db;
     is_opened = c.in-Err.ensures;
     ran = (refl, (refl, refl));

@@ -34,7 +34,7 @@ returns-in-Ok-clause-status g c =
 
 pub returns-in-Err-clause-serves : goal.returns-in-Err-clause-serves
 returns-in-Err-clause-serves g c = record {
-  found = Err c.in-Err.fault;
+  found = Err c.in-Err.unopened;
   opened = c.open_there.new.db;
   is_opened = c.in-Err.ensures;
   ran = (refl, (refl, refl));
