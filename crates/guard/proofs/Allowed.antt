@@ -1,10 +1,10 @@
 -- What is known of a body that isn't refused, and of the state that a question leaves.
-use Rattle.std.proofs.Common.{◌≡◌, ℕ, List, [], ◌∷◌, Bool, true, false, cond, Option, Some, None, refl, sym, ap, subst, ◌∙◌}
-use Rattle.std.specs.Prelude.{not, is_some, is_none, find, nat_lt, ◌||◌, ◌==◌}
+use Rattle.std.proofs.Common.{◌+◌, ◌≡◌, ℕ, List, [], ◌∷◌, Bool, true, false, cond, Option, Some, None, refl, sym, ap, subst, ◌∙◌}
+use Rattle.std.specs.Prelude.{nat_le, not, is_some, is_none, find, nat_lt, ◌||◌, ◌==◌}
 use Rattle.std.specs.List.{AllByRecursion}
 use Rattle.std.specs.Option.{option_map, option_map_or, option_or}
 use Rattle.std.specs.Str.{bytes_eq}
-use Rattle.std.proofs.lemmas.Bool.{not-false, or_parts, ltb-false, leb-false, eq-eqb}
+use Rattle.std.proofs.lemmas.Bool.{le-ltb, lt-leb, not-false, or_parts, ltb-false, leb-false, eq-eqb}
 use Rattle.std.proofs.lemmas.List.Folds.{find-append}
 use Rattle.std.proofs.lemmas.Slice.Eq.{bytes_eq-Decides}
 use Rattle.values.specs.Names.{department_of}
@@ -16,7 +16,7 @@ use Rattle.office.specs.Refusals.{has_other_kind, is_missing, same_kind}
 use Rattle.guard.specs.declared.approved.Approved.{Approved}
 use Rattle.guard.specs.declared.refusal.Refusal.{Refusal}
 use Rattle.guard.specs.declared.refusal.Refusal.TheVariants.{NotABody, OtherCa, OtherSerial}
-use Rattle.guard.specs.Machine.{State, Question, fields_of, department_named, department_for, body_of, is_same, is_other}
+use Rattle.guard.specs.Machine.{permits, State, Question, fields_of, department_named, department_for, body_of, is_same, is_other}
 use Rattle.guard.specs.Machine.{is_permitted_by, refusals_of_new, refusals_of_body, first_holding, refusal_of, row_of, with_fields, after}
 use Rattle.guard.specs.declared.scope.Scope.{Scope}
 use Rattle.guard.specs.Decided.{with_row}
@@ -215,3 +215,24 @@ pub signed_again : (s : State) (q : Question) (c : CertFields) → fields_of q.b
 signed_again s q c fields scope kept =
     let same : bytes_eq q.body q.body ≡ true = (bytes_eq-Decides q.body q.body).1 refl in
     rw (fields, kept, same) scope
+
+-- ---- what may be signed isn't refused
+
+same_kind_itself : (k : Kind) → same_kind k k ≡ true
+same_kind_itself User = refl
+same_kind_itself Host = refl
+
+pub approved_if_new : (s : State) (q : Question) (c : CertFields) → MaySign s.scope q c → body_of s c.serial ≡ None
+    → refusal_of s q ≡ None
+approved_if_new s q c may none =
+    let d = may.allowed.0 in
+    let ca : bytes_eq c.ca s.scope.ca ≡ true = (bytes_eq-Decides c.ca s.scope.ca).1 may.ca in
+    let first : nat_lt c.serial s.scope.first ≡ false = le-ltb _ _ may.from_first in
+    let last : nat_lt s.scope.last c.serial ≡ false = le-ltb _ _ may.to_last in
+    let there : department_for q.policy c ≡ Some d = may.allowed.1 in
+    let kind : same_kind d.kind c.kind ≡ true =
+    subst (λ (k : Kind). same_kind d.kind k ≡ true) may.allowed.2.kind (same_kind_itself d.kind) in
+    let permitted : permits d c ≡ true = may.allowed.2.permits in
+    let lasts : nat_le c.before q.moment ≡ false = lt-leb _ _ may.lasts in
+    let begins : nat_lt (q.moment + q.ahead) c.after ≡ false = le-ltb _ _ may.begins in
+    rw (may.fields, ca, first, last, none, there, kind, permitted, lasts, begins) refl

@@ -8,3 +8,4 @@ pub mod Laws
 pub mod Policies
 pub mod Judged
 pub mod PolicyTexts
+pub mod AnswerLines

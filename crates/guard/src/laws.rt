@@ -6,8 +6,8 @@ ghost use Rattle.cert.specs.declared.fields.CertFields.{CertFields};
 ghost use Rattle.guard.specs.declared.approved.Approved.{Approved};
 ghost use Rattle.guard.specs.declared.refusal.Refusal.{Refusal};
 ghost use Rattle.guard.specs.declared.scope.Scope.{Scope};
-ghost use Rattle.guard.specs.Machine.{State, Question, after, fields_of, refusal_of, refusals};
-ghost use Rattle.guard.specs.History.{IsStill, WasAsked, state};
+ghost use Rattle.guard.specs.Machine.{State, Question, after, body_of, fields_of, refusal_of, refusals};
+ghost use Rattle.guard.specs.History.{IsStill, MaySign, WasAsked, state};
 ghost use Rattle.guard.specs.Policies.{policy_at};
 ghost use Rattle.guard.specs.PolicyTexts.{AreBetween, AreParts, Part, policy_text};
 ghost use Rattle.guard.specs.Laws.{IsBodyOf, ascend_from};
@@ -33,6 +33,12 @@ pub fn an_approved_body_was_permitted()
 pub fn a_policy_is_read_as_its_departments()
     ensures { (parts : List Part) (last : List (List ℕ)) → AreParts [] parts → AreBetween last
         → policy_at (policy_text parts last) ≡ Ok (map (λ p. p.department) parts) }
+{}
+
+/// A body that might be signed is: it isn't refused where none is kept under its serial.
+pub fn what_may_be_signed_is_approved()
+    ensures { (s : State) (q : Question) (c : CertFields) → MaySign s.scope q c → body_of s c.serial ≡ None
+        → refusal_of s q ≡ None }
 {}
 
 /// What has fields is a body of the profile: at most 16384 bytes, which are the text of lawful fields, of these alone.

@@ -5,6 +5,7 @@
 //! one row that the body's serial concerns.
 #![tactic(auto)]
 
+mod answer_line;
 mod approved;
 mod body;
 mod deciding;
@@ -22,6 +23,7 @@ mod scope;
 mod tests;
 mod verdict;
 
+pub use answer_line::put_answer;
 pub use approved::Approved;
 pub use body::{BodyFault, LONGEST_BODY, fields_of};
 pub use deciding::decide;
@@ -30,6 +32,7 @@ pub use laws::{
     a_body_that_was_approved_stays, a_policy_is_read_as_its_departments, a_question_is_one_step,
     a_refusal_changes_nothing, a_serial_has_one_body, an_approved_body_is_signed_again,
     an_approved_body_was_permitted, refusals_ascend, what_has_fields_is_a_body,
+    what_may_be_signed_is_approved,
 };
 pub use memory::MemoryGuard;
 pub use policy::{LONGEST_POLICY, Policy};

@@ -5,7 +5,7 @@
 
 use crate::{
     Answer, BodyFault, MemoryGuard, Policy, PolicyFault, Refusal, Register, Scope, Verdict, View,
-    Window, decide, fields_of, judge,
+    Window, decide, fields_of, judge, put_answer,
 };
 use cert::CertFault;
 use std::alloc::Global;
@@ -162,6 +162,35 @@ fn a_guard_signs_one_body_a_serial(rt: HostRuntime) {
         Some(taken)
     );
     assert_eq!(rt; answer_to(rt.alloc(), &mut guard, 2000, BODY), Some(signed));
+}
+
+#[test]
+fn an_answer_is_a_line(rt: HostRuntime) {
+    let signed = Answer::Sign {
+        serial: 7,
+        digest: *DIGEST,
+    };
+    let bad_ca = BodyFault::NotOfTheProfile(CertFault::BadCa);
+    let lines: [(Answer, &[u8]); 4] = [
+        (
+            signed,
+            b"sign 7 82e0c34fe67da3fc3dc1be6682073994ec021449271b641cdd36180e95572e79\n",
+        ),
+        (
+            Answer::Refuse(Refusal::SerialTaken),
+            b"refuse SerialTaken\n",
+        ),
+        (
+            Answer::NotABody(BodyFault::TooLong),
+            b"refuse NotABody TooLong\n",
+        ),
+        (Answer::NotABody(bad_ca), b"refuse NotABody BadCa\n"),
+    ];
+    for (answer, line) in &lines {
+        let mut out = Vec::new(rt.alloc());
+        assert_eq!(rt; put_answer(&mut out, *answer), Ok(()));
+        assert_eq!(rt; out.as_slice(), *line);
+    }
 }
 
 /// Policies, and the lines that are answered. The first four are made of the one in `docs/FORMATS.md`, as it says.
