@@ -87,7 +87,8 @@ def make_root(folder):
     new, root = folder / "new", folder / "root"
     for it in (folder / "stamp", new, root):
         shutil.rmtree(it) if it.is_dir() else it.unlink(missing_ok=True)
-    words = ["debootstrap", "--variant=minbase", f"--include={','.join(PACKAGES)}", RELEASE, new]
+    # What it mounts ends with it, also if it is killed.
+    words = ["unshare", "--mount", "debootstrap", "--variant=minbase", f"--include={','.join(PACKAGES)}", RELEASE, new]
     environment = ENVIRONMENT | {"DEBIAN_FRONTEND": "noninteractive"}
     made = subprocess.run(words, capture_output=True, text=True, env=environment)
     if made.returncode:
@@ -271,7 +272,8 @@ class Box:
         for it in self.groups:
             it.mkdir(exist_ok=True)
         root = self.rack.room / self.name / "root"
-        words = ["systemd-nspawn", "-D", root, "-M", self.name, "--boot", "--register=no", "--keep-unit", "--network-bridge=rack", "-q", "--console=pipe",
+        words = ["systemd-nspawn", "-D", root, "-M", self.name, "--boot", "--register=no", "--keep-unit",
+                 "--network-bridge=rack", "-q", "--console=pipe",
                  # Without these systemd can't filter addresses in the box.
                  "--capability=CAP_BPF", "--system-call-filter=bpf"]
         self.init = None
