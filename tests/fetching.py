@@ -35,6 +35,11 @@ def script(name, *words, **how):
     return done.returncode, done.stdout.decode(), done.stderr.decode(errors="replace").splitlines()
 
 
+def shown(folder="."):
+    """The files of a folder, but for those that begin with a dot."""
+    return [it for it in os.listdir(folder) if not it.startswith(".")]
+
+
 @contextlib.contextmanager
 def small_disk(folder, kilobytes=64):
     """A file system of so many kilobytes. Its `fill(left)` leaves so many of its blocks free."""

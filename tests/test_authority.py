@@ -84,7 +84,7 @@ def look(folder):
         if b"PRIVATE KEY" in key.read_bytes():
             assert of_certificate(path, "-pubkey") == openssl("pkey", "-in", key, "-pubout").strip()
     assert [] == [it for it in folder.rglob("*") if it.is_file() and it.stat().st_mode & 0o777 != 0o600]
-    known = {"ca.key", "ca.crt", "server.key", "server.crt", "index", "issued"}
+    known = {"ca.key", "ca.crt", "server.key", "server.crt", "index", "issued", ".lock"}
     assert [] == [it.name for it in folder.iterdir() if it.name not in known and it.suffix != ".pem"]
     return {it[5] for it in lines if it[0] == "V"}
 
@@ -124,8 +124,14 @@ def test_two_at_once_make_one_authority(room):
     assert {"/CN=front"} == look(room / "made")
 
 
+def test_no_other_user_can_keep_a_command_waiting(folder):
+    folder.chmod(0o755)
+    must("crl", folder)
+    assert 0o600 == (folder / ".lock").stat().st_mode & 0o777
+
+
 def test_a_command_waits_for_whoever_has_the_folder(folder, programs):
-    holder = programs.begin(["flock", folder, "sh", "-c", "echo held; exec sleep 1.5"], stdout=subprocess.PIPE)
+    holder = programs.begin(["flock", folder / ".lock", "sh", "-c", "echo held; exec sleep 1.5"], stdout=subprocess.PIPE)
     assert b"held\n" == holder.stdout.readline()
     begun = time.monotonic()
     must("caller", folder, "bob")

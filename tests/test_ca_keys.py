@@ -10,7 +10,7 @@ import time
 import pytest
 
 from asking import key_blob, string
-from fetching import Web, response, script, small_disk
+from fetching import Web, response, script, shown, small_disk
 from running import EXAMPLES, free_port, run
 
 
@@ -71,7 +71,7 @@ def test_keys_that_are_named_are_taken(fetch, web, room):
     assert (0, []) == fetch(body(A + " the first CA", B), A, B)
     assert text(A, B) == of()
     assert 0o644 == os.stat("keys").st_mode & 0o777
-    assert ["keys"] == os.listdir()
+    assert ["keys"] == shown()
     assert b"GET /ca-keys HTTP/1.1" == web.requests[0].split(b"\r\n")[0]
 
 
@@ -89,7 +89,7 @@ def test_a_key_that_is_not_named_is_left_out_and_reported(fetch, names):
 def test_a_false_key_alone_makes_no_file(fetch, names):
     left_out = f"{names[FALSE]} came and isn't named; it was left out"
     assert (1, [left_out, "no key that is named came or is in place; keys is as it was"]) == fetch(body(FALSE), A)
-    assert [] == os.listdir()
+    assert [] == shown()
 
 
 def test_a_false_key_does_not_come_beside_what_is_in_place(fetch, room):
@@ -173,7 +173,7 @@ def test_a_line_of_another_form_is_left_out(fetch, room, line):
     assert 1 == status
     assert "1 of the lines that came are no Ed25519 public keys; they were left out" in errors
     assert text(B) == of()
-    assert ["keys"] == os.listdir()
+    assert ["keys"] == shown()
 
 
 def test_a_key_of_another_kind_that_comes_is_left_out(fetch):
@@ -199,7 +199,7 @@ COMMENTS = [
 def test_no_comment_is_taken(fetch, lines):
     assert (0, []) == fetch(f"{lines}\n".encode(), A)
     assert text(A) == of()
-    assert ["keys"] == os.listdir()
+    assert ["keys"] == shown()
 
 
 def test_a_false_key_with_a_named_fingerprint_in_its_comment_is_left_out(fetch, names):
@@ -233,7 +233,7 @@ def test_if_no_keys_come_those_in_place_stay(fetch, web, room, answer, why):
     assert (1, why.format(url=web.url)) == (status, errors[0])
     assert text(A) == of()
     assert 1000 == os.stat("keys").st_mtime
-    assert ["keys"] == os.listdir()
+    assert ["keys"] == shown()
 
 
 def test_an_endless_body_ends(fetch, web, room):
@@ -270,16 +270,16 @@ def test_a_link_to_a_folder_or_to_nothing(fetch, room):
     assert text(A) == of()
 
 
-@pytest.mark.parametrize("name", ["with space", "two\nlines", "-o", "$HOME", "a[1]*{b}", "x" * 250])
+@pytest.mark.parametrize("name", ["with space", "two\nlines", "-o", "$HOME", "a[1]*{b}", "x" * 240])
 def test_the_file_may_have_any_name(fetch, room, name):
     assert (0, []) == fetch(body(A), A, file=name)
     assert text(A) == of(room / name)
-    assert [name] == os.listdir()
+    assert [name] == shown()
 
 
 def test_a_folder_that_is_not_there(fetch, room):
     status, errors = fetch(body(A), A, file="none/keys")
-    assert (1, "can't lock none; none/keys is as it was") == (status, errors[-1])
+    assert (1, "can't lock none/.keys.lock; none/keys is as it was") == (status, errors[-1])
 
 
 @pytest.mark.root
@@ -293,7 +293,7 @@ def test_a_full_disk_loses_nothing(fetch, room):
             results.append(status)
             assert of("disk/keys") == (text(A) if status else text(A, B))
             assert not status or "disk may be full" in "".join(errors)
-            assert {"filling", "keys"} == {*os.listdir("disk")}
+            assert {"filling", "keys"} == {*shown("disk")}
         assert [1, 0] == [results[0], results[-1]]
 
 
@@ -304,7 +304,7 @@ def test_many_at_once(fetch, web, names, room):
     with concurrent.futures.ThreadPoolExecutor(8) as threads:
         assert [(0, "", [])] * 8 == list(threads.map(lambda _: script(*words), range(8)))
     assert text(A, B) == of()
-    assert ["keys"] == os.listdir()
+    assert ["keys"] == shown()
 
 
 def test_a_kill_at_any_moment_leaves_the_old_or_the_new(web, names, room):
@@ -319,7 +319,7 @@ def test_a_kill_at_any_moment_leaves_the_old_or_the_new(web, names, room):
         process.wait()
         assert of() in (text(A), text(A, B))
     assert (0, "", []) == script(*["fetch-ca-keys", *words[1:]])
-    assert ["keys"] == os.listdir()
+    assert ["keys"] == shown()
 
 
 # ---- what is named

@@ -2,14 +2,16 @@
 import concurrent.futures
 import contextlib
 import os
+import pathlib
 import signal
 import subprocess
+import tempfile
 import time
 
 import pytest
 
 from asking import string
-from fetching import Web, response, script, small_disk
+from fetching import Web, response, script, shown, small_disk
 from running import EXAMPLES, run
 
 
@@ -52,7 +54,7 @@ def test_a_newer_list_is_taken(fetch, room):
         assert (0, "") == fetch(it)
         assert it == (room / "list").read_bytes()
     assert 0o644 == os.stat("list").st_mode & 0o777
-    assert ["list"] == os.listdir()
+    assert ["list"] == shown()
 
 
 @pytest.mark.parametrize("version", [0, 5, 2 ** 31, 2 ** 63 - 2, HIGHEST])
@@ -66,7 +68,7 @@ def test_a_version_that_no_office_gives(fetch, room, version, old):
     if old:
         (room / "list").write_bytes(old)
     assert (1, f"version {version} came, which no office gives; list is as it was") == fetch(krl(version, [1]))
-    assert (["list"] if old else []) == os.listdir()
+    assert (["list"] if old else []) == shown()
     assert not old or old == (room / "list").read_bytes()
 
 
@@ -100,17 +102,22 @@ def test_if_no_list_comes_the_one_in_place_stays(fetch, web, room, answer, why):
     assert (1, f"{why.format(url=web.url)}; list is as it was") == fetch(answer)
     assert LIST == (room / "list").read_bytes()
     assert 1000 == os.stat("list").st_mtime
-    assert ["list"] == os.listdir()
+    assert ["list"] == shown()
 
 
 @pytest.mark.slow
+@pytest.mark.timeout(300)
 def test_an_endless_body_ends(fetch, web, room):
-    """Of what OpenSSH would read as a list, 128 MiB, no more is kept, and nothing afterwards."""
-    (room / "list").write_bytes(LIST)
-    web.endless = bytes(1 << 20)
-    assert (1, "what came is longer than any list; list is as it was") == fetch(response(NEWER, length=""))
-    assert LIST == (room / "list").read_bytes()
-    assert ["list"] == os.listdir()
+    """Of what OpenSSH would read as a list, 128 MiB, no more is kept, and nothing afterwards; or the time is over."""
+    with tempfile.TemporaryDirectory(dir="/dev/shm") as folder:
+        file = pathlib.Path(folder) / "list"
+        file.write_bytes(LIST)
+        web.endless = bytes(1 << 20)
+        status, why = fetch(response(NEWER, length=""), file=file, timeout=200)
+        assert (1, f"; {file} is as it was") == (status, why[why.index(";"):])
+        assert why.startswith(("what came is longer than any list;", "no list came from "))
+        assert LIST == file.read_bytes()
+        assert ["list"] == shown(folder)
 
 
 # ---- the file
@@ -136,16 +143,16 @@ def test_a_link_in_place_of_the_list_is_replaced_and_not_followed(fetch, room):
     assert [LIST, NEWER] == [(room / it).read_bytes() for it in ("other", "list")]
 
 
-@pytest.mark.parametrize("name", ["with space", "two\nlines", "-o", "$HOME", "a[1]*{b}", "x" * 250])
+@pytest.mark.parametrize("name", ["with space", "two\nlines", "-o", "$HOME", "a[1]*{b}", "x" * 240])
 def test_the_list_may_have_any_name(fetch, room, name):
     for it in (LIST, NEWER):
         assert (0, "") == fetch(it, file=name)
     assert NEWER == (room / name).read_bytes()
-    assert [name] == os.listdir()
+    assert [name] == shown()
 
 
 def test_a_folder_that_is_not_there(fetch, room):
-    assert (1, "can't lock none; none/list is as it was") == fetch(LIST, file="none/list")
+    assert (1, "can't lock none/.list.lock; none/list is as it was") == fetch(LIST, file="none/list")
 
 
 @pytest.mark.root
@@ -159,7 +166,7 @@ def test_a_full_disk_loses_nothing(fetch, room):
             status, why = fetch(long, file="disk/list")
             results.append(status)
             assert (LIST if status else long) == (room / "disk/list").read_bytes()
-            assert {"filling", "list"} == {*os.listdir("disk")}
+            assert {"filling", "list"} == {*shown("disk")}
             assert not status or why == "can't write what came: the disk may be full; disk/list is as it was"
         assert [1, 0] == [results[0], results[-1]]
 
@@ -170,7 +177,13 @@ def test_many_at_once(web, room):
     with concurrent.futures.ThreadPoolExecutor(8) as threads:
         assert [(0, "", [])] * 8 == list(threads.map(lambda _: script("fetch-list", web.url, "list"), range(8)))
     assert NEWER == (room / "list").read_bytes()
-    assert ["list"] == os.listdir()
+    assert ["list"] == shown()
+
+
+def test_no_other_user_can_keep_it_waiting(fetch, room):
+    room.chmod(0o755)
+    assert (0, "") == fetch(LIST, umask=0)
+    assert 0o600 == (room / ".list.lock").stat().st_mode & 0o777
 
 
 def test_a_kill_at_any_moment_leaves_the_old_or_the_new(web, room):
@@ -185,7 +198,7 @@ def test_a_kill_at_any_moment_leaves_the_old_or_the_new(web, room):
         process.wait()
         assert (room / "list").read_bytes() in (LIST, NEWER)
     assert (0, "", []) == script("fetch-list", web.url, "list")
-    assert ["list"] == os.listdir()
+    assert ["list"] == shown()
 
 
 def test_a_program_that_is_missing_is_named(web, room):
