@@ -3,6 +3,7 @@ import concurrent.futures
 import contextlib
 import os
 import pathlib
+import shutil
 import signal
 import subprocess
 import tempfile
@@ -184,6 +185,21 @@ def test_no_other_user_can_keep_it_waiting(fetch, room):
     room.chmod(0o755)
     assert (0, "") == fetch(LIST, umask=0)
     assert 0o600 == (room / ".list.lock").stat().st_mode & 0o777
+
+
+@pytest.mark.root
+def test_a_lock_that_root_has_left_does_not_keep_others_from_it(web):
+    """In a folder of the user nobody, who fetches after root did."""
+    web.answer = response(LIST)
+    with tempfile.TemporaryDirectory(dir="/var/tmp") as folder:
+        os.chmod(folder, 0o755)
+        shutil.chown(folder, "nobody")
+        shutil.copy(EXAMPLES / "fetch-list", folder)
+        words = [f"{folder}/fetch-list", web.url, f"{folder}/list"]
+        for before in ((), ("runuser", "-u", "nobody", "--")):
+            done = run([*before, *words])
+            assert (0, b"") == (done.returncode, done.stderr)
+        assert "nobody" == pathlib.Path(folder, "list").owner()
 
 
 def test_a_kill_at_any_moment_leaves_the_old_or_the_new(web, room):
