@@ -14,20 +14,22 @@ use crate::output::write_out;
 use crate::trial::trial_office;
 use command_line::{Job, WordsFault, read_words};
 use server::selftest;
+use sqlite::Start;
 use std::io::{ErrorKind, Write};
 
 /// The status of bad words.
 pub const BAD_WORDS: u8 = 2;
 
-fn apply<O: Write, E: Write>(
+fn apply<S: Start, O: Write, E: Write>(
     rt: &HostRuntime,
+    start: S,
     db: Option<&str>,
     file: &str,
     out: &mut O,
     err: &mut E,
 ) -> Result<(), JobFault> {
     match db {
-        Some(db) => apply_at(rt, db, file, out, err),
+        Some(db) => apply_at(rt, start, db, file, out, err),
         None => apply_to_trial(rt.alloc(), open_file(rt, file)?, out),
     }
 }
@@ -41,22 +43,23 @@ fn test_itself<O: Write>(rt: &HostRuntime, out: &mut O) -> Result<(), JobFault> 
 }
 
 // All but serving.
-fn done_by<O: Write, E: Write>(
+fn done_by<S: Start, O: Write, E: Write>(
     rt: &HostRuntime,
+    start: S,
     job: &Job,
     out: &mut O,
     err: &mut E,
 ) -> Result<(), JobFault> {
     if let Some((db, asked)) = asked_of(job) {
-        return do_at(rt, db, asked, out, err);
+        return do_at(rt, start, db, asked, out, err);
     }
     if let Some((db, ca, founding)) = founding_of(job) {
-        return found_at(rt, db, ca, founding, out, err);
+        return found_at(rt, start, db, ca, founding, out, err);
     }
     match job {
         Job::Apply { db, file } => {
             let db = db.as_ref().map(|db| db.as_str());
-            apply(rt, db, file.as_str(), out, err)
+            apply(rt, start, db, file.as_str(), out, err)
         }
         Job::Check {
             ca,
@@ -76,28 +79,36 @@ fn done_by<O: Write, E: Write>(
     }
 }
 
-fn serve_by<O: Write, E: Write>(
+fn serve_by<S: Start, O: Write, E: Write>(
     rt: &HostRuntime,
+    start: S,
     service: &Service<'_>,
     out: &mut O,
     err: &mut E,
 ) -> u8
     ensures { result ≤ 1 }
 {
-    match serve_at(rt, service, out, err) {
+    match serve_at(rt, start, service, out, err) {
         Ok(status) => status,
         Err(fault) => status_of(err, Err(fault)),
     }
 }
 
-/// Does a job: what it gives is written to `out`, and the name of a fault to `err`. Answers the status.
-pub fn do_job<O: Write, E: Write>(rt: &HostRuntime, job: &Job, out: &mut O, err: &mut E) -> u8
+/// Does a job: what it gives is written to `out`, and the name of a fault to `err`. Answers the status. `start` stands
+/// for what the files of the job's database hold.
+pub fn do_job<S: Start, O: Write, E: Write>(
+    rt: &HostRuntime,
+    start: S,
+    job: &Job,
+    out: &mut O,
+    err: &mut E,
+) -> u8
     ensures { result ≤ 1 }
 {
     if let Some(service) = service_of(job) {
-        return serve_by(rt, &service, out, err);
+        return serve_by(rt, start, &service, out, err);
     }
-    let done = done_by(rt, job, out, err);
+    let done = done_by(rt, start, job, out, err);
     status_of(err, flushed(out, done))
 }
 
@@ -119,9 +130,11 @@ fn answer_words<O: Write, E: Write>(fault: WordsFault, out: &mut O, err: &mut E)
     }
 }
 
-/// Does the job that the words ask for, or shows the text of clap. Answers the status.
-pub fn do_words<O: Write, E: Write>(
+/// Does the job that the words ask for, or shows the text of clap. Answers the status. `start` stands for what the
+/// files of the job's database hold.
+pub fn do_words<S: Start, O: Write, E: Write>(
     rt: &HostRuntime,
+    start: S,
     words: &[String],
     out: &mut O,
     err: &mut E,
@@ -130,7 +143,7 @@ pub fn do_words<O: Write, E: Write>(
     ensures bad { result ≡ BAD_WORDS → AreBad (map string_bytes words.now) }
 {
     match read_words(rt.alloc(), words) {
-        Ok(job) => do_job(rt, &job, out, err),
+        Ok(job) => do_job(rt, start, &job, out, err),
         Err(fault) => answer_words(fault, out, err),
     }
 }

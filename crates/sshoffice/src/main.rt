@@ -6,8 +6,9 @@
 //! prints the list or a report, or moves tables. `closed` keeps a fault of the job or tells one of the closing, and
 //! `finish` then prints what is told. `serve_over` serves an office, and `check_list` asks a list about a certificate.
 //!
-//! `do_words` reads the words, opens what they name, and closes it. Files, the console and sockets are the system's,
-//! and nothing is proved of them.
+//! `do_words` reads the words, opens what they name, and closes it. Of a database's files is proved what an open finds
+//! in them, by what they held, and what a close leaves. Other files, the console and sockets are the system's, and
+//! nothing is proved of them.
 #![tactic(auto)]
 
 mod applying;
@@ -33,6 +34,7 @@ mod task;
 mod trial;
 mod whole;
 
+use sqlite::Unknown;
 use std::io::BufWriter;
 use std::process::ExitCode;
 use std::rt::Env;
@@ -47,7 +49,13 @@ fn status_by(rt: &HostRuntime) -> u8 {
     let mut err = rt.stderr();
     let out = BufWriter::new(rt.alloc(), rt.stdout());
     match (words_of(rt), out) {
-        (Ok(words), Ok(mut out)) => command::do_words(rt, words.as_slice(), &mut out, &mut err),
+        (Ok(words), Ok(mut out)) => command::do_words(
+            rt,
+            Unknown,
+            words.as_slice(),
+            &mut out,
+            &mut err,
+        ),
         (Err(fault), _) => command::do_no_words(fault.kind(), &mut err),
         (_, Err(fault)) => command::do_no_words(fault.kind(), &mut err),
     }
