@@ -12,7 +12,7 @@ use Rattle.office.specs.declared.arrival.Arrival.{Arrival}
 use Rattle.office.specs.Listing.{batch_of}
 use Rattle.office.specs.State.{next_serial}
 use Rattle.office.specs.History.{state}
-use Rattle.store.specs.Certificates.{AreCounted, is_within}
+use Rattle.store.specs.Certificates.{AreCounted, lies_within}
 use Rattle.store.specs.Batches.{numbered}
 use Rattle.store.specs.Meaning.{IsHistory}
 use Rattle.store.proofs.Lawful.{lawful_after}
@@ -20,11 +20,11 @@ use Rattle.store.proofs.OfHistory.{of_history}
 
 -- none has a serial up to one below the first
 none_below : (first lo hi : ℕ) (cs : List Certificate) → hi < first → AreCounted first cs
-    → filter (is_within lo hi) cs ≡ []
+    → filter (lies_within lo hi) cs ≡ []
 none_below first lo hi [] below counted = refl
 none_below first lo hi (c ∷ cs) below counted =
     let past : leb c.fields.serial hi ≡ false = lt-leb _ _ (omega (arith, below, counted.0)) in
-    let out : is_within lo hi c ≡ false = by_last (leb lo c.fields.serial) past in
+    let out : lies_within lo hi c ≡ false = by_last (leb lo c.fields.serial) past in
     rw out (none_below (suc first) lo hi cs (omega (arith, below)) counted.1)
   where
     by_last : (a : _) {b : _} → b ≡ false → (a && b) ≡ false
@@ -33,7 +33,7 @@ none_below first lo hi (c ∷ cs) below counted =
 
 -- those up to a serial are the first
 first_ones : (first lo hi : ℕ) (cs : List Certificate) → lo ≤ first → AreCounted first cs
-    → filter (is_within lo hi) cs ≡ take (suc hi - first) cs
+    → filter (lies_within lo hi) cs ≡ take (suc hi - first) cs
 first_ones first lo hi [] low counted = sym (take_all (suc hi - first) [] (omega arith))
 first_ones first lo hi (c ∷ cs) low counted = elim (cases_lt hi first) [
   | inl below ↦
@@ -49,7 +49,7 @@ first_ones first lo hi (c ∷ cs) low counted = elim (cases_lt hi first) [
 
 -- those from the serial at a place on, up to a serial
 from_place : (first place hi : ℕ) (cs : List Certificate) → AreCounted first cs
-    → filter (is_within (first + place) hi) cs ≡ take (suc hi - (first + place)) (drop place cs)
+    → filter (lies_within (first + place) hi) cs ≡ take (suc hi - (first + place)) (drop place cs)
 from_place first zero hi cs counted =
     let here : first + 0 ≡ first = omega arith in
     rw here (first_ones first first hi cs (omega arith) counted)
@@ -57,12 +57,12 @@ from_place first (suc place) hi [] counted = sym (take_all (suc hi - (first + su
 from_place first (suc place) hi (c ∷ cs) counted =
     let before : leb (first + suc place) c.fields.serial ≡ false = lt-leb _ _ (omega (arith, counted.0)) in
     let later : first + suc place ≡ suc first + place = omega arith in
-    rw before (ap (λ (n : ℕ). filter (is_within n hi) cs) later ∙ from_place (suc first) place hi cs counted.1
+    rw before (ap (λ (n : ℕ). filter (lies_within n hi) cs) later ∙ from_place (suc first) place hi cs counted.1
     ∙ ap (λ (n : ℕ). take (suc hi - n) (drop place cs)) (sym later))
 
 -- a thousand from a place on
 batch_at : (first place : ℕ) (cs : List Certificate) → AreCounted first cs → first + length cs ≤ 9223372036854775807
-    → filter (is_within (numbered first place) (numbered first (place + 999))) cs ≡ take 1000 (drop place cs)
+    → filter (lies_within (numbered first place) (numbered first (place + 999))) cs ≡ take 1000 (drop place cs)
 batch_at first place cs counted few = elim (cases_lt (first + place) 9223372036854775807) [
   | inl low ↦
       let lo : numbered first place ≡ first + place = omega (arith, low) in
@@ -89,7 +89,7 @@ batch_at first place cs counted few = elim (cases_lt (first + place) 92233720368
 -- so it is in an office after a history
 pub batch_is : (o : Opening) (l : List Arrival) → IsHistory o l → (place : ℕ)
     → (let first = (state o l).opening.first in
-    filter (is_within (numbered first place) (numbered first (place + 999))) (state o l).certificates)
+    filter (lies_within (numbered first place) (numbered first (place + 999))) (state o l).certificates)
     ≡ batch_of (state o l) place
 batch_is o l history place =
     let s = state o l in

@@ -19,7 +19,7 @@ use Rattle.office.specs.declared.certificate.Certificate.{Certificate}
 use Rattle.office.specs.Certificates.{IsCertificate}
 use Rattle.store_sql.specs.declared.certs.CertRow.{CertRow}
 use Rattle.store_sql.specs.declared.table_fault.Fault.{Fault}
-use Rattle.store.specs.Certificates.{AreCounted, IsSigned, certificate_in, certificate_with, fits, is_within}
+use Rattle.store.specs.Certificates.{AreCounted, IsSigned, certificate_in, certificate_with, fits, lies_within}
 use Rattle.store.specs.Certificates.{signature_in}
 use Rattle.store_sql.specs.Changes.{is_within as rows_within}
 use Rattle.store.specs.Reading.{IsRead, each}
@@ -113,7 +113,7 @@ within_rise n lo hi cs counted =
 
 -- and they are read again
 pub within_again : (lo hi : ℕ) (cs : List Certificate) → AllByRecursion (λ c. IsCertificate c × IsSigned c) cs
-    → each certificate_in (filter (rows_within lo hi) (map cert_row cs)) ≡ Some (filter (is_within lo hi) cs)
+    → each certificate_in (filter (rows_within lo hi) (map cert_row cs)) ≡ Some (filter (lies_within lo hi) cs)
 within_again lo hi cs all =
-    rw (filter-map (rows_within lo hi) cert_row cs) (certs_again (filter (is_within lo hi) cs)
-    (all-filter (λ c. IsCertificate c × IsSigned c) (is_within lo hi) cs all))
+    rw (filter-map (rows_within lo hi) cert_row cs) (certs_again (filter (lies_within lo hi) cs)
+    (all-filter (λ c. IsCertificate c × IsSigned c) (lies_within lo hi) cs all))

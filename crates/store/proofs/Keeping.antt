@@ -18,23 +18,23 @@ use Rattle.store.specs.Rows.{contents_of, request_row}
 use Rattle.sqlite_trees.proofs.ListLemmas.{filter-map}
 use Rattle.store.proofs.Found.{none_passes}
 use Rattle.store.specs.Finding.{kept_in}
-use Rattle.store.specs.Histories.{AreApart, is_for}
+use Rattle.store.specs.Histories.{AreApart, is_kept_for}
 use Rattle.store.proofs.OneRow.{found_row, rows_of}
 
 -- ---- one request has this caller and this key
 
-others_apart : (caller key : List ℕ) (k : Kept) (kept : List Kept) → is_for caller key k ≡ true
-    → list_any (is_for k.caller k.key) kept ≡ false → list_any (is_for caller key) kept ≡ false
+others_apart : (caller key : List ℕ) (k : Kept) (kept : List Kept) → is_kept_for caller key k ≡ true
+    → list_any (is_kept_for k.caller k.key) kept ≡ false → list_any (is_kept_for caller key) kept ≡ false
 others_apart caller key k kept is apart =
     let parts = and_parts (bytes_eq k.caller caller) (bytes_eq k.key key) is in
     rw ((bytes_eq-Decides k.caller caller).0 parts.0, (bytes_eq-Decides k.key key).0 parts.1) at apart
 
 one_kept : (caller key : List ℕ) (kept : List Kept) → AreApart kept
-    → filter (row_for caller key) (map request_row kept) ≡ rows_of request_row (find (is_for caller key) kept)
+    → filter (row_for caller key) (map request_row kept) ≡ rows_of request_row (find (is_kept_for caller key) kept)
 one_kept caller key [] apart = refl
-one_kept caller key (k ∷ kept) apart = elim (cases_Bool (is_for caller key k)) [
+one_kept caller key (k ∷ kept) apart = elim (cases_Bool (is_kept_for caller key k)) [
   | inl is ↦ rw is (ap (λ (l : List RequestRow). request_row k ∷ l) (filter-map (row_for caller key) request_row kept
-      ∙ ap (map request_row) (none_passes (is_for caller key) kept (others_apart caller key k kept is apart.0))))
+      ∙ ap (map request_row) (none_passes (is_kept_for caller key) kept (others_apart caller key k kept is apart.0))))
   | inr is ↦ rw is (one_kept caller key kept apart.1)
 ]
 
@@ -45,17 +45,17 @@ back_again (Some k) = refl
 -- the request that is found is the kept one
 pub kept_found : (s : State) (kept : List Kept) (caller key : List ℕ) (found : Option RequestRow) → AreApart kept
     → IsOneOf (requests_for caller key (contents_of s kept)) found
-    → option_map kept_in found ≡ find (is_for caller key) kept
+    → option_map kept_in found ≡ find (is_kept_for caller key) kept
 kept_found s kept caller key found apart is =
-    ap (option_map kept_in) (found_row request_row (find (is_for caller key) kept) found
+    ap (option_map kept_in) (found_row request_row (find (is_kept_for caller key) kept) found
     (subst (λ (l : List RequestRow). IsOneOf l found) (one_kept caller key kept apart) is))
-    ∙ back_again (find (is_for caller key) kept)
+    ∙ back_again (find (is_kept_for caller key) kept)
 
 -- ---- what it says of an arrival
 
 -- a request of the arrival's caller and key is kept
 pub known_by_kept : (a : Arrival) (kept : List Kept)
-    → list_any (has_key a) kept ≡ is_some (find (is_for a.caller a.key) kept)
+    → list_any (has_key a) kept ≡ is_some (find (is_kept_for a.caller a.key) kept)
 known_by_kept a [] = refl
 known_by_kept a (k ∷ kept) = elim (cases_Bool (has_key a k)) [
   | inl is ↦ rw is refl
@@ -77,7 +77,7 @@ no_repeat a (k ∷ kept) none =
 
 -- the reply that the same message got
 pub reply_by_kept : (a : Arrival) (kept : List Kept) → AreApart kept
-    → reply_kept kept a ≡ reply_of a (find (is_for a.caller a.key) kept)
+    → reply_kept kept a ≡ reply_of a (find (is_kept_for a.caller a.key) kept)
 reply_by_kept a [] apart = refl
 reply_by_kept a (k ∷ kept) apart = elim (cases_Bool (has_key a k)) [
   | inl is ↦ rw is (elim (cases_Bool (bytes_eq k.bytes a.bytes)) [

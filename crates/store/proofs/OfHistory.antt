@@ -15,19 +15,19 @@ use Rattle.office.specs.History.{state_after, with_arrival}
 use Rattle.office.proofs.Growth.{holds_in_range}
 use Rattle.office.proofs.Judged.{judged_is_first}
 use Rattle.office.proofs.Ranges.{revoked_is_issued}
-use Rattle.store.specs.Histories.{AreApart, IsOfHistory, is_for}
+use Rattle.store.specs.Histories.{AreApart, IsOfHistory, is_kept_for}
 
-turned : (j k : Kept) → is_for j.caller j.key k ≡ is_for k.caller k.key j
+turned : (j k : Kept) → is_kept_for j.caller j.key k ≡ is_kept_for k.caller k.key j
 turned j k = rw (nat_list_eq_equiv.symm k.caller j.caller, nat_list_eq_equiv.symm k.key j.key) refl
 
 -- one more of another caller or another key
-apart_more : (kept : List Kept) (k : Kept) → AreApart kept → list_any (is_for k.caller k.key) kept ≡ false
+apart_more : (kept : List Kept) (k : Kept) → AreApart kept → list_any (is_kept_for k.caller k.key) kept ≡ false
     → AreApart (kept ++ k ∷ [])
 apart_more [] k apart none = (refl, tt)
 apart_more (j ∷ kept) k apart none =
-    let parts = or_parts (is_for k.caller k.key j) (list_any (is_for k.caller k.key) kept) none in
-    let other : is_for j.caller j.key k ≡ false = turned j k ∙ parts.0 in (
-      list_any-append (is_for j.caller j.key) kept (k ∷ []) ∙ rw (apart.0, other) refl,
+    let parts = or_parts (is_kept_for k.caller k.key j) (list_any (is_kept_for k.caller k.key) kept) none in
+    let other : is_kept_for j.caller j.key k ≡ false = turned j k ∙ parts.0 in (
+      list_any-append (is_kept_for j.caller j.key) kept (k ∷ []) ∙ rw (apart.0, other) refl,
       apart_more kept k apart.1 parts.1,
     )
 

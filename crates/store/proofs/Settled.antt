@@ -39,7 +39,7 @@ use Rattle.store.specs.Rows.{contents_of, office_contents}
 use Rattle.store.specs.Transactions.{Answers, Waits}
 use Rattle.store.proofs.Causes.{cause_of, fails_then, fails_weaker}
 use Rattle.store.proofs.Steps.{Leads, answers_then, goes_still, waits_then}
-use Rattle.store.specs.Histories.{AreApart, is_for}
+use Rattle.store.specs.Histories.{AreApart, is_kept_for}
 use Rattle.store.proofs.Keeping.{known_by_kept, no_repeat, reply_by_kept, reply_of}
 use Rattle.store.specs.Meaning.{IsHistory}
 use Rattle.store.specs.Arriving.{ExceedsTables, IsAfter, IsAnswered, IsAsked, IsNew, Past, Settles, Settling}
@@ -72,23 +72,23 @@ rows_with a p s kept shows = ap₂ (λ (t : State) (ks : List Kept). contents_of
 -- ---- the kept request of its caller and its key
 
 module _ (a : Arrival) (kept : List Kept) where
-  pub unknown_found : find (is_for a.caller a.key) kept ≡ None → list_any (has_key a) kept ≡ false
+  pub unknown_found : find (is_kept_for a.caller a.key) kept ≡ None → list_any (has_key a) kept ≡ false
   unknown_found is = known_by_kept a kept ∙ ap is_some is
 
-  pub known_found : (k : Kept) → find (is_for a.caller a.key) kept ≡ Some k → list_any (has_key a) kept ≡ true
+  pub known_found : (k : Kept) → find (is_kept_for a.caller a.key) kept ≡ Some k → list_any (has_key a) kept ≡ true
   known_found k is = known_by_kept a kept ∙ ap is_some is
 
   -- no request: it is no repeat
-  pub repeat_unknown : find (is_for a.caller a.key) kept ≡ None → reply_kept kept a ≡ None
+  pub repeat_unknown : find (is_kept_for a.caller a.key) kept ≡ None → reply_kept kept a ≡ None
   repeat_unknown is = no_repeat a kept (unknown_found is)
 
   -- the same bytes: it is a repeat
-  pub repeat_found : (k : Kept) → AreApart kept → find (is_for a.caller a.key) kept ≡ Some k
+  pub repeat_found : (k : Kept) → AreApart kept → find (is_kept_for a.caller a.key) kept ≡ Some k
       → bytes_eq k.bytes a.bytes ≡ true → reply_kept kept a ≡ Some k.reply
   repeat_found k apart is same = reply_by_kept a kept apart ∙ ap (reply_of a) is ∙ rw same refl
 
   -- other bytes: it is none
-  pub repeat_other : (k : Kept) → AreApart kept → find (is_for a.caller a.key) kept ≡ Some k
+  pub repeat_other : (k : Kept) → AreApart kept → find (is_kept_for a.caller a.key) kept ≡ Some k
       → bytes_eq k.bytes a.bytes ≡ false → reply_kept kept a ≡ None
   repeat_other k apart is differs = reply_by_kept a kept apart ∙ ap (reply_of a) is ∙ rw differs refl
 

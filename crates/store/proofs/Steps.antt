@@ -9,7 +9,7 @@ use Rattle.store_sql.specs.Contents.{Contents, Kept, Means}
 use Rattle.store_sql.specs.Calls.{Steps, Changes, Leaves, Begins}
 use Rattle.store_sql.specs.declared.table_fault.Fault.{Fault}
 use Rattle.store_sql.proofs.Later.{inside_is, stops}
-use Rattle.store.specs.Transactions.{Has, Goes, Answers, Makes, Waits, HasEnded, Concludes, Commits, Ends}
+use Rattle.store.specs.Transactions.{Has, Goes, Answers, Makes, Waits, HasEnded, Concludes, LeavesAnswered, Ends}
 use Rattle.store.specs.Transactions.{Leaves as AfterAll}
 
 -- ---- one part
@@ -142,11 +142,11 @@ module _ {A X : Type 0} (Before : A → Database → Type 0) (Due : A → X → 
   pub left : (a b c d : State) (r : Result X Fault)
       → (HasCleanDisk b → Begins {X = Unit {0}} {E = Fault} a b (Ok tt))
       → (HasCleanDisk c → Answers Before Due after b c r) → Survives a b (λ _. ⊥) → Survives b c (Waits Before b)
-      → Survives c d (Commits r c) → Survives a d (AfterAll Before after a)
+      → Survives c d (LeavesAnswered r c) → Survives a d (AfterAll Before after a)
   left a b c d r begun answers one two three =
       survives_then a b d (λ _. ⊥) (AfterAll Before after a) (AfterAll Before after a) (λ clean trees h. absurd h)
       (λ clean trees h. h) one
-      (survives_then b c d (Waits Before b) (Commits r c) (AfterAll Before after a)
+      (survives_then b c d (Waits Before b) (LeavesAnswered r c) (AfterAll Before after a)
       (λ clean trees h.
       let start : HasCleanDisk b = omega (arith, two.clean, three.clean) in
       let was = begun start in (
@@ -161,7 +161,7 @@ module _ {A X : Type 0} (Before : A → Database → Type 0) (Due : A → X → 
       (was.1.was_open, λ x rests. kept r trees h x (answers mid) (subst (Before x) (sym was.1.now_is) rests.now)))
       two three)
     where
-      kept : (r : Result X Fault) (trees : Trees) → Commits r c trees → (x : A) → Answers Before Due after b c r
+      kept : (r : Result X Fault) (trees : Trees) → LeavesAnswered r c trees → (x : A) → Answers Before Due after b c r
           → Before x b.now → Kept trees (after x)
       kept (Ok v) trees h x answers before = subst (λ t. Kept t (after x)) (sym h) (answers x before).1.means.kept
       kept (Err e) trees h x answers before = absurd h

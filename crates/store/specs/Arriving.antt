@@ -34,7 +34,7 @@ use Rattle.store.specs.Rows.{cert_row, department_row, office_contents, request_
 use Rattle.store.specs.Transactions.{Answers, FailsFor, StopsFor, Waits}
 use Rattle.store.specs.declared.reads.concerning.Concerned.{Concerned}
 use Rattle.store.specs.Concerning.{AreConcerned}
-use Rattle.store.specs.Histories.{is_for}
+use Rattle.store.specs.Histories.{is_kept_for}
 use Rattle.store.specs.Due.{kept_of}
 use Rattle.store.specs.Meaning.{DiskFailed, IsHistory, Tells}
 
@@ -49,10 +49,6 @@ state_at p = state p.0 p.1
 
 abbrev pub kept_at : Past → List Kept
 kept_at p = kept_by (first_accepted p.0 p.1)
-
--- the history with one arrival more
-abbrev pub with_one_more : Arrival → Past → Past
-with_one_more a p = (p.0, p.1 ++ a ∷ [])
 
 -- the tables hold the rows of the office after this history, of which this is known
 pub record IsAfter (Known : Past → Type 0) (p : Past) (db : Database) : Type 0 where
@@ -89,7 +85,7 @@ stopped stop.NoMemory = Err NoMemory
 
 -- the kept request of its caller and its key
 abbrev pub IsFound : Arrival → Option Kept → Past → Type 0
-IsFound a found p = found ≡ find (is_for a.caller a.key) (kept_at p)
+IsFound a found p = found ≡ find (is_kept_for a.caller a.key) (kept_at p)
 
 -- it is no repeat, and this says whether its key was used before
 pub record IsAsked (a : Arrival) (is_known : Bool) (p : Past) : Type 0 where
@@ -145,15 +141,12 @@ abbrev pub ExceedsTables : Arrival → Past → Type 0
 ExceedsTables a p =
     (d : Decision) × (serving : List Ca) × IsAccepted a d serving p × IsTooMuch d a (office_contents p.0 p.1)
 
--- of tables as these a fault is want of memory, or the database failed, or what is decided is more than they hold
-abbrev pub FailsAt : Arrival → (Past → Type 0) → Connection → Connection → Result Outcome Fault → Type 0
-FailsAt a Known old new r = FailsFor (IsAfter Known) (ExceedsTables a) old new r
-
--- all that a part does with an arrival of which this is known, if this is so
+-- All that a part does with an arrival of which this is known, if this is so. Of tables as these a fault is want of
+-- memory, or the database failed, or what is decided is more than they hold.
 pub record Settling (Given : Type 0) (a : Arrival) (Known : Past → Type 0) (old new : Connection)
     (r : Result Outcome Fault) : Type 0 where
   pub settles : HasCleanDisk new → Given → Settles a Known old new r
-  pub fails : HasCleanDisk new → FailsAt a Known old new r
+  pub fails : HasCleanDisk new → FailsFor (IsAfter Known) (ExceedsTables a) old new r
   pub stays : HasCleanDisk new → Stays old new r
   pub survives : Survives old new (Waits (IsAfter Known) old)
 

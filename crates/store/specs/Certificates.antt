@@ -46,5 +46,5 @@ AreCounted first [] = Unit {0}
 AreCounted first (c ∷ cs) = (c.fields.serial ≡ first) × AreCounted (suc first) cs
 
 -- its serial is from the one to the other
-abbrev pub is_within : (lo hi : ℕ) → Certificate → Bool
-is_within lo hi c = nat_le lo c.fields.serial && nat_le c.fields.serial hi
+abbrev pub lies_within : (lo hi : ℕ) → Certificate → Bool
+lies_within lo hi c = nat_le lo c.fields.serial && nat_le c.fields.serial hi

@@ -6,13 +6,13 @@ use Rattle.office.specs.declared.arrival.Kept.{Kept}
 use Rattle.office.specs.State.{State, next_serial}
 
 -- the request has this caller and this key
-abbrev pub is_for : (caller key : List ℕ) → Kept → Bool
-is_for caller key k = bytes_eq k.caller caller && bytes_eq k.key key
+abbrev pub is_kept_for : (caller key : List ℕ) → Kept → Bool
+is_kept_for caller key k = bytes_eq k.caller caller && bytes_eq k.key key
 
 -- no two requests have one caller and one key
 abbrev pub AreApart : List Kept → Type 0
 AreApart [] = Unit {0}
-AreApart (k ∷ kept) = (list_any (is_for k.caller k.key) kept ≡ false) × AreApart kept
+AreApart (k ∷ kept) = (list_any (is_kept_for k.caller k.key) kept ≡ false) × AreApart kept
 
 -- serials are handed out in range, only those are revoked, and no two kept requests have one caller and one key
 pub record IsOfHistory (s : State) (kept : List Kept) : Type 0 where

@@ -34,6 +34,6 @@ pub record Reading {X : Type 0} (Shown : State → List Kept → X → Type 0) (
   pub survives : Survives old new Never
 
 -- of a connection
-abbrev pub Reads : {S X : Type 0} → Ghosts S → (State → List Kept → X → Type 0) → Held S → Held S → Result X Fault
+abbrev pub ReadsOffice : {S X : Type 0} → Ghosts S → (State → List Kept → X → Type 0) → Held S → Held S → Result X Fault
     → Type 0
-Reads g Shown old new r = Reading Shown (state_of g old) (state_of g new) r
+ReadsOffice g Shown old new r = Reading Shown (state_of g old) (state_of g new) r

@@ -11,7 +11,7 @@ use Rattle.store_sql.specs.declared.table_fault.Fault.{Fault}
 use Rattle.office.specs.declared.arrival.Kept.{Kept}
 use Rattle.office.specs.State.{State}
 use Rattle.office.specs.declared.certificate.Certificate.{Certificate}
-use Rattle.store.specs.Certificates.{is_within}
+use Rattle.store.specs.Certificates.{lies_within}
 use Rattle.store.specs.Lawful.{IsLawful}
 use Rattle.store.specs.Rows.{contents_of}
 
@@ -33,9 +33,9 @@ pub record Asking {X : Type 0} (Given : Type 0) (Shown : State → List Kept →
   pub survives : Survives old new Never
 
 -- of a connection
-abbrev pub Asks : {S X : Type 0} → Ghosts S → (State → List Kept → X → Type 0) → Held S → Held S → Result X Fault
+abbrev pub AsksRows : {S X : Type 0} → Ghosts S → (State → List Kept → X → Type 0) → Held S → Held S → Result X Fault
     → Type 0
-Asks g Shown old new r = Asking (Unit {0}) Shown (state_of g old) (state_of g new) r
+AsksRows g Shown old new r = Asking (Unit {0}) Shown (state_of g old) (state_of g new) r
 
 -- of a connection, if it is open
 abbrev pub AsksOpen : {S X : Type 0} → Ghosts S → (State → List Kept → X → Type 0) → Held S → Held S → Result X Fault
@@ -44,4 +44,4 @@ AsksOpen g Shown old new r = Asking (IsTrue (state_of g old).is_open) Shown (sta
 
 -- the certificates whose serials are from the one to the other
 abbrev pub AreWithin : (lo hi : ℕ) → State → List Kept → Vec Certificate Global → Type 0
-AreWithin lo hi s kept rows = rows.items ≡ filter (is_within lo hi) s.certificates
+AreWithin lo hi s kept rows = rows.items ≡ filter (lies_within lo hi) s.certificates

@@ -101,9 +101,9 @@ EndsFor (Ok x) old new r = ClosesFor old new r
 EndsFor (Err e) old new r = Unit {0}
 
 -- what a crash may leave once it is answered: what is committed, if anything is
-abbrev pub Commits : {X : Type 0} → Result X Fault → State → Trees → Type 0
-Commits (Ok x) old trees = trees ≡ old.now.trees
-Commits (Err e) old trees = ⊥
+abbrev pub LeavesAnswered : {X : Type 0} → Result X Fault → State → Trees → Type 0
+LeavesAnswered (Ok x) old trees = trees ≡ old.now.trees
+LeavesAnswered (Err e) old trees = ⊥
 
 -- ---- the whole
 

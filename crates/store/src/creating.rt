@@ -6,10 +6,10 @@ ghost use Rattle.store_sql.specs.Honest.{On, OutlivesBy};
 ghost use Rattle.store_sql.specs.Changes.{with_ca, with_office};
 ghost use Rattle.office.specs.Openings.{IsOpening};
 ghost use Rattle.office.specs.State.{first_ca, opened};
-ghost use Rattle.store.specs.Rows.{ca_row, office_row};
+ghost use Rattle.store.specs.Rows.{ca_row, office_contents, office_row};
 ghost use Rattle.store.specs.Transactions.{Does, KeepsOnErr};
-ghost use Rattle.store.specs.Creating.{DoesFirst, EndsFirst, EndsOpening, FailsOnBlank, LeavesFirst, LeavesOpening};
-ghost use Rattle.store.specs.Creating.{RefusesFirst, RefusesOpening};
+ghost use Rattle.store.specs.Creating.{DoesOnBlank, EndsOnBlank, FailsOnBlank, LeavesOnBlank, RefusesFirst};
+ghost use Rattle.store.specs.Creating.{RefusesOpening, first_contents};
 
 use crate::rows::{conclude, number};
 use lines::key_blob_of;
@@ -60,7 +60,8 @@ fn fill<S: Alter>(conn: &mut Connection<S>, office: &OfficeRow, ca: &CaRow) -> R
 }
 
 fn make<S: Alter>(conn: &mut Connection<S>, office: &OfficeRow, ca: &CaRow) -> Result<(), Fault>
-    ensures { DoesFirst S.Store office.now ca.now conn.old conn.new result }
+    ensures { DoesOnBlank S.Store (first_contents office.now ca.now) (RefusesFirst office.now ca.now no_contents)
+        conn.old conn.new result }
 {
     create_tables(conn)?;
     fill(conn, office, ca)
@@ -71,10 +72,10 @@ fn make_whole<S: Alter>(
     office: &OfficeRow,
     ca: &CaRow,
 ) -> Result<(), Fault>
-    ensures ends { On S.Store (EndsFirst office.now ca.now) conn.old conn.new result }
+    ensures ends { On S.Store (EndsOnBlank (first_contents office.now ca.now)) conn.old conn.new result }
     ensures cause { On S.Store (FailsOnBlank (RefusesFirst office.now ca.now no_contents)) conn.old conn.new result }
     ensures before { On S.Store KeepsOnErr conn.old conn.new result }
-    ensures survives { OutlivesBy S.Store (LeavesFirst office.now ca.now) conn.old conn.new }
+    ensures survives { OutlivesBy S.Store (LeavesOnBlank (first_contents office.now ca.now)) conn.old conn.new }
 {
     begin(conn)?;
     let made = make(conn, office, ca);
@@ -88,10 +89,10 @@ pub(crate) fn create<S: Alter>(
     opening: &Opening,
 ) -> Result<(), Fault>
     requires { IsOpening opening.now }
-    ensures ends { On S.Store (EndsOpening opening.now) conn.old conn.new result }
+    ensures ends { On S.Store (EndsOnBlank (office_contents opening.now [])) conn.old conn.new result }
     ensures cause { On S.Store (FailsOnBlank (RefusesOpening opening.now)) conn.old conn.new result }
     ensures before { On S.Store KeepsOnErr conn.old conn.new result }
-    ensures survives { OutlivesBy S.Store (LeavesOpening opening.now) conn.old conn.new }
+    ensures survives { OutlivesBy S.Store (LeavesOnBlank (office_contents opening.now [])) conn.old conn.new }
 {
     let office = office_row(alloc, opening)?;
     let ca = ca_row(alloc, opening)?;

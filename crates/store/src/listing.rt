@@ -4,7 +4,7 @@ ghost use Rattle.std.specs.Prelude.{◌≡◌, ◌+◌, min};
 ghost use Rattle.store.specs.ShowingRows.{AreWithin};
 ghost use Rattle.office.specs.Listing.{AreRevocations, batch_of};
 ghost use Rattle.store.specs.Batches.{numbered};
-ghost use Rattle.store.specs.Showing.{Reads};
+ghost use Rattle.store.specs.Showing.{ReadsOffice};
 
 use crate::reads::revoked_runs;
 use crate::rows::{number, read_certificates, read_key_ids, read_office};
@@ -19,7 +19,7 @@ fn with_key_ids<S: Alter>(
     conn: &mut Connection<S>,
     serials: Runs,
 ) -> Result<Revocations, Fault>
-    ensures { Reads S.Store (λ s kept r. (r.serials ≡ serials) × (r.key_ids.items ≡ s.revoked_key_ids))
+    ensures { ReadsOffice S.Store (λ s kept r. (r.serials ≡ serials) × (r.key_ids.items ≡ s.revoked_key_ids))
         conn.old conn.new result }
 {
     let key_ids = read_key_ids(alloc, conn)?;
@@ -31,7 +31,7 @@ pub(crate) fn read_revocations<S: Alter>(
     alloc: Global,
     conn: &mut Connection<S>,
 ) -> Result<Revocations, Fault>
-    ensures { Reads S.Store (λ s kept r. AreRevocations r s) conn.old conn.new result }
+    ensures { ReadsOffice S.Store (λ s kept r. AreRevocations r s) conn.old conn.new result }
 {
     let serials = revoked_runs(alloc, conn)?;
     with_key_ids(alloc, conn, serials)
@@ -50,7 +50,8 @@ fn batch_from<S: Alter>(
     first: u64,
     place: u64,
 ) -> Result<Vec<Certificate>, Fault>
-    ensures { Reads S.Store (AreWithin (numbered first place) (numbered first (place + 999))) conn.old conn.new result }
+    ensures { ReadsOffice S.Store (AreWithin (numbered first place) (numbered first (place + 999)))
+        conn.old conn.new result }
 {
     let lo = first.saturating_add(place);
     let hi = lo.saturating_add(999);
@@ -63,7 +64,7 @@ pub(crate) fn read_batch<S: Alter>(
     conn: &mut Connection<S>,
     place: u64,
 ) -> Result<Vec<Certificate>, Fault>
-    ensures { Reads S.Store (λ s kept rows. rows.items ≡ batch_of s place) conn.old conn.new result }
+    ensures { ReadsOffice S.Store (λ s kept rows. rows.items ≡ batch_of s place) conn.old conn.new result }
 {
     let office = read_office(alloc, conn)?;
     batch_from(alloc, conn, office.opening.first, place)

@@ -5,7 +5,7 @@ ghost use Rattle.std.specs.List.Sorted.{IsNonDecreasing};
 ghost use Rattle.office.specs.Publication.{AreRevoked};
 ghost use Rattle.office.specs.Parts.{numbers};
 ghost use Rattle.store.specs.Parts.{AreOrdered, AreShown, IsMadeOf, are_ordered};
-ghost use Rattle.store.specs.Showing.{Reads};
+ghost use Rattle.store.specs.Showing.{ReadsOffice};
 
 use crate::answer::made;
 use crate::listing::read_revocations;
@@ -42,7 +42,7 @@ fn ordered(cas: Vec<Ca>) -> Result<Vec<Ca>, Fault>
 
 /// The CAs by number, of which none serves from an earlier serial on than the one before it.
 fn read_serving_cas<S: Alter>(alloc: Global, conn: &mut Connection<S>) -> Result<Vec<Ca>, Fault>
-    ensures reads { Reads S.Store (λ s kept cas. cas.items ≡ s.cas) conn.old conn.new result }
+    ensures reads { ReadsOffice S.Store (λ s kept cas. cas.items ≡ s.cas) conn.old conn.new result }
     ensures ordered { IfOk result (λ cas. IsNonDecreasing (numbers cas.items)) }
 {
     let cas = read_cas(alloc, conn)?;
@@ -73,7 +73,7 @@ fn revoked_under<S: Alter>(
     cas: &[Ca],
 ) -> Result<Revoked, Fault>
     requires { IsNonDecreasing (numbers cas.now) }
-    ensures { Reads S.Store (λ s kept revoked. AreShown revoked head cas.now s) conn.old conn.new result }
+    ensures { ReadsOffice S.Store (λ s kept revoked. AreShown revoked head cas.now s) conn.old conn.new result }
 {
     let revocations = read_revocations(alloc, conn)?;
     made(revoked_of(alloc, head, cas, revocations))
@@ -84,7 +84,7 @@ fn revoked_with<S: Alter>(
     conn: &mut Connection<S>,
     head: KrlHead,
 ) -> Result<Revoked, Fault>
-    ensures { Reads S.Store (λ s kept revoked. AreShown revoked head s.cas s) conn.old conn.new result }
+    ensures { ReadsOffice S.Store (λ s kept revoked. AreShown revoked head s.cas s) conn.old conn.new result }
 {
     let cas = read_serving_cas(alloc, conn)?;
     revoked_under(alloc, conn, head, cas.as_slice())
@@ -95,7 +95,7 @@ pub(crate) fn read_revoked<S: Alter>(
     alloc: Global,
     conn: &mut Connection<S>,
 ) -> Result<Revoked, Fault>
-    ensures { Reads S.Store (λ s kept revoked. AreRevoked revoked s) conn.old conn.new result }
+    ensures { ReadsOffice S.Store (λ s kept revoked. AreRevoked revoked s) conn.old conn.new result }
 {
     let office = read_office(alloc, conn)?;
     revoked_with(

@@ -7,7 +7,8 @@ ghost use Rattle.store_sql.specs.Look.{is_ca_name, is_office_name, is_office_tab
 ghost use Rattle.store.specs.Migrating.{JudgesAtRest};
 ghost use Rattle.store.specs.Register.{CarriesOn, Founds, IsExcusedOfBlank, IsExcusedOfFormer, IsExcusedOfHistory};
 ghost use Rattle.store.specs.Register.{IsLeftOpen, KeepsTellingBefore, Moves, StaysBlank};
-ghost use Rattle.store.specs.Creating.{LeavesOpening};
+ghost use Rattle.store.specs.Creating.{LeavesOnBlank};
+ghost use Rattle.store.specs.Rows.{office_contents};
 ghost use Rattle.store_sql.specs.Honest.{Between, IsOutside, IsUnlimited, On, OnOpen, OutlivesBy, tables_of};
 ghost use Rattle.store.specs.Former.{Had, migrated};
 ghost use Rattle.office.specs.declared.opening.Opening.{Opening};
@@ -53,8 +54,10 @@ impl<S: Alter> Store<S> {
         ensures only { IfErr result (λ e. On S.Store IsExcusedOfBlank conn e.1 e.0) }
 
         // A crash in its midst leaves the database without tables, or with the whole office.
-        ensures crash { IfOk result (λ s. OutlivesBy S.Store (LeavesOpening opening.now) conn s.conn) }
-        ensures crash_back { IfErr result (λ e. OutlivesBy S.Store (LeavesOpening opening.now) conn e.1) }
+        ensures crash { IfOk result (λ s. OutlivesBy S.Store (LeavesOnBlank (office_contents opening.now []))
+            conn s.conn) }
+        ensures crash_back { IfErr result (λ e. OutlivesBy S.Store (LeavesOnBlank (office_contents opening.now []))
+            conn e.1) }
     {
         let mut conn = conn;
         if has_any_table(&conn) {

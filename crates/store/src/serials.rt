@@ -4,7 +4,7 @@ ghost use Rattle.std.specs.Prelude.{◌≡◌, IfOk};
 ghost use Rattle.std.specs.Option.{option_map};
 ghost use Rattle.office.specs.State.{body_of};
 ghost use Rattle.office.specs.Publication.{issued_of, issued_row};
-ghost use Rattle.store.specs.Showing.{Reads};
+ghost use Rattle.store.specs.Showing.{ReadsOffice};
 
 use crate::answer::made;
 use crate::reads::find_certificate;
@@ -29,7 +29,7 @@ pub(crate) fn read_body_of<S: Alter>(
     conn: &mut Connection<S>,
     serial: u64,
 ) -> Result<Option<Text>, Fault>
-    ensures { Reads S.Store (λ s kept body. body ≡ body_of s serial) conn.old conn.new result }
+    ensures { ReadsOffice S.Store (λ s kept body. body ≡ body_of s serial) conn.old conn.new result }
 {
     let found = find_certificate(alloc, conn, serial)?;
     Ok(body_in(found))
@@ -54,7 +54,7 @@ pub(crate) fn read_issued<S: Alter>(
     conn: &mut Connection<S>,
     serial: u64,
 ) -> Result<Option<Issued>, Fault>
-    ensures { Reads S.Store (λ s kept issued. issued ≡ issued_of s serial) conn.old conn.new result }
+    ensures { ReadsOffice S.Store (λ s kept issued. issued ≡ issued_of s serial) conn.old conn.new result }
 {
     let found = find_certificate(alloc, conn, serial)?;
     made(issued_in(alloc, found))

@@ -1,6 +1,6 @@
 //! The end of the transaction.
 
-ghost use Rattle.store.specs.Transactions.{Commits, Concludes};
+ghost use Rattle.store.specs.Transactions.{Concludes, LeavesAnswered};
 ghost use Rattle.store.specs.Migrating.{TellsEnd, done};
 ghost use Rattle.store_sql.specs.Honest.{On, OutlivesBy};
 
@@ -15,7 +15,7 @@ pub(crate) fn end<S: Alter>(
 ) -> Result<(), StoreFault>
     ensures concludes { On S.Store (Concludes (done moved)) conn.old conn.new (done result) }
     ensures tells { On S.Store (TellsEnd moved) conn.old conn.new result }
-    ensures survives { OutlivesBy S.Store (Commits (done moved)) conn.old conn.new }
+    ensures survives { OutlivesBy S.Store (LeavesAnswered (done moved)) conn.old conn.new }
 {
     match moved {
         Ok(()) => match close(conn) {

@@ -7,7 +7,7 @@ ghost use Rattle.office.specs.Certificates.{IsCertificate};
 ghost use Rattle.office.specs.State.{certificate_of};
 ghost use Rattle.store.specs.Certificates.{certificate_in};
 ghost use Rattle.store.specs.Reading.{IsRead};
-ghost use Rattle.store.specs.ShowingRows.{Asks};
+ghost use Rattle.store.specs.ShowingRows.{AsksRows};
 ghost use Rattle.store.specs.Finding.{asked_serial, value_in};
 ghost use Rattle.store.specs.Histories.{IsOfHistory};
 
@@ -47,7 +47,7 @@ pub fn find_certificate<S: Alter>(
     conn: &mut Connection<S>,
     serial: u64,
 ) -> Result<Option<Certificate>, Fault>
-    ensures asks { Asks S.Store (λ s kept found. IsOfHistory s kept → found ≡ certificate_of s serial)
+    ensures asks { AsksRows S.Store (λ s kept found. IsOfHistory s kept → found ≡ certificate_of s serial)
         conn.old conn.new result }
     ensures lawful { IfOk result (λ found. IfSome found IsCertificate) }
 {

@@ -9,7 +9,7 @@ ghost use Rattle.office.specs.Decided.{Agrees};
 ghost use Rattle.office.specs.State.{State};
 ghost use Rattle.office.specs.Views.{IsView};
 ghost use Rattle.store.specs.Offices.{IsLawfulOffice};
-ghost use Rattle.store.specs.ShowingRows.{Asks, AsksOpen};
+ghost use Rattle.store.specs.ShowingRows.{AsksOpen, AsksRows};
 ghost use Rattle.store.specs.Concerning.{AreConcerned, AreConcernedAt, AreConcernedBeside, AreConcernedUnder};
 ghost use Rattle.store.specs.Concerning.{AreLawful, IsLawfulSubject};
 ghost use Rattle.store.specs.Histories.{IsOfHistory};
@@ -113,7 +113,7 @@ fn with_office<S: Alter>(
 ) -> Result<Concerned, Fault>
     requires message { IsTrue (is_message message.now) }
     requires office { IsLawfulOffice office }
-    ensures asks { Asks S.Store (AreConcernedAt office message.now) conn.old conn.new result }
+    ensures asks { AsksRows S.Store (AreConcernedAt office message.now) conn.old conn.new result }
     ensures lawful { IfOk result AreLawful }
 {
     match read_cas(alloc, conn) {
@@ -133,7 +133,7 @@ pub fn concerned_rows<S: Alter>(
     message: &Message,
 ) -> Result<Concerned, Fault>
     requires { IsTrue (is_message message.now) }
-    ensures asks { Asks S.Store (λ s kept rows. IsOfHistory s kept → AreConcerned rows s message.now)
+    ensures asks { AsksRows S.Store (λ s kept rows. IsOfHistory s kept → AreConcerned rows s message.now)
         conn.old conn.new result }
     ensures lawful { IfOk result AreLawful }
 {

@@ -7,7 +7,7 @@ ghost use Rattle.message.specs.Values.{is_department};
 ghost use Rattle.office.specs.State.{department_named};
 ghost use Rattle.store.specs.Departments.{department_in};
 ghost use Rattle.store.specs.Reading.{IsRead};
-ghost use Rattle.store.specs.ShowingRows.{Asks};
+ghost use Rattle.store.specs.ShowingRows.{AsksRows};
 ghost use Rattle.store.specs.Finding.{value_in};
 
 use crate::rows::read_department;
@@ -36,7 +36,7 @@ pub fn find_department<S: Alter>(
     conn: &mut Connection<S>,
     name: &[u8],
 ) -> Result<Option<Department>, Fault>
-    ensures asks { Asks S.Store (λ s kept found. found ≡ department_named s name.now) conn.old conn.new result }
+    ensures asks { AsksRows S.Store (λ s kept found. found ≡ department_named s name.now) conn.old conn.new result }
     ensures lawful { IfOk result (λ found. IfSome found (λ d. IsTrue (is_department d))) }
 {
     let found = find_row(alloc, conn, name)?;

@@ -2,9 +2,9 @@
 
 ghost use Rattle.std.specs.Prelude.{◌≡◌, find};
 ghost use Rattle.std.specs.Option.{option_map};
-ghost use Rattle.store.specs.ShowingRows.{Asks};
+ghost use Rattle.store.specs.ShowingRows.{AsksRows};
 ghost use Rattle.store.specs.Finding.{kept_in};
-ghost use Rattle.store.specs.Histories.{IsOfHistory, is_for};
+ghost use Rattle.store.specs.Histories.{IsOfHistory, is_kept_for};
 
 use office::Kept;
 use sqlite::{Alter, Connection};
@@ -32,7 +32,7 @@ pub fn kept_for<S: Alter>(
     caller: &[u8],
     key: &[u8],
 ) -> Result<Option<Kept>, Fault>
-    ensures { Asks S.Store (λ s kept found. IsOfHistory s kept → found ≡ find (is_for caller.now key.now) kept)
+    ensures { AsksRows S.Store (λ s kept found. IsOfHistory s kept → found ≡ find (is_kept_for caller.now key.now) kept)
         conn.old conn.new result }
 {
     let found = find_request(alloc, conn, caller, key)?;

@@ -2,7 +2,7 @@
 
 ghost use Rattle.std.specs.Prelude.{◌≡◌, ◌↔◌, ◌<◌, ◌≤◌, ◌^◌, All, IfOk, IsTrue};
 ghost use Rattle.krl.specs.Sets.{HasAll};
-ghost use Rattle.store.specs.ShowingRows.{Asks};
+ghost use Rattle.store.specs.ShowingRows.{AsksRows};
 ghost use Rattle.store.specs.Histories.{IsOfHistory};
 ghost use Rattle.store.specs.RunRows.{AreRead, AreRevokedRuns, reaches, run_of, runs_of};
 
@@ -48,7 +48,7 @@ fn read_runs(alloc: Global, rows: &[RunRow]) -> Result<Runs, Fault>
 
 /// The maximal runs of the revoked serials. `Damaged` where the rows are no such runs.
 pub fn revoked_runs<S: Alter>(alloc: Global, conn: &mut Connection<S>) -> Result<Runs, Fault>
-    ensures { Asks S.Store (λ s kept runs. AreRevokedRuns runs s kept) conn.old conn.new result }
+    ensures { AsksRows S.Store (λ s kept runs. AreRevokedRuns runs s kept) conn.old conn.new result }
 {
     let rows = every_run(alloc, conn)?;
     read_runs(alloc, rows.as_slice())
@@ -73,7 +73,7 @@ pub fn are_revoked<S: Alter>(
 ) -> Result<bool, Fault>
     requires order { lo ≤ hi }
     requires high { hi < 2 ^ 63 }
-    ensures { Asks S.Store (λ s kept are. IsOfHistory s kept → (IsTrue are ↔ HasAll s.revoked lo hi))
+    ensures { AsksRows S.Store (λ s kept are. IsOfHistory s kept → (IsTrue are ↔ HasAll s.revoked lo hi))
         conn.old conn.new result }
 {
     let found = last_run(alloc, conn, number(lo))?;

@@ -1,7 +1,7 @@
 //! The CAs of the tables.
 
 ghost use Rattle.std.specs.Prelude.{◌≡◌};
-ghost use Rattle.store.specs.ShowingRows.{Asks};
+ghost use Rattle.store.specs.ShowingRows.{AsksRows};
 
 use crate::rows::row_reader::{OfRow, read_each};
 use lines::read_key_blob;
@@ -28,7 +28,7 @@ impl OfRow<CaRow> for Ca {
 
 /// The CAs by number. `Damaged` where a row is that of no CA.
 pub fn read_cas<S: Alter>(alloc: Global, conn: &mut Connection<S>) -> Result<Vec<Ca>, Fault>
-    ensures { Asks S.Store (λ s kept cas. cas.items ≡ s.cas) conn.old conn.new result }
+    ensures { AsksRows S.Store (λ s kept cas. cas.items ≡ s.cas) conn.old conn.new result }
 {
     let rows = every_ca(alloc, conn)?;
     read_each(alloc, rows.as_slice())

@@ -1,6 +1,6 @@
 //! The certificates of the tables.
 
-ghost use Rattle.store.specs.ShowingRows.{AreWithin, Asks};
+ghost use Rattle.store.specs.ShowingRows.{AreWithin, AsksRows};
 
 use crate::rows::cert_rows::read_certificate;
 use crate::rows::row_reader::{OfRow, read_each};
@@ -27,7 +27,7 @@ pub fn read_certificates<S: Alter>(
     lo: Number,
     hi: Number,
 ) -> Result<Vec<Certificate>, Fault>
-    ensures { Asks S.Store (AreWithin lo hi) conn.old conn.new result }
+    ensures { AsksRows S.Store (AreWithin lo hi) conn.old conn.new result }
 {
     let rows = certs_within(alloc, conn, lo, hi)?;
     read_each(alloc, rows.as_slice())

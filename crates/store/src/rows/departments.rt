@@ -2,7 +2,7 @@
 
 ghost use Rattle.std.specs.Prelude.{◌≡◌};
 ghost use Rattle.office.specs.Publication.{departments_of};
-ghost use Rattle.store.specs.ShowingRows.{Asks};
+ghost use Rattle.store.specs.ShowingRows.{AsksRows};
 
 use crate::rows::department_rows::read_department;
 use crate::rows::row_reader::{OfRow, read_each};
@@ -26,7 +26,7 @@ pub fn read_departments<S: Alter>(
     alloc: Global,
     conn: &mut Connection<S>,
 ) -> Result<Vec<Department>, Fault>
-    ensures { Asks S.Store (λ s kept rows. rows.items ≡ departments_of s) conn.old conn.new result }
+    ensures { AsksRows S.Store (λ s kept rows. rows.items ≡ departments_of s) conn.old conn.new result }
 {
     let rows = every_department(alloc, conn)?;
     read_each(alloc, rows.as_slice())

@@ -1,7 +1,7 @@
 //! The revoked key ids of the tables.
 
 ghost use Rattle.std.specs.Prelude.{◌≡◌};
-ghost use Rattle.store.specs.ShowingRows.{Asks};
+ghost use Rattle.store.specs.ShowingRows.{AsksRows};
 
 use sqlite::{Alter, Connection};
 use std::alloc::Global;
@@ -10,7 +10,7 @@ use text::Text;
 
 /// The revoked key ids in byte order. `Damaged` where a row has another form.
 pub fn read_key_ids<S: Alter>(alloc: Global, conn: &mut Connection<S>) -> Result<Vec<Text>, Fault>
-    ensures { Asks S.Store (λ s kept ids. ids.items ≡ s.revoked_key_ids) conn.old conn.new result }
+    ensures { AsksRows S.Store (λ s kept ids. ids.items ≡ s.revoked_key_ids) conn.old conn.new result }
 {
     every_revoked(alloc, conn)
 }

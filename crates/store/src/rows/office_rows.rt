@@ -7,7 +7,7 @@ ghost use Rattle.office.specs.Openings.{IsOpening};
 ghost use Rattle.store.specs.Reading.{IsRead};
 ghost use Rattle.store.specs.Offices.{IsLawfulOffice, IsOfficeOf, if_office, is_opening, office_in, office_of};
 ghost use Rattle.store.specs.Offices.{only_office};
-ghost use Rattle.store.specs.ShowingRows.{Asks};
+ghost use Rattle.store.specs.ShowingRows.{AsksRows};
 
 use lines::read_key_blob;
 use office::Opening;
@@ -105,7 +105,7 @@ fn only_office(alloc: Global, rows: &[OfficeRow]) -> Result<Office, Fault>
 
 /// The office's opening and its counters. `Damaged` where its table has not one row, or that is of no lawful office.
 pub fn read_office<S: Alter>(alloc: Global, conn: &mut Connection<S>) -> Result<Office, Fault>
-    ensures asks { Asks S.Store (λ s kept office. IsOfficeOf office s) conn.old conn.new result }
+    ensures asks { AsksRows S.Store (λ s kept office. IsOfficeOf office s) conn.old conn.new result }
     ensures lawful { IfOk result IsLawfulOffice }
 {
     let rows = every_office(alloc, conn)?;

@@ -1,7 +1,7 @@
 //! Transactions, each of which ends whole or undone.
 
 ghost use Rattle.std.specs.Prelude.{◌≡◌};
-ghost use Rattle.store.specs.Transactions.{Closes, ClosesFor, Commits, Concludes, EndsFor, HasEnded};
+ghost use Rattle.store.specs.Transactions.{Closes, ClosesFor, Concludes, EndsFor, HasEnded, LeavesAnswered};
 ghost use Rattle.store_sql.specs.Honest.{Between, On, Outlives, OutlivesBy};
 
 use sqlite::{Alter, Connection};
@@ -39,7 +39,7 @@ pub fn conclude<S: Alter, T: Drop>(
 ) -> Result<T, Fault>
     ensures concludes { On S.Store (Concludes answer) conn.old conn.new result }
     ensures cause { On S.Store (EndsFor answer) conn.old conn.new result }
-    ensures survives { OutlivesBy S.Store (Commits answer) conn.old conn.new }
+    ensures survives { OutlivesBy S.Store (LeavesAnswered answer) conn.old conn.new }
 {
     match answer {
         Ok(value) => {

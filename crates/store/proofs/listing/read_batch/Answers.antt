@@ -2,7 +2,7 @@ use Rattle.std.proofs.Common.{◌≡◌, ℕ, ap, ◌∙◌, ◌+◌, filter}
 use Rattle.office.specs.declared.opening.Opening.{Opening}
 use Rattle.office.specs.History.{state as after}
 use Rattle.office.specs.Listing.{batch_of}
-use Rattle.store.specs.Certificates.{is_within}
+use Rattle.store.specs.Certificates.{lies_within}
 use Rattle.store.specs.Batches.{numbered}
 use Rattle.store.proofs.Batches.{batch_is}
 use Rattle.store.proofs.Reading.{and_then, of_state, reading_failed}
@@ -14,7 +14,7 @@ returns g c =
     and_then (of_state c.in_ok-office.ensures.asks) (λ s kept rows. rows.items ≡ batch_of s place)
     c.batch_from.ensures
     (λ o l rows history of is. is
-    ∙ ap (λ (n : ℕ). filter (is_within (numbered n place) (numbered n (place + 999))) (after o l).certificates)
+    ∙ ap (λ (n : ℕ). filter (lies_within (numbered n place) (numbered n (place + 999))) (after o l).certificates)
     (ap (λ (p : Opening). p.first) of.opening)
     ∙ batch_is o l history place)
 

@@ -1,6 +1,6 @@
 use Rattle.std.proofs.Common.{◌≡◌}
 use Rattle.std.specs.Prelude.{find}
-use Rattle.store.specs.Histories.{is_for}
+use Rattle.store.specs.Histories.{is_kept_for}
 use Rattle.store.specs.Arriving.{IsAny, IsFound}
 use Rattle.store.proofs.Reading.{of_past}
 use Rattle.store.proofs.Settled.{read_failed, read_then}
@@ -11,7 +11,7 @@ returns g c =
     let a = c.args.arrival.now in
     let found = c.in_ok-found.found in
     let one = rw (c.as_slice.ensures, c.as_slice-2.ensures) at c.in_ok-found.ensures in
-    read_then (of_past {P = λ s kept found. found ≡ find (is_for a.caller a.key) kept} one) {Known = IsAny}
+    read_then (of_past {P = λ s kept found. found ≡ find (is_kept_for a.caller a.key) kept} one) {Known = IsAny}
     {Later = IsFound a found} (λ p history any is. is) c.settle_beside.ensures
 
 pub returns-in_err-found : goal.returns-in_err-found

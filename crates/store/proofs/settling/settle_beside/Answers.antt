@@ -3,7 +3,7 @@ use Rattle.std.specs.Prelude.{find}
 use Rattle.std.specs.Str.{bytes_eq}
 use Rattle.sqlite.specs.Held.{state}
 use Rattle.office.specs.declared.arrival.Outcome.TheVariants as outcome
-use Rattle.store.specs.Histories.{is_for}
+use Rattle.store.specs.Histories.{is_kept_for}
 use Rattle.store.proofs.OfHistory.{apart_after}
 use Rattle.store.specs.Meaning.{IsHistory}
 use Rattle.store.specs.Arriving.{IsAsked, IsFound, Past, kept_at}
@@ -15,7 +15,7 @@ pub returns-in_default : goal.returns-in_default
 returns-in_default g c =
     let a = c.args.arrival.now in
     let less : (p : Past) → IsHistory p.0 p.1 → IsFound a c.args.found p → IsAsked a false p = λ p history is.
-    let none : find (is_for a.caller a.key) (kept_at p) ≡ None = sym is ∙ c.in_default.is in
+    let none : find (is_kept_for a.caller a.key) (kept_at p) ≡ None = sym is ∙ c.in_default.is in
     record { new = repeat_unknown a (kept_at p) none; known = unknown_found a (kept_at p) none } in
     settling_weaker less c.judge.ensures
 
@@ -26,7 +26,7 @@ returns g c =
     let differs : bytes_eq k.bytes a.bytes ≡ false =
     ap (λ (x : List ℕ). bytes_eq k.bytes x) (sym c.as_slice.ensures) ∙ sym c.is.ensures.value ∙ c.if-is.false in
     let less : (p : Past) → IsHistory p.0 p.1 → IsFound a c.args.found p → IsAsked a true p = λ p history is.
-    let some : find (is_for a.caller a.key) (kept_at p) ≡ Some k = sym is ∙ c.in-Some.is in
+    let some : find (is_kept_for a.caller a.key) (kept_at p) ≡ Some k = sym is ∙ c.in-Some.is in
     record {
       new = repeat_other a (kept_at p) k (apart_after p.0 p.1) some differs;
       known = known_found a (kept_at p) k some;

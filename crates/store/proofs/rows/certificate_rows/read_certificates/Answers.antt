@@ -4,7 +4,7 @@ use Rattle.std.specs.Ordering.{nat_cmp}
 use Rattle.store_sql.specs.Changes.{certs_within}
 use Rattle.store_sql.specs.declared.certs.CertRow.{CertRow}
 use Rattle.office.specs.State.{State}
-use Rattle.store.specs.Certificates.{certificate_in, is_within}
+use Rattle.store.specs.Certificates.{certificate_in, lies_within}
 use Rattle.store.proofs.CertRows.{within_again, within_rise}
 use Rattle.store.proofs.Sorting.{shows_each, rows_asked, rows_failed}
 use Rattle.store.proofs.rows.certificate_rows.read_certificates.Goals as goal
@@ -16,7 +16,7 @@ returns g c =
     let q = c.in_ok-rows.ensures in
     rows_asked q.survives q.reads (λ clean.
     shows_each certificate_in (certs_within lo hi) (λ (r : CertRow). r.serial) nat_cmp nat_cmp_total
-    (λ (s : State). filter (is_within lo hi) s.certificates)
+    (λ (s : State). filter (lies_within lo hi) s.certificates)
     (λ s kept lawful. within_rise s.opening.first lo hi s.certificates lawful.serials)
     (λ s kept lawful. within_again lo hi s.certificates lawful.certificates)
     _ _ _ c.read_each.result (q.finds clean) (q.sorted clean)
