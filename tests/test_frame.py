@@ -1,5 +1,5 @@
 """That the fixtures give what tests/README.md says, with an office, a front, a station and a browser."""
-from asking import department, exchange, issue, lasting, post, revoke_serial
+from asking import department, exchange, issue, lasting, post
 from running import run
 
 

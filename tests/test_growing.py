@@ -1,6 +1,5 @@
 """What docs/GROWING.md says: copies of an office that serves, and the lists of two offices in one file."""
 import contextlib
-import os
 import re
 import shutil
 import signal

@@ -4,7 +4,6 @@ A key line is given to `check` as that of the CA. The lines of ssh-keygen were m
 """
 import pytest
 
-from asking import key_blob, key_line
 from running import run
 from test_krl import RANGE
 
