@@ -197,7 +197,7 @@ def left_of(pid):
 
 # ---- units
 
-def test_an_office_comes_back_after_a_kill_and_a_reboot(site, office):
+def test_an_office_comes_back_after_a_kill_a_reboot_and_a_power_cut(site, office):
     before = table(site)
     assert "1  user  signed" in before
     for name in ("sshoffice", "nginx", "systemd-socket-"):
@@ -205,6 +205,10 @@ def test_an_office_comes_back_after_a_kill_and_a_reboot(site, office):
         time.sleep(0.2)
         wait_until_up(office)
     office.reboot()
+    wait_until_up(office)
+    office.pull_the_plug()
+    office.start()
+    office.wait_until_up()
     wait_until_up(office)
     time.sleep(2.1)
     assert before == table(site)
