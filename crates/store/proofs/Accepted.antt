@@ -26,6 +26,7 @@ use Rattle.office.proofs.Steps.{shows_accepted}
 use Rattle.store.specs.Transactions.{Goes, Makes, Waits}
 use Rattle.store.specs.Due.{Fits, IsDue, contents_after, kept_of}
 use Rattle.store.specs.Meaning.{IsHistory}
+use Rattle.store_sql.specs.declared.table_fault.Fault.{Fault}
 use Rattle.store.specs.Arriving.{IsAccepted, IsAfter, IsNew, Past, Settles, kept_at, state_at}
 use Rattle.office.proofs.Dates.{date_after}
 use Rattle.store.proofs.Lawful.{lawful_after}
@@ -112,7 +113,7 @@ is_due p a d cas db is = record {
 
 -- what is written is the office with the arrival
 pub settles_written : (a : Arrival) (d : Decision) (cas : List Ca) (old new : Connection) → length a.nonce ≡ 32
-    → Makes {X = Unit {0}} (IsDue d cas) (contents_after d a) old new (Ok tt)
+    → Makes {X = Unit {0}} {E = Fault} (IsDue d cas) (contents_after d a) old new (Ok tt)
     → Settles a (IsAccepted a d cas) old new (Ok (outcome.Accepted d.reply))
 settles_written a d cas old new size makes = λ p after.
     let s = accepted p a d cas after.history after.known in

@@ -36,7 +36,7 @@ ended a b c d opened begun was keeps end = record {
 }
 
 -- a transaction that is begun and ends with a fault, if its part ends none
-pub concludes_before : {X : Type 0} (a b c d : State) (r q : Result X Fault)
+pub concludes_before : {X E : Type 0} (a b c d : State) (r q : Result X E)
     → Begins {X = Unit {0}} {E = Fault} a b (Ok tt)
     → Stays b c r → Concludes r c d q → OnErr q (IsAsBefore a d)
 concludes_before a b c d (Ok v) (Ok w) begun stays told = tt

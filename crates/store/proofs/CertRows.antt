@@ -21,7 +21,7 @@ use Rattle.store_sql.specs.declared.certs.CertRow.{CertRow}
 use Rattle.store_sql.specs.declared.table_fault.Fault.{Fault}
 use Rattle.store.specs.Certificates.{AreCounted, IsSigned, certificate_in, certificate_with, fits, lies_within}
 use Rattle.store.specs.Certificates.{signature_in}
-use Rattle.store_sql.specs.Changes.{is_within as rows_within}
+use Rattle.store_sql.specs.Changes.{is_cert_within as rows_within}
 use Rattle.store.specs.Reading.{IsRead, each}
 use Rattle.store.specs.Rows.{cert_row}
 

@@ -21,7 +21,7 @@ use Rattle.store.specs.Transactions.{Makes, Rests}
 use Rattle.store.proofs.Steps.{goes_still}
 use Rattle.store.specs.Former.{Had, ca_of, first_ca, former_contents, migrated}
 use Rattle.store_sql.specs.Refusals.{HasCauseOr}
-use Rattle.store.specs.Migrating.{HasStopped, IsCaDue, IsExcused, IsRefused, Judges, TellsEnd, done}
+use Rattle.store.specs.Migrating.{HasStopped, IsCaDue, IsExcused, IsRefused, Judges, TellsEnd}
 use Rattle.store.proofs.Contents.{ca_same}
 use Rattle.store.proofs.Causes.{failed_late}
 use Rattle.store.proofs.Failing.{stopped_early, stopped_late}
@@ -101,13 +101,13 @@ judged_end mid new c P Q (Err e) r early late h inside tells =
 
 still_inside : (b m : State) (c : Contents) (moved : Result (Unit {0}) StoreFault)
     → b.in_transaction ≡ true → Had c b.now
-    → Makes Had migrated b m (done moved) → IsInside moved m
+    → Makes Had migrated b m moved → IsInside moved m
 still_inside b m c (Ok x) inside had makes = (makes c had).1.mode ∙ inside
 still_inside b m c (Err e) inside had makes = tt
 
 pub judged_whole : (P Q : Trees → Type 0) (a b m d : State) (c : Contents) (moved r : Result (Unit {0}) StoreFault)
     → Survives a b P → HasCleanDisk b → Survives b m Q → HasCleanDisk m → m.faults ≤ d.faults → Rests (Had c) a
-    → Begins {X = Unit {0}} {E = Fault} a b (Ok tt) → Makes Had migrated b m (done moved)
+    → Begins {X = Unit {0}} {E = Fault} a b (Ok tt) → Makes Had migrated b m moved
     → ((e : Contents) → Had e b.now → Judges e (HasStopped e b m) moved) → TellsEnd moved m d r
     → Judges c (HasStopped c a d) r
 judged_whole P Q a b m d c moved r one clean two mild le rests begun makes judges tells =

@@ -13,7 +13,7 @@ use Rattle.office.specs.State.{State}
 use Rattle.office.specs.History.{has_key, reply_kept}
 use Rattle.store_sql.specs.declared.requests.RequestRow.{RequestRow}
 use Rattle.store_sql.specs.Calls.{IsOneOf}
-use Rattle.store_sql.specs.Changes.{requests_for, is_for as row_for}
+use Rattle.store_sql.specs.Changes.{requests_for, is_request_for as row_for}
 use Rattle.store.specs.Rows.{contents_of, request_row}
 use Rattle.sqlite_trees.proofs.ListLemmas.{filter-map}
 use Rattle.store.proofs.Found.{none_passes}

@@ -11,12 +11,12 @@ use Rattle.store_sql.specs.Look.{former_has_no_ca, former_is_office, is_ca_name,
 use Rattle.store_sql.specs.Contents.{Contents}
 use Rattle.store.specs.Transactions.{Ends, Has, Rests}
 use Rattle.store.specs.Former.{Had, TellsBefore, former_contents, migrated}
-use Rattle.store.specs.Migrating.{Carries, HasStopped, Judges, Migrates, done}
+use Rattle.store.specs.Migrating.{Carries, HasStopped, Judges, Migrates}
 use Rattle.store.proofs.OneCa.{former_migrated}
 use Rattle.store.proofs.Judging.{excused}
 
 pub migrates : (old new : State) (r : Result (Unit {0}) StoreFault)
-    → Ends Had (λ (_ : Contents) (_ : Unit {0}). Unit {0}) migrated old new (done r) → Migrates old new r
+    → Ends Had (λ (_ : Contents) (_ : Unit {0}). Unit {0}) migrated old new r → Migrates old new r
 migrates old new (Ok x) h = (h.0, h.1, λ c rests. (h.2 c rests).1)
 migrates old new (Err e) h = h
 

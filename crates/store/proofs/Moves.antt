@@ -1,6 +1,6 @@
 -- What each part of the transaction leaves to the next.
 use Rattle.std.proofs.Common.{◌≡◌, List, subst, ◌∙◌, Ok, Err, Result}
-use Rattle.std.specs.Prelude.{IsPermutation, OnErr}
+use Rattle.std.specs.Prelude.{IsPermutation}
 use Rattle.sqlite.specs.State.{State, IsUnchanged, Survives}
 use Rattle.sqlite.proofs.StateLemmas.{survives_weaker}
 use Rattle.store_sql.specs.declared.table_fault.Fault.{Fault}
@@ -8,20 +8,19 @@ use Rattle.store_sql.specs.declared.offices.OfficeRow.{OfficeRow}
 use Rattle.store_sql.specs.declared.cas.CaRow.{CaRow}
 use Rattle.store_sql.specs.Schema.{without_ca}
 use Rattle.store_sql.specs.Contents.{Contents, Means, MeansWithoutCa}
-use Rattle.store_sql.specs.Calls.{Stays, Steps, Waits as WaitsAt}
+use Rattle.store_sql.specs.Calls.{Stays, Steps, WaitsAt}
 use Rattle.store_sql.specs.Changes.{with_ca, with_schema}
 use Rattle.store.specs.Transactions.{Goes, Has, Makes, Waits}
 use Rattle.store.proofs.Steps.{Leads, goes, goes_still, goes_then, stops_then}
 use Rattle.store.specs.Former.{Had, ca_of, migrated}
-use Rattle.office.specs.declared.store_fault.StoreFault.{StoreFault}
 use Rattle.store.specs.Faults.{told}
-use Rattle.store.specs.Migrating.{HasNoCa, done}
+use Rattle.store.specs.Migrating.{HasNoCa}
 use Rattle.store.proofs.Contents.{ca_same, no_cas, put_in}
 
 -- the rows were read, and then CA 1 and the number are put
 pub filled : (a b d : State) (rows : List OfficeRow) (ca : CaRow) (r : Result (Unit {0}) Fault)
     → ((c : Contents) → Means a.now c → IsUnchanged a b × IsPermutation c.offices rows) → ca_of rows ≡ Ok ca
-    → Makes Has (λ c. with_schema 2 (with_ca ca c)) b d r → Makes HasNoCa migrated a d (done (told r))
+    → Makes Has (λ c. with_schema 2 (with_ca ca c)) b d r → Makes HasNoCa migrated a d (told r)
 filled a b d rows ca (Ok x) found is put = λ c before.
     let f = found c before.0 in
     let g = goes_still a b c f.0 before.0 in
@@ -43,11 +42,6 @@ made_waits a b one =
     survives_weaker a b (WaitsAt without_ca a) (Waits Had a) (λ clean trees h c before. h before.schema) one
 
 -- what a call leaves, as it is told
-pub stays_told : (old new : State) (r : Result (Unit {0}) Fault) → Stays old new r → Stays old new (done (told r))
+pub stays_told : (old new : State) (r : Result (Unit {0}) Fault) → Stays old new r → Stays old new (told r)
 stays_told old new (Ok x) stays = stays
 stays_told old new (Err f) stays = stays
-
--- what holds on each fault holds however that is told
-pub on_fault : (P : Type 0) (r : Result (Unit {0}) StoreFault) → OnErr (done r) P → OnErr r P
-on_fault P (Ok x) h = h
-on_fault P (Err f) h = h

@@ -6,7 +6,7 @@ use Rattle.sqlite.specs.Effect.{Database}
 use Rattle.sqlite.specs.State.{State, HasCleanDisk, Survives, KeepsCommit, IsUnchanged, Shows}
 use Rattle.sqlite.proofs.StateLemmas.{survives_then, survives_weaker}
 use Rattle.store_sql.specs.Contents.{Contents, Kept, Means}
-use Rattle.store_sql.specs.Calls.{Steps, Changes, Leaves, Begins}
+use Rattle.store_sql.specs.Calls.{Steps, Changes, MayLeave, Begins}
 use Rattle.store_sql.specs.declared.table_fault.Fault.{Fault}
 use Rattle.store_sql.proofs.Later.{inside_is, stops}
 use Rattle.store.specs.Transactions.{Has, Goes, Answers, Makes, Waits, HasEnded, Concludes, LeavesAnswered, Ends}
@@ -61,9 +61,9 @@ abbrev pub Leads : {A B : Type 0} → (A → Database → Type 0) → (B → Dat
 Leads {A} Before Later next a b = (x : A) → Before x a.now → (m : Contents) × Goes a b m × Later (next x) b.now
 
 -- a part that is done, and then the rest
-pub answers_then : {A B X : Type 0} (Before : A → Database → Type 0) (Due : A → X → Type 0) (after : A → Contents)
+pub answers_then : {A B X E : Type 0} (Before : A → Database → Type 0) (Due : A → X → Type 0) (after : A → Contents)
     (Later : B → Database → Type 0) (Owed : B → X → Type 0) (afterwards : B → Contents) (next : A → B) (a b c : State)
-    (r : Result X Fault) → Leads Before Later next a b → Answers Later Owed afterwards b c r
+    (r : Result X E) → Leads Before Later next a b → Answers Later Owed afterwards b c r
     → ((x : A) (v : X) → Owed (next x) v → Due x v) → ((x : A) → afterwards (next x) ≡ after x)
     → Answers Before Due after a c r
 answers_then Before Due after Later Owed afterwards next a b c (Ok v) leads rest due is = λ x before.
@@ -96,13 +96,13 @@ waits_then Before Later next a b c leads one rest =
     let m = leads (omega (arith, rest.clean)) x before in sym m.1.mode ∙ h (next x) m.2) one rest
 
 -- a write alone
-pub waits : (after : Contents → Contents) (a b : State) → Survives a b (Leaves after a) → Survives a b (Waits Has a)
-waits after a b one = survives_weaker a b (Leaves after a) (Waits Has a) (λ clean trees h c means. (h c means).0) one
+pub waits : (after : Contents → Contents) (a b : State) → Survives a b (MayLeave after a) → Survives a b (Waits Has a)
+waits after a b one = survives_weaker a b (MayLeave after a) (Waits Has a) (λ clean trees h c means. (h c means).0) one
 
 -- ---- the whole
 
 module _ {A X : Type 0} (Before : A → Database → Type 0) (Due : A → X → Type 0) (after : A → Contents) where
-  undone : (a b c d : State) (f : Fault) → Shows a b a.now a.committed true
+  undone : {E : Type 0} (a b c d : State) (f : E) → Shows a b a.now a.committed true
       → ((x : A) → Before x b.now → IsTrue c.is_open → c.committed ≡ b.committed) → HasEnded c d
       → Ends Before Due after a d (Err f)
   undone a b c d f begun keeps ended = λ still. (
@@ -117,7 +117,7 @@ module _ {A X : Type 0} (Before : A → Database → Type 0) (Due : A → X → 
         },
   )
 
-  pub ends : (a b c d : State) (r q : Result X Fault) → Begins {X = Unit {0}} {E = Fault} a b (Ok tt)
+  pub ends : {E : Type 0} (a b c d : State) (r q : Result X E) → Begins {X = Unit {0}} {E = Fault} a b (Ok tt)
       → Answers Before Due after b c r → Concludes r c d q → Ends Before Due after a d q
   ends a b c d (Ok v) (Ok w) begun answers told = (
     begun.1.was_open,
@@ -139,11 +139,11 @@ module _ {A X : Type 0} (Before : A → Database → Type 0) (Due : A → X → 
       undone a b c d f begun.1 (λ x before still. (answers x before begun.1.mode).committed still) told.1
 
   -- what a crash leaves of the whole
-  pub left : (a b c d : State) (r : Result X Fault)
+  pub left : {E : Type 0} (a b c d : State) (r : Result X E)
       → (HasCleanDisk b → Begins {X = Unit {0}} {E = Fault} a b (Ok tt))
       → (HasCleanDisk c → Answers Before Due after b c r) → Survives a b (λ _. ⊥) → Survives b c (Waits Before b)
       → Survives c d (LeavesAnswered r c) → Survives a d (AfterAll Before after a)
-  left a b c d r begun answers one two three =
+  left {E = E} a b c d r begun answers one two three =
       survives_then a b d (λ _. ⊥) (AfterAll Before after a) (AfterAll Before after a) (λ clean trees h. absurd h)
       (λ clean trees h. h) one
       (survives_then b c d (Waits Before b) (LeavesAnswered r c) (AfterAll Before after a)
@@ -161,7 +161,7 @@ module _ {A X : Type 0} (Before : A → Database → Type 0) (Due : A → X → 
       (was.1.was_open, λ x rests. kept r trees h x (answers mid) (subst (Before x) (sym was.1.now_is) rests.now)))
       two three)
     where
-      kept : (r : Result X Fault) (trees : Trees) → LeavesAnswered r c trees → (x : A) → Answers Before Due after b c r
+      kept : (r : Result X E) (trees : Trees) → LeavesAnswered r c trees → (x : A) → Answers Before Due after b c r
           → Before x b.now → Kept trees (after x)
       kept (Ok v) trees h x answers before = subst (λ t. Kept t (after x)) (sym h) (answers x before).1.means.kept
       kept (Err e) trees h x answers before = absurd h

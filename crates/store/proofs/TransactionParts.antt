@@ -62,7 +62,7 @@ makes_next next f g a b c (Err e) leads rest is = λ d means.
 -- what is done leads to another part, which asks for an open connection
 pub part_then : {X : Type 0} (next f g : Contents → Contents) (late refused : Contents → Type 0) (a b c : State)
     (r : Result X Fault) → (HasCleanDisk b → Leads Has Has next a b)
-    → (HasCleanDisk b → Stays {X = Unit {0}} a b (Ok tt)) → Survives a b (Waits Has a)
+    → (HasCleanDisk b → Stays {X = Unit {0}} {E = Fault} a b (Ok tt)) → Survives a b (Waits Has a)
     → (HasCleanDisk c → IsTrue b.is_open → Makes Has g b c r) → (HasCleanDisk c → FailsFor Has late b c r)
     → (HasCleanDisk c → Stays b c r) → Survives b c (Waits Has b)
     → (HasCleanDisk b → (d : Contents) → Means a.now d → (g (next d) ≡ f d) × (late (next d) → refused d))

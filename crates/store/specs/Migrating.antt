@@ -9,7 +9,6 @@ use Rattle.office.specs.declared.store_fault.StoreFault.TheVariants.{AlreadyAnOf
 use Rattle.office.specs.declared.store_fault.StoreFault.TheVariants.{NoMemory, NotAnOffice, WrongSchema}
 use Rattle.store_sql.specs.declared.cas.CaRow.{CaRow}
 use Rattle.store_sql.specs.declared.table_fault.Fault.{Fault}
-use Rattle.store_sql.specs.declared.table_fault.Fault.TheVariants as table
 use Rattle.store_sql.specs.Changes.{with_ca}
 use Rattle.store_sql.specs.Contents.{Contents, Means}
 use Rattle.store_sql.specs.Faults.{HasCause, HasFailed}
@@ -20,11 +19,6 @@ use Rattle.store.specs.Transactions.{Has, Rests}
 use Rattle.store.specs.Former.{Had, TellsBefore, ca_of, former_contents, migrated}
 
 -- ---- results
-
--- whether it is done, whatever the fault
-abbrev pub done : {X : Type 0} → Result X StoreFault → Result X Fault
-done (Ok x) = Ok x
-done (Err f) = Err table.Device
 
 -- the CA is read, or what was due is told, or memory is refused
 abbrev pub IsCaDue : Result CaRow StoreFault → Result CaRow StoreFault → Type 0

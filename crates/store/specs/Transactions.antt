@@ -33,14 +33,14 @@ pub record Goes (old new : State) (c : Contents) : Type 0 where
 
 -- Of a database that is as one of these says: what is due is answered, and the tables hold what comes after it; or it
 -- fails, and nothing is committed.
-abbrev pub Answers : {A X : Type 0} → (A → Database → Type 0) → (A → X → Type 0) → (A → Contents) → State → State
-    → Result X Fault → Type 0
+abbrev pub Answers : {A X E : Type 0} → (A → Database → Type 0) → (A → X → Type 0) → (A → Contents) → State → State
+    → Result X E → Type 0
 Answers {A} Before Due after old new (Ok x) = (a : A) → Before a old.now → Due a x × Goes old new (after a)
 Answers {A} Before Due after old new (Err e) =
     (a : A) → Before a old.now → IsTrue old.in_transaction → KeepsCommit old new
 
 -- it answers nothing but that it is done
-abbrev pub Makes : {A X : Type 0} → (A → Database → Type 0) → (A → Contents) → State → State → Result X Fault → Type 0
+abbrev pub Makes : {A X E : Type 0} → (A → Database → Type 0) → (A → Contents) → State → State → Result X E → Type 0
 Makes Before after old new r = Answers Before (λ _ _. Unit {0}) after old new r
 
 -- of a database that is as one of these says a fault is want of memory, or a failure of the database, or this refusal
@@ -89,7 +89,7 @@ abbrev pub ClosesFor : {X : Type 0} → State → State → Result X Fault → T
 ClosesFor old new r = old.in_transaction ≡ true → IfErr r (HasCause old new)
 
 -- what was answered is answered on, and is committed; or nothing is
-abbrev pub Concludes : {X : Type 0} → Result X Fault → State → State → Result X Fault → Type 0
+abbrev pub Concludes : {X E : Type 0} → Result X E → State → State → Result X E → Type 0
 Concludes (Ok x) old new (Ok y) = (y ≡ x) × Shows old new old.now old.now false
 Concludes (Ok x) old new (Err e) = HasEnded old new
 Concludes (Err e) old new (Ok x) = ⊥
@@ -101,7 +101,7 @@ EndsFor (Ok x) old new r = ClosesFor old new r
 EndsFor (Err e) old new r = Unit {0}
 
 -- what a crash may leave once it is answered: what is committed, if anything is
-abbrev pub LeavesAnswered : {X : Type 0} → Result X Fault → State → Trees → Type 0
+abbrev pub LeavesAnswered : {X E : Type 0} → Result X E → State → Trees → Type 0
 LeavesAnswered (Ok x) old trees = trees ≡ old.now.trees
 LeavesAnswered (Err e) old trees = ⊥
 
@@ -109,8 +109,8 @@ LeavesAnswered (Err e) old trees = ⊥
 
 -- Of a database at rest that is as one of these says: what is due is answered, and the tables then hold what comes
 -- after it; or all is as before. Only a failed disk shuts the connection, and a shut one answers nothing.
-abbrev pub Ends : {A X : Type 0} → (A → Database → Type 0) → (A → X → Type 0) → (A → Contents) → State → State
-    → Result X Fault → Type 0
+abbrev pub Ends : {A X E : Type 0} → (A → Database → Type 0) → (A → X → Type 0) → (A → Contents) → State → State
+    → Result X E → Type 0
 Ends {A} Before Due after old new (Ok x) =
     IsTrue old.is_open × IsTrue new.is_open
     × ((a : A) → Rests (Before a) old → Due a x × Rests (Has (after a)) new)

@@ -2,7 +2,7 @@
 use Rattle.store_sql.proofs.Words.{Begin, Changes, Command, Commit, CommitsBy, CommitsShowing, Compiled, Contents}
 use Rattle.store_sql.proofs.Words.{Database, Delete, Does, Error, Executes, FailsBy, FailsIn, FailsToQuery, Fault}
 use Rattle.store_sql.proofs.Words.{Finds, FindsIn, FindsOne, Found, Global, HasCause, HasCleanDisk, Holds, IfErr, IfOk}
-use Rattle.store_sql.proofs.Words.{Insert, InsertOr, IsAnswer, IsDone, IsFirstRead, IsPermutation, IsPlain, IsRead}
+use Rattle.store_sql.proofs.Words.{Insert, InsertOr, IsAnswer, IsDone, IsEachRead, IsFirstRead, IsPermutation, IsPlain}
 use Rattle.store_sql.proofs.Words.{IsUnchanged, IsWrite, List, Means, None, Ok, OnOk, OnlyReads, Option}
 use Rattle.store_sql.proofs.Words.{ProgramOverflows, Query, Release, Result, Rollback, RollbackTo, Row, Runs, Schema}
 use Rattle.store_sql.proofs.Words.{Select, Shown, State, Survives, Tally, Trees, Update, Vec, Writes, Wrote, []}
@@ -138,10 +138,10 @@ module _ {A X : Type 0} {schema : Schema} {Held : Trees → A → Type 0} {sql :
   causes = faults schema Has (λ a db has. (known a db has).0) sql params f.query f.names f.is.0 f.is.2 f.is.1 f.is.3
       f.typed f.sure old new answer err
 
-  pub found_all : (r : Result (Vec X Global) Fault) → IsRead cells answer r → FindsIn Has of old new r
+  pub found_all : (r : Result (Vec X Global) Fault) → IsEachRead cells answer r → FindsIn Has of old new r
   found_all r read = finds_read Has cells of f.apart old new answer r read shown
 
-  pub found_fails : (r : Result (Vec X Global) Fault) → IsRead cells answer r → FailsIn Has HasCause old new r
+  pub found_fails : (r : Result (Vec X Global) Fault) → IsEachRead cells answer r → FailsIn Has HasCause old new r
   found_fails r read = causes_read Has cells of f.apart old new answer r read shown causes
 
 in_tables : (c : Contents) (db : Database) → Means db c → (db.schema ≡ whole) × Holds db.trees c
@@ -167,7 +167,7 @@ module _ {X : Type 0} {sql : List ℕ} {params : Row} {cells : X → Row} {of : 
   still : OnOk answer (IsUnchanged old new)
   still = answers_still sql params old new answer (silent f old) ok
 
-  find_all : (r : Result (Vec X Global) Fault) → IsRead cells answer r
+  find_all : (r : Result (Vec X Global) Fault) → IsEachRead cells answer r
       → Finds of old new r × OnlyReads old new r × FailsBy HasCause old new r
   find_all r read = (
     found_all f Has in_tables old new answer ok err r read,
@@ -199,7 +199,7 @@ module _ {X : Type 0} {sql : List ℕ} {params : Row} {cells : X → Row} {of : 
     survives = survives_as old new _ _ (shown_never sql params old (silent f old)) lives;
   }
 
-  pub found : (r : Result (Vec X Global) Fault) → IsRead cells answer r → Found (Finds of) old new r
+  pub found : (r : Result (Vec X Global) Fault) → IsEachRead cells answer r → Found (Finds of) old new r
   found r read = of_all (λ clean. find_all f old new answer (ok clean) (err clean) r read)
 
   pub found_one : (r : Result (Option X) Fault) → IsFirstRead cells answer r → Found (FindsOne of) old new r

@@ -11,7 +11,7 @@ use Rattle.store_sql.proofs.Words.{signed, some_from, stamped, subst, sym, true,
 use Rattle.store_sql.proofs.Words.{◌&&◌, ◌<◌, ◌^◌, ◌||◌, ◌∙◌, ◌∷◌, ◌≡◌}
 use Rattle.store_sql.proofs.Selects.{IsTreeOf, select, number_cmp, FindSorted, select_sorted}
 use Rattle.store_sql.proofs.FaultLemmas.{IsStatement, HasWriteCause}
-use Rattle.store_sql.specs.Changes.{has_serial, certs_numbered, certs_within, is_within, with_cert, with_signature}
+use Rattle.store_sql.specs.Changes.{has_serial, certs_numbered, certs_within, is_cert_within, with_cert, with_signature}
 use Rattle.store_sql.specs.declared.sql.TheConstants.{FIND_CERT, CERTS_WITHIN}
 use Rattle.store_sql.proofs.Elsewhere.{cert_apart, in_cert}
 use Rattle.store_sql.proofs.CallLemmas.{IsSelect, Write, Find}
@@ -101,12 +101,13 @@ module _ (lo hi : ℕ) where
   passes v = is_true (binary (Compare Ge Binary) (column v 0) (Int (pos lo))) &&
       (is_true (binary (Compare Le Binary) (column v 0) (Int (pos hi))) && true)
 
-  passes_is : (x : CertRow) → passes (cert_cells x) ≡ is_within lo hi x
+  passes_is : (x : CertRow) → passes (cert_cells x) ≡ is_cert_within lo hi x
   passes_is x = ap₂ ◌&&◌ (int_ge_test (pos x.serial) (pos lo) ∙ ge_number x.serial lo)
       (and-true _ ∙ int_le_test (pos x.serial) (pos hi) ∙ le_number x.serial hi)
 
   pub within : FindSorted CERTS_WITHIN.now ends cert_cells (certs_within lo hi) (λ x. x.serial) nat_cmp
-  within = select_sorted tree within_is (is_within lo hi) passes shown passes_is (λ x. refl) (λ r. refl) (λ r. refl)
+  within =
+      select_sorted tree within_is (is_cert_within lo hi) passes shown passes_is (λ x. refl) (λ r. refl) (λ r. refl)
       refl (λ c. refl) (λ r. refl) (λ x y. number_cmp x.serial y.serial)
 
 -- ---- UPDATE of the signature

@@ -1,13 +1,14 @@
 -- From the meaning of a text to what a call of it does, and from what a query shows to what a call finds.
 use Rattle.store_sql.proofs.Words.{Changes, Command, CommitsBy, Contents, Damaged, Database, Device, Does, Err, Error}
 use Rattle.store_sql.proofs.Words.{Executes, FailsToQuery, Fault, FindsIn, FindsOne, Global, HasCause, Holds, IfErr}
-use Rattle.store_sql.proofs.Words.{IfOk, IsAnswer, IsDone, IsFirstRead, IsOneOf, IsPermutation, IsPlain, IsRead}
-use Rattle.store_sql.proofs.Words.{IsSound, IsUnchanged, IsWrite, Kept, Leaves, List, Means, Misread, NoMemory, None}
+use Rattle.store_sql.proofs.Words.{IfOk, IsAnswer, IsDone, IsFirstRead, IsOneOf, IsPermutation, IsPlain, IsEachRead}
+use Rattle.store_sql.proofs.Words.{IsSound, IsUnchanged, IsWrite, Kept, MayLeave, List, Means, Misread, NoMemory, None}
 use Rattle.store_sql.proofs.Words.{Null, Ok, OnOk, OnlyReads, Option, Query, Result, Row, Runs, Schema, Select, Shown}
-use Rattle.store_sql.proofs.Words.{Some, State, Tally, Trees, Vec, Writes, [], ap, ap₂, arith, command_of, false, fault_of}
-use Rattle.store_sql.proofs.Words.{get_or, if◌then◌else◌, inl, is_out_of_memory, length, length-map, length_permutation}
-use Rattle.store_sql.proofs.Words.{map, overlay, reads_as, reads_listing, refl, runs_as, statement_of, subst, suc, sym}
-use Rattle.store_sql.proofs.Words.{take, true, understood, whole, zero, ℕ, ◌+◌, ◌++◌, ◌<◌, ◌∙◌, ◌∷◌, ◌≡◌, ◌≢◌}
+use Rattle.store_sql.proofs.Words.{Some, State, Tally, Trees, Vec, Writes, [], ap, ap₂, arith, command_of, false}
+use Rattle.store_sql.proofs.Words.{fault_of, get_or, if◌then◌else◌, inl, is_out_of_memory, length, length-map}
+use Rattle.store_sql.proofs.Words.{length_permutation, map, overlay, reads_as, reads_listing, refl, runs_as}
+use Rattle.store_sql.proofs.Words.{statement_of, subst, suc, sym, take, true, understood, whole, zero, ℕ, ◌+◌, ◌++◌}
+use Rattle.store_sql.proofs.Words.{◌<◌, ◌∙◌, ◌∷◌, ◌≡◌, ◌≢◌}
 use Rattle.store_sql.specs.Done.{IsFirst}
 use Rattle.std.proofs.Common.{set}
 use Rattle.std.specs.List.{swap}
@@ -52,7 +53,7 @@ module _ (sql : List ℕ) (params : Row) (command : Command) (is : command_of (u
         marks = w.marks;
       }
 
-  pub leaves : (old : State) (trees : Trees) → CommitsBy sql params old trees → Leaves after old trees
+  pub leaves : (old : State) (trees : Trees) → CommitsBy sql params old trees → MayLeave after old trees
   leaves old trees h c means =
       let all = commits_as sql params old whole means.schema command is plain writes trees h in
       let next = does old.step_limit old.now all.2 all.1 c means all.3 in (
@@ -164,7 +165,8 @@ module _ {X : Type 0} (cells : X → Row) (apart : (x y : X) → cells x ≡ cel
 
 module _ {A X : Type 0} (Has : A → Database → Type 0) (cells : X → Row) (of : A → List X)
     (apart : (x y : X) → cells x ≡ cells y → x ≡ y) (old new : State) where
-  pub finds_read : (answer : Result (Vec Row Global) Error) (r : Result (Vec X Global) Fault) → IsRead cells answer r
+  pub finds_read : (answer : Result (Vec Row Global) Error) (r : Result (Vec X Global) Fault)
+      → IsEachRead cells answer r
       → Shows Has cells of old new answer → FindsIn Has of old new r
   finds_read (Ok rows) (Ok xs) read shows = λ a has.
       let it = shows a has in
@@ -174,7 +176,8 @@ module _ {A X : Type 0} (Has : A → Database → Type 0) (cells : X → Row) (o
   finds_read (Err e) (Ok xs) read shows = absurd read
   finds_read (Err e) (Err f) read shows = λ a has. shows
 
-  pub causes_read : (answer : Result (Vec Row Global) Error) (r : Result (Vec X Global) Fault) → IsRead cells answer r
+  pub causes_read : (answer : Result (Vec Row Global) Error) (r : Result (Vec X Global) Fault)
+      → IsEachRead cells answer r
       → Shows Has cells of old new answer → IfErr answer (λ e. (a : A) → Has a old.now → HasCause old new (fault_of e))
       → IfErr r (λ f. (a : A) → Has a old.now → HasCause old new f)
   causes_read (Ok rows) (Ok xs) read shows causes = tt
@@ -209,7 +212,7 @@ undamaged e is = elim (is_out_of_memory e) as (λ b. (if b then NoMemory else De
 
 -- an answer that was had changed nothing
 pub read_only : {A X : Type 0} (Has : A → Database → Type 0) (cells : X → Row) (of : A → List X) (old new : State)
-    (answer : Result (Vec Row Global) Error) (r : Result (Vec X Global) Fault) → IsRead cells answer r
+    (answer : Result (Vec Row Global) Error) (r : Result (Vec X Global) Fault) → IsEachRead cells answer r
     → OnOk answer (IsUnchanged old new) → Shows Has cells of old new answer → OnlyReads old new r
 read_only Has cells of old new (Ok rows) (Ok xs) read same shows = same
 read_only Has cells of old new (Ok rows) (Err f) read same shows = (inl same, λ _. same)

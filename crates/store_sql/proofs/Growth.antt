@@ -1,7 +1,7 @@
 -- One table after the other.
 use Rattle.store_sql.proofs.Words.{AllByRecursion, Bool, Creates, Err, Fault, HasCause, HasCleanDisk, IsDatabase}
 use Rattle.store_sql.proofs.Words.{IsPermutation-refl, IsSound, IsTrue, KeepsRows, List, Lists, Ok, Result, Row, Schema}
-use Rattle.store_sql.proofs.Words.{State, Stays, Survives, Table, TableName, Trees, Waits, [], ap, arith, before, ca}
+use Rattle.store_sql.proofs.Words.{State, Stays, Survives, Table, TableName, Trees, WaitsAt, [], ap, arith, before, ca}
 use Rattle.store_sql.proofs.Words.{ca_cells, ca_places, cert_cells, cert_places, created, department_cells}
 use Rattle.store_sql.proofs.Words.{department_places, drop, false, get_or, if◌then◌else◌, inl, key_id_cells}
 use Rattle.store_sql.proofs.Words.{key_id_places, length, made, office_cells, office_places, refl, request_cells}
@@ -47,8 +47,8 @@ pub record HasMade (s : Schema) (a b : State) : Type 0 where
 
 -- where a database is bare, these tables are those that are missing
 pub record IsAt (rest : List TableName) (a b : State) : Type 0 where
-  pub lives : Survives a b (Waits no_schema a)
-  pub stays : HasCleanDisk b → Stays {X = Unit {0}} a b (Ok tt)
+  pub lives : Survives a b (WaitsAt no_schema a)
+  pub stays : HasCleanDisk b → Stays {X = Unit {0}} {E = Fault} a b (Ok tt)
   pub reaches : HasCleanDisk b → IsBare no_schema a.now → (s : Schema) × Completing s rest × HasMade s a b
 
 -- ---- before the first
@@ -94,7 +94,7 @@ more_made s table a b c h p = record {
 }
 
 module _ (names : List TableName) (i : ℕ) (first : TableName) (inside : i < length names) (a b c : State)
-    (at : IsAt (drop i names) a b) (lives : Survives b c (Waits (before (get_or names i first)) b)) where
+    (at : IsAt (drop i names) a b) (lives : Survives b c (WaitsAt (before (get_or names i first)) b)) where
   abbrev name : TableName
   name = get_or names i first
 
@@ -112,16 +112,17 @@ module _ (names : List TableName) (i : ℕ) (first : TableName) (inside : i < le
         subst (λ s. Completing (created s (made name)) rest) same next.1,
       )
 
-  pub still_lives : Survives a c (Waits no_schema a)
-  still_lives = survives_then a b c (Waits no_schema a) (Waits (before name) b) (Waits no_schema a) (λ clean db h. h)
+  pub still_lives : Survives a c (WaitsAt no_schema a)
+  still_lives =
+      survives_then a b c (WaitsAt no_schema a) (WaitsAt (before name) b) (WaitsAt no_schema a) (λ clean db h. h)
       (λ clean db h has. let it = (at_before clean (has, tt)).0 in sym it.mode ∙ h it.bare.0) at.lives lives
 
   -- the table is made
   pub one_more : (HasCleanDisk c → b.now.schema ≡ before name → Grown b c (before name) (made name))
-      → (HasCleanDisk c → Stays {X = Unit {0}} b c (Ok (tt {0}))) → IsAt rest a c
+      → (HasCleanDisk c → Stays {X = Unit {0}} {E = Fault} b c (Ok (tt {0}))) → IsAt rest a c
   one_more grows stays = record {
     lives = still_lives;
-    stays = λ clean. stays_then {X = Unit {0}} a b c tt (Ok (tt {0})) (at.stays (omega (arith, lives.clean)))
+    stays = λ clean. stays_then {X = Unit {0}} {E = Fault} a b c tt (Ok (tt {0})) (at.stays (omega (arith, lives.clean)))
         (stays clean);
     reaches = λ clean bare.
         let r = at_before clean bare in (
@@ -142,7 +143,7 @@ module _ (names : List TableName) (i : ℕ) (first : TableName) (inside : i < le
       → HasCleanDisk c → IsBare no_schema a.now → HasCause a c f
   none_more f cause clean bare =
       let it = (at_before clean bare).0 in
-      cause_since a b c f (Waits no_schema a) at.lives (λ shut. sym it.is_open ∙ shut) (cause clean it.bare.0)
+      cause_since a b c f (WaitsAt no_schema a) at.lives (λ shut. sym it.is_open ∙ shut) (cause clean it.bare.0)
 
 -- ---- after the last
 

@@ -15,7 +15,7 @@ use Rattle.std.proofs.Common.{◌<◌}
 use Rattle.store_sql.specs.Refusals.{IsTooLong}
 use Rattle.store_sql.proofs.Selects.{IsTreeOf, select, text_cmp, FindSorted, select_all}
 use Rattle.store_sql.proofs.FaultLemmas.{IsStatement, HasWriteCause}
-use Rattle.store_sql.specs.Changes.{is_for, requests_for, with_request, is_key_id, revoked_as, with_revoked}
+use Rattle.store_sql.specs.Changes.{is_request_for, requests_for, with_request, is_key_id, revoked_as, with_revoked}
 use Rattle.store_sql.specs.declared.sql.TheConstants.{FIND_REQUEST, FIND_REVOKED, EVERY_REVOKED}
 use Rattle.store_sql.proofs.Elsewhere.{request_apart, in_request, key_id_apart, in_revoked}
 use Rattle.store_sql.proofs.CallLemmas.{IsSelect, Write, Find}
@@ -71,7 +71,7 @@ find_request_is = query whole FIND_REQUEST.now _ _ 2 refl refl
 
 pub find_request : (caller : List ℕ) (key : List ℕ) → Find FIND_REQUEST.now (Text caller ∷ Text key ∷ []) request_cells
     (requests_for caller key)
-find_request caller key = select request_tree find_request_is (is_for caller key)
+find_request caller key = select request_tree find_request_is (is_request_for caller key)
     (λ v. is_true (binary (Compare Eq Binary) (column v 0) (Text caller)) &&
     (is_true (binary (Compare Eq Binary) (column v 1) (Text key)) && true))
     (λ v. column v 0 ∷ column v 1 ∷ column v 2 ∷ column v 3 ∷ [])

@@ -3,12 +3,12 @@
 use Rattle.store_sql.proofs.Words.{CommitsBy, CreateTable, Creates, Database, Does, Err, Error, Executes, ExecutesIn}
 use Rattle.store_sql.proofs.Words.{Fault, Has, HasCause, IfErr, IsDone, IsMisplaced, IsPlain, KeepsRows, List, Mode}
 use Rattle.store_sql.proofs.Words.{None, Ok, Option, Result, Schema, Some, State, Stays, Table, TableName, Tally, Trees}
-use Rattle.store_sql.proofs.Words.{Waits, Writes, [], ap, append-nil, arith, automatics, before, ca, codes, command_of}
-use Rattle.store_sql.proofs.Words.{created, everything, false, fault_of, index_reals, inl, inr, is_fit, is_formed}
-use Rattle.store_sql.proofs.Words.{is_pragma, is_query, is_reserved, is_used, lacks_sequence, length, list_all, made}
-use Rattle.store_sql.proofs.Words.{mode_of, nat_lt, next_tree, not, refl, runs_as, same_name, statement_of, subst}
-use Rattle.store_sql.proofs.Words.{subst₂, sym, table_defined_by, table_reals, test_has, text_of, true, understood}
-use Rattle.store_sql.proofs.Words.{value_cmp, ℕ, ◌*◌, ◌+◌, ◌^◌, ◌||◌, ◌∙◌, ◌≡◌, ◌≤◌}
+use Rattle.store_sql.proofs.Words.{WaitsAt, Writes, [], ap, append-nil, arith, automatics, before, ca, codes}
+use Rattle.store_sql.proofs.Words.{command_of, created, everything, false, fault_of, index_reals, inl, inr, is_fit}
+use Rattle.store_sql.proofs.Words.{is_formed, is_pragma, is_query, is_reserved, is_used, lacks_sequence, length}
+use Rattle.store_sql.proofs.Words.{list_all, made, mode_of, nat_lt, next_tree, not, refl, runs_as, same_name}
+use Rattle.store_sql.proofs.Words.{statement_of, subst, subst₂, sym, table_defined_by, table_reals, test_has, text_of}
+use Rattle.store_sql.proofs.Words.{true, understood, value_cmp, ℕ, ◌*◌, ◌+◌, ◌^◌, ◌||◌, ◌∙◌, ◌≡◌, ◌≤◌}
 use Rattle.store_sql.specs.declared.sql.TheConstants.{CREATE_OFFICE, CREATE_DEPARTMENT, CREATE_CERT, CREATE_REQUEST}
 use Rattle.store_sql.specs.declared.sql.TheConstants.{CREATE_RUN, CREATE_REVOKED, CREATE_CA}
 use Rattle.store_sql.specs.Schema.{office, department, cert, request, run, revoked_keyid}
@@ -80,7 +80,7 @@ module _ {text : List ℕ} {before : Schema} {table : Table} (t : Create text be
       (ap closes (sym (ap command_of known.1) ∙ t.told.0)))
       answer r done ran
 
-  pub creates_left : (old : State) (trees : Trees) → CommitsBy text [] old trees → Waits before old trees
+  pub creates_left : (old : State) (trees : Trees) → CommitsBy text [] old trees → WaitsAt before old trees
   creates_left old trees h has = (commits_as text [] old before has CreateTable t.told.0 t.told.2 tt trees h).0
 
 -- each CREATE text defines its table

@@ -2,12 +2,12 @@
 -- schema; and why that row is refused.
 use Rattle.store_sql.proofs.Words.{AllByRecursion, Binary, Blob, COUNT_OFFICE, Compare, Contents, Counters, Database}
 use Rattle.store_sql.proofs.Words.{Eq, Err, Error, FailsBy, FailsIn, FailsToQuery, Fault, FindsIn, Global, HasCause}
-use Rattle.store_sql.proofs.Words.{HasOffices, HasOne, Holds, INSERT_OFFICE, IfErr, IfOk, Insert, Int, IsRead}
+use Rattle.store_sql.proofs.Words.{HasOffices, HasOne, Holds, INSERT_OFFICE, IfErr, IfOk, Insert, Int, IsEachRead}
 use Rattle.store_sql.proofs.Words.{IsTooLong, List, Lists, NUMBER_OFFICE, Null, OfficeRow, Ok, RefusedFor, Result, Row}
 use Rattle.store_sql.proofs.Words.{Schema, Shown, State, Table, Term, Text, Trees, Update, Values, Vec, [], ap, arith}
 use Rattle.store_sql.proofs.Words.{ascending, codes, col, column, counter_cells, drop, everything, inl, inr, lit}
-use Rattle.store_sql.proofs.Words.{lt-ltb, nat_cmp, office_at, office_cells, office_places, op2, pos, refl, true}
-use Rattle.store_sql.proofs.Words.{whole, ℕ, ◌<◌, ◌^◌, ◌∷◌, ◌≡◌}
+use Rattle.store_sql.proofs.Words.{lt-ltb, nat_cmp, office_at, office_cells, office_places, op2, pos, refl, true, whole}
+use Rattle.store_sql.proofs.Words.{ℕ, ◌<◌, ◌^◌, ◌∷◌, ◌≡◌}
 use Rattle.store_sql.proofs.Reasons.{is_exact, IsPut, never, size, storable, unclashed}
 use Rattle.store_sql.proofs.Selects.{IsTreeOf, select, number_cmp, FindSorted, select_all}
 use Rattle.store_sql.proofs.FaultLemmas.{IsStatement, HasWriteCause}
@@ -110,7 +110,7 @@ module _ (old new : State) (answer : Result (Vec Row Global) Error)
       let it = first_is old.now.schema.tables has.first in
       (it.0, (ap (λ (ts : List Table). record old.now.schema { tables = ts }) it.1, has.holds))
 
-  pub offices_found : (r : Result (Vec OfficeRow Global) Fault) → IsRead office_cells answer r
+  pub offices_found : (r : Result (Vec OfficeRow Global) Fault) → IsEachRead office_cells answer r
       → FindsIn HasOffices (λ xs. xs) old new r
   offices_found (Ok found) read = λ xs has.
       let it = beside xs has in
@@ -119,7 +119,7 @@ module _ (old new : State) (answer : Result (Vec Row Global) Error)
       let it = beside xs has in
       found_all (every_beside old.now.schema it.0) (IsBeside it.0) (λ xs db is. is) old new answer ok err (Err f) read xs it.1
 
-  pub offices_fail : (r : Result (Vec OfficeRow Global) Fault) → IsRead office_cells answer r
+  pub offices_fail : (r : Result (Vec OfficeRow Global) Fault) → IsEachRead office_cells answer r
       → FailsIn HasOffices HasCause old new r
   offices_fail (Ok found) read = tt
   offices_fail (Err f) read = λ xs has.

@@ -1,12 +1,12 @@
 -- SELECT of the rows of one table that pass a test, and ORDER BY one column.
 use Rattle.store_sql.proofs.Words.{Binary, Bool, CommitsShowing, Contents, Equal, Err, Error, FailsToQuery, Fault}
 use Rattle.store_sql.proofs.Words.{FoundSorted, Global, Greater, HasCleanDisk, Holds, IfErr, IfOk, Int, IsAnswer}
-use Rattle.store_sql.proofs.Words.{IsPermutation, IsRead, IsSorted, IsSorted-from_map, Key, Less, List, Lists, Means}
-use Rattle.store_sql.proofs.Words.{Null, Ok, Ordering, Result, Rises, Row, RunRow, Schema, Shown, State, Survives, Term}
-use Rattle.store_sql.proofs.Words.{Text, Trees, Vec, [], accepts_program, arith, ascending, at_places, column, eval_all}
-use Rattle.store_sql.proofs.Words.{filter, holds, inl, inr, int_cmp, key_cmp, length, list_all, map, nat_cmp, overlay}
-use Rattle.store_sql.proofs.Words.{pos, reads_as, refl, run_cells, slice_cmp, subst, true, value_cmp, value_cmp-Int}
-use Rattle.store_sql.proofs.Words.{value_cmp-Text, whole, ℕ, ◌∙◌, ◌∷◌, ◌≡◌}
+use Rattle.store_sql.proofs.Words.{IsEachRead, IsPermutation, IsSorted, IsSorted-from_map, Key, Less, List, Lists}
+use Rattle.store_sql.proofs.Words.{Means, Null, Ok, Ordering, Result, Rises, Row, RunRow, Schema, Shown, State}
+use Rattle.store_sql.proofs.Words.{Survives, Term, Text, Trees, Vec, [], accepts_program, arith, ascending, at_places}
+use Rattle.store_sql.proofs.Words.{column, eval_all, filter, holds, inl, inr, int_cmp, key_cmp, length, list_all, map}
+use Rattle.store_sql.proofs.Words.{nat_cmp, overlay, pos, reads_as, refl, run_cells, slice_cmp, subst, true, value_cmp}
+use Rattle.store_sql.proofs.Words.{value_cmp-Int, value_cmp-Text, whole, ℕ, ◌∙◌, ◌∷◌, ◌≡◌}
 use Rattle.store_sql.proofs.CallLemmas.{IsSelect, FindIn, Find, found}
 use Rattle.store_sql.proofs.FaultLemmas.{none_overflows}
 use Rattle.store_sql.proofs.Queries.{chosen, on_table, selected, in_order}
@@ -119,7 +119,7 @@ module _ {X K : Type 0} {sql : List ℕ} {params : Row} {cells : X → Row} {of 
     {cmp : K → K → Ordering} (f : FindSorted sql params cells of key cmp) where
   sorts : (old new : State) (answer : Result (Vec Row Global) Error) → IfOk answer
       (λ rows. Shown sql params old new rows.items)
-      → (r : Result (Vec X Global) Fault) → IsRead cells answer r → Rises key cmp old new r
+      → (r : Result (Vec X Global) Fault) → IsEachRead cells answer r → Rises key cmp old new r
   sorts old new (Ok rows) ok (Ok xs) read = λ c means.
       let answered = (reads_as sql params old new whole means.schema _ f.find.is.0 f.find.is.2 f.find.is.1 rows.items
       ok).answer Null in
@@ -135,7 +135,7 @@ module _ {X K : Type 0} {sql : List ℕ} {params : Row} {cells : X → Row} {of 
   pub found_sorted : {old new : State} (answer : Result (Vec Row Global) Error)
       → (HasCleanDisk new → IfOk answer (λ rows. Shown sql params old new rows.items))
       → (HasCleanDisk new → IfErr answer (FailsToQuery sql params old new))
-      → Survives old new (CommitsShowing sql params old) → (r : Result (Vec X Global) Fault) → IsRead cells answer r
+      → Survives old new (CommitsShowing sql params old) → (r : Result (Vec X Global) Fault) → IsEachRead cells answer r
       → FoundSorted (λ c db. Means db c) of key cmp old new r
   found_sorted {old = old} {new = new} answer ok err lives r read =
       let all = found f.find answer ok err lives r read in

@@ -105,7 +105,8 @@ keeps_then a b c p q = record {
   committed = λ still. q.committed still ∙ p.committed (q.was_open still);
 }
 
-pub stays_then : {X Y : Type 0} (a b c : State) (x : X) (r : Result Y Fault) → Stays a b (Ok x) → Stays b c r → Stays a c r
+pub stays_then : {X Y E : Type 0} (a b c : State) (x : X) (r : Result Y E) → Stays {E = Fault} a b (Ok x) → Stays b c r
+    → Stays a c r
 stays_then a b c x (Ok y) one rest = λ inside.
     let p = one inside in
     let q = rest (subst IsTrue (sym p.1) inside) in (keeps_then a b c p.0 q.0, q.1 ∙ p.1)

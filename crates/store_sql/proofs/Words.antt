@@ -112,14 +112,14 @@ pub use Rattle.std.specs.declared.alloc.Global.{Global}
 pub use Rattle.std.specs.declared.cmp.Ordering.{Ordering}
 pub use Rattle.std.specs.declared.cmp.Ordering.TheVariants.{Equal, Greater, Less}
 pub use Rattle.store_sql.specs.Calls.{Begins, Changes, Commits, Creates, FailsBy, FailsIn, Finds, FindsIn, FindsOne}
-pub use Rattle.store_sql.specs.Calls.{IsOneOf, Leaves, Never, OnlyReads, Rises, Stays, Waits}
+pub use Rattle.store_sql.specs.Calls.{IsOneOf, MayLeave, Never, OnlyReads, Rises, Stays, WaitsAt}
 pub use Rattle.store_sql.specs.Cells.{ca_cells, cert_cells, counter_cells, department_cells, key_id_cells, office_cells}
 pub use Rattle.store_sql.specs.Cells.{request_cells, run_cells}
 pub use Rattle.store_sql.specs.Changes.{has_name, signed}
 pub use Rattle.store_sql.specs.Contents.{AreNumbered, Contents, HasOffices, Holds, IsNumber, Kept, Lists, Means}
 pub use Rattle.store_sql.specs.Contents.{at_places, ca_places, cert_places, department_places, key_id_places}
 pub use Rattle.store_sql.specs.Contents.{office_places, request_places, run_places}
-pub use Rattle.store_sql.specs.Done.{IsDone, IsFirstRead, IsRead}
+pub use Rattle.store_sql.specs.Done.{IsDone, IsEachRead, IsFirstRead}
 pub use Rattle.store_sql.specs.Faults.{HasCause, HasFailed, Misread, fault_of, is_out_of_memory}
 pub use Rattle.store_sql.specs.Kinds.{blob_in, number_in, optional_blob_in, text_in}
 pub use Rattle.store_sql.specs.Making.{before, made}

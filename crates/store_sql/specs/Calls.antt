@@ -66,13 +66,13 @@ OnlyReads old new (Ok x) = IsUnchanged old new
 OnlyReads old new (Err f) = Fails old new × (f ≡ Damaged → IsUnchanged old new)
 
 -- Of any tables, inside a transaction: what was committed stays, and after an answer the transaction goes on.
-abbrev pub Stays : {X : Type 0} → State → State → Result X Fault → Type 0
+abbrev pub Stays : {X E : Type 0} → State → State → Result X E → Type 0
 Stays old new (Ok x) = IsTrue old.in_transaction → KeepsCommit old new × (new.in_transaction ≡ old.in_transaction)
 Stays old new (Err f) = IsTrue old.in_transaction → KeepsCommit old new
 
 -- what a call that a crash cuts off may have committed
-abbrev pub Leaves : (Contents → Contents) → State → Trees → Type 0
-Leaves after old trees = (c : Contents) → Means old.now c → (old.in_transaction ≡ false) × Kept trees (after c)
+abbrev pub MayLeave : (Contents → Contents) → State → Trees → Type 0
+MayLeave after old trees = (c : Contents) → Means old.now c → (old.in_transaction ≡ false) × Kept trees (after c)
 
 -- nothing is committed, whatever the tables are
 abbrev pub Never : Trees → Type 0
@@ -139,5 +139,5 @@ AddsCa old new (Ok x) = (c : Contents) → MeansWithoutCa old.now c → Steps ol
 AddsCa old new (Err e) = Fails old new
 
 -- nothing is committed inside a transaction
-abbrev pub Waits : Schema → State → Trees → Type 0
-Waits before old trees = old.now.schema ≡ before → old.in_transaction ≡ false
+abbrev pub WaitsAt : Schema → State → Trees → Type 0
+WaitsAt before old trees = old.now.schema ≡ before → old.in_transaction ≡ false

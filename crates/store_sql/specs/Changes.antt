@@ -50,11 +50,11 @@ abbrev pub certs_numbered : ℕ → Contents → List CertRow
 certs_numbered serial c = filter (has_serial serial) c.certs
 
 -- its serial is from the one to the other
-abbrev pub is_within : (lo hi : ℕ) → CertRow → Bool
-is_within lo hi c = nat_le lo c.serial && nat_le c.serial hi
+abbrev pub is_cert_within : (lo hi : ℕ) → CertRow → Bool
+is_cert_within lo hi c = nat_le lo c.serial && nat_le c.serial hi
 
 abbrev pub certs_within : (lo hi : ℕ) → Contents → List CertRow
-certs_within lo hi c = filter (is_within lo hi) c.certs
+certs_within lo hi c = filter (is_cert_within lo hi) c.certs
 
 abbrev pub with_cert : CertRow → Contents → Contents
 with_cert cert c = record c { certs = cert ∷ c.certs }
@@ -68,11 +68,11 @@ with_signature serial signature c = record c
 
 -- ---- requests
 
-abbrev pub is_for : List ℕ → List ℕ → RequestRow → Bool
-is_for caller key r = bytes_eq r.caller caller && bytes_eq r.key key
+abbrev pub is_request_for : List ℕ → List ℕ → RequestRow → Bool
+is_request_for caller key r = bytes_eq r.caller caller && bytes_eq r.key key
 
 abbrev pub requests_for : List ℕ → List ℕ → Contents → List RequestRow
-requests_for caller key c = filter (is_for caller key) c.requests
+requests_for caller key c = filter (is_request_for caller key) c.requests
 
 abbrev pub with_request : RequestRow → Contents → Contents
 with_request r c = record c { requests = r ∷ c.requests }

@@ -14,11 +14,11 @@ IsDone (Ok count) (Err f) = ⊥
 IsDone (Err e) (Ok x) = ⊥
 
 -- the structs of the rows, or why they can't be had
-abbrev pub IsRead : {X : Type 0} → (X → Row) → Result (Vec Row Global) Error → Result (Vec X Global) Fault → Type 0
-IsRead cells (Ok rows) (Ok xs) = rows.items ≡ map cells xs.items
-IsRead {X} cells (Ok rows) (Err f) = Misread ((xs : List X) → rows.items ≢ map cells xs) f
-IsRead cells (Err e) (Err f) = f ≡ fault_of e
-IsRead cells (Err e) (Ok xs) = ⊥
+abbrev pub IsEachRead : {X : Type 0} → (X → Row) → Result (Vec Row Global) Error → Result (Vec X Global) Fault → Type 0
+IsEachRead cells (Ok rows) (Ok xs) = rows.items ≡ map cells xs.items
+IsEachRead {X} cells (Ok rows) (Err f) = Misread ((xs : List X) → rows.items ≢ map cells xs) f
+IsEachRead cells (Err e) (Err f) = f ≡ fault_of e
+IsEachRead cells (Err e) (Ok xs) = ⊥
 
 -- the first of the rows as a struct, or none where there is none
 abbrev pub IsFirst : {X : Type 0} → (X → Row) → List Row → Option X → Type 0

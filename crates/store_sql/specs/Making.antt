@@ -6,8 +6,8 @@ use Rattle.store_sql.specs.declared.creation.TableName.{TableName}
 use Rattle.store_sql.specs.declared.creation.TableName.TheVariants as name
 use Rattle.store_sql.specs.declared.sql.TheConstants.{CREATE_OFFICE, CREATE_DEPARTMENT, CREATE_CERT, CREATE_REQUEST}
 use Rattle.store_sql.specs.declared.sql.TheConstants.{CREATE_RUN, CREATE_REVOKED, CREATE_CA}
-use Rattle.store_sql.specs.Schema.{no_schema, with_office, with_department, with_cert, with_request, with_run}
-use Rattle.store_sql.specs.Schema.{without_ca, office, department, cert, request, run, revoked_keyid, ca}
+use Rattle.store_sql.specs.Schema.{no_schema, through_office, through_department, through_cert, through_request}
+use Rattle.store_sql.specs.Schema.{through_run, without_ca, office, department, cert, request, run, revoked_keyid, ca}
 
 -- the table of this name, as its CREATE text defines it
 abbrev pub made : TableName → Table
@@ -22,11 +22,11 @@ made name.Ca = ca
 -- the schema that it comes to: that of the tables before it
 abbrev pub before : TableName → Schema
 before name.Office = no_schema
-before name.Department = with_office
-before name.Cert = with_department
-before name.Request = with_cert
-before name.Run = with_request
-before name.RevokedKeyId = with_run
+before name.Department = through_office
+before name.Cert = through_department
+before name.Request = through_cert
+before name.Run = through_request
+before name.RevokedKeyId = through_run
 before name.Ca = without_ca
 
 -- its CREATE text

@@ -103,24 +103,24 @@ abbrev pub no_schema : Schema
 no_schema = record { tables = []; indexes = []; views = [] }
 
 -- the schema as each table is created
-abbrev pub with_office : Schema
-with_office = created no_schema office
+abbrev pub through_office : Schema
+through_office = created no_schema office
 
-abbrev pub with_department : Schema
-with_department = created with_office department
+abbrev pub through_department : Schema
+through_department = created through_office department
 
-abbrev pub with_cert : Schema
-with_cert = created with_department cert
+abbrev pub through_cert : Schema
+through_cert = created through_department cert
 
-abbrev pub with_request : Schema
-with_request = created with_cert request
+abbrev pub through_request : Schema
+through_request = created through_cert request
 
-abbrev pub with_run : Schema
-with_run = created with_request run
+abbrev pub through_run : Schema
+through_run = created through_request run
 
 -- the tables of schema 1, which has no table of CAs
 abbrev pub without_ca : Schema
-without_ca = created with_run revoked_keyid
+without_ca = created through_run revoked_keyid
 
 -- all tables of the office
 abbrev pub whole : Schema

@@ -8,7 +8,7 @@ use Rattle.sqlite.specs.Effect.{Database}
 use Rattle.sqlite.specs.Held.{Held, state}
 use Rattle.sqlite.specs.State.{State, HasCleanDisk, Survives}
 use Rattle.store_sql.specs.declared.table_fault.Fault.{Fault}
-use Rattle.store_sql.specs.Calls.{Changes, FailsBy, FailsIn, FindsIn, Leaves, Never, OnlyReads, Rises, Stays}
+use Rattle.store_sql.specs.Calls.{Changes, FailsBy, FailsIn, FindsIn, MayLeave, Never, OnlyReads, Rises, Stays}
 use Rattle.store_sql.specs.Contents.{Contents, Means}
 use Rattle.store_sql.specs.Faults.{HasCause}
 use Rattle.store_sql.specs.Refusals.{RefusedFor}
@@ -21,7 +21,7 @@ pub record Wrote {X : Type 0} (after : Contents → Contents) (Causes : State �
   pub changes : HasCleanDisk new → Changes after old new r
   pub fault : HasCleanDisk new → Causes old new r
   pub stays : HasCleanDisk new → Stays old new r
-  pub survives : Survives old new (Leaves after old)
+  pub survives : Survives old new (MayLeave after old)
 
 -- of a connection, and of contents that may refuse the write
 abbrev pub Writes : {S X : Type 0} → Ghosts S → (Contents → Contents) → (Contents → Type 0) → Held S → Held S

@@ -3,7 +3,7 @@
 ghost use Rattle.std.specs.Prelude.{◌≡◌, ◌≢◌, List, Bool, true, false, map, IfOk, IfErr};
 ghost use Rattle.sqlite_value.specs.Order.{Row as SqlRow};
 ghost use Rattle.store_sql.specs.Faults.{Misread};
-ghost use Rattle.store_sql.specs.Done.{IsFirst, IsRead, IsFirstRead};
+ghost use Rattle.store_sql.specs.Done.{IsFirst, IsEachRead, IsFirstRead};
 
 use crate::memory::Memory;
 use crate::table_fault::Fault;
@@ -81,7 +81,7 @@ pub(crate) fn found<T: Columns>(
     alloc: Global,
     answer: Result<Vec<Row>, Error>,
 ) -> Result<Vec<T>, Fault>
-    ensures { IsRead T.cells answer result }
+    ensures { IsEachRead T.cells answer result }
 {
     match answer {
         Ok(rows) => read_all(alloc, rows.as_slice()),

@@ -5,7 +5,7 @@ ghost use Rattle.sqlite.specs.Compile.{table_defined_by};
 ghost use Rattle.store_sql.specs.Schema.{no_schema, without_ca, ca};
 ghost use Rattle.store_sql.specs.Making.{before, made, text_of};
 ghost use Rattle.store_sql.specs.Faults.{IsOfStatement};
-ghost use Rattle.store_sql.specs.Calls.{AddsCa, Completes, Creates, FailsWhere, IsBare, Stays, Waits};
+ghost use Rattle.store_sql.specs.Calls.{AddsCa, Completes, Creates, FailsWhere, IsBare, Stays, WaitsAt};
 ghost use Rattle.store_sql.specs.Honest.{On, OutlivesBy};
 
 use crate::sql::{
@@ -51,7 +51,7 @@ fn create<S: Alter>(conn: &mut Connection<S>, name: TableName) -> Result<(), Fau
     ensures fault { On S.Store (FailsWhere (λ s. s.now.schema ≡ before name)) conn.old conn.new result }
     ensures undamaged { IfErr result IsOfStatement }
     ensures stays { On S.Store Stays conn.old conn.new result }
-    ensures survives { OutlivesBy S.Store (Waits (before name)) conn.old conn.new }
+    ensures survives { OutlivesBy S.Store (WaitsAt (before name)) conn.old conn.new }
 {
     done(conn.execute(name.create(), &[]))
 }
@@ -63,7 +63,7 @@ pub fn create_ca<S: Alter>(conn: &mut Connection<S>) -> Result<(), Fault>
     ensures fault { On S.Store (FailsWhere (λ s. s.now.schema ≡ without_ca)) conn.old conn.new result }
     ensures undamaged { IfErr result IsOfStatement }
     ensures stays { On S.Store Stays conn.old conn.new result }
-    ensures survives { OutlivesBy S.Store (Waits without_ca) conn.old conn.new }
+    ensures survives { OutlivesBy S.Store (WaitsAt without_ca) conn.old conn.new }
 {
     create(conn, TableName::Ca)
 }
@@ -75,7 +75,7 @@ pub fn create_tables<S: Alter>(conn: &mut Connection<S>) -> Result<(), Fault>
     ensures fault { On S.Store (FailsWhere (λ s. IsBare no_schema s.now)) conn.old conn.new result }
     ensures undamaged { IfErr result IsOfStatement }
     ensures stays { On S.Store Stays conn.old conn.new result }
-    ensures survives { OutlivesBy S.Store (Waits no_schema) conn.old conn.new }
+    ensures survives { OutlivesBy S.Store (WaitsAt no_schema) conn.old conn.new }
 {
     for name in [
         TableName::Office,

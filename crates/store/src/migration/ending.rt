@@ -1,7 +1,7 @@
 //! The end of the transaction.
 
 ghost use Rattle.store.specs.Transactions.{Concludes, LeavesAnswered};
-ghost use Rattle.store.specs.Migrating.{TellsEnd, done};
+ghost use Rattle.store.specs.Migrating.{TellsEnd};
 ghost use Rattle.store_sql.specs.Honest.{On, OutlivesBy};
 
 use crate::rows::{close, fault_of, undo};
@@ -13,9 +13,9 @@ pub(crate) fn end<S: Alter>(
     conn: &mut Connection<S>,
     moved: Result<(), StoreFault>,
 ) -> Result<(), StoreFault>
-    ensures concludes { On S.Store (Concludes (done moved)) conn.old conn.new (done result) }
+    ensures concludes { On S.Store (Concludes moved) conn.old conn.new result }
     ensures tells { On S.Store (TellsEnd moved) conn.old conn.new result }
-    ensures survives { OutlivesBy S.Store (LeavesAnswered (done moved)) conn.old conn.new }
+    ensures survives { OutlivesBy S.Store (LeavesAnswered moved) conn.old conn.new }
 {
     match moved {
         Ok(()) => match close(conn) {

@@ -6,7 +6,7 @@ ghost use Rattle.store_sql.specs.Look.{is_ca_name, is_office_table};
 ghost use Rattle.store_sql.specs.Honest.{On, OutlivesBy, tables_of};
 ghost use Rattle.store.specs.Transactions.{Ends, KeepsOnErr, Leaves};
 ghost use Rattle.store.specs.Former.{Had, migrated};
-ghost use Rattle.store.specs.Migrating.{CarriesEach, JudgesAtRest, Migrates, done};
+ghost use Rattle.store.specs.Migrating.{CarriesEach, JudgesAtRest, Migrates};
 
 use crate::migration::ending::end;
 use crate::migration::moving::move_tables;
@@ -17,7 +17,7 @@ use std::alloc::Global;
 use store_sql::{begin, has_ca_table, has_office};
 
 fn migrate_whole<S: Alter>(alloc: Global, conn: &mut Connection<S>) -> Result<(), StoreFault>
-    ensures ends { On S.Store (Ends Had (λ _ _. Unit {0}) migrated) conn.old conn.new (done result) }
+    ensures ends { On S.Store (Ends Had (λ _ _. Unit {0}) migrated) conn.old conn.new result }
     ensures judges { On S.Store JudgesAtRest conn.old conn.new result }
     ensures before { On S.Store KeepsOnErr conn.old conn.new result }
     ensures survives { OutlivesBy S.Store (Leaves Had migrated) conn.old conn.new }

@@ -5,7 +5,7 @@ ghost use Rattle.store_sql.specs.Honest.{On, OutlivesBy};
 ghost use Rattle.store_sql.specs.Changes.{with_ca, with_schema};
 ghost use Rattle.store.specs.Transactions.{Does, Makes, Waits};
 ghost use Rattle.store.specs.Former.{Had, migrated};
-ghost use Rattle.store.specs.Migrating.{HasNoCa, IsRefused, JudgesInside, done};
+ghost use Rattle.store.specs.Migrating.{HasNoCa, IsRefused, JudgesInside};
 
 use crate::migration::first_ca::ca_of;
 use crate::rows::{fault_of, number, told};
@@ -26,9 +26,9 @@ fn put<S: Alter>(conn: &mut Connection<S>, ca: &CaRow) -> Result<(), Fault>
 
 /// Fills the tables of schema 2, of which that of the CAs has no row yet.
 fn fill<S: Alter>(alloc: Global, conn: &mut Connection<S>) -> Result<(), StoreFault>
-    ensures makes { On S.Store (Makes HasNoCa migrated) conn.old conn.new (done result) }
+    ensures makes { On S.Store (Makes HasNoCa migrated) conn.old conn.new result }
     ensures judges { On S.Store (JudgesInside HasNoCa) conn.old conn.new result }
-    ensures stays { On S.Store Stays conn.old conn.new (done result) }
+    ensures stays { On S.Store Stays conn.old conn.new result }
     ensures survives { OutlivesBy S.Store (Waits HasNoCa) conn.old conn.new }
 {
     match every_office(alloc, conn) {
@@ -45,9 +45,9 @@ pub(crate) fn move_tables<S: Alter>(
     alloc: Global,
     conn: &mut Connection<S>,
 ) -> Result<(), StoreFault>
-    ensures makes { On S.Store (Makes Had migrated) conn.old conn.new (done result) }
+    ensures makes { On S.Store (Makes Had migrated) conn.old conn.new result }
     ensures judges { On S.Store (JudgesInside Had) conn.old conn.new result }
-    ensures stays { On S.Store Stays conn.old conn.new (done result) }
+    ensures stays { On S.Store Stays conn.old conn.new result }
     ensures survives { OutlivesBy S.Store (Waits Had) conn.old conn.new }
 {
     match create_ca(conn) {

@@ -5,7 +5,7 @@ use Rattle.sqlite.proofs.StateLemmas.{survives_weaker}
 use Rattle.sqlite.specs.Held.{state}
 use Rattle.store_sql.specs.Schema.{no_schema}
 use Rattle.store_sql.specs.Contents.{no_contents}
-use Rattle.store_sql.specs.Calls.{IsBare, Steps, Waits as WaitsAt}
+use Rattle.store_sql.specs.Calls.{IsBare, Steps, WaitsAt}
 use Rattle.store_sql.specs.Changes.{with_ca, with_office}
 use Rattle.store_sql.proofs.Staying.{stays_then}
 use Rattle.store.specs.Transactions.{Has, Waits}

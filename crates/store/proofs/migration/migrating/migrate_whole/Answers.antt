@@ -2,12 +2,10 @@ use Rattle.std.proofs.Common.{arith}
 use Rattle.sqlite.specs.Held.{state}
 use Rattle.sqlite.specs.State.{HasCleanDisk}
 use Rattle.store.proofs.Steps.{ends, left}
-use Rattle.store.specs.Transactions.{IsAsBefore, Waits}
+use Rattle.store.specs.Transactions.{Waits}
 use Rattle.store.specs.Former.{Had, migrated}
-use Rattle.store.specs.Migrating.{done}
 use Rattle.store.proofs.Judging.{judged_fault, judged_whole}
 use Rattle.store.proofs.Before.{concludes_before, fails_before}
-use Rattle.store.proofs.Moves.{on_fault}
 use Rattle.store.proofs.migration.migrating.migrate_whole.Goals as goal
 
 pub returns-in-Ok : goal.returns-in-Ok
@@ -22,16 +20,15 @@ returns-in-Ok g c =
     let early : HasCleanDisk new → HasCleanDisk first =
     λ clean. omega (arith, end.survives.clean, moved.ensures.survives.clean) in
     record {
-      ends = λ clean. ends Had (λ _ _. Unit {0}) migrated old first last new (done moved.result) (done c.end.result)
+      ends = λ clean. ends Had (λ _ _. Unit {0}) migrated old first last new moved.result c.end.result
           (c.in-Ok.ensures.begins (early clean)) (moved.ensures.makes (late clean)) (end.concludes clean);
       judges = λ clean con rests. judged_whole (λ _. ⊥) (Waits Had first) old first last new con moved.result
           c.end.result c.begin.ensures.survives (early clean) moved.ensures.survives (late clean) end.survives.counts
           rests (c.in-Ok.ensures.begins (early clean)) (moved.ensures.makes (late clean))
           (moved.ensures.judges (late clean)) (end.tells clean);
-      before = λ clean. on_fault (IsAsBefore old new) c.end.result
-          (concludes_before old first last new (done moved.result) (done c.end.result)
-          (c.in-Ok.ensures.begins (early clean)) (moved.ensures.stays (late clean)) (end.concludes clean));
-      survives = left Had (λ _ _. Unit {0}) migrated old first last new (done moved.result) c.in-Ok.ensures.begins
+      before = λ clean. concludes_before old first last new moved.result c.end.result
+          (c.in-Ok.ensures.begins (early clean)) (moved.ensures.stays (late clean)) (end.concludes clean);
+      survives = left Had (λ _ _. Unit {0}) migrated old first last new moved.result c.in-Ok.ensures.begins
           moved.ensures.makes c.begin.ensures.survives moved.ensures.survives end.survives;
     }
 

@@ -3,9 +3,9 @@ use Rattle.sqlite.specs.Held.{state}
 use Rattle.sqlite.specs.State.{HasCleanDisk}
 use Rattle.store.proofs.Steps.{answers_then, waits_then}
 use Rattle.store.specs.Former.{Had, migrated}
-use Rattle.store.specs.Migrating.{HasNoCa, HasStopped, done}
+use Rattle.store.specs.Migrating.{HasNoCa, HasStopped}
 use Rattle.store_sql.specs.Schema.{without_ca}
-use Rattle.store_sql.specs.Calls.{Waits as WaitsAt}
+use Rattle.store_sql.specs.Calls.{WaitsAt}
 use Rattle.store.proofs.Failing.{stopped_late}
 use Rattle.store.proofs.Judging.{judged_fault, judged_for}
 use Rattle.store.proofs.Moves.{made_leads, made_waits}
@@ -22,12 +22,12 @@ returns-in-Ok g c =
     let before : HasCleanDisk new → HasCleanDisk mid = λ clean. omega (arith, rest.survives.clean) in
     record {
       makes = λ clean. answers_then Had (λ _ _. Unit {0}) migrated HasNoCa (λ _ _. Unit {0}) migrated (λ x. x) old
-          mid new (done c.fill.result) (made_leads old mid (c.in-Ok.ensures.adds (before clean))) (rest.makes clean)
+          mid new c.fill.result (made_leads old mid (c.in-Ok.ensures.adds (before clean))) (rest.makes clean)
           (λ _ _ _. tt) (λ _. refl);
       judges = λ clean con had. judged_for con (HasStopped con mid new) (HasStopped con old new) c.fill.result
           (stopped_late (WaitsAt without_ca old) old mid new con one (before clean) rest.survives.counts)
           (rest.judges clean con (made_leads old mid (c.in-Ok.ensures.adds (before clean)) con had).2);
-      stays = λ clean. stays_then {X = Unit {0}} old mid new tt (done c.fill.result)
+      stays = λ clean. stays_then {X = Unit {0}} old mid new tt c.fill.result
           (c.in-Ok.ensures.stays (before clean)) (rest.stays clean);
       survives = waits_then Had HasNoCa (λ x. x) old mid new (λ clean. made_leads old mid (c.in-Ok.ensures.adds clean))
           (made_waits old mid one) rest.survives;
