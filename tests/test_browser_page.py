@@ -651,7 +651,7 @@ def timed(page, action):
                                       "return Math.round(performance.now() - begun)")
 
 
-@pytest.mark.timeout(300)
+@pytest.mark.alone
 def test_ten_thousand_certificates(full):
     """Run with `-s` this prints the times that docs/GROWING.md shows."""
     wanted = wanted_of(full.office)

@@ -13,7 +13,7 @@ import pytest
 from recording import Recorder, getting, posting, rest, staying, statuses
 from running import EXAMPLES, run, until
 
-pytestmark = [pytest.mark.front, pytest.mark.xdist_group("front_load")]
+pytestmark = [pytest.mark.front, pytest.mark.xdist_group("front_load"), pytest.mark.alone]
 MESSAGE = "/v1/requests/k-1"
 
 

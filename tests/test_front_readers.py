@@ -18,7 +18,7 @@ from asking import department, issue, lasting, post, revoke_serial
 from recording import getting, posting, rest, staying, statuses
 from running import until
 
-pytestmark = [pytest.mark.front, pytest.mark.xdist_group("front_readers")]
+pytestmark = [pytest.mark.front, pytest.mark.xdist_group("front_readers"), pytest.mark.alone]
 PROCESSORS = len(os.sched_getaffinity(0))
 FORK = multiprocessing.get_context("fork")
 

@@ -89,8 +89,8 @@ def commands(program, tmp_path_factory):
     (room / "tools/examples").symlink_to(TOP / "examples")
     ports = {name: str(free_port()) for name in PORTS}
     with open(room / "log", "w") as log:
-        how = {"stdout": log, "stderr": subprocess.STDOUT, "capture_output": False, "timeout": 130}
-        done = run(["timeout", "120", "bash", "-v", "../commands"], cwd=room / "folder",
+        how = {"stdout": log, "stderr": subprocess.STDOUT, "capture_output": False, "timeout": 570}
+        done = run(["timeout", "550", "bash", "-v", "../commands"], cwd=room / "folder",
                    env=os.environ | ports | {"VETHLUMI": str(room / "tools")}, **how)
     text = (room / "log").read_text(errors="replace")
     return Commands(room / "folder", done.returncode, text, printed_after(script, text))
