@@ -17,9 +17,8 @@ use Rattle.guard.specs.declared.approved.Approved.{Approved}
 use Rattle.guard.specs.declared.refusal.Refusal.{Refusal}
 use Rattle.guard.specs.declared.refusal.Refusal.TheVariants.{NotABody, OtherCa, OtherSerial}
 use Rattle.guard.specs.Machine.{permits, State, Question, fields_of, department_named, department_for, body_of, is_same, is_other}
-use Rattle.guard.specs.Machine.{is_permitted_by, refusals_of_new, refusals_of_body, first_holding, refusal_of, row_of, with_fields, after}
+use Rattle.guard.specs.Machine.{is_permitted_by, refusals_of_new, refusals_of_body, first_holding, refusal_of, row_of, with_approved, with_fields, after}
 use Rattle.guard.specs.declared.scope.Scope.{Scope}
-use Rattle.guard.specs.Decided.{with_row}
 use Rattle.guard.specs.History.{Allows, MaySign}
 
 -- where no refusal applies, each test is false
@@ -100,10 +99,10 @@ is_new s q c fields same e =
 
 -- what holds of the state, and of it with a body that is to be kept, holds of the state that is left
 module _ (P : State → Type 0) (s : State) (q : Question) (as_before : P s)
-    (with_one_more : (c : CertFields) → IsNew s q c → P (with_row s q c)) where
+    (with_one_more : (c : CertFields) → IsNew s q c → P (with_approved s (row_of q c))) where
   by_same : (c : CertFields) (b : Bool) → fields_of q.body ≡ Some c → is_same q.body (body_of s c.serial) ≡ b
       → first_holding ((OtherCa, not (bytes_eq c.ca s.scope.ca)) ∷ (OtherSerial, is_outside s.scope c) ∷ cond b [] (refusals_of_new s q c)) ≡ None
-      → P (cond b s (with_row s q c))
+      → P (cond b s (with_approved s (row_of q c)))
   by_same c true fields same e = as_before
   by_same c false fields same e = with_one_more c (is_new s q c fields same e)
 
@@ -144,7 +143,7 @@ in_scope false true rest e = absurd cc
 
 -- what is found in rows is found in them and one more; what isn't is the one more, if it has the serial
 pub kept_with_row : (s : State) (q : Question) (c : CertFields) (serial : ℕ) (body : List ℕ) → body_of s serial ≡ Some body
-    → body_of (with_row s q c) serial ≡ Some body
+    → body_of (with_approved s (row_of q c)) serial ≡ Some body
 kept_with_row s q c serial body kept =
     let p : Approved → Bool = λ a. a.serial == serial in
     let with_more : Option Approved → Option (List ℕ) = λ o. option_map (λ a. a.body) (option_or o (find p (row_of q c ∷ []))) in
@@ -157,7 +156,7 @@ kept_with_row s q c serial body kept =
     found None other body e = absurd cc
 
 new_with_row : (s : State) (q : Question) (c : CertFields) → body_of s c.serial ≡ None
-    → body_of (with_row s q c) c.serial ≡ Some q.body
+    → body_of (with_approved s (row_of q c)) c.serial ≡ Some q.body
 new_with_row s q c none =
     let p : Approved → Bool = λ a. a.serial == c.serial in
     let itself : p (row_of q c) ≡ true = eq-eqb c.serial c.serial refl in
@@ -173,7 +172,7 @@ new_with_row s q c none =
 module _ (s : State) (q : Question) (none : refusal_of s q ≡ None) where
   signed_same : (c : CertFields) (b : Bool) → fields_of q.body ≡ Some c → is_same q.body (body_of s c.serial) ≡ b
       → first_holding ((OtherCa, not (bytes_eq c.ca s.scope.ca)) ∷ (OtherSerial, is_outside s.scope c) ∷ cond b [] (refusals_of_new s q c)) ≡ None
-      → IsSigned s q.body c (cond b s (with_row s q c))
+      → IsSigned s q.body c (cond b s (with_approved s (row_of q c)))
   signed_same c true fields same e = record {
     fields = fields;
     scope = in_scope _ _ [] e;

@@ -1,12 +1,12 @@
 -- What a decision from one row says of the plain guard.
-use Rattle.std.specs.Prelude.{◌≡◌, ℕ, List, [], ◌∷◌, ◌++◌, Some, None, option_copied}
+use Rattle.std.specs.Prelude.{◌≡◌, ℕ, List, Some, None, option_copied}
 use Rattle.message.specs.declared.department.Department.{Department}
 use Rattle.cert.specs.declared.fields.CertFields.{CertFields}
 use Rattle.guard.specs.declared.verdict.View.{View}
 use Rattle.guard.specs.declared.verdict.Window.{Window}
 use Rattle.guard.specs.declared.verdict.Verdict.{Verdict}
 use Rattle.guard.specs.declared.verdict.Verdict.TheVariants as verdict
-use Rattle.guard.specs.Machine.{State, Question, body_of, refusal_of, row_of, after}
+use Rattle.guard.specs.Machine.{State, Question, body_of, refusal_of, row_of, with_approved, after}
 
 abbrev pub question : List Department → Window → List ℕ → Question
 question policy w body = record { policy = policy; moment = w.moment; ahead = w.ahead; body = body }
@@ -16,13 +16,9 @@ pub record Agrees (v : View) (s : State) (c : CertFields) : Type 0 where
   pub scope : v.scope ≡ s.scope
   pub kept : option_copied v.kept ≡ body_of s c.serial
 
--- the state with the body of these fields at the end
-abbrev pub with_row : State → Question → CertFields → State
-with_row s q c = record s { approved = s.approved ++ row_of q c ∷ [] }
-
 -- the verdict is the plain guard's, and says what is to be kept
 abbrev pub Decided : Verdict → State → Question → CertFields → Type 0
 Decided verdict.Approve s q c =
-    (refusal_of s q ≡ None) × (body_of s c.serial ≡ None) × (after s q ≡ with_row s q c)
+    (refusal_of s q ≡ None) × (body_of s c.serial ≡ None) × (after s q ≡ with_approved s (row_of q c))
 Decided verdict.Again s q c = (refusal_of s q ≡ None) × (body_of s c.serial ≡ Some q.body) × (after s q ≡ s)
 Decided (verdict.Refuse r) s q c = (refusal_of s q ≡ Some r) × (after s q ≡ s)

@@ -1,17 +1,14 @@
 -- What judging a body answers, whatever keeps the guard.
-use Rattle.std.specs.Prelude.{◌≡◌, ℕ, List, [], ◌∷◌, ◌++◌, Some, None}
+use Rattle.std.specs.Prelude.{◌≡◌, ℕ, List, Some, None}
 use Rattle.std.specs.Option.{option_map}
 use Rattle.lines.specs.Digests.{digest_text}
-use Rattle.guard.specs.declared.approved.Approved.{Approved}
 use Rattle.guard.specs.declared.judging.Answer.{Answer}
 use Rattle.guard.specs.declared.judging.Answer.TheVariants as answer
+use Rattle.guard.specs.declared.register.RegisterFault.{RegisterFault}
+use Rattle.guard.specs.declared.register.RegisterFault.TheVariants as register
 use Rattle.guard.specs.declared.refusal.Refusal.TheVariants.{NotABody}
 use Rattle.guard.specs.Machine.{State, Question, body_of, fields_of, refusal_of}
 use Rattle.guard.specs.Reading.{IsFault}
-
--- the state with one row more
-abbrev pub with_approved : State → Approved → State
-with_approved s row = record s { approved = s.approved ++ row ∷ [] }
 
 -- the answer is the plain guard's
 abbrev pub Answers : Answer → State → Question → Type 0
@@ -26,3 +23,8 @@ abbrev pub IsKept : Answer → State → List ℕ → Type 0
 IsKept (answer.Sign serial digest) s body = body_of s serial ≡ Some body
 IsKept (answer.NotABody e) s body = Unit {0}
 IsKept (answer.Refuse r) s body = Unit {0}
+
+-- what a fault of a register says
+abbrev pub HasCause : RegisterFault → Type 0 → Type 0
+HasCause register.Device failed = failed
+HasCause register.NoMemory failed = Unit {0}

@@ -79,10 +79,13 @@ refusal_of s q = first_holding (refusals s q)
 abbrev pub row_of : Question → CertFields → Approved
 row_of q c = record { serial = c.serial; moment = q.moment; body = q.body }
 
+-- the state with one row more
+abbrev pub with_approved : State → Approved → State
+with_approved s row = record s { approved = s.approved ++ row ∷ [] }
+
 -- a body that was approved before is kept once
 abbrev pub with_fields : State → Question → Option CertFields → State
-with_fields s q (Some c) =
-    if is_same q.body (body_of s c.serial) then s else record s { approved = s.approved ++ row_of q c ∷ [] }
+with_fields s q (Some c) = if is_same q.body (body_of s c.serial) then s else with_approved s (row_of q c)
 with_fields s q None = s
 
 -- the state that is left: what is refused leaves it as it was

@@ -1,9 +1,9 @@
 //! Bodies judged, one after the other.
 
-ghost use Rattle.std.specs.Prelude.{◌≡◌, Some, IfOk, OnOk, OnErr};
+ghost use Rattle.std.specs.Prelude.{◌≡◌, Some, IfErr, IfOk, OnOk, OnErr};
 ghost use Rattle.cert.specs.declared.fields.CertFields.{CertFields};
 ghost use Rattle.guard.specs.Decided.{Decided, question};
-ghost use Rattle.guard.specs.Judged.{Answers, IsKept};
+ghost use Rattle.guard.specs.Judged.{Answers, HasCause, IsKept};
 ghost use Rattle.guard.specs.Machine.{State, Question, after, fields_of};
 
 use crate::approved::Approved;
@@ -47,6 +47,7 @@ fn verdict_on<R: Register>(
     ensures decided { R.is_honest register.new → (s : State) → R.keeps register.old s
         → IfOk result (λ v. Decided v s (question policy.now window body.now) fields.now) }
     ensures same { R.is_honest register.new → (s : State) → R.keeps register.old s → R.keeps register.new s }
+    ensures cause { IfErr result (λ e. HasCause e (R.has_failed register.new)) }
 {
     let scope = register.scope()?;
     let kept = register.body_of(alloc, fields.serial)?;
@@ -72,6 +73,7 @@ fn settle<R: Register>(
         → Decided verdict s q c → OnOk result (R.keeps register.new (after s q)) }
     ensures fault { R.is_honest register.new → (s : State) → R.keeps register.old s
         → OnErr result (R.keeps register.new s) }
+    ensures cause { IfErr result (λ e. HasCause e (R.has_failed register.new)) }
 {
     match verdict {
         Verdict::Approve => {
@@ -126,6 +128,7 @@ fn judge_fields<R: Register>(
         → IfOk result (λ a. IsKept a (after s (question policy.now window body.now)) body.now) }
     ensures fault { R.is_honest register.new → (s : State) → R.keeps register.old s
         → OnErr result (R.keeps register.new s) }
+    ensures cause { IfErr result (λ e. HasCause e (R.has_failed register.new)) }
 {
     let verdict = verdict_on(alloc, register, policy, window, body, fields)?;
     let answer = answer_of(fields.serial, body, verdict);
@@ -164,6 +167,9 @@ pub fn judge<R: Register>(
     // After a fault it keeps what it kept.
     ensures fault { R.is_honest register.new → (s : State) → R.keeps register.old s
         → OnErr result (R.keeps register.new s) }
+
+    // The register is said to have failed only if its database has.
+    ensures cause { IfErr result (λ e. HasCause e (R.has_failed register.new)) }
 {
     match fields_of(alloc, body) {
         Ok(fields) => {

@@ -62,6 +62,8 @@ impl Register for MemoryGuard {
 
     ghost keeps = { λ g s. g ≡ s };
 
+    ghost has_failed = { λ _. ⊥ };
+
     fn scope(&mut self) -> Result<Scope, RegisterFault> {
         Ok(self.scope)
     }
