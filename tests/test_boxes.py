@@ -17,7 +17,8 @@ import boxes
 import pages
 from running import TOP, left_out
 
-pytestmark = [pytest.mark.boxes, pytest.mark.root, pytest.mark.slow, pytest.mark.timeout(300)]
+# The first test may have to make the folder that every box starts from.
+pytestmark = [pytest.mark.boxes, pytest.mark.root, pytest.mark.slow, pytest.mark.timeout(900)]
 IN_SERVICE = "In service"
 MACHINES = ["admin", "office", "station", "server"]
 # What stays in a shell when its commands have ended.
