@@ -312,6 +312,9 @@ def test_the_log_is_rotated(site, office):
     assert "office-front" == office.says(f"stat -c %U {folder}/asked.log")
     assert "200" == answer(office)
     boxes.wait_until(lambda: "/v1/certs/1 " in office.says(f"cat {folder}/asked.log"), "nginx writes the new log")
+    # What nginx itself reports goes to the journal, also when it is in the background.
+    assert "front.log" not in office.says(f"ls {folder}")
+    assert office.says("readlink /proc/$(systemctl show -P MainPID office-front)/fd/2").startswith("socket:")
 
 
 def test_the_units_are_limited(office):
