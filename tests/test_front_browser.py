@@ -2,11 +2,13 @@
 
 A browser shows the certificate to the front whoever's page has made the request. The office is a real one, and so is
 Chromium."""
+import contextlib
 import functools
 import http.server
 import threading
 
 import pytest
+from selenium.common.exceptions import TimeoutException
 
 from asking import department, issue, post
 from browsing import new_browser_of_client
@@ -51,10 +53,20 @@ def browsed(program, authority, tmp_path_factory):
     with office.serving() as served:
         front = Front(programs, room / "front", authority, served.port)
         front.browser = new_browser_of_client(room, front, "ana")
-        front.browser.set_script_timeout(20)
+        front.browser.set_script_timeout(60)
+        front.browser.set_page_load_timeout(25)
         yield front
         front.browser.quit()
         programs.end_all()
+
+
+def show(browser, url):
+    """Leads the browser to a page. On a busy machine its driver may miss that the page has come: then once more."""
+    for _ in range(3):
+        with contextlib.suppress(TimeoutException):
+            browser.get(url)
+            return
+    raise AssertionError(f"{url} isn't shown")
 
 
 def line_of(front, key):
@@ -85,13 +97,13 @@ TRIES = {
 
 @pytest.mark.parametrize("way", TRIES)
 def test_a_page_of_another_site_posts_nothing_as_the_caller(browsed, another_site, way):
-    browsed.browser.get(another_site)
+    show(browsed.browser, another_site)
     refused_by_the_front(browsed, f"foreign-{way}", TRIES[way])
 
 
 @pytest.mark.parametrize("way", ["fetch", "request", "beacon"])
 def test_the_front_s_own_page_posts_nothing_either(browsed, way):
-    browsed.browser.get(f"{browsed.url}/page/")
+    show(browsed.browser, f"{browsed.url}/page/")
     assert "SSH certificate office" == browsed.browser.title
     refused_by_the_front(browsed, f"own-{way}", TRIES[way])
 
@@ -99,7 +111,7 @@ def test_the_front_s_own_page_posts_nothing_either(browsed, way):
 def refused_by_the_front(front, key, script):
     """Has the page send its message under this key, of which the front knows that ana's certificate came with it."""
     front.browser.execute_async_script(f"const [url, done] = arguments; {script}", f"{front.url}/v1/requests/{key}")
-    line = until(functools.partial(line_of, front, key))
+    line = until(functools.partial(line_of, front, key), seconds=30)
     assert '"CN=ana" "ana"' in line
     assert ' 403 office=- ' in line
     assert "pending" == state_of(front)
@@ -113,7 +125,7 @@ def state_of(front, serial=1):
 
 def test_a_page_of_another_site_reads_nothing(browsed, another_site):
     """Neither as a script, nor as a picture, nor by a fetch whose answer it can't see."""
-    browsed.browser.get(another_site)
+    show(browsed.browser, another_site)
     came = browsed.browser.execute_async_script("""
         const [url, done] = arguments, script = document.createElement("script");
         script.onload = () => done("came"); script.onerror = () => done("refused");
@@ -133,7 +145,7 @@ def test_a_program_posts_as_the_caller(browsed):
 
 def test_without_a_front_a_page_of_any_site_is_root(browsed, another_site):
     """Why no browser may run on a machine where the office's port can be reached."""
-    browsed.browser.get(another_site)
+    show(browsed.browser, another_site)
     url = f"http://127.0.0.1:{browsed.office_port}/v1/callers/root/requests/page"
     browsed.browser.execute_async_script("""
         const [url, done] = arguments;
