@@ -259,7 +259,6 @@ def revocations(front, first, count):
 
 
 @pytest.mark.slow
-@pytest.mark.timeout(400)
 def test_beside_60_readers_of_tables_root_revokes_as_fast_as_beside_one(large_office, make_front):
     with large_office.serving() as served:
         front = make_front(served.port)
