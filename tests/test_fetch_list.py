@@ -121,6 +121,18 @@ def test_an_endless_body_ends(fetch, web, room):
         assert ["list"] == shown(folder)
 
 
+@pytest.mark.slow
+def test_a_list_that_would_take_hours_to_read_is_left_out(fetch, room):
+    """ssh-keygen's time grows with the square of the sections: 250,000 in 16 MB took it 35 s. Here it takes for ever."""
+    (room / "list").write_bytes(LIST)
+    (room / "bin").mkdir()
+    (room / "bin/ssh-keygen").write_text("#!/bin/sh\nexec sleep 1000\n")
+    (room / "bin/ssh-keygen").chmod(0o755)
+    env = os.environ | {"PATH": f"{room / 'bin'}:{os.environ['PATH']}"}
+    assert (1, "ssh-keygen can't read what came; list is as it was") == fetch(NEWER, env=env)
+    assert LIST == (room / "list").read_bytes()
+
+
 # ---- the file
 
 def test_a_folder_in_place_of_the_list(fetch, room):
