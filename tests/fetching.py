@@ -23,6 +23,7 @@ class Web(Recorder):
 
     def finish_request(self, peer, address):
         self.requests.append(whole_request(peer))
+        peer.settimeout(60)
         with contextlib.suppress(OSError):
             peer.sendall(self.answer)
             while self.endless:

@@ -116,6 +116,7 @@ def test_an_endless_body_ends(fetch, web, room):
         web.endless = bytes(1 << 20)
         status, why = fetch(response(NEWER, length=""), file=file, timeout=200)
         assert (1, f"; {file} is as it was") == (status, why[why.index(";"):])
+        # On a busy machine the time may be over before.
         assert why.startswith(("what came is longer than any list;", "no list came from "))
         assert LIST == file.read_bytes()
         assert ["list"] == shown(folder)
