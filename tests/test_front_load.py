@@ -4,8 +4,11 @@ The office behind it is one that records what it is sent."""
 import concurrent.futures
 import contextlib
 import os
+import pathlib
 import pwd
 import re
+import shutil
+import tempfile
 import time
 
 import pytest
@@ -154,8 +157,9 @@ FLOODS = [
     ("wrong methods", getting("http://" + 7000 * "a" + "/v1/krl", "PUT"), 1000, 4, 300_000),
     ("bodies that are too long", posting(MESSAGE, b"", b"Content-Length: 99999", b"Referer: " + 7000 * b"a"), 1, 8,
      3_000),
-    # These are answered, and each has a line.
-    ("the list from a host of a long name", getting("http://" + 8000 * "a" + "/v1/krl"), 1000, 4, 1_200_000),
+    # These are given a page. The few for which the office was asked are written.
+    ("the list from a host of a long name", getting("http://" + 8000 * "a" + "/v1/krl"), 1000, 4, 12_000),
+    ("the CAs' key lines", getting("http://" + 8000 * "a" + "/ca-keys"), 1000, 4, 0),
 ]
 
 
@@ -163,6 +167,7 @@ FLOODS = [
                          ids=[it[0] for it in FLOODS])
 def test_a_stranger_fills_no_disk_by_the_logs(make_front, recorder, request_bytes, count, connections, most):
     front = make_front(recorder.port)
+    (front.conf / "ca-keys").write_text("ssh-ed25519 AAAA a\n")
     before = logged(front)
     answers = sent_on_each(front, request_bytes, count, connections)
     came = logged(front) - before
@@ -224,14 +229,33 @@ def test_an_ipv6_address_counts_as_its_network_of_64_bits(make_front, recorder):
 
 def test_a_line_of_the_log(make_front, recorder):
     front = make_front(recorder.port)
+    (front.conf / "ca-keys").write_text("ssh-ed25519 AAAA a\n")
     front.ask(posting(MESSAGE), "ana")
     front.ask(getting("http://" + 200 * "a" + "/v1/krl"), "watch")
-    lines = until(lambda: (front.state / "asked.log").read_text().splitlines()[1:] and
-                  (front.state / "asked.log").read_text().splitlines())
+    front.ask(getting("/ca-keys"), "ana")
+    front.ask(getting("/v1/table"))
+    # Without a certificate only what the office is asked for is written, and here the first three have no line.
+    for path in ("/none", "/v1/krl?x", "/ca-keys", "/v1/cas"):
+        front.ask(getting(path))
+    lines = until(lambda: (it := (front.state / "asked.log").read_text().splitlines())[4:] and it)
     time_and_address = r"20\d\d-\d\d-\d\dT\d\d:\d\d:\d\d\+00:00 127\.0\.0\.1 "
     rests = sorted(re.fullmatch(time_and_address + r"(.*) \d+\.\d{3}", line)[1] for line in lines)
-    assert ['"CN=ana" "ana" "POST /v1/requests/k-1 HTTP/1.1" 200 office=200 kept=-',
+    assert ['"" "" "GET /v1/cas HTTP/1.1" 200 office=200 kept=MISS',
+            '"" "" "GET /v1/table HTTP/1.1" 403 office=- kept=-',
+            '"CN=ana" "ana" "GET /ca-keys HTTP/1.1" 200 office=- kept=-',
+            '"CN=ana" "ana" "POST /v1/requests/k-1 HTTP/1.1" 200 office=200 kept=-',
             f'"CN=watch,OU=reader" "" "GET http://{109 * "a"}" 200 office=200 kept=MISS'] == rests
+
+
+def test_a_kept_page_has_a_line_if_its_client_has_a_certificate(make_front, recorder):
+    front = make_front(recorder.port, edits=[("proxy_cache_valid 200 2s;", "proxy_cache_valid 200 10s;")])
+    # Three clients in the same ten seconds, so that the office is asked once.
+    until(lambda: time.time() % 10 < 7)
+    for name in (None, None, "watch"):
+        assert [200] == statuses(front.ask(getting("/v1/krl"), name))
+    lines = until(lambda: (it := (front.state / "asked.log").read_text().splitlines())[1:] and it)
+    assert [("", "kept=MISS"), ("CN=watch,OU=reader", "kept=HIT")] == [
+        (line.split('"')[1], line.split()[-2]) for line in lines]
 
 
 @pytest.mark.root
@@ -239,7 +263,8 @@ def test_logs_are_rotated_and_no_line_is_lost(make_front, recorder, room):
     front = make_front(recorder.port)
     user = pwd.getpwuid(os.getuid()).pw_name
     text = (EXAMPLES / "front/logrotate").read_text().replace("/var/lib/office-front", str(front.state))
-    (room / "logrotate").write_text(text.replace("su office-front office-front", f"su {user} {user}"))
+    (room / "logrotate").write_text(text.replace("su office-front office-front", f"su {user} {user}")
+                                    .replace("=office-front", f"={user}"))
     for turn in range(3):
         assert [200] == statuses(front.ask(posting(f"/v1/requests/turn-{turn}"), "ana"))
         until(lambda: (front.state / "asked.log").exists() and (front.state / "asked.log").stat().st_size)
@@ -250,3 +275,25 @@ def test_logs_are_rotated_and_no_line_is_lost(make_front, recorder, room):
     assert "turn-2" in files["asked.log.1"].read_text()
     assert b"turn-1" in run(["gzip", "-dc", files["asked.log.2.gz"]], check=True).stdout
     assert b"turn-0" in run(["gzip", "-dc", files["asked.log.3.gz"]], check=True).stdout
+
+
+@pytest.mark.root
+def test_the_rotation_reaches_no_process_of_another_user(programs):
+    """Though the front's user writes front.pid. nobody stands for that user."""
+    other = programs.begin(["sleep", "60"])
+    with tempfile.TemporaryDirectory(dir="/var/tmp") as name:
+        state = pathlib.Path(name, "state")
+        state.mkdir()
+        (state / "asked.log").write_text("a line\n")
+        (state / "front.pid").write_text(f"{other.pid}\n")
+        os.chmod(name, 0o755)
+        for path in (state, *state.iterdir()):
+            shutil.chown(path, "nobody", "nogroup")
+        text = (EXAMPLES / "front/logrotate").read_text().replace("/var/lib/office-front", str(state))
+        text = text.replace("su office-front office-front", "su nobody nogroup")
+        settings = pathlib.Path(name, "logrotate")
+        settings.write_text(text.replace("reuid=office-front", "reuid=nobody").replace("=office-front", "=nogroup"))
+        run(["logrotate", "--force", "--state", f"{name}/done", settings], check=True)
+        assert ["asked.log.1", "front.pid"] == sorted(it.name for it in state.iterdir())
+    time.sleep(0.2)
+    assert None is other.poll()

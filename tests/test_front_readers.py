@@ -117,9 +117,10 @@ def fetch_some(front, numbers, wanted):
 
 
 def times_asked(front, path):
-    """How often the office was asked for a page, and how often the page was given, by the front's log."""
-    lines = [line for line in (front.state / "asked.log").read_text().splitlines() if f'"GET {path} HTTP' in line]
-    return sum("office=200" in line for line in lines), len(lines)
+    """How often the office was asked for a page, by the front's log, which nginx writes once a second."""
+    time.sleep(1.5)
+    lines = (front.state / "asked.log").read_text().splitlines()
+    return sum(f'"GET {path} HTTP' in line and "office=200" in line for line in lines)
 
 
 @pytest.mark.slow
@@ -142,13 +143,12 @@ def test_the_list_is_given_10000_times_while_issues_go_on(put):
     took = time.monotonic() - begun
     done.set()
     issuing.join()
-    until(lambda: times_asked(put, "/v1/krl")[1] >= 10000)
-    asked, given = times_asked(put, "/v1/krl")
+    asked = times_asked(put, "/v1/krl")
     print(f"{PROCESSORS} processors: the list of {len(wanted)} bytes 10,000 times in {took:.1f} s, for which the "
           f"office was asked {asked} times; meanwhile {len(beside)} issues, {statistics.median(beside):.0f} ms by the "
           f"median, {max(beside):.0f} ms at most")
-    assert (10000, 10000) == (right, given)
-    assert asked <= took / 2 + took / 10 + 3
+    assert 10000 == right
+    assert 1 <= asked <= took / 2 + took / 10 + 3
     assert len(beside) >= 10
 
 
