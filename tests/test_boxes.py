@@ -398,6 +398,28 @@ def test_a_restore_that_loses_its_terminal_leaves_an_office(site, office):
     assert ends <= {0, 129}
 
 
+# Stands for a program: as the user office it puts links in the place of a restore's folders, and then runs the program.
+PUTTING_LINKS = """#!/bin/bash
+setpriv --reuid=office --regid=office --clear-groups -- bash -c '
+cd /var/lib/office && for it in restore.* replaced-*; do
+  [ ! -d "$it" ] || [ -L "$it" ] || { /usr/bin/mv "$it" "was-$it" && ln -s /srv/precious "$it"; }; done'
+exec "/usr/bin/${0##*/}" "$@"
+"""
+
+
+def test_a_restore_changes_nothing_elsewhere(site, office):
+    """Not even if somebody else has become the user office, and puts links in its way at the worst moment."""
+    site.type(KEEP_A_COPY)
+    office.run("mkdir /srv/precious && echo precious >/srv/precious/office.db")
+    look = "cd /srv && stat -c '%n %U %a' precious precious/* && cat precious/office.db"
+    before = office.says(look)
+    for program in ("cp", "dd", "chown", "chmod", "mv"):
+        office.write(f"usr/local/sbin/{program}", PUTTING_LINKS, 0o755)
+        office.run("office-restore copies/office.db", False)
+        office.run(f"rm -rf /usr/local/sbin/{program} /var/lib/office/{{was,restore,replaced}}*")
+        assert before == office.says(look), program
+
+
 @pytest.mark.parametrize("spoil, why", [
     ("truncate -s 8192 bad.db", "is not sound"),
     ("head -c 9000 /dev/urandom >bad.db", "is not sound: "),
