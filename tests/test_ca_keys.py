@@ -297,6 +297,13 @@ def test_a_full_disk_loses_nothing(fetch, room):
         assert [1, 0] == [results[0], results[-1]]
 
 
+def test_a_link_in_place_of_the_lock_is_replaced_and_not_followed(fetch, room):
+    (room / ".keys.lock").symlink_to(room / "elsewhere")
+    assert (0, []) == fetch(body(A), A)
+    assert not (room / "elsewhere").exists()
+    assert not (room / ".keys.lock").is_symlink()
+
+
 def test_many_at_once(fetch, web, names, room):
     (room / "keys").write_text(text(A))
     web.answer = response(body(A, B))

@@ -200,6 +200,13 @@ def test_no_other_user_can_keep_it_waiting(fetch, room):
     assert 0o600 == (room / ".list.lock").stat().st_mode & 0o777
 
 
+def test_a_link_in_place_of_the_lock_is_replaced_and_not_followed(fetch, room):
+    (room / ".list.lock").symlink_to(room / "elsewhere")
+    assert (0, "") == fetch(LIST)
+    assert not (room / "elsewhere").exists()
+    assert not (room / ".list.lock").is_symlink()
+
+
 @pytest.mark.root
 def test_a_lock_that_root_has_left_does_not_keep_others_from_it(web):
     """In a folder of the user nobody, who fetches after root did."""
