@@ -117,6 +117,11 @@ def test_one_login_is_granted_and_the_refusal_is_the_lists(commands):
     assert 1 == sum("REVOKED" in line for line in commands.lines()), "ssh-keygen finds the certificate revoked"
 
 
+def test_a_lost_ca_is_no_allowed_signer(commands):
+    signers = (commands.folder / "allowed_signers").read_text().splitlines()
+    assert [(commands.folder / "ca2.pub").read_text().split()[1]] == [line.split()[-1] for line in signers]
+
+
 def test_they_print_what_readme_shows(commands):
     """The lines of the page that README shows come in this order."""
     of_page = lines_of(PAGE.read_text())
