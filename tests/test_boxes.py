@@ -474,6 +474,13 @@ def test_drill_a_taken_front(site):
     assert any(it.startswith("front: the certificate is another authority's") for it in printed)
 
 
+def test_a_lost_ca_follows_a_taken_front(site):
+    """The front may have had the station sign what is in no table."""
+    drill(site, "A taken front")
+    printed = drill(site, "A lost CA")
+    assert ["refused", "granted"] == of(printed, "granted", "refused")
+
+
 def test_drill_a_lost_office(site):
     printed = drill(site, "A lost office")
     assert ["refused", "granted"] == of(printed, "granted", "refused")
