@@ -248,7 +248,8 @@ def test_an_office_that_cannot_serve_ends_failed_and_raises_the_alert(office):
     # No request starts it again.
     assert ["502"] * 3 == [answer(office) for _ in range(3)]
     time.sleep(3)
-    assert ["failed", "inactive", "active"] == states(office)
+    # systemd calls a door failed that it had to close while it was still being opened.
+    assert states(office) in (["failed", "inactive", "active"], ["failed", "failed", "active"])
     office.run("chown office: /var/lib/office/office.db && systemctl reset-failed office && systemctl start office")
     wait_until_up(office)
 
