@@ -1,3 +1,4 @@
+pub mod Additions
 pub mod Applied
 pub mod Asking
 pub mod Blank
@@ -12,3 +13,4 @@ pub mod Printed
 pub mod Reported
 pub mod Telling
 pub mod Told
+pub mod Unlike

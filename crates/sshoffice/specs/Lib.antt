@@ -11,6 +11,7 @@ pub mod Serving
 pub mod Checking
 pub mod TrialOffice
 pub mod Trial
+pub mod Adding
 pub mod DatabaseFiles
 pub mod Steps
 pub mod Finding

@@ -1,12 +1,12 @@
 -- Offices made in a database, and moved from the schema before.
-use Rattle.std.specs.Prelude.{◌++◌, ◌∷◌, [], ℕ, List, codes, decimal, IsOk, IsTrue, Result, Ok, Err}
+use Rattle.std.specs.Prelude.{◌≢◌, ◌++◌, ◌∷◌, [], ℕ, List, codes, decimal, IsOk, IsTrue, Result, Ok, Err}
 use Rattle.sqlite.specs.State.{State, Survives}
 use Rattle.lines.specs.Digests.{fingerprint_text}
 use Rattle.office.specs.declared.opening.Opening.{Opening}
 use Rattle.office.specs.declared.arrival.Arrival.{Arrival}
 use Rattle.office.specs.declared.store_fault.StoreFault.{StoreFault}
 use Rattle.office.specs.declared.store_fault.StoreFault.TheVariants as store
-use Rattle.store_sql.specs.Schema.{no_schema}
+use Rattle.store_sql.specs.Schema.{no_schema, whole}
 use Rattle.store_sql.specs.Calls.{IsBare}
 use Rattle.store_sql.specs.Contents.{Contents}
 use Rattle.store.specs.Rows.{office_contents}
@@ -24,8 +24,9 @@ abbrev pub IsMadeWhole : Opening → (old new : State) → Type 0
 IsMadeWhole opening old new =
     Survives old new (Leaves (λ _. IsBare no_schema) (λ (_ : Unit {0}). office_contents opening []) old)
 
--- the database without tables has the tables of the office in which nothing has happened
+-- the database had no office, and one without tables has the tables of the office in which nothing has happened
 pub record IsMade (opening : Opening) (old new : State) : Type 0 where
+  pub unlike : old.now.schema ≢ whole
   pub made : IsBlank old → Tells new opening []
   pub is_open : IsTrue new.is_open
   pub crash : IsMadeWhole opening old new
@@ -55,8 +56,9 @@ ready_text o =
 abbrev pub IsMovedWhole : (old new : State) → Type 0
 IsMovedWhole old new = Survives old new (Leaves Had migrated old)
 
--- the tables of schema 1 have become those of schema 2, row by row, and tell what they told
+-- the tables weren't those of schema 2; those of schema 1 have become these, row by row, and tell what they told
 pub record IsMoved (old new : State) : Type 0 where
+  pub unlike : old.now.schema ≢ whole
   pub judged : (c : Contents) → Rests (Had c) old → IsOk (ca_of c.offices)
   pub moved : (c : Contents) → Rests (Had c) old → Rests (Has (migrated c)) new
   pub carried : (o : Opening) (l : List Arrival) → IsHistory o l → TellsBefore old o l → Tells new o l

@@ -11,6 +11,7 @@
 //! nothing is proved of them.
 #![tactic(auto)]
 
+mod adding;
 mod applying;
 mod asked;
 mod checking;

@@ -1,0 +1,25 @@
+-- A database in which an office was made or moved had none of this schema.
+use Rattle.std.proofs.Common.{◌≡◌, ◌≢◌, true, Ok, Err, Result, drop}
+use Rattle.std.specs.List.{list_any}
+use Rattle.sqlite.specs.State.{State}
+use Rattle.store_sql.specs.Look.{first_is_office, is_ca_name, is_office_name, is_office_table}
+use Rattle.store_sql.specs.Look.{whole_has_ca, whole_has_tables}
+use Rattle.store_sql.specs.Schema.{whole}
+
+-- what refuses tables of an office's names refuses an office
+pub had_no_office : {X E : Type 0} (old : State) (r : Result X E) (x : X) (e : E) → r ≡ Ok x
+    → (list_any is_office_name old.now.schema.tables ≡ true → r ≡ Err e) → old.now.schema ≢ whole
+had_no_office old r x e done already same =
+    absurd (let no = already (rw (same) whole_has_tables) in let yes = done in cc)
+
+-- an office's first table is that of the office
+office_first : list_any is_office_table whole.tables ≡ true
+office_first = first_is_office (drop 1 whole.tables)
+
+-- and so does what refuses a table of CAs beside an office's
+pub had_no_cas : {X E : Type 0} (old : State) (r : Result X E) (x : X) (e : E) → r ≡ Ok x
+    → (list_any is_office_table old.now.schema.tables ≡ true → list_any is_ca_name old.now.schema.tables ≡ true
+    → r ≡ Err e)
+    → old.now.schema ≢ whole
+had_no_cas old r x e done already same =
+    absurd (let no = already (rw (same) office_first) (rw (same) whole_has_ca) in let yes = done in cc)

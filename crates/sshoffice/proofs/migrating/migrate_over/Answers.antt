@@ -1,0 +1,19 @@
+use Rattle.std.proofs.Common.{ap, refl, subst, sym}
+use Rattle.sqlite.specs.Held.{state}
+use Rattle.sqlite.specs.State.{State, HasCleanDisk}
+use Rattle.sshoffice.specs.Making.{IsMoved}
+use Rattle.sshoffice.proofs.Unlike.{had_no_cas}
+use Rattle.sshoffice.proofs.migrating.migrate_over.Goals as goal
+
+pub returns-in-Ok-clause-migrates : goal.returns-in-Ok-clause-migrates
+returns-in-Ok-clause-migrates g c = λ honest.
+    let back = ap (state g.S.Store) c.into_connection.ensures in
+    let clean : HasCleanDisk (state g.S.Store c.in-Ok.store.conn) = subst HasCleanDisk back honest in
+    subst (λ (s : State). IsMoved (state g.S.Store c.args.conn) s) (sym back) (record {
+      unlike = had_no_cas (state g.S.Store c.args.conn) _ c.in-Ok.store _ refl c.in-Ok.ensures.already;
+      judged = c.in-Ok.ensures.judged clean;
+      moved = c.in-Ok.ensures.moved clean;
+      carried = c.in-Ok.ensures.carried clean;
+      is_open = c.in-Ok.ensures.stays_open clean;
+      crash = c.in-Ok.ensures.crash;
+    })
