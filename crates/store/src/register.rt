@@ -9,7 +9,8 @@ ghost use Rattle.store.specs.Register.{CarriesOn, Founds, IsExcusedOfBlank, IsEx
 ghost use Rattle.store.specs.Register.{IsLeftOpen, KeepsTellingBefore, Moves, StaysBlank};
 ghost use Rattle.store.specs.Creating.{LeavesOnBlank};
 ghost use Rattle.store.specs.Rows.{office_contents};
-ghost use Rattle.store_sql.specs.Honest.{Between, IsOutside, IsUnlimited, On, OnOpen, OutlivesBy, tables_of};
+ghost use Rattle.store_sql.specs.Honest.{Between, IsOutside, IsUnlimited, On, OnOpen, OutlivesBy, StaysClean};
+ghost use Rattle.store_sql.specs.Honest.{tables_of};
 ghost use Rattle.store.specs.Former.{Had, migrated};
 ghost use Rattle.office.specs.declared.opening.Opening.{Opening};
 ghost use Rattle.office.specs.Openings.{IsOpening};
@@ -87,6 +88,10 @@ impl<S: Alter> Store<S> {
         ensures untouched { IfOk result (λ s. Between S.Store IsAsBefore conn s.conn) }
         ensures none { list_any is_office_table (tables_of S.Store conn) ≡ false → result ≡ Err
             (record { 0 = StoreFault.NotAnOffice; 1 = conn }) }
+
+        // A disk that has returned what was written as the call ends had done so when it began.
+        ensures honest { IfOk result (λ s. StaysClean S.Store conn s.conn) }
+        ensures honest_back { IfErr result (λ e. StaysClean S.Store conn e.1) }
     {
         let mut conn = conn;
         match look(alloc, &mut conn) {
