@@ -1,5 +1,5 @@
 -- What a job adds to the history that the tables tell.
-use Rattle.std.proofs.Common.{◌≡◌, ◌≢◌, ℕ, List, [], ◌++◌, append-nil, inl, Bool, true, false, Option, Result}
+use Rattle.std.proofs.Common.{◌≡◌, ◌≢◌, ℕ, List, [], append-nil, inl, Bool, true, false, Option, Result}
 use Rattle.std.proofs.Common.{Ok, Err, sym, subst, ◌∙◌}
 use Rattle.std.specs.Prelude.{IsTrue}
 use Rattle.sqlite.specs.Effect.{Database}
@@ -10,7 +10,7 @@ use Rattle.office.specs.declared.arrival.Arrival.{Arrival}
 use Rattle.store_sql.specs.Contents.{Kept, Means}
 use Rattle.store_sql.specs.Schema.{whole}
 use Rattle.store.specs.Rows.{office_contents}
-use Rattle.store.specs.Transactions.{Has, IsAsBefore, IsAtRest, Rests}
+use Rattle.store.specs.Transactions.{IsAsBefore, IsAtRest}
 use Rattle.store.specs.Meaning.{Tells}
 use Rattle.web.specs.declared.exchange.Exchange.{Exchange}
 use Rattle.web.specs.declared.exchange.Given.{Given}

@@ -1,5 +1,5 @@
 -- What a job adds to the history that the tables tell.
-use Rattle.std.specs.Prelude.{◌≡◌, ℕ, List, IsTrue, Option, Result}
+use Rattle.std.specs.Prelude.{ℕ, List, IsTrue, Option, Result}
 use Rattle.sqlite_trees.specs.declared.store.Store.{Ghosts}
 use Rattle.sqlite.specs.Held.{Held, state}
 use Rattle.store.specs.Transactions.{IsAtRest}

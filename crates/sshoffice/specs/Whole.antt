@@ -5,7 +5,7 @@ use Rattle.sqlite_trees.specs.declared.store.Store as store
 use Rattle.sqlite.specs.declared.error.Error.{Error}
 use Rattle.sqlite.specs.Held.{Held}
 use Rattle.sqlite.specs.State.{State}
-use Rattle.store_sql.specs.Honest.{IsOutside, IsUnlimited, On}
+use Rattle.store_sql.specs.Honest.{IsOutside, IsUnlimited, On, StaysClean}
 use Rattle.lines.specs.declared.key_line.KeyLine.{KeyLine}
 use Rattle.office.specs.declared.opening.Opening.{Opening}
 use Rattle.office.specs.declared.opening.OpeningFault.{OpeningFault}
@@ -67,6 +67,7 @@ module _ {S D : Type 0} (store : store.Ghosts S) (database : Ghosts D (Held S)) 
     pub outcome : Result A JobFault
     pub last : Held S
     pub did : On store Did conn last outcome
+    pub honest : StaysClean store conn last
     pub closing : Result (Unit {0}) Error
     pub is_closed : database.closes opened last closing db'
     pub came : result ≡ closed outcome closing

@@ -5,7 +5,7 @@ ghost use Rattle.exchanges.specs.Exchanges.{IsBadRecord};
 ghost use Rattle.sshoffice.specs.Applying.{Applies};
 ghost use Rattle.sshoffice.specs.Faults.{IsOfATrial, run_result};
 ghost use Rattle.sshoffice.specs.Trial.{AppliesToTrial};
-ghost use Rattle.store_sql.specs.Honest.{IsOutside, IsUnlimited, On};
+ghost use Rattle.store_sql.specs.Honest.{IsOutside, IsUnlimited, On, StaysClean};
 
 use crate::file_reader::read_exchanges_from;
 use crate::job_fault::JobFault;
@@ -37,8 +37,9 @@ pub fn apply_over<S: Alter, W: Write>(
 ) -> (Result<(), JobFault>, Connection<S>)
     requires outside { IsOutside S.Store conn }
     requires unlimited { IsUnlimited S.Store conn }
-    ensures { On S.Store (λ old new. Applies exchanges.now old new (W.contents out.old) (W.contents out.new))
+    ensures applies { On S.Store (λ old new. Applies exchanges.now old new (W.contents out.old) (W.contents out.new))
         conn result.1 result.0 }
+    ensures honest { StaysClean S.Store conn result.1 }
 {
     match open_office(alloc, conn) {
         Ok(store) => {

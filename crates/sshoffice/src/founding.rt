@@ -3,7 +3,7 @@
 ghost use Rattle.std.specs.Prelude.{◌≡◌, Err, IfErr, IfOk, IsTrue, Ok};
 ghost use Rattle.std.specs.List.{list_any};
 ghost use Rattle.store_sql.specs.Look.{is_office_name};
-ghost use Rattle.store_sql.specs.Honest.{IsOutside, IsUnlimited, On, tables_of};
+ghost use Rattle.store_sql.specs.Honest.{IsOutside, IsUnlimited, On, StaysClean, tables_of};
 ghost use Rattle.office.specs.Openings.{IsOpening, made_opening};
 ghost use Rattle.sshoffice.specs.Faults.{IsOfAnOpening};
 ghost use Rattle.sshoffice.specs.Making.{Makes};
@@ -54,6 +54,7 @@ pub fn make_over<S: Alter>(
     requires unlimited { IsUnlimited S.Store conn }
     requires lawful { IsOpening opening.now }
     ensures makes { On S.Store (Makes opening.now) conn result.1 result.0 }
+    ensures honest { StaysClean S.Store conn result.1 }
 
     // A database with a table of an office's names is refused, and stays.
     ensures already { IsTrue (list_any is_office_name (tables_of S.Store conn))

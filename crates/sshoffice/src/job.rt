@@ -1,7 +1,7 @@
 //! What is asked of the office in a database, and its doing.
 
 ghost use Rattle.sshoffice.specs.Jobs.{Does, IsLawful};
-ghost use Rattle.store_sql.specs.Honest.{IsOutside, IsUnlimited, On};
+ghost use Rattle.store_sql.specs.Honest.{IsOutside, IsUnlimited, On, StaysClean};
 
 use crate::applying::apply_over;
 use crate::founding::make_over;
@@ -53,8 +53,9 @@ pub fn do_on<S: Alter, W: Write>(
     requires outside { IsOutside S.Store conn }
     requires unlimited { IsUnlimited S.Store conn }
     requires lawful { IsLawful job.now }
-    ensures { On S.Store (λ old new. Does job.now old new (W.contents out) (W.contents result.out))
+    ensures does { On S.Store (λ old new. Does job.now old new (W.contents out) (W.contents result.out))
         conn result.conn result.outcome }
+    ensures honest { StaysClean S.Store conn result.conn }
 {
     let mut out = out;
     match job {

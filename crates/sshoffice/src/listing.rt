@@ -3,7 +3,7 @@
 ghost use Rattle.std.specs.Prelude.{◌≡◌};
 ghost use Rattle.sshoffice.specs.Faults.{publish_result};
 ghost use Rattle.sshoffice.specs.Listing.{Lists};
-ghost use Rattle.store_sql.specs.Honest.{IsOutside, IsUnlimited, On};
+ghost use Rattle.store_sql.specs.Honest.{IsOutside, IsUnlimited, On, StaysClean};
 
 use crate::job::Done;
 use crate::job_fault::JobFault;
@@ -28,8 +28,9 @@ fn of_publishing(done: Result<(), PublishFault>) -> Result<(), JobFault>
 pub fn list_over<S: Alter, W: Write>(alloc: Global, conn: Connection<S>, out: W) -> Done<S, W>
     requires outside { IsOutside S.Store conn }
     requires unlimited { IsUnlimited S.Store conn }
-    ensures { On S.Store (λ old new. Lists old new (W.contents out) (W.contents result.out))
+    ensures lists { On S.Store (λ old new. Lists old new (W.contents out) (W.contents result.out))
         conn result.conn result.outcome }
+    ensures honest { StaysClean S.Store conn result.conn }
 {
     match open_office(alloc, conn) {
         Ok(store) => {

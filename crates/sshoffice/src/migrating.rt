@@ -3,7 +3,7 @@
 ghost use Rattle.std.specs.Prelude.{◌≡◌, Err, false, true};
 ghost use Rattle.std.specs.List.{list_any};
 ghost use Rattle.store_sql.specs.Look.{is_ca_name, is_office_table};
-ghost use Rattle.store_sql.specs.Honest.{IsOutside, IsUnlimited, On, tables_of};
+ghost use Rattle.store_sql.specs.Honest.{IsOutside, IsUnlimited, On, StaysClean, tables_of};
 ghost use Rattle.sshoffice.specs.Making.{Migrates};
 
 use crate::job_fault::JobFault;
@@ -20,6 +20,7 @@ pub fn migrate_over<S: Alter>(
     requires outside { IsOutside S.Store conn }
     requires unlimited { IsUnlimited S.Store conn }
     ensures migrates { On S.Store Migrates conn result.1 result.0 }
+    ensures honest { StaysClean S.Store conn result.1 }
 
     // A database without an office, and one that was moved, is refused and stays.
     ensures none { list_any is_office_table (tables_of S.Store conn) ≡ false

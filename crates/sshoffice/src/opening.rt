@@ -2,7 +2,7 @@
 
 ghost use Rattle.std.specs.Prelude.{IfErr, IfOk};
 ghost use Rattle.sshoffice.specs.Opening.{IsOpened, IsUnopened};
-ghost use Rattle.store_sql.specs.Honest.{Between, IsOutside, IsUnlimited, On};
+ghost use Rattle.store_sql.specs.Honest.{Between, IsOutside, IsUnlimited, On, StaysClean};
 
 use office::StoreFault;
 use sqlite::{Alter, Connection};
@@ -18,6 +18,8 @@ pub fn open_office<S: Alter>(
     requires unlimited { IsUnlimited S.Store conn }
     ensures opened { IfOk result (λ s. Between S.Store IsOpened conn s.conn) }
     ensures unopened { IfErr result (λ e. On S.Store IsUnopened conn e.1 e.0) }
+    ensures honest { IfOk result (λ s. StaysClean S.Store conn s.conn) }
+    ensures honest_back { IfErr result (λ e. StaysClean S.Store conn e.1) }
 {
     match Store::open(alloc, conn) {
         Ok(store) => Ok(store),

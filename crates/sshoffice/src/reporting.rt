@@ -119,8 +119,9 @@ pub fn report_over<S: Alter, W: Write>(
 ) -> (Result<(), JobFault>, Connection<S>)
     requires outside { IsOutside S.Store conn }
     requires unlimited { IsUnlimited S.Store conn }
-    ensures { On S.Store (λ old new. Reports report old new (W.contents out.old) (W.contents out.new))
+    ensures reports { On S.Store (λ old new. Reports report old new (W.contents out.old) (W.contents out.new))
         conn result.1 result.0 }
+    ensures honest { StaysClean S.Store conn result.1 }
 {
     match open_office(alloc, conn) {
         Ok(store) => {

@@ -66,6 +66,7 @@ pub fn serve_at_port<
     requires unlimited { IsUnlimited S.Store conn }
     ensures serves { On S.Store (λ old new. Serves connections (N.remaining nonces) old new (O.contents out.old)
         (O.contents out.new)) conn result.1 result.0 }
+    ensures honest { StaysClean S.Store conn result.1 }
     ensures status { IfOk result.0 (λ status. status ≤ 1) }
 {
     match open_office(rt.alloc(), conn) {

@@ -5,8 +5,8 @@ use Rattle.sshoffice.specs.Applying.{Applies}
 use Rattle.sshoffice.proofs.Carried.{applied}
 use Rattle.sshoffice.proofs.applying.apply_over.Goals as goal
 
-pub returns-in-Ok : goal.returns-in-Ok
-returns-in-Ok g c honest =
+pub returns-in-Ok-clause-applies : goal.returns-in-Ok-clause-applies
+returns-in-Ok-clause-applies g c honest =
     let back = ap (state g.S.Store) c.into_connection.ensures in
     let clean : HasCleanDisk (state g.S.Store c.replay.new.store.conn) = subst HasCleanDisk back honest in
     let run = c.replay in
@@ -20,3 +20,8 @@ returns-in-Ok g c honest =
     (run.ensures.write clean)
     (λ e. ap (λ s. state g.S.Store s.conn) (run.ensures.unrun e))
     (λ e. ap g.W.Write.contents (run.ensures.unprinted e)))
+
+pub returns-in-Ok-clause-honest : goal.returns-in-Ok-clause-honest
+returns-in-Ok-clause-honest g c = λ honest.
+    let back = ap (state g.S.Store) c.into_connection.ensures in
+    c.in-Ok.ensures.honest (c.replay.ensures.honest (subst HasCleanDisk back honest))

@@ -1,4 +1,4 @@
-use Rattle.std.proofs.Common.{ap, refl, subst, sym}
+use Rattle.std.proofs.Common.{ap, arith, refl, subst, sym}
 use Rattle.sqlite.specs.State.{State, HasCleanDisk}
 use Rattle.sshoffice.specs.Making.{IsMade}
 use Rattle.sshoffice.proofs.Unlike.{had_no_office}
@@ -22,3 +22,12 @@ returns-in-Ok-clause-makes g c = λ honest.
       is_open = c.in-Ok.ensures.stays_open clean;
       crash = c.in-Ok.ensures.crash;
     })
+
+pub returns-in-Ok-clause-honest : goal.returns-in-Ok-clause-honest
+returns-in-Ok-clause-honest g c = λ honest.
+    let back = ap (state g.S.Store) c.into_connection.ensures in
+    let clean : HasCleanDisk (state g.S.Store c.in-Ok.store.conn) = subst HasCleanDisk back honest in
+    omega (arith, c.in-Ok.ensures.crash.clean)
+
+pub returns-in-Err-clause-honest : goal.returns-in-Err-clause-honest
+returns-in-Err-clause-honest g c = λ clean. omega (arith, c.in-Err.ensures.crash_back.clean)

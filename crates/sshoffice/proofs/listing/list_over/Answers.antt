@@ -5,8 +5,8 @@ use Rattle.sqlite.specs.State.{HasCleanDisk}
 use Rattle.sshoffice.proofs.Printed.{listed, lists_as, unlisted}
 use Rattle.sshoffice.proofs.listing.list_over.Goals as goal
 
-pub returns-in-Ok : goal.returns-in-Ok
-returns-in-Ok g c = λ honest.
+pub returns-in-Ok-clause-lists : goal.returns-in-Ok-clause-lists
+returns-in-Ok-clause-lists g c = λ honest.
     let back = ap (state g.S.Store) c.into_connection.ensures in
     let clean : HasCleanDisk (state g.S.Store c.publish.new.store.conn) = subst HasCleanDisk back honest in
     let run = c.publish in
@@ -25,6 +25,11 @@ returns-in-Ok g c = λ honest.
     run.ensures.unwritten)
     (run.ensures.only clean))
 
-pub returns-in-Err : goal.returns-in-Err
-returns-in-Err g c = λ honest.
+pub returns-in-Err-clause-lists : goal.returns-in-Err-clause-lists
+returns-in-Err-clause-lists g c = λ honest.
     unlisted c.in-Err.fault c.from.result _ _ _ _ c.from.ensures (c.in-Err.ensures.unopened honest) refl
+
+pub returns-in-Ok-clause-honest : goal.returns-in-Ok-clause-honest
+returns-in-Ok-clause-honest g c = λ honest.
+    let back = ap (state g.S.Store) c.into_connection.ensures in
+    c.in-Ok.ensures.honest (c.publish.ensures.honest (subst HasCleanDisk back honest))

@@ -5,8 +5,8 @@ use Rattle.sshoffice.specs.Reporting.{Reports}
 use Rattle.sshoffice.proofs.Printed.{reports_from, unreported}
 use Rattle.sshoffice.proofs.reporting.report_over.Goals as goal
 
-pub returns-in-Ok : goal.returns-in-Ok
-returns-in-Ok g c = λ honest.
+pub returns-in-Ok-clause-reports : goal.returns-in-Ok-clause-reports
+returns-in-Ok-clause-reports g c = λ honest.
     let back = ap (state g.S.Store) c.into_connection.ensures in
     let run = c.report_in-done in
     let clean : HasCleanDisk (state g.S.Store run.new.store.conn) = subst HasCleanDisk back honest in
@@ -16,6 +16,11 @@ returns-in-Ok g c = λ honest.
     (state g.S.Store run.new.store.conn) (g.W.Write.contents c.args.out.now) (g.W.Write.contents run.new.out) run.result
     (c.in-Ok.ensures.opened (run.ensures.honest clean)) (run.ensures.reports clean))
 
-pub returns-in-Err : goal.returns-in-Err
-returns-in-Err g c = λ honest.
+pub returns-in-Err-clause-reports : goal.returns-in-Err-clause-reports
+returns-in-Err-clause-reports g c = λ honest.
     unreported c.args.report c.in-Err.fault c.from.result _ _ _ _ c.from.ensures (c.in-Err.ensures.unopened honest) refl
+
+pub returns-in-Ok-clause-honest : goal.returns-in-Ok-clause-honest
+returns-in-Ok-clause-honest g c = λ honest.
+    let back = ap (state g.S.Store) c.into_connection.ensures in
+    c.in-Ok.ensures.honest (c.report_in-done.ensures.honest (subst HasCleanDisk back honest))

@@ -13,3 +13,6 @@ returns-in-Ok-listen-clause-serves g c = λ clean.
     (g.O.Write.contents c.listen.new.out) (g.O.Write.contents run.new.out) opened.tells line.1
     (ap g.O.Write.contents run.ensures.quiet) c.new-source.ensures.remaining run.ensures.met (run.ensures.served clean)
     run.ensures.status
+
+pub returns-in-Ok-listen-clause-honest : goal.returns-in-Ok-listen-clause-honest
+returns-in-Ok-listen-clause-honest g c = λ clean. c.in-Ok.ensures.honest (c.serve_over-status.ensures.honest clean)

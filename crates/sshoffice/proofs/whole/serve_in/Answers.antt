@@ -1,4 +1,4 @@
-use Rattle.std.proofs.Common.{◌≤◌, ℕ, Result, Ok, Err, ap, refl, subst, sym}
+use Rattle.std.proofs.Common.{◌≤◌, ℕ, Result, Ok, Err, refl, subst, sym}
 use Rattle.std.specs.Prelude.{IfOk}
 use Rattle.sqlite.specs.declared.error.Error.{Error}
 use Rattle.sshoffice.specs.Ending.{closed}
@@ -21,6 +21,7 @@ returns-in-Ok-clause-serves g c = record {
     outcome = c.serve_at_port-served.result.0;
     last = c.serve_at_port-served.result.1;
     did = c.serve_at_port-served.ensures.serves;
+    honest = c.serve_at_port-served.ensures.honest;
     closing = c.close.result;
     is_closed = c.close.ensures;
     came = c.closed.ensures;
