@@ -37,5 +37,6 @@ waited Before a b means one =
     (λ clean trees h x before. let m = means x before in h m.0 m.1) one
 
 -- a part that is done leads to the next
-pub leads_on : (f : Contents → Contents) (a b : State) → Makes {X = Unit {0}} {E = Fault} Has f a b (Ok tt) → Leads Has Has f a b
+pub leads_on : (f : Contents → Contents) (a b : State) → Makes {X = Unit {0}} {E = Fault} Has f a b (Ok tt)
+    → Leads Has Has f a b
 leads_on f a b makes d means = let g = (makes d means).1 in (f d, g, g.means)

@@ -122,8 +122,8 @@ module _ (names : List TableName) (i : ℕ) (first : TableName) (inside : i < le
       → (HasCleanDisk c → Stays {X = Unit {0}} {E = Fault} b c (Ok (tt {0}))) → IsAt rest a c
   one_more grows stays = record {
     lives = still_lives;
-    stays = λ clean. stays_then {X = Unit {0}} {E = Fault} a b c tt (Ok (tt {0})) (at.stays (omega (arith, lives.clean)))
-        (stays clean);
+    stays = λ clean. stays_then {X = Unit {0}} {E = Fault} a b c tt (Ok (tt {0}))
+        (at.stays (omega (arith, lives.clean))) (stays clean);
     reaches = λ clean bare.
         let r = at_before clean bare in (
           created (before name) (made name),
