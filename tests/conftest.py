@@ -23,6 +23,8 @@ def pytest_addoption(parser):
     group.addoption("--sshstation", metavar="PATH", type=pathlib.Path, default=TOP / "crates/sshstation/out/sshstation",
                     help="the sshstation to test")
     group.addoption("--steps", type=int, default=1000, help="how many random exchanges test_registers asks (1000)")
+    group.addoption("--judgements", type=int, default=100_000,
+                    help="how many random bodies test_guard has judged (100000)")
     group.addoption("--counts", action="store_true", help="end with the lines of counts that ./check reads")
 
 
