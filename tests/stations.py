@@ -1,13 +1,10 @@
 """The signing station of examples/station, with the guard beside its key."""
-import base64
-import hashlib
 import os
 import pathlib
 import signal
 import subprocess
-import time
 
-from asking import LAST_SERIAL, LATEST, department, string
+from asking import LAST_SERIAL, LATEST, department
 from running import EXAMPLES, end, run
 
 EVERY_OPTION = ("force-command", "source-address", "verify-required")
@@ -108,26 +105,3 @@ def new_guard(sshstation, office, db="guard.db", policy=WIDE, **serials):
 def new_station(sshstation, office, url, db="guard.db", policy=WIDE, **how):
     """A station for an office whose private key is in a file, with a guard of its own."""
     return Station(new_guard(sshstation, office, db, policy), url, ["--key", office.ca_key], **how)
-
-
-def body(serial=1, *, ca, key_id="web/alice", principals=("alice",), after=None, before=None, kind=1, options=(),
-         extensions=(), key=bytes([0x22]) * 32, nonce=bytes([0x33]) * 32, reserved=b""):
-    """A certificate's body as a CA signs it, by PROTOCOL.certkeys. An option is a name and a value."""
-    now = int(time.time())
-    after, before = (now - 60 if after is None else after), (now + 3600 if before is None else before)
-    return b"".join([
-        string(b"ssh-ed25519-cert-v01@openssh.com"), string(nonce), string(key), serial.to_bytes(8, "big"),
-        kind.to_bytes(4, "big"), string(key_id.encode()), string(b"".join(string(it.encode()) for it in principals)),
-        after.to_bytes(8, "big"), before.to_bytes(8, "big"),
-        string(b"".join(string(name.encode()) + string(string(value.encode()) if value else b"")
-                        for name, value in options)),
-        string(b"".join(string(it.encode()) + string(b"") for it in extensions)), string(reserved), string(ca)])
-
-
-def digest_of(text):
-    return hashlib.sha256(text).hexdigest()
-
-
-def blob_of(line):
-    """The key blob of a public-key line."""
-    return base64.b64decode(line.split()[1])

@@ -8,7 +8,7 @@ import subprocess
 
 import pytest
 
-from asking import department, issue, lasting
+from asking import department
 from fetching import Web, response, script, small_disk
 from running import EXAMPLES, run, until
 from stations import new_station

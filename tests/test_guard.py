@@ -6,7 +6,6 @@ come again, many have the serial of another one, and some are spoiled. A history
 printed with its seed. `--judgements=1000000` asks more than the hundred thousand of the check.
 """
 import os
-import pathlib
 import random
 import subprocess
 from dataclasses import dataclass
@@ -14,9 +13,9 @@ from dataclasses import dataclass
 import pytest
 
 import plain_guard
-from asking import LAST_SERIAL, LATEST, department, key_blob, key_line
+from asking import LAST_SERIAL, LATEST, body, department, key_blob, key_line
 from running import preloaded, run
-from stations import EVERY_EXTENSION, Guard, body
+from stations import EVERY_EXTENSION, Guard
 
 CA = key_blob(0x11)
 # Other CAs, two of which differ in a byte alone.

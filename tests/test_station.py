@@ -14,11 +14,12 @@ import time
 
 import pytest
 
-from asking import LATEST, department, issue, lasting, key_blob, revoke_range, rollover, string
+from asking import (LATEST, blob_of, body, department, digest_of, issue, key_blob, lasting, revoke_range, rollover,
+                    string)
 from fetching import Web, response
 from recording import whole_request
-from running import EXAMPLES, Office, free_port, is_listening, run, until
-from stations import (WIDE, Guard, Station, blob_of, body, digest_of, new_guard, new_station, stopped)
+from running import EXAMPLES, free_port, is_listening, run, until
+from stations import Guard, Station, new_guard, new_station, stopped
 
 WEB = department("web", principals="alice", extensions="permit-pty")
 
