@@ -14,8 +14,8 @@ import time
 
 import pytest
 
-from asking import (LATEST, blob_of, body, department, digest_of, issue, key_blob, lasting, revoke_range, rollover,
-                    string)
+from asking import (LATEST, blob_of, body, department, digest_of, issue, key_blob, lasting, revoke_keyid, revoke_range,
+                    rollover, string)
 from fetching import Web, response
 from recording import whole_request
 from running import EXAMPLES, free_port, is_listening, run, until
@@ -211,6 +211,22 @@ def test_a_signature_of_sshd_is_wanted(alone, sshd, room):
     assert not server.grants("eve"), "another CA's is none of this server's"
 
 
+def test_a_permitted_body_that_the_office_never_made_is_found_and_revoked(asked, sshd):
+    """Nothing keeps a false office from a body that the policy permits. The guard's file has it, and the office
+    revokes its key id."""
+    text = body(1000, ca=asked.blob, key=new_key("mallory"), key_id="web/mallory")
+    asked.guard.key = ["--key", asked.office.ca_key]
+    status, out, errors, delivered = shown(asked.guard, {1000: text})
+    assert (0, ["signed 1000"], []) == (status, out, errors)
+    write_certificate("mallory", text, base64.b64decode(delivered[0].split()[-1])[-64:])
+    assert sshd(asked.office.ca).grants("mallory")
+    found = [it for it in asked.guard.bodies() if digest_of(asked.get(f"/v1/certs/{it[0]}/body").body) != it[1]]
+    assert [("1000", "web/mallory")] == [(it[0], it[3]) for it in found]
+    assert 200 == asked.post("ana", "gone", revoke_keyid("web/mallory")).status
+    pathlib.Path("krl").write_bytes(asked.get("/v1/krl").body)
+    assert 1 == run(["ssh-keygen", "-Q", "-f", "krl", "mallory-cert.pub"]).returncode
+
+
 def test_a_serial_has_one_body_whatever_the_office_says(alone):
     """Each of a hundred bodies of one serial comes from an office that has forgotten the others."""
     texts = [body(ca=alone.blob, nonce=bytes([place]) * 32) for place in range(20)]
@@ -244,7 +260,11 @@ def test_what_is_no_list_of_pending_certificates_is_not_followed(alone, rows):
     (response(b"1 " + 64 * b"a" + b"\n", length=500), "half an answer"),
     (response(b"\x1b[2Jrefused\n", "502 Bad Gateway"), "502 ?[2Jrefused"),
     (b"no answer of HTTP\r\n\r\n", None),
-], ids=["a redirect", "half an answer", "letters that move the cursor", "another protocol"])
+    (b"HTTP/1.1 200 OK\r\ntransfer-encoding: chunked\r\n\r\nfff\r\n1 ", None),
+    (b"HTTP/1.1 200 OK\r\ntransfer-encoding: chunked\r\n\r\nx\r\n", None),
+    (b"", None),
+], ids=["a redirect", "half an answer", "letters that move the cursor", "another protocol", "half a chunk",
+        "no chunk", "nothing"])
 def test_an_answer_that_is_none_is_said(alone, answer, why):
     with Web(answer) as web:
         status, out, errors = Station(alone, web.url, alone.key).once()
@@ -270,13 +290,16 @@ def test_an_endless_answer_is_cut_off(alone):
 
 
 @pytest.mark.slow
-def test_an_answer_that_drips_is_given_up(alone):
+@pytest.mark.parametrize("at_once", [0, 200], ids=["from its head on", "from its body on"])
+def test_an_answer_that_drips_is_given_up(alone, at_once):
     """A letter a second, so that no single wait is long."""
     class Dripping(Web):
         def finish_request(self, peer, address):
             whole_request(peer)
+            answer = response(64 * (b"1 " + 64 * b"a" + b"\n"))
             with contextlib.suppress(OSError):
-                for it in response(b"1 " + 64 * b"a" + b"\n"):
+                peer.sendall(answer[:at_once])
+                for it in answer[at_once:]:
                     peer.sendall(bytes([it]))
                     time.sleep(1)
 
