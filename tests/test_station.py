@@ -491,6 +491,24 @@ def children(pid):
     return [int(it) for it in pathlib.Path(f"/proc/{pid}/task/{pid}/children").read_text().split()]
 
 
+@pytest.mark.slow
+def test_a_station_that_is_killed_signs_all_the_same(asked, programs):
+    """Station and guard are killed together, at any moment of a round. A certificate that was approved and not
+    delivered is signed in a later round."""
+    new_key("alice")
+    digests = {}
+    for number in range(20):
+        serial = issued(asked, "alice")
+        digests[str(serial)] = digest_of(asked.get(f"/v1/certs/{serial}/body").body)
+        process = asked.station.begin(programs, stdout=subprocess.DEVNULL, stderr=subprocess.DEVNULL)
+        time.sleep(random.uniform(0, 1))
+        os.killpg(process.pid, signal.SIGKILL)
+        process.wait()
+    asked.station.sign()
+    assert b"" == asked.get("/v1/pending").body
+    assert digests == {serial: digest for serial, digest, *_ in asked.guard.bodies()}
+
+
 def test_two_stations_of_one_guard_are_one_too_many(asked, programs):
     """While a station runs, nothing else opens the guard's file: neither another station nor `bodies`."""
     process = asked.station.begin(programs)
@@ -560,6 +578,20 @@ def test_the_guard_knows_what_is_out_when_the_office_is_lost(asked):
     write_certificate("alice", text, signature_of(asked.office.ca_key, text))
     assert given.split()[1] == pathlib.Path("alice-cert.pub").read_text().split()[1]
     assert (1, b"", b"sshstation: UnknownSerial\n") == asked.guard.run("body", "--db", asked.guard.db, 4)
+
+
+def test_a_guard_from_an_old_copy_may_approve_a_second_body(alone, room, sshstation):
+    """So its file is never put back to go on with: the page says what to do in its place."""
+    texts = [body(ca=alone.blob, nonce=bytes([place]) * 32) for place in (1, 2)]
+    for place, text in enumerate(texts):
+        (room / str(place)).write_bytes(text)
+    shutil.copy(alone.db, room / "old.db")
+    assert [f"sign 1 {digest_of(texts[0])}", "refuse SerialTaken"] == alone.judge("0", "1")
+    alone.db = room / "old.db"
+    assert [f"sign 1 {digest_of(texts[1])}", "refuse SerialTaken"] == alone.judge("1", "0")
+    # A new file above the highest serial that is known approves neither.
+    new = Guard(sshstation, "new.db", alone.ca, WEB, first=2)
+    assert ["refuse OtherSerial"] * 2 == new.judge("0", "1")
 
 
 # ---- where the key may lie
