@@ -107,6 +107,56 @@ def any_policy(source):
     return "".join(source.choice(["", "\n", "# more\n"]) + any_department(source, it) for it in names)
 
 
+# Other messages, a piece of one, and lines that are none of a department.
+PIECES = ["renew 1\nafter 1\nbefore 2\n", "revoke-range 2 1\n", f"rollover {key_line(0x11)} a comment\n", "issue web\n",
+          f"issue web\nkeyid web/a\nkey {key_line(0x22)}\nprincipals a\nafter 1\nbefore 2\noption verify-required\n"
+          "option source-address 10.0.0.0/8\nextensions permit-pty\n", "kind user\n", "kind host\n", "options \n",
+          "admins ana,ana\n", "principals\n", "principals *\n", "maxlife 0\n", "maxlife 01\n", "namespaces a,b\n",
+          "extensions permit-pty,permit-pty\n", " # indented\n", "\r\n", "department A\n", "#", "x"]
+
+
+def any_text(source):
+    """A text that is nearly a policy."""
+    text = any_policy(source) + source.choice(["", "#", "\n"])
+    for _ in range(source.randint(0, 2)):
+        lines = text.splitlines(keepends=True) or [""]
+        place = source.randrange(len(lines))
+        match source.randrange(5):
+            case 0:
+                del lines[place]
+            case 1:
+                lines.insert(place, lines[source.randrange(len(lines))])
+            case 2:
+                lines.insert(place, source.choice(PIECES))
+            case 3:
+                lines[place] = source.choice(PIECES)
+            case 4:
+                lines[place] = lines[place][:source.randrange(len(lines[place]) + 1)]
+        text = "".join(lines)
+    return text
+
+
+def departments_of(text):
+    """What is due to a policy: its departments, or the fault."""
+    try:
+        return "".join(f"{it}\n" for it in plain_guard.read_policy(text.encode())), ""
+    except plain_guard.Fault as fault:
+        return "", f"sshstation: {fault}\n"
+
+
+@pytest.mark.slow
+def test_both_read_the_same_policies(request, sshstation, room):
+    """Two thousand texts that are policies or nearly."""
+    seed, count = request.config.option.hypothesis_seed, 0
+    for number in range(2000):
+        text = any_text(random.Random(f"{seed} policy {number}"))
+        (room / "policy").write_text(text)
+        done = run([sshstation, "policy", "policy"])
+        assert departments_of(text) == (done.stdout.decode(), done.stderr.decode()), f"--hypothesis-seed={seed}: {text}"
+        count += not done.returncode
+    assert 200 < count < 1800
+
+
 def any_fields(source, serials):
     """The fields of a body of the profile."""
     kind = 1 if source.random() < 0.85 else 2
