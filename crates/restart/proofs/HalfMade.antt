@@ -1,6 +1,6 @@
 -- Files of a first open that was cut off hold no database.
-use Rattle.std.proofs.Common.{◌≡◌, ℕ, ◌<◌, ◌≤◌, true, false, List, [], length, take, slice_index, unwrap_or, Option, Some}
-use Rattle.std.proofs.Common.{inl, inr, sym, ap, ◌∙◌, arith, get_or-take}
+use Rattle.std.proofs.Common.{◌≡◌, ℕ, ◌<◌, ◌≤◌, true, false, List, [], length, take, slice_index, unwrap_or, Option}
+use Rattle.std.proofs.Common.{Some, inl, inr, sym, ap, ◌∙◌, arith, get_or-take}
 use Rattle.std.proofs.lemmas.List.{length-take}
 use Rattle.std.proofs.Math.Logic.{∥∥₁_elim}
 use Rattle.sqlite_wal.specs.Recovery.{Image}

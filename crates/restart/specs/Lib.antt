@@ -2,4 +2,5 @@ pub mod Schemas
 pub mod Images
 pub mod Lives
 pub mod Runs
+pub mod Ending
 pub mod Adding
