@@ -9,3 +9,5 @@ pub mod Policies
 pub mod Judged
 pub mod PolicyTexts
 pub mod AnswerLines
+pub mod Scopes
+pub mod Retirement

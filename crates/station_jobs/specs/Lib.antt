@@ -1,0 +1,6 @@
+pub mod Faults
+pub mod Judging
+pub mod Steps
+pub mod Input
+pub mod Bodies
+pub mod Whole
