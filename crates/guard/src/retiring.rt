@@ -29,6 +29,7 @@ impl From<RegisterFault> for RetireFault {
 }
 
 /// Whether a body is approved under a serial over this one.
+#[tactic(auto, using(crate::proofs::Retired::none_over))]
 fn is_approved_over<R: Register>(
     alloc: Global,
     register: &mut R,
@@ -39,7 +40,10 @@ fn is_approved_over<R: Register>(
         → IfOk result (λ found. last < u64.MAX → found ≡ is_approved_over s last) }
     ensures same { R.is_honest register.new → (s : State) → R.keeps register.old s → R.keeps register.new s }
 {
-    match register.row_from(alloc, last.saturating_add(1)) {
+    if last == u64::MAX {
+        return Ok(false);
+    }
+    match register.row_from(alloc, last + 1) {
         Ok(Some(row)) => {
             drop(row);
             Ok(true)
@@ -56,11 +60,7 @@ fn is_approved_over<R: Register>(
 ///
 /// `BadSerials` and `SerialApproved`, as they say. Where the register fails or memory is refused, and after every other
 /// fault, the register keeps what it kept.
-pub fn retire<R: Register>(
-    alloc: Global,
-    register: &mut R,
-    last: u64,
-) -> Result<(), RetireFault>
+pub fn retire<R: Register>(alloc: Global, register: &mut R, last: u64) -> Result<(), RetireFault>
     ensures honest { R.is_honest register.new → R.is_honest register.old }
 
     // The register then keeps the retired state, or what it kept.
