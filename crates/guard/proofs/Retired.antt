@@ -1,13 +1,12 @@
 -- A last serial that was lowered.
 use Rattle.std.proofs.Common.{◌≡◌, ◌+◌, ◌<◌, ◌≤◌, ◌||◌, ◌==◌, ℕ, List, [], ◌∷◌, Bool, true, false, cond, Option, Some, None, Ok, Err}
-use Rattle.std.proofs.Common.{All, arith, refl, sym, ap, subst, ◌∙◌}
-use Rattle.std.specs.Prelude.{find, nat_lt, Result}
+use Rattle.std.proofs.Common.{All, arith, refl, sym, subst}
+use Rattle.std.specs.Prelude.{find, nat_lt}
 use Rattle.std.specs.List.{list_any}
 use Rattle.std.specs.Option.{option_map}
 use Rattle.std.proofs.lemmas.List.Folds.{list_any_none}
 use Rattle.cert.specs.declared.fields.CertFields.{CertFields}
 use Rattle.guard.specs.declared.approved.Approved.{Approved}
-use Rattle.guard.specs.declared.retiring.RetireFault.{RetireFault}
 use Rattle.guard.specs.declared.retiring.RetireFault.TheVariants.{BadSerials, SerialApproved}
 use Rattle.guard.specs.Machine.{State, Question, body_of, fields_of, refusal_of}
 use Rattle.guard.specs.Retirement.{is_approved_over, retirement}

@@ -13,6 +13,7 @@ use Rattle.station_jobs.specs.declared.station_fault.StationFault.TheVariants as
 -- of a register that did not answer
 abbrev pub of_register : RegisterFault → StationFault
 of_register register.Device = fault.Device
+of_register register.Damaged = fault.Damaged
 of_register register.NoMemory = fault.NoMemory
 
 -- of a last serial that was not lowered
@@ -37,3 +38,10 @@ abbrev pub IsOfAFile : StationFault → Type 0
 IsOfAFile fault.File = Unit {0}
 IsOfAFile fault.NoMemory = Unit {0}
 IsOfAFile other = ⊥
+
+-- What is met where a policy is read.
+abbrev pub IsOfAPolicy : StationFault → Type 0
+IsOfAPolicy fault.File = Unit {0}
+IsOfAPolicy fault.NoMemory = Unit {0}
+IsOfAPolicy (fault.BadPolicy line) = Unit {0}
+IsOfAPolicy other = ⊥

@@ -30,6 +30,10 @@ module _ {E F : Type 0} (world : Ghosts E F) (around : E) (remaining : F → Opt
     pub moment : world.shows around q.moment
     pub ahead_of : q.ahead ≡ ahead
 
+  -- the same, by the policy that a file has at the time
+  abbrev pub AsksNow : (policy : List ℕ) → (ahead : ℕ) → (path : List ℕ) → Question → Type 0
+  AsksNow policy ahead = Asks (IsPolicyAt policy) ahead
+
 -- ---- what is answered
 
 -- a body that was judged: where it was found, the question, and what was answered

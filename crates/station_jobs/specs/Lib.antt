@@ -3,4 +3,3 @@ pub mod Judging
 pub mod Steps
 pub mod Input
 pub mod Bodies
-pub mod Whole

@@ -41,3 +41,8 @@ abbrev pub AnswersOne : State → (keeps : State → Type 0) → Question → (h
     → Result (Unit {0}) StationFault → Type 0
 AnswersOne s keeps q held holds result =
     Answered s keeps q held holds result ⊎ (NotOk result × keeps s × (holds ≡ held))
+
+-- what came of it, whatever it gave
+abbrev pub done_of : {A : Type 0} → Result A StationFault → Result (Unit {0}) StationFault
+done_of (Ok x) = Ok tt
+done_of (Err e) = Err e

@@ -32,7 +32,7 @@ fn read_first<R: Read + Drop>(alloc: Global, reader: R, most: u64) -> Result<Vec
 }
 
 /// All that a reader gives. It is a fault of the file if that is more than `most` bytes.
-pub(crate) fn read_whole<R: Read + Drop>(
+pub fn read_whole<R: Read + Drop>(
     alloc: Global,
     reader: R,
     most: u64,
@@ -50,7 +50,7 @@ pub(crate) fn read_whole<R: Read + Drop>(
 }
 
 /// The bytes of a body's file, or of a longer one than any body's so many that it is none.
-pub(crate) fn read_body<R: Read + Drop>(alloc: Global, reader: R) -> Result<Vec<u8>, StationFault>
+pub fn read_body<R: Read + Drop>(alloc: Global, reader: R) -> Result<Vec<u8>, StationFault>
     ensures first { IfOk result (λ v. IfSome (R.remaining reader) (λ bytes. v.items ≡ take 16385 bytes)) }
     ensures only { IfErr result IsOfAFile }
 {

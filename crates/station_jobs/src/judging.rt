@@ -62,7 +62,7 @@ fn weighed<F: Read + Drop, P: Surroundings<File = F>>(
 }
 
 /// Judges the body of a file, and prints the line of the answer.
-pub(crate) fn judge_file<F: Read + Drop, P: Surroundings<File = F>, G: Register, W: Write>(
+pub fn judge_file<F: Read + Drop, P: Surroundings<File = F>, G: Register, W: Write>(
     alloc: Global,
     around: &P,
     register: &mut G,
@@ -76,9 +76,13 @@ pub(crate) fn judge_file<F: Read + Drop, P: Surroundings<File = F>, G: Register,
         (Asks P.Surroundings around.now F.remaining (λ p. p ≡ policy.now) ahead) (path.now ∷ []) (W.contents out.old)
         (W.contents out.new) result }
 {
-    let (body, moment) = weighed(alloc, around, path)?;
-    let window = Window { moment, ahead };
-    answer_body(alloc, register, policy, window, body.as_slice(), out)
+    match weighed(alloc, around, path) {
+        Ok((body, moment)) => {
+            let window = Window { moment, ahead };
+            answer_body(alloc, register, policy, window, body.as_slice(), out)
+        }
+        Err(fault) => Err(fault),
+    }
 }
 
 /// Judges the bodies of files, one after the other, and prints the line of each.
@@ -87,7 +91,7 @@ pub(crate) fn judge_file<F: Read + Drop, P: Surroundings<File = F>, G: Register,
 ///
 /// The first fault that is met ends it: `File`, `Clock`, `Write`, `NoMemory`, or that of the register. What was printed
 /// before stands.
-pub(crate) fn judge_files<F: Read + Drop, P: Surroundings<File = F>, G: Register, W: Write>(
+pub fn judge_files<F: Read + Drop, P: Surroundings<File = F>, G: Register, W: Write>(
     alloc: Global,
     around: &P,
     register: &mut G,
@@ -102,15 +106,11 @@ pub(crate) fn judge_files<F: Read + Drop, P: Surroundings<File = F>, G: Register
         (W.contents out.old) (W.contents out.new) result }
 {
     for path in paths {
-        judge_file(
-            alloc,
-            around,
-            register,
-            policy,
-            ahead,
-            path.as_str(),
-            out,
-        )?;
+        let path = path.as_str();
+        match judge_file(alloc, around, register, policy, ahead, path, out) {
+            Ok(()) => {}
+            Err(fault) => return Err(fault),
+        }
     }
     Ok(())
 }

@@ -7,16 +7,12 @@
 
 mod bodies;
 mod file_reader;
-mod guard_file;
 mod input;
 mod judging;
 mod output;
 mod policy_file;
 mod station_fault;
 mod surroundings;
-mod whole;
 
-pub use guard_file::GuardFile;
 pub use station_fault::StationFault;
 pub use surroundings::Surroundings;
-pub use whole::{body_in, bodies_in, init_in, judge_in, print_policy, retire_in};

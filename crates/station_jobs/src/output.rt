@@ -46,7 +46,7 @@ fn write_whole<W: Write>(out: &mut W, bytes: &[u8]) -> Result<(), StationFault>
 }
 
 /// Writes all of the bytes, and sees that they leave the program. After a fault a beginning of them may be written.
-pub(crate) fn print<W: Write>(out: &mut W, bytes: &[u8]) -> Result<(), StationFault>
+pub fn print<W: Write>(out: &mut W, bytes: &[u8]) -> Result<(), StationFault>
     ensures ok { OnOk result (Appends (W.contents out.old) (W.contents out.new) bytes.now) }
     ensures err { OnErr result (AppendsBeginning (W.contents out.old) (W.contents out.new) bytes.now) }
     ensures only { IfErr result (λ e. e ≡ StationFault.Write) }

@@ -68,6 +68,7 @@ impl From<RegisterFault> for StationFault {
         match fault {
             RegisterFault::NoMemory => StationFault::NoMemory,
             RegisterFault::Device => StationFault::Device,
+            RegisterFault::Damaged => StationFault::Damaged,
         }
     }
 }
