@@ -75,9 +75,11 @@ one_taken : (input mid now : Option (List ℕ)) (paths : List (List ℕ)) (path 
 one_taken None mid now paths path taken takes = tt
 one_taken (Some text) None now paths path taken takes = absurd cc
 one_taken (Some text) (Some rest) now paths path (left, same, begins) takes =
-    let is : rest ≡ left = cc in
-    (drop_through 10 rest, takes.2,
-    begins_with_more paths path text rest (subst (Begins paths text) (sym is) begins) takes.0 takes.1)
+    let is : rest ≡ left = cc in (
+      drop_through 10 rest,
+      takes.2,
+      begins_with_more paths path text rest (subst (Begins paths text) (sym is) begins) takes.0 takes.1,
+    )
 
 pub goes_on : {A : Type 0} (between keeps : State → Type 0) (Asked : List ℕ → Question → Type 0) (s : State)
     (input mid now held so_far holds : Option (List ℕ)) (x : A) (first : Underway s between Asked input mid held so_far)

@@ -45,3 +45,10 @@ IsOfAPolicy fault.File = Unit {0}
 IsOfAPolicy fault.NoMemory = Unit {0}
 IsOfAPolicy (fault.BadPolicy line) = Unit {0}
 IsOfAPolicy other = ⊥
+
+-- What is met where a key is read.
+abbrev pub IsOfAKey : StationFault → Type 0
+IsOfAKey fault.File = Unit {0}
+IsOfAKey fault.NoMemory = Unit {0}
+IsOfAKey (fault.Line e) = Unit {0}
+IsOfAKey other = ⊥

@@ -100,9 +100,7 @@ fn judge_line<F: Read + Drop, P: Surroundings<File = F>, G: Register, W: Write>(
         (W.contents out.old) (W.contents out.new) (done_of result) }
 {
     match path_in(line) {
-        Ok(path) => judge_now(
-            alloc, around, register, policy, ahead, known, path, out,
-        ),
+        Ok(path) => judge_now(alloc, around, register, policy, ahead, known, path, out),
         Err(fault) => {
             drop(known);
             Err(fault)
@@ -135,9 +133,7 @@ fn judge_next<F: Read + Drop, P: Surroundings<File = F>, G: Register, I: BufRead
                 return Ok(None);
             }
             let line = line.as_slice();
-            match judge_line(
-                alloc, around, register, policy, ahead, known, line, out,
-            ) {
+            match judge_line(alloc, around, register, policy, ahead, known, line, out) {
                 Ok(known) => Ok(Some(known)),
                 Err(fault) => Err(fault),
             }
@@ -157,13 +153,7 @@ fn judge_next<F: Read + Drop, P: Surroundings<File = F>, G: Register, I: BufRead
 ///
 /// The first fault that is met ends it: that of the input, of the policy, or one of those of `judge_files`. What was
 /// printed before stands.
-pub fn judge_lines<
-    F: Read + Drop,
-    P: Surroundings<File = F>,
-    G: Register,
-    I: BufRead,
-    W: Write,
->(
+pub fn judge_lines<F: Read + Drop, P: Surroundings<File = F>, G: Register, I: BufRead, W: Write>(
     alloc: Global,
     around: &P,
     register: &mut G,
@@ -181,9 +171,7 @@ pub fn judge_lines<
 {
     let mut known = known;
     for _turn in 0..u64::MAX {
-        match judge_next(
-            alloc, around, register, policy, ahead, known, input, out,
-        ) {
+        match judge_next(alloc, around, register, policy, ahead, known, input, out) {
             Ok(Some(policy)) => known = policy,
             Ok(None) => return Ok(()),
             Err(fault) => return Err(fault),

@@ -7,12 +7,23 @@
 
 mod bodies;
 mod file_reader;
+mod guard_file;
 mod input;
 mod judging;
+mod key_file;
 mod output;
 mod policy_file;
 mod station_fault;
 mod surroundings;
+mod telling;
+mod whole;
 
+pub use file_reader::file_fault;
+pub use guard_file::GuardFile;
+pub use key_file::scope_from;
+pub use output::print;
+pub use policy_file::print_policy;
 pub use station_fault::StationFault;
 pub use surroundings::Surroundings;
+pub use telling::{ready_text, retired_text};
+pub use whole::{Judging, bodies_in, body_in, judge_in, make_in, retire_in};

@@ -1,4 +1,4 @@
-use Rattle.std.proofs.Common.{◌≡◌, ◌+◌, ◌++◌, ◌∷◌, [], List, ℕ, Err, Ok,  drop, map, string_bytes, subst, take}
+use Rattle.std.proofs.Common.{◌≡◌, ◌+◌, ◌++◌, ◌∷◌, [], List, ℕ, Err, Ok, drop, map, string_bytes, subst, take}
 use Rattle.guard.specs.Machine.{State}
 use Rattle.station_jobs.specs.Judging.{Asks, Judges, left_by}
 use Rattle.station_jobs.proofs.Judgements.{given_after, judged_on, more_given, next_path}
