@@ -6,3 +6,4 @@ pub mod Input
 pub mod Bodies
 pub mod Policy
 pub mod Whole
+pub mod Jobs

@@ -160,7 +160,7 @@ pub fn bodies_in<G: Register, D: GuardFile<Guard = G>, W: Write>(
 ) -> Result<(), StationFault>
     ensures { RunsIn D.GuardFile db.old db.new
         (Does G.Register (λ s keeps r. OnOk r (ListsBodies s (W.contents out.old) (W.contents out.new)) × keeps s))
-        (out.new ≡ out.old) result }
+        (W.contents out.new ≡ W.contents out.old) result }
 {
     match db.open(alloc) {
         Ok(guard) => {
@@ -185,7 +185,7 @@ pub fn body_in<G: Register, D: GuardFile<Guard = G>, W: Write>(
 ) -> Result<(), StationFault>
     ensures { RunsIn D.GuardFile db.old db.new
         (Does G.Register (λ s keeps r. PrintsBody s serial (W.contents out.old) (W.contents out.new) r × keeps s))
-        (out.new ≡ out.old) result }
+        (W.contents out.new ≡ W.contents out.old) result }
 {
     match db.open(alloc) {
         Ok(guard) => {
