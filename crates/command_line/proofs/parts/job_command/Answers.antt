@@ -1,5 +1,5 @@
 use Rattle.command_line.proofs.Commands.{one_part}
-use Rattle.command_line.proofs.command.job_command.Goals as goal
+use Rattle.command_line.proofs.parts.job_command.Goals as goal
 
 pub loop-part-preserved : goal.loop-part-preserved
 loop-part-preserved c =
