@@ -23,6 +23,7 @@ import uuid
 FOLDER = pathlib.Path(os.environ.get("OFFICE_BOXES", "/var/cache/sshoffice-boxes"))
 RELEASE = "bookworm"
 PACKAGES = """systemd systemd-sysv dbus libpam-systemd iproute2 procps logrotate cron nginx-light openssh-client
+python3-requests
 openssh-server openssl curl sqlite3 python3 ca-certificates""".split()
 TOOLS = "debootstrap systemd-nspawn unshare nsenter ip mount".split()
 ENVIRONMENT = {"PATH": "/usr/local/sbin:/usr/local/bin:/usr/sbin:/usr/bin:/sbin:/bin", "HOME": "/root", "USER": "root",

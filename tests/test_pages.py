@@ -41,8 +41,10 @@ ELSEWHERE = {
     "./check": Elsewhere("this test is a part of it", ".ci/run", "exec ./check"),
     "/usr/bin/python3 -m pytest tests/test_rows.py":
         Elsewhere("the check runs it beside this test", "check", '"-m", "pytest"'),
-    "examples/station http://127.0.0.1:8022 ca.pem":
-        Elsewhere("it asks an office", "tests/fronts.py", 'EXAMPLES / "station"'),
+    "examples/station --once --db guard.db --policy policy --key ca.pem http://127.0.0.1:8022":
+        Elsewhere("it asks an office", "tests/stations.py", 'EXAMPLES / "station"'),
+    "export SOFTHSM2_CONF=/etc/vethlumi/station/softhsm2.conf":
+        Elsewhere("it makes a token", "tests/test_station.py", '"softhsm2-util", "--init-token"'),
     "examples/request --cert ana.pem --cacert ca.crt https://office.example.org:8443 web web/alice alice.pub alice 8h":
         Elsewhere(A_FRONT, "tests/test_scripts.py", 'script("request"'),
     "examples/fetch-list --cacert ca.crt https://office.example.org:8443 revoked.krl":
