@@ -1,16 +1,20 @@
-"""Which texts are messages, each limit at and past its end: a text that is none is refused as BadMessage.
+"""Which texts are messages, each limit at and past its end: a text that is none is refused as BadMessage, and the crate
+that reads it names its first bad line.
 
 A message of each kind is given another line in one place, and is posted by root to the trial office in memory. Of each
-worked message each beginning is posted as well, and the message with some bytes more. Of networks Python and ssh-keygen
-are asked at each run.
+worked message each beginning is posted as well, and the message with some bytes more. No program prints the number of a
+bad line: a small one that does, bad_lines.rt, is made for the test, of the crate `message` and with no proof. Of
+networks Python and ssh-keygen are asked at each run.
 """
 import base64
 import ipaddress
+import re
+import shutil
 
 import pytest
 
 from asking import KEY, OTHER_CA, answers, exchange, post, string, write_exchanges
-from running import run
+from running import TOP, left_out, run
 
 pytestmark = pytest.mark.rows
 
@@ -152,19 +156,25 @@ def shown(line):
     return repr(line) if len(line) <= 70 else f"{line[:40]!r}.. of {len(line)} characters"
 
 
+# Lines that another message may have in their place, so that the first bad line is a later one: a department for hosts
+# has no options, and behind an option stands another or the extensions.
+LATER = {("department web", "kind host"): 5, ("issue web", "option verify-required"): 8}
+
+
 def all_rows():
-    """What is posted: what it is, its bytes, and whether they are a message."""
+    """What is posted: what it is, its bytes, and the number of the first bad line, or 0 where they are a message."""
     for lines, place, good, bad in ROWS:
         for line, is_message in [*((it, True) for it in good), *((it, False) for it in bad)]:
             changed = [*lines[:place], line, *lines[place + 1:]]
-            yield f"{lines[0]!r} with {shown(line)} as line {place + 1}", text(changed), is_message
+            number = 0 if is_message else LATER.get((lines[0], line), place + 1)
+            yield f"{lines[0]!r} with {shown(line)} as line {place + 1}", text(changed), number
     for lines, _ in WORKED:
         whole = text(lines)
-        yield f"{lines[0]!r} whole", whole, True
+        yield f"{lines[0]!r} whole", whole, 0
         for more in (b"\n", b"x", b"\0", b" ", whole):
-            yield f"{lines[0]!r} with {shown(more.decode())} behind it", whole + more, False
+            yield f"{lines[0]!r} with {shown(more.decode())} behind it", whole + more, len(lines) + 1
         for size in range(len(whole)):
-            yield f"the first {size} bytes of {lines[0]!r}", whole[:size], False
+            yield f"the first {size} bytes of {lines[0]!r}", whole[:size], whole[:size].count(b"\n") + 1
 
 
 POSTED = [*all_rows()]
@@ -188,13 +198,66 @@ def test_each_text_is_answered(replies):
     assert len(POSTED) == len(replies)
 
 
-@pytest.mark.parametrize(("place", "is_message"), [(place, it[2]) for place, it in enumerate(POSTED)],
+@pytest.mark.parametrize(("place", "number"), [(place, it[2]) for place, it in enumerate(POSTED)],
                          ids=[what for what, _, _ in POSTED])
-def test_a_text_is_a_message_or_none(replies, place, is_message):
-    if is_message:
+def test_a_text_is_a_message_or_none(replies, place, number):
+    if number == 0:
         assert BAD != replies[place]
     else:
         assert BAD == replies[place]
+
+
+# ---- the first bad line
+
+WHOLE = text(ISSUE)
+# What docs/FORMATS.md says of the issue there.
+PRINTED = [
+    *[(f"the first {size} bytes", WHOLE[:size], 1) for size in range(10)],
+    *[(f"the first {size} bytes", WHOLE[:size], 2) for size in range(10, 26)],
+    ("without the last LF", WHOLE[:161], 7),
+    ("with one more LF", WHOLE + b"\n", 8),
+    ("with another line 2", text([ISSUE[0], "kind user", *ISSUE[2:]]), 2),
+    ("with an option without its value", text([*ISSUE[:6], "option force-command", ISSUE[6]]), 7),
+    ("with an option twice", text([*ISSUE[:6], *["option force-command a"] * 2, ISSUE[6]]), 8),
+    # And what follows from its rule: a fourth option, and what stands behind three.
+    ("with a fourth option", text([*WITH_ALL[:9], WITH_ALL[8], WITH_ALL[9]]), 10),
+    ("with three options and no extensions", text(WITH_ALL[:9]), 10),
+    ("with three options and a line more", text([*WITH_ALL, "x"]), 11),
+]
+
+
+@pytest.fixture(scope="module")
+def bad_lines(tmp_path_factory):
+    """The number of the first bad line of each text, as the crate `message` of this repository says it."""
+    if not shutil.which("rt"):
+        left_out("the toolchain's command rt isn't on the PATH")
+    folder = tmp_path_factory.mktemp("bad-lines")
+    lists = re.findall(r"^((\w+):.*)$", (TOP / "crates.txt").read_text(), re.M)
+    below = lists[:[name for _, name in lists].index("message") + 1]
+    for _, name in below:
+        for part in ("src", "specs", "proofs"):
+            if (TOP / "crates" / name / part).is_dir():
+                shutil.copytree(TOP / "crates" / name / part, folder / "crates" / name / part)
+    made = folder / "crates/bad_lines"
+    (made / "src").mkdir(parents=True)
+    shutil.copy(TOP / "tests/bad_lines.rt", made / "src/main.rt")
+    (folder / "crates.txt").write_text("".join(f"{line}\n" for line, _ in below) + "bad_lines: anyhow message\n")
+    (folder / "HANDLES").write_text("Handles allowed: none.\n")
+
+    def ask(texts):
+        (made / "texts").write_bytes(b"".join(map(string, texts)))
+        return [*map(int, run(["rt", "try", "--", "texts"], cwd=made, timeout=500, check=True).stdout.split())]
+
+    return ask
+
+
+@pytest.mark.slow
+def test_the_first_bad_line_is_named(bad_lines):
+    """Of each text that is posted above, and of each that docs/FORMATS.md shows."""
+    asked = POSTED + PRINTED
+    wanted = {f"{place}, {what}": number for place, (what, _, number) in enumerate(asked)}
+    assert {*range(12)} == {*wanted.values()}, "each number that there is"
+    assert wanted == dict(zip(wanted, bad_lines([it for _, it, _ in asked]), strict=True))
 
 
 def by_python(network):
