@@ -8,6 +8,7 @@ networks Python and ssh-keygen are asked at each run.
 """
 import base64
 import ipaddress
+import random
 import re
 import shutil
 
@@ -228,7 +229,8 @@ PRINTED = [
 
 @pytest.fixture(scope="module")
 def bad_lines(tmp_path_factory):
-    """The number of the first bad line of each text, as the crate `message` of this repository says it."""
+    """The number of the first bad line of each text, as the crate `message` of this repository says it: of those that are
+    posted above, and of those that docs/FORMATS.md shows."""
     if not shutil.which("rt"):
         left_out("the toolchain's command rt isn't on the PATH")
     folder = tmp_path_factory.mktemp("bad-lines")
@@ -244,20 +246,20 @@ def bad_lines(tmp_path_factory):
     (folder / "crates.txt").write_text("".join(f"{line}\n" for line, _ in below) + "bad_lines: anyhow message\n")
     (folder / "HANDLES").write_text("Handles allowed: none.\n")
 
-    def ask(texts):
-        (made / "texts").write_bytes(b"".join(map(string, texts)))
-        return [*map(int, run(["rt", "try", "--", "texts"], cwd=made, timeout=500, check=True).stdout.split())]
-
-    return ask
+    (made / "texts").write_bytes(b"".join(string(it) for _, it, _ in POSTED + PRINTED))
+    return [*map(int, run(["rt", "try", "--", "texts"], cwd=made, timeout=500, check=True).stdout.split())]
 
 
 @pytest.mark.slow
-def test_the_first_bad_line_is_named(bad_lines):
-    """Of each text that is posted above, and of each that docs/FORMATS.md shows."""
-    asked = POSTED + PRINTED
-    wanted = {f"{place}, {what}": number for place, (what, _, number) in enumerate(asked)}
-    assert {*range(12)} == {*wanted.values()}, "each number that there is"
-    assert wanted == dict(zip(wanted, bad_lines([it for _, it, _ in asked]), strict=True))
+def test_the_first_bad_line_of_each_text_is_named(bad_lines):
+    wanted = {f"{place}, {what}": number for place, (what, _, number) in enumerate(POSTED)}
+    assert wanted == dict(zip(wanted, bad_lines[:len(POSTED)], strict=True))
+
+
+@pytest.mark.slow
+@pytest.mark.parametrize(("what", "place"), [(it[0], place) for place, it in enumerate(PRINTED)])
+def test_a_bad_line_is_that_of_the_formats(bad_lines, what, place):
+    assert PRINTED[place][2] == bad_lines[len(POSTED) + place]
 
 
 def by_python(network):
@@ -286,3 +288,27 @@ def test_python_and_ssh_keygen_agree_on_networks(keys, networks):
         run(["ssh-keygen", "-q", "-s", keys / "ca", *words], check=True)
         shown_by_keygen = run(["ssh-keygen", "-L", "-f", keys / "user-cert.pub"], check=True).stdout.decode()
         assert f"source-address {networks}\n" in shown_by_keygen
+
+
+def some_networks(seed, count):
+    """Texts that are networks or nearly so, other ones at each run."""
+    pick = random.Random(seed)
+    for _ in range(count):
+        size = pick.choice([0, 1, 7, 8, 9, 16, 23, 24, 31, 32, 33])
+        address = pick.getrandbits(32) & -(1 << max(0, 32 - size + pick.choice([0, 0, -1, -2, 1])))
+        parts = [str(address >> place & 255) for place in (24, 16, 8, 0)]
+        yield pick.choice(["{}/{}"] * 12 + ["0{}/{}", "{}/0{}", "{}.0/{}", "{} /{}", "{}/{}.", "{}", "{}/-{}", "+{}/{}"]
+                          ).format(".".join(parts[:pick.choice([4, 4, 4, 4, 3])]), size)
+
+
+def test_python_the_office_and_ssh_keygen_agree_on_other_networks(program, keys, room, request):
+    """What the office takes, Python and ssh-keygen take, and what ssh-keygen refuses, the office refuses."""
+    networks = [*some_networks(request.config.getoption("hypothesis_seed"), 200)]
+    write_exchanges("networks.exchange", [exchange(post("root", f"n{place}", text(
+        [*ISSUE[:6], f"option source-address {it}", ISSUE[6]])), 1000, 0x33) for place, it in enumerate(networks)])
+    given = [BAD != it.body for it in answers(run([program, "apply", "networks.exchange"]).stdout)]
+    assert dict(zip(networks, map(by_python, networks))) == dict(zip(networks, given))
+    assert 40 < sum(given) < 160, "some are networks, and some are none"
+    for network, is_taken in zip(networks, given):
+        made = run(["ssh-keygen", "-q", "-s", keys / "ca", "-I", "x", "-O", f"source-address={network}", keys / "user.pub"])
+        assert made.returncode == 0 or not is_taken, network
