@@ -7,6 +7,7 @@ import signal
 import socket
 import subprocess
 import time
+import tomllib
 
 import pytest
 
@@ -15,6 +16,11 @@ from asking import Response, answers, get, post, write_exchanges
 TOP = pathlib.Path(__file__).resolve().parent.parent
 EXAMPLES = TOP / "examples"
 ROWS = EXAMPLES / "rows"
+
+
+def rows(name):
+    """The rows of data/NAME.toml."""
+    return tomllib.loads((TOP / f"tests/data/{name}.toml").read_text())
 
 
 def left_out(why):

@@ -8,8 +8,9 @@ import re
 
 import pytest
 
-from asking import (CA, LATEST, OTHER_CA, deliver, department, exchange, issue, post, renew, revoke_keyid, revoke_range,
-                    revoke_serial, rollover)
+from asking import (CA, LATEST, OTHER_CA, deliver, department, exchange, issue, lasting, post, renew, revoke_keyid,
+                    revoke_range, revoke_serial, rollover)
+from fronts import Station
 from running import TOP, Office
 
 pytestmark = pytest.mark.rows
@@ -124,3 +125,18 @@ def test_a_message_is_refused(answers, table, place, number):
 def test_a_key_is_reused_or_a_moment_is_too_late(office, table, caller, key, moment, number):
     answer, = office.apply([exchange(post(caller, key, asked()), moment)])
     assert f"refused {number} {table[number][0]}\n" == answer.text
+
+
+def test_a_renewal_is_refused_where_it_is_served(make_office, table, room):
+    """A validity has ended by the clock of the system. Of two refusals that apply the least number is answered."""
+    due = [f"refused {number} {table[number][0]}\n" for number in (15, 16)]
+    office = make_office()
+    with office.serving() as served:
+        served.post("root", "web", department("web"))
+        assert served.post("ana", "i", issue("web/alice", **lasting(3600))).text.startswith("issued 1\n")
+        assert [1] == Station(room / "station", served.url, office.ca_key).sign()
+        assert served.post("ana", "r", renew(1, **lasting(3000))).text.startswith("issued 2\n")
+        assert due[0] == served.post("ana", "ended", renew(1, **lasting(-1))).text
+        assert served.post("root", "k", revoke_keyid("web/alice")).text.startswith("revoked\n")
+        assert due == [served.post("ana", f"again{place}", renew(1, **lasting(seconds))).text
+                       for place, seconds in enumerate((-1, 1800))]

@@ -9,7 +9,7 @@ import pytest
 
 from asking import answers, exchange, get, issue, write_exchanges
 from asking import post as posted
-from running import TOP, run
+from running import TOP, rows, run
 
 pytestmark = pytest.mark.rows
 
@@ -36,25 +36,9 @@ POSTS = [
     *[(HEAD + MESSAGE[:size], "ShortBody") for size in range(162)],
 ]
 
-# The header lines of a POST with no body.
-LENGTHS = [(post(lines), refusal) for lines, refusal in [
-    (b"", "LengthRequired"),
-    (b"content-length: 16385\r\n", "TooLong"),
-    (b"content-length: 100000000000000000000000000000\r\n", "TooLong"),
-    (b"content-length: 16384\r\n", "ShortBody"),
-    (b"Content-Length: 16384\r\n", "ShortBody"),
-    (b"content-length: 0000000000000000000000000000001\r\n", "ShortBody"),
-    (b"content-length: 1\r\ncontent-length: 1\r\n", "BadHead"),
-    (b"content-length: 1\r\nCONTENT-LENGTH: 1\r\n", "BadHead"),
-    (b"content-length: +1\r\n", "BadHead"),
-    (b"content-length: 1 1\r\n", "BadHead"),
-    (b"content-length:\r\n", "BadHead"),
-    (b"transfer-encoding: chunked\r\n", "LengthRequired"),
-    (b"content-length: 1\r\nTransfer-Encoding: chunked\r\n", "LengthRequired"),
-    (b"content-length: 16385\r\ntransfer-encoding: chunked\r\n", "LengthRequired"),
-    *[(b"content-length: 0\r\ntransfer-encoding: %s\r\n" % it, "LengthRequired")
-      for it in (b"gzip", b"identity", b"gzip, chunked", b"")],
-]]
+# Rows of the header lines of a POST with no body, and of methods and targets.
+GIVEN = rows("requests")
+LENGTHS = [(post(lines.encode()), refusal) for lines, refusal in GIVEN["lengths"]]
 
 # A line is found behind so many others: one that asks for more than is there, and one that smuggles a body.
 BEHIND = [row for count in range(1, 32) for row in [
@@ -89,47 +73,7 @@ AROUND = [row for path in [it for it, _ in RESOURCES] + [b"/v1/certs/1", b"/v1/c
     (get(b"/" + path), "NoRoute"),
 ]]
 
-PATHS = [(get(path, method), wanted) for method, path, wanted in [
-    (b"GET", b"/v1/certs/01/body", "NoRoute"),
-    (b"GET", b"/v1/certs/0/body", "NoRoute"),
-    (b"GET", b"/v1/certs//body", "NoRoute"),
-    (b"GET", b"/v1/certs/+1/body", "NoRoute"),
-    (b"GET", b"/v1/certs/9223372036854775807/body", "NoRoute"),
-    (b"GET", b"/v1/certs/100000000000000000000000000000/body", "NoRoute"),
-    (b"GET", b"/v1/certs/9223372036854775806/body", "UnknownSerial"),
-    (b"GET", b"/v1/certs/9223372036854775806", "UnknownSerial"),
-    (b"GET", b"/v1/certs/1", "NotSigned"),
-    (b"GET", b"/v1/certs/1/body?x", "NoRoute"),
-    (b"GET", b"/v1/certs/1/body/", "NoRoute"),
-    (b"GET", b"/v1/certs/1/bod", "NoRoute"),
-    (b"GET", b"/v1/certs/01", "NoRoute"),
-    (b"GET", b"/v1/certs/9223372036854775807", "NoRoute"),
-    (b"GET", b"/v1/certs/body", "NoRoute"),
-    (b"GET", b"/v1/certs/", "NoRoute"),
-    (b"GET", b"/v1/certs", "NoRoute"),
-    (b"GET", b"/v1/", "NoRoute"),
-    (b"GET", b"/v1/KRL", "NoRoute"),
-    (b"GET", b"//v1/certs/1/body", "NoRoute"),
-    (b"GET", b"/V1/certs/1/body", "NoRoute"),
-    (b"GET", b"/v1/certs/%31/body", "NoRoute"),
-    (b"GET", b"/", "NoRoute"),
-    (b"GET", b"*", "NoRoute"),
-    (b"GET", b"http://127.0.0.1/v1/certs/1/body", "NoRoute"),
-    (b"POST", b"/v1/certs/1/body", "WrongMethod"),
-    (b"HEAD", b"/v1/certs/1/body", "WrongMethod"),
-    (b"get", b"/v1/certs/1/body", "WrongMethod"),
-    (b"GET", b"/v1/callers/ana/requests/i1", "WrongMethod"),
-    (b"GET", b"/v1/callers/Ana/requests/i1", "NoRoute"),
-    (b"POST", b"/v1/callers/ana/requests/i_1", "NoRoute"),
-    (b"POST", b"/v1/callers/ana/requests/", "NoRoute"),
-    (b"POST", b"/v1/callers//requests/i1", "NoRoute"),
-    (b"POST", b"/v1/callers/ana/requests/i1/", "NoRoute"),
-    (b"POST", b"/v1/callers/a/b/requests/i1", "NoRoute"),
-    (b"POST", b"/v1/callers/" + LONGEST_NAME + b"6/requests/i1", "NoRoute"),
-    (b"POST", b"/v1/callers/" + LONGEST_NAME + b"/requests/i1", "LengthRequired"),
-    (b"POST", b"/v1/callers/ana/requests/" + LONGEST_NAME + b"6", "NoRoute"),
-    (b"POST", b"/v1/callers/ana/requests/" + LONGEST_NAME, "LengthRequired"),
-]]
+PATHS = [(get(path, method), refusal) for method, path, refusal in GIVEN["paths"]]
 
 TABLES = {
     "posted": POSTS,

@@ -5,6 +5,7 @@ that stand still or run, connections that can't be accepted, and sockets that wa
 and the responses are those of examples/rows. A server stands still until all of its clients have connected and written.
 """
 import contextlib
+import json
 import os
 import pathlib
 import shutil
@@ -263,6 +264,23 @@ def test_it_listens_on_loopback_alone(system):
         assert [] == listening("tcp6")
 
 
+def addresses():
+    """The addresses of this machine but 127.0.0.1, as Linux has them. All that begin with 127 are its own."""
+    told = json.loads(run(["ip", "-json", "address"], check=True).stdout)
+    own = [it["local"] for interface in told for it in interface.get("addr_info", ()) if it.get("scope") != "link"]
+    return ["127.0.0.2", *(it for it in own if it != "127.0.0.1")]
+
+
+def test_at_another_address_of_the_machine_nobody_listens(system):
+    with system.serving(1) as server:
+        for address in addresses():
+            with pytest.raises(ConnectionRefusedError):
+                socket.create_connection((address, server.port), timeout=10)
+        peer = server.client(LIST)
+        server.go_on()
+        assert (NO_LIST, ends()) == (given(peer), server.ended())
+
+
 def test_a_longest_body_is_served(system):
     """It is read whole, and is no message."""
     longest = post("ana", "i1", b"a" * 16384)
@@ -275,10 +293,30 @@ def nonce(body):
     return body[40:72]
 
 
-def test_each_certificate_has_a_nonce_of_its_own(served):
-    served.post("root", "web", department())
-    assert [200] * 20 == [served.post("ana", f"k{it}", issue(f"web/{it}")).status for it in range(20)]
-    assert 20 == len({nonce(served.get(f"/v1/certs/{it}/body").body) for it in range(1, 21)})
+def nonces_of(office, places, **how):
+    """The nonces of certificates that are issued by one server, in a department that it makes. A connection each."""
+    with office.serving(**how) as served:
+        asked = [served.post("root", f"web{places[0]}", department())]
+        asked += [served.post("ana", f"k{it}", issue(f"web/{it}")) for it in places]
+        assert [200] * len(asked) == [it.status for it in asked]
+        return [nonce(served.get(f"/v1/certs/{it}/body").body) for it in places]
+
+
+def test_each_certificate_has_a_nonce_of_its_own(office):
+    """Also after another start."""
+    nonces = nonces_of(office, range(1, 21)) + nonces_of(office, range(21, 41))
+    assert (40, False) == (len({*nonces}), bytes(32) in nonces)
+
+
+def test_nonces_are_the_bytes_of_the_file_one_after_the_other(office, room):
+    """The department's connection takes the first 32 bytes."""
+    file = bytes(number % 251 for number in range(32 * 20))
+    (room / "known.nonces").write_bytes(file)
+    assert [file[32 * it:32 * it + 32] for it in (1, 2, 3)] == nonces_of(office, [1, 2, 3], nonces="known.nonces")
+
+
+def test_of_zeros_the_nonces_are_zeros(office):
+    assert [bytes(32)] * 3 == nonces_of(office, [1, 2, 3], nonces="/dev/zero")
 
 
 # ---- clocks
