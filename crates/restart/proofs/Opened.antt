@@ -11,10 +11,11 @@ use Rattle.sqlite.specs.Start.{FindsIn}
 use Rattle.sqlite.proofs.ListingLemmas.{empty_is_sound}
 use Rattle.store_sql.specs.Contents.{Kept, Means}
 use Rattle.store_sql.specs.Calls.{IsBare}
-use Rattle.store_sql.specs.Schema.{no_schema, whole}
+use Rattle.store_sql.specs.Schema.{no_schema, whole, without_ca}
 use Rattle.store.specs.Rows.{office_contents}
+use Rattle.store.specs.Former.{Had, former_contents}
 use Rattle.restart.specs.Images.{HoldsNone}
-use Rattle.restart.specs.Runs.{FoundIsTold, IsBlankIfNone, TellsWhatIsHeld}
+use Rattle.restart.specs.Runs.{FoundIsTold, IsBlankIfNone, TellsFormer, TellsWhatIsHeld}
 use Rattle.restart.proofs.HalfMade.{found_nothing}
 use Rattle.restart.proofs.OneSchema.{one_schema}
 
@@ -43,6 +44,24 @@ tells_what_is_held image s opens live unlimited found told o l held =
     let same : s.committed.trees ≡ held.trees = ∥∥₁_elim held.holds (Trees-set _ _) (found.holds held.trees) in
     told opens live unlimited o l held.history
     (subst (λ (t : Trees). Kept t (office_contents o l)) (sym same) held.kept)
+
+-- so are those of schema 1
+pub tells_former : (image : Image) (s : State) → Opens s → IsLive s → FindsIn image s → TellsFormer image s
+tells_former image s opens live found o l held =
+    let c = former_contents o l in
+    let same : s.committed.trees ≡ held.trees = ∥∥₁_elim held.holds (Trees-set _ _) (found.holds held.trees) in
+    let kept : Had c (record { schema = without_ca; trees = s.committed.trees }) =
+    subst (λ (t : Trees). Had c (record { schema = without_ca; trees = t })) (sym same) held.had in
+    let schema = one_schema without_ca s.committed.schema s.committed.trees refl kept.sound (live opens.is_open).1 in
+    let had : Had c s.committed = record { schema = schema; sound = kept.sound; holds = kept.holds } in
+    record {
+      plain = held.plain;
+      rows = λ _. record {
+        autocommit = opens.autocommit;
+        now = subst (Had c) (sym opens.clean) had;
+        committed = had;
+      };
+    }
 
 -- of files that hold no office no table is read
 no_tables : (image : Image) (s : State) → FindsIn image s → HoldsNone image → IsSound no_schema s.committed.trees

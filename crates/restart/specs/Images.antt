@@ -7,8 +7,9 @@ use Rattle.sqlite.specs.Files.{HoldsDatabase, IsNothing}
 use Rattle.office.specs.declared.opening.Opening.{Opening}
 use Rattle.office.specs.declared.arrival.Arrival.{Arrival}
 use Rattle.store_sql.specs.Contents.{Kept}
-use Rattle.store_sql.specs.Schema.{no_schema}
+use Rattle.store_sql.specs.Schema.{no_schema, without_ca}
 use Rattle.store.specs.Rows.{office_contents}
+use Rattle.store.specs.Former.{Had, HasNoRollover, former_contents}
 use Rattle.store.specs.Meaning.{IsHistory}
 
 -- a database with the rows of the office of this opening after this history
@@ -17,6 +18,14 @@ pub record HoldsOffice (image : Image) (o : Opening) (l : List Arrival) : Type 0
   pub trees : Trees
   pub holds : ∥ HoldsDatabase image trees ∥₁
   pub kept : Kept trees (office_contents o l)
+
+-- a database with those rows as schema 1 has them, which knows no rollover
+pub record HoldsFormer (image : Image) (o : Opening) (l : List Arrival) : Type 0 where
+  pub history : IsHistory o l
+  pub plain : HasNoRollover l
+  pub trees : Trees
+  pub holds : ∥ HoldsDatabase image trees ∥₁
+  pub had : Had (former_contents o l) (record { schema = without_ca; trees = trees })
 
 -- that office, or that office after one arrival more
 abbrev pub HoldsAtLeast : Image → Opening → List Arrival → Type 0

@@ -17,9 +17,10 @@ use Rattle.office.specs.declared.arrival.Arrival.{Arrival}
 use Rattle.store_sql.specs.Contents.{Kept}
 use Rattle.store.specs.Rows.{office_contents}
 use Rattle.store.specs.Transactions.{IsAsBefore}
+use Rattle.store.specs.Former.{TellsBefore}
 use Rattle.store.specs.Meaning.{IsBlank, IsHistory, Stores, Tells}
 use Rattle.web.specs.Runs.{AllDue}
-use Rattle.restart.specs.Images.{HoldsAtLeast, HoldsNone, HoldsOffice}
+use Rattle.restart.specs.Images.{HoldsAtLeast, HoldsFormer, HoldsNone, HoldsOffice}
 use Rattle.restart.specs.Lives.{Asked, End, GivesNone, IsRun}
 use Rattle.restart.specs.Lives.End.{closed, cut}
 
@@ -34,6 +35,10 @@ FoundIsTold s =
 -- it tells each history whose office the files held
 abbrev pub TellsWhatIsHeld : Image → State → Type 0
 TellsWhatIsHeld image s = (o : Opening) (l : List Arrival) → HoldsOffice image o l → Tells s o l
+
+-- it tells in schema 1 each history whose office the files held so
+abbrev pub TellsFormer : Image → State → Type 0
+TellsFormer image s = (o : Opening) (l : List Arrival) → HoldsFormer image o l → TellsBefore s o l
 
 -- it is blank if the files held no office
 abbrev pub IsBlankIfNone : Image → State → Type 0
