@@ -215,7 +215,7 @@ def test_init_takes_all_serials_of_an_office(sshstation, room, first, last):
 @pytest.mark.parametrize("text, fault", [
     ("ssh-rsa AAAA", "WrongType"), ("ssh-ed25519 AAAA", "BadBase64"), ("", "WrongType"),
     (f"{CA} \x01", "BadComment"), (f"{CA} ".ljust(8193, "a"), "File"), (None, "File"),
-])
+], ids=["other-type", "no-key", "empty", "bad-comment", "too-long", "missing"])
 def test_init_wants_a_key_line_before_all_else(sshstation, room, text, fault):
     if text is not None:
         (room / "ca.pub").write_text(text)
@@ -274,7 +274,7 @@ def test_a_body_that_is_not_there_ends_the_call_and_what_was_printed_stands(guar
     (None, "File"), (b"\n" * 1048577, "File"), (b"department web\n", "BadPolicy 2"),
     (b"# one\n no comment\n", "BadPolicy 2"), (department().encode() * 2, "BadPolicy 9"),
     (b"#\nrevoke-serial 1\n", "BadPolicy 2"),
-])
+], ids=["missing", "too-long", "cut", "other-line", "two-of-a-name", "other-message"])
 def test_the_policy_is_read_before_the_database_is_looked_for(sshstation, room, policy, fault):
     if policy is not None:
         put(room, policy=policy)
