@@ -141,14 +141,16 @@ impl<S: Start> GuardDatabase<'_, S> {
 fn make_over<S: Start>(
     alloc: Global,
     conn: FileConnection<S>,
-    scope: &Scope,
+    ca: [u8; 32],
+    first: u64,
+    last: u64,
 ) -> Result<FileGuard<S>, StationFault>
     requires new { IsNew conn }
     requires opened { HasCleanDisk (file_state conn) → IsOpened conn }
-    requires lawful { IsTrue (are_serials scope.now.first scope.now.last) }
-    ensures { IfOk result (MakesGuard scope.now) }
+    requires lawful { IsTrue (are_serials first last) }
+    ensures { IfOk result (MakesGuard (record { ca = ca; first = first; last = last })) }
 {
-    match GuardStore::init(alloc, conn, scope) {
+    match GuardStore::init(alloc, conn, &Scope { ca, first, last }) {
         Ok(guard) => Ok(guard),
         Err((fault, conn)) => {
             drop(conn);
@@ -184,7 +186,7 @@ impl<S: Start> GuardFile for GuardDatabase<'_, S> {
     fn make(&mut self, alloc: Global, scope: &Scope) -> Result<FileGuard<S>, StationFault> {
         match made(self.rt, self.path) {
             Ok(()) => match self.connect() {
-                Ok(conn) => make_over(alloc, conn, scope),
+                Ok(conn) => make_over(alloc, conn, scope.ca, scope.first, scope.last),
                 Err(fault) => Err(fault),
             },
             Err(fault) => Err(fault),
