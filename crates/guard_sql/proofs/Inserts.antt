@@ -66,7 +66,6 @@ module _ {X : Type 0} {sql : List ℕ} {cells : X → Row} {places : List ℕ} {
   pub insert : (x : X) → Write sql (cells x) (with_x x)
   insert x = record { command = Insert at (Values terms width); is = it.is x; on_rows = tt; does = does x }
 
-
 -- ---- foreign keys
 
 -- there are none, so all hold
