@@ -7,7 +7,7 @@ use Rattle.guard_sql.specs.Calls.{Begins, Fails, FailsWhere}
 use Rattle.guard_sql.specs.Contents.{Contents}
 use Rattle.guard_sql.specs.Refusals.{RefusedFor}
 use Rattle.guard_sql.specs.Statements.{Wrote}
-use Rattle.guard_sql.specs.Transactions.{Concludes, Ends, EndsFor, Has, LeavesAnswered, Rests, Waits, Whole}
+use Rattle.guard_sql.specs.Transactions.{Concludes, EndsFor, Has, LeavesAnswered, Rests, Waits, Whole}
 use Rattle.guard_sql.proofs.Causes.{cause_of, stops_for}
 use Rattle.guard_sql.proofs.Steps.{ends, left}
 use Rattle.guard_sql.proofs.TransactionParts.{written}
