@@ -1,7 +1,7 @@
 -- What the calls of a register do over tables that keep a guard.
-use Rattle.std.proofs.Common.{◌≡◌, ℕ, ◌<◌, Bool, true, false, List, [], ◌∷◌, ◌++◌, Ok, Err, Option, Some, None, Result, IsTrue}
-use Rattle.std.proofs.Common.{◌⊎◌, inl, inr, ap, sym, subst, refl, ◌∙◌, arith}
-use Rattle.std.specs.Prelude.{OnOk, OnErr, IfErr, IfOk, is_some}
+use Rattle.std.proofs.Common.{◌≡◌, ℕ, true, false, Ok, Err, Option, None, Result, IsTrue}
+use Rattle.std.proofs.Common.{inl, inr, ap, sym, subst, refl, ◌∙◌, arith}
+use Rattle.std.specs.Prelude.{is_some}
 use Rattle.std.proofs.lemmas.Bool.{both_ways, cases_Bool}
 use Rattle.sqlite.specs.Tree.{Trees}
 use Rattle.sqlite.specs.State.{State as Connection, HasCleanDisk, IsUnchanged, Survives}
@@ -9,11 +9,10 @@ use Rattle.store_sql.specs.Faults.{HasCause as SqlCause, HasFailed as SqlFailed}
 use Rattle.store_sql.specs.declared.table_fault.Fault.{Fault}
 use Rattle.store_sql.specs.declared.table_fault.Fault.TheVariants.{Damaged, Device, NoMemory}
 use Rattle.guard.specs.Judged.{HasCause}
-use Rattle.guard.specs.declared.register.RegisterFault.{RegisterFault}
 use Rattle.guard.specs.declared.register.RegisterFault.TheVariants as register
 use Rattle.guard.specs.State.{State}
-use Rattle.guard_sql.specs.Calls.{Fails, FindsSuch, Never, OnlyReads}
-use Rattle.guard_sql.specs.Contents.{Contents, Holds, Kept, Means}
+use Rattle.guard_sql.specs.Calls.{Fails, FindsSuch, Never}
+use Rattle.guard_sql.specs.Contents.{Contents, Holds, Kept}
 use Rattle.guard_sql.specs.Keeping.{HasFailed, HasGuard, IsGuard, Keeps, Leaves}
 use Rattle.guard_sql.specs.Refusals.{HasCauseOr}
 use Rattle.guard_sql.specs.Registering.{Leads, Shows}

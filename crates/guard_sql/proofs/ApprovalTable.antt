@@ -6,7 +6,7 @@ use Rattle.guard_sql.proofs.Words.{List, Null, Output, Query, RefusedFor, Refuse
 use Rattle.guard_sql.proofs.Words.{Trees, Values, [], and-true, ap, approval_cells, approval_places, approved_at}
 use Rattle.guard_sql.proofs.Words.{approved_under, ap₂, arith, ascending, at_places, binary, codes, col, column, drop}
 use Rattle.guard_sql.proofs.Words.{equal, everything, filter, has_serial, inl, inr, is_true, lit, lt-ltb, map, nat_le}
-use Rattle.guard_sql.proofs.Words.{op2, overlay, pos, refl, rowid, shown, subst, sym, take, tied_itself, tied_same}
+use Rattle.guard_sql.proofs.Words.{op2, overlay, pos, refl, rowid, subst, sym, take, tied_itself, tied_same}
 use Rattle.guard_sql.proofs.Words.{true, value_cmp, value_cmp_total, whole, with_approval, ℕ, ◌&&◌, ◌<◌, ◌^◌, ◌∙◌}
 use Rattle.guard_sql.proofs.Words.{◌∷◌, ◌≡◌}
 use Rattle.store_sql.proofs.CallLemmas.{IsSelect}

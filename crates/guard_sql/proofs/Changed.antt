@@ -1,8 +1,7 @@
 -- What a write leads to: the state is lawful, its rows are those of the tables, and the tables have room.
-use Rattle.std.proofs.Common.{◌≡◌, ℕ, ◌<◌, ◌≤◌, ◌+◌, ◌^◌, List, [], ◌∷◌, ◌++◌, None, Result, IsTrue, inl, inr, ap, sym, ◌∙◌}
+use Rattle.std.proofs.Common.{◌≡◌, ℕ, ◌<◌, ◌≤◌, ◌^◌, [], ◌∷◌, None, Result, IsTrue, inl, inr, ap, sym, ◌∙◌}
 use Rattle.std.proofs.Common.{refl, arith}
-use Rattle.std.specs.Prelude.{length, nat_le, ◌&&◌}
-use Rattle.std.specs.List.{AllByRecursion}
+use Rattle.std.specs.Prelude.{length}
 use Rattle.std.proofs.lemmas.Bool.Decides.{nat_tests}
 use Rattle.sqlite.specs.Tree.{Trees}
 use Rattle.sqlite.specs.State.{State as Connection}

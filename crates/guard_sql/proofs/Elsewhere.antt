@@ -1,7 +1,7 @@
 -- A statement on one table leaves what the other holds; and structs with the same columns are the same.
 use Rattle.guard_sql.proofs.Words.{AllByRecursion, ApprovalRow, Contents, GuardRow, Holds, List, Lists, Row, Trees}
-use Rattle.guard_sql.proofs.Words.{ap, approval_cells, approval_places, approved, blob_in, column, guard_cells}
-use Rattle.guard_sql.proofs.Words.{guard_places, guards, number_in, subst, sym, whole, ℕ, ◌≡◌, ◌≢◌}
+use Rattle.guard_sql.proofs.Words.{ap, approval_cells, approval_places, blob_in, column, guard_cells}
+use Rattle.guard_sql.proofs.Words.{guard_places, number_in, subst, sym, whole, ℕ, ◌≡◌, ◌≢◌}
 
 -- the trees of the tables, but for this one, are as they were
 abbrev pub Spares : ℕ → Trees → Trees → Type 0

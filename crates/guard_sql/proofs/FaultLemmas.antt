@@ -4,12 +4,9 @@ use Rattle.guard_sql.proofs.Words.{Err, Error, Executes, ExecutesIn, Fails, Fail
 use Rattle.guard_sql.proofs.Words.{HasFailed, IfErr, IfOk, IsMisplaced, IsPlain, List, Means, NoMemory, None, Ok}
 use Rattle.guard_sql.proofs.Words.{Option, RefusedFor, Release, Result, Rollback, RollbackTo, Row, Some, State, ap}
 use Rattle.guard_sql.proofs.Words.{append-nil, command, command_of, false, fault_of, if◌then◌else◌, inl, inr}
-use Rattle.guard_sql.proofs.Words.{is_out_of_memory, is_pragma, is_query, length, mode_of, plain, refl, statement_of}
+use Rattle.guard_sql.proofs.Words.{is_out_of_memory, is_pragma, is_query, length, mode_of, refl, statement_of}
 use Rattle.guard_sql.proofs.Words.{subst, sym, text_of, true, understood, whole, ℕ, ◌||◌, ◌∙◌, ◌≡◌, ◌⊎◌}
-use Rattle.std.proofs.Common.{Any}
 use Rattle.sqlite_trees.specs.declared.error.StoreError.TheVariants.{OutOfMemory, Io, Corrupt, Full, Broken, Unstorable}
-use Rattle.sqlite.specs.Listing.{IsSourceOf}
-use Rattle.sqlite.specs.Effect.{RefusesToRead}
 use Rattle.store_sql.proofs.FaultLemmas.{IsWhole, not_run}
 use Rattle.store_sql.proofs.Statements.{mode}
 

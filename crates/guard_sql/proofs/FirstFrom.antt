@@ -2,13 +2,12 @@
 use Rattle.guard_sql.proofs.Words.{AllByRecursion, ApprovalRow, Binary, Equal, Greater, Has, Int, IsFirstFrom}
 use Rattle.guard_sql.proofs.Words.{IsOneOf, IsPermutation, IsPermutation-sym, IsSorted, IsSorted-from_map, Less, List}
 use Rattle.guard_sql.proofs.Words.{None, Option, Ordering, Row, Some, [], all-permutation, all_from, all_has}
-use Rattle.guard_sql.proofs.Words.{approval_cells, ap₂, arith, ascending, cases_Bool, column, equal, false, filter}
+use Rattle.guard_sql.proofs.Words.{approval_cells, ap₂, arith, ascending, cases_Bool, column, false, filter}
 use Rattle.guard_sql.proofs.Words.{has_filtered, has_kept, if◌then◌else◌, inl, inr, key_cmp, length_permutation, map}
 use Rattle.guard_sql.proofs.Words.{nat_cmp, nat_le, nat_tests, pos, refl, subst, suc, sym, take, true, value_cmp, ℕ}
 use Rattle.guard_sql.proofs.Words.{◌<◌, ◌∷◌, ◌≡◌, ◌≤◌}
 use Rattle.std.proofs.Common.{is_lt, add-one}
 use Rattle.sqlite_trees.proofs.ListLemmas.{all_weaker}
-use Rattle.store_sql.proofs.NumberUpdates.{sole, void}
 use Rattle.store_sql.proofs.Selects.{AscendBy, number_cmp}
 
 -- the nearer one of two rows, if both are there

@@ -2,20 +2,12 @@
 use Rattle.guard_sql.proofs.Words.{Changes, Command, CommitsBy, Contents, Database, Does, Err, Error, Executes, Fault}
 use Rattle.guard_sql.proofs.Words.{FindsSuch, Global, Holds, IsFirstRead, IsOneOf, IsPermutation, IsPlain, IsSound}
 use Rattle.guard_sql.proofs.Words.{IsWrite, Kept, List, MayLeave, Means, None, Ok, Option, Result, Row, Runs, Some}
-use Rattle.guard_sql.proofs.Words.{State, Tally, Trees, Vec, Writes, [], ap, arith, command, command_of, holds, inl}
-use Rattle.guard_sql.proofs.Words.{length_permutation, map, plain, refl, runs_as, statement_of, subst, sym}
+use Rattle.guard_sql.proofs.Words.{State, Tally, Trees, Vec, Writes, [], ap, arith, command_of, inl}
+use Rattle.guard_sql.proofs.Words.{length_permutation, map, refl, runs_as, statement_of, subst, sym}
 use Rattle.guard_sql.proofs.Words.{understood, whole, ℕ, ◌∙◌, ◌∷◌, ◌≡◌}
 use Rattle.store_sql.specs.Done.{IsFirst}
-use Rattle.std.proofs.Common.{set}
-use Rattle.std.specs.List.{swap}
-use Rattle.std.specs.List.Sorted.{SwapsInRange, apply_swaps}
-use Rattle.std.proofs.Common.{add-one}
-use Rattle.std.proofs.Math.Seq.{take-suc}
-use Rattle.std.proofs.lemmas.List.{map-append, map-set}
-use Rattle.guard_sql.specs.Calls.{Fails}
 use Rattle.store_sql.proofs.FoundLemmas.{Shows, unmapped}
 use Rattle.store_sql.proofs.Statements.{mode, stopped, commits_as}
-use Rattle.store_sql.proofs.Queries.{query_stopped, shown_unchanged}
 
 -- a text that is a write, by what its command does
 module _ (sql : List ℕ) (params : Row) (command : Command) (is : command_of (understood whole sql) ≡ command)

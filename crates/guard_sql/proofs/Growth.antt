@@ -2,7 +2,7 @@
 use Rattle.guard_sql.proofs.Words.{Bool, Completes, Creates, Err, Fault, HasCleanDisk, IsBare, IsPermutation-refl}
 use Rattle.guard_sql.proofs.Words.{IsSound, List, Lists, Ok, Result, Row, State, Stays, Survives, WaitsAt, []}
 use Rattle.guard_sql.proofs.Words.{approval_cells, approval_places, approved, arith, false, guard, guard_cells}
-use Rattle.guard_sql.proofs.Words.{guard_places, guards, holds, if◌then◌else◌, no_schema, subst, survives_then, sym}
+use Rattle.guard_sql.proofs.Words.{guard_places, if◌then◌else◌, no_schema, subst, survives_then, sym}
 use Rattle.guard_sql.proofs.Words.{through_guard, true, ℕ, ◌∙◌, ◌≡◌}
 use Rattle.std.proofs.lemmas.Result.{IfErr-weaker}
 use Rattle.store_sql.proofs.Later.{cause_then, inside_is, stops}

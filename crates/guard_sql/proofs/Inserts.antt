@@ -2,7 +2,7 @@
 use Rattle.guard_sql.proofs.Words.{All, Applies, Chosen, Contents, Database, Does, Edit, Enforced, FailsBy, Fault}
 use Rattle.guard_sql.proofs.Words.{Has, Holds, Insert, IsPermutation, List, Lists, Means, None, Ok, Option, Refers}
 use Rattle.guard_sql.proofs.Words.{RefusedFor, Result, Row, Some, State, Table, Tally, Term, Trees, Unique, Values}
-use Rattle.guard_sql.proofs.Words.{[], accepts_terms, all_has, ap, at_places, cast_row, command, edit_of, false}
+use Rattle.guard_sql.proofs.Words.{[], accepts_terms, all_has, ap, at_places, cast_row, edit_of, false}
 use Rattle.guard_sql.proofs.Words.{fits_i64, id_in, is_taken, length, refl, rowid, slice_get, stamped, statement_of}
 use Rattle.guard_sql.proofs.Words.{subst, true, understood, value_rows, whole, with_rowid, works, ℕ, ◌/◌, ◌<◌, ◌^◌}
 use Rattle.guard_sql.proofs.Words.{◌∙◌, ◌∷◌, ◌≡◌}
@@ -65,7 +65,6 @@ module _ {X : Type 0} {sql : List ℕ} {cells : X → Row} {places : List ℕ} {
 
   pub insert : (x : X) → Write sql (cells x) (with_x x)
   insert x = record { command = Insert at (Values terms width); is = it.is x; on_rows = tt; does = does x }
-
 
 -- ---- foreign keys
 

@@ -1,15 +1,13 @@
 -- A row that has just these kinds of columns is made of what is read from them; and names of columns.
-use Rattle.store_sql.proofs.Words.{Bool, List, Row, Value, [], ap, ap₂, arith, blob_in, bytes_eq, column, drop, false, get_or, length}
-use Rattle.store_sql.proofs.Words.{list_all, map, nat_tests, negsuc, not, number_in, optional_blob_in, or_null, pos, refl}
-use Rattle.store_sql.proofs.Words.{sym, text_in, true, ℕ, ◌&&◌, ◌+◌, ◌<◌, ◌==◌, ◌∙◌, ◌∷◌, ◌≡◌, ◌≤◌}
-use Rattle.std.specs.List.{enumerate_from, range_with_len, zip}
+use Rattle.store_sql.proofs.Words.{Bool, List, Row, Value, [], ap, ap₂, arith, blob_in, column, drop, false, get_or, length}
+use Rattle.store_sql.proofs.Words.{list_all, map, nat_tests, negsuc, number_in, pos, refl}
+use Rattle.store_sql.proofs.Words.{sym, true, ℕ, ◌&&◌, ◌+◌, ◌<◌, ◌==◌, ◌∙◌, ◌∷◌, ◌≡◌, ◌≤◌}
+use Rattle.std.specs.List.{enumerate_from, range_with_len}
 use Rattle.std.proofs.lemmas.List.{drop_all, drop_more, ext_get_or}
 use Rattle.std.proofs.lemmas.List.FromFn.{length-map-range_with_len, get_or-map-range_with_len}
 use Rattle.guard_sql.specs.declared.kind.Kind.{Kind}
 use Rattle.guard_sql.specs.declared.kind.Kind.TheVariants.{Number, Blob}
 use Rattle.guard_sql.specs.Kinds.{holds, has_kinds}
-use Rattle.std.proofs.Common.{Bor}
-use Rattle.sqlite_schema.specs.declared.schema.Column.{Column}
 use Rattle.sqlite.specs.declared.types.Value.TheVariants as value
 
 -- the value that is read from a column, as it is kept

@@ -1,18 +1,16 @@
 -- The bodies that are kept, and the rows of them.
 use Rattle.std.proofs.Common.{◌≡◌, ℕ, ◌<◌, ◌≤◌, ◌^◌, List, [], ◌∷◌, ◌++◌, Bool, true, false, Option, Some, None, inl, inr}
 use Rattle.std.proofs.Common.{◌⊎◌, ap, sym, subst, refl, ◌∙◌, arith}
-use Rattle.std.specs.Prelude.{All, Contains, filter, find, fold, ◌==◌}
+use Rattle.std.specs.Prelude.{Contains, filter, find, fold, ◌==◌}
 use Rattle.std.specs.List.{AllByRecursion}
 use Rattle.std.specs.Option.{option_map}
 use Rattle.std.proofs.lemmas.Bool.{both_ways, cases_Bool, eqb-true, eq-eqb}
-use Rattle.std.proofs.lemmas.List.Elements.{All-contains_itself, All-from_recursion, recursion_from_All}
+use Rattle.std.proofs.lemmas.List.Elements.{All-contains, All-contains_itself, All-from_recursion, recursion_from_All}
 use Rattle.std.proofs.lemmas.List.Sums.{fold-append}
 use Rattle.sqlite.specs.Tree.{Trees}
 use Rattle.sqlite_rules.specs.Lists.{Has}
 use Rattle.sqlite_rules.proofs.ListLemmas.{all_from, all_has, has_filtered, has_kept}
 use Rattle.sqlite_trees.proofs.ListLemmas.{all-permutation}
-use Rattle.std.specs.List.Sorted.{IsPermutation}
-use Rattle.std.proofs.lemmas.List.Sorted.{IsPermutation-sym}
 use Rattle.guard.specs.declared.approved.Approved.{Approved}
 use Rattle.guard.specs.State.{State, body_of}
 use Rattle.guard.specs.Retiring.{IsFirstFrom as IsRowOf}
@@ -165,3 +163,15 @@ pub none_from : (s : State) (from : ℕ) → AllByRecursion (λ a. a.serial < 2 
     → IsRowOf from s.approved None
 none_from s from low high = All-from_recursion (λ b. b.serial < from) s.approved (all_from _ s.approved
     (λ b here. let lt = all_has (λ (c : Approved). c.serial < 2 ^ 63) s.approved b low here in omega (arith, lt, high)))
+
+-- ---- one body a serial
+
+contains_has : (l : List Approved) (a : Approved) → Contains l a → Has l a
+contains_has l a here =
+    All-contains (Has l) l a (All-from_recursion (Has l) l (all_from (Has l) l (λ b there. there))) here
+
+pub one_body : (s : State) (trees : Trees) → Holds trees (guard_contents s) → (a b : Approved)
+    → Contains s.approved a → Contains s.approved b → a.serial ≡ b.serial → a ≡ b
+one_body s trees holds a b has_a has_b same = ap approved_in (serial_apart trees (guard_contents s) holds
+    (approval_row a) (approval_row b) (row_has s.approved a (contains_has s.approved a has_a))
+    (row_has s.approved b (contains_has s.approved b has_b)) same)

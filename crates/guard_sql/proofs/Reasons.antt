@@ -9,15 +9,8 @@ use Rattle.guard_sql.proofs.Words.{nat_lt, not, references_fit, refl, rowid, sam
 use Rattle.guard_sql.proofs.Words.{table_reals, tied_itself, true, whole, with_tree, ℤ, ◌&&◌, ◌<◌, ◌^◌, ◌∙◌, ◌∷◌, ◌≡◌}
 use Rattle.guard_sql.proofs.Words.{◌≢◌, ◌≤◌, ◌⊎◌}
 use Rattle.std.proofs.Common.{rules}
-use Rattle.std.specs.Prelude.{sum_by}
-use Rattle.std.specs.Float.{NotNan}
 use Rattle.std.proofs.lemmas.Bool.{leb-false, not-false}
-use Rattle.std.proofs.Math.Dec.{T, eqb_refl}
 use Rattle.std.proofs.lemmas.Cmp.{int_cmp_total}
-use Rattle.std.proofs.lemmas.List.Elements.{All-from_recursion}
-use Rattle.std.proofs.lemmas.Nat.Bits.{bit_at-zero}
-use Rattle.sqlite_value.specs.Order.{bytes, exact, number}
-use Rattle.sqlite.specs.declared.types.Value.TheVariants.{Real}
 use Rattle.sqlite_trees.specs.Tree.{IsAscending}
 use Rattle.sqlite_trees.specs.View.{IsStorable, IsStorableRow}
 use Rattle.sqlite_sql.specs.Catalog.{entry_of}

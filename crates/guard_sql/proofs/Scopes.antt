@@ -15,12 +15,12 @@ use Rattle.guard_sql.specs.declared.opening_fault.OpeningFault.{OpeningFault}
 use Rattle.guard_sql.specs.declared.opening_fault.OpeningFault.TheVariants as fault
 use Rattle.guard_sql.specs.Calls.{Fails, Never}
 use Rattle.guard_sql.specs.Contents.{Contents, Kept, Means}
-use Rattle.guard_sql.specs.Keeping.{HasFailed, HasGuard, IsGuard, IsScope, Keeps, Stores}
+use Rattle.guard_sql.specs.Keeping.{HasGuard, IsGuard, IsScope, Stores}
 use Rattle.guard_sql.specs.Opening.{FindsScope, IsExcused, scope_in}
 use Rattle.guard_sql.specs.Refusals.{HasCauseOr}
 use Rattle.guard_sql.specs.Rows.{guard_contents, guard_row}
 use Rattle.guard_sql.specs.Told.{opening_fault}
-use Rattle.guard_sql.specs.Transactions.{Has, Rests}
+use Rattle.guard_sql.specs.Transactions.{Has}
 use Rattle.guard_sql.proofs.Answering.{has_failed}
 
 -- a lawful scope is read again

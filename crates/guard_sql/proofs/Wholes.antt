@@ -7,7 +7,7 @@ use Rattle.guard_sql.specs.Calls.{Begins, Fails, FailsWhere}
 use Rattle.guard_sql.specs.Contents.{Contents}
 use Rattle.guard_sql.specs.Refusals.{RefusedFor}
 use Rattle.guard_sql.specs.Statements.{Wrote}
-use Rattle.guard_sql.specs.Transactions.{Concludes, Ends, EndsFor, Has, LeavesAnswered, Rests, Waits, Whole}
+use Rattle.guard_sql.specs.Transactions.{Concludes, EndsFor, Has, LeavesAnswered, Rests, Waits, Whole}
 use Rattle.guard_sql.proofs.Causes.{cause_of, stops_for}
 use Rattle.guard_sql.proofs.Steps.{ends, left}
 use Rattle.guard_sql.proofs.TransactionParts.{written}
@@ -69,9 +69,10 @@ pub not_begun : {after : Contents → Contents} {refused : Contents → Type 0} 
     → (HasCleanDisk new → FailsWhere {X = Unit {0}} (λ s. s.in_transaction ≡ false) old new (Err f))
     → Survives old new (λ _. ⊥) → Whole after refused old new (Err f)
 not_begun {after = after} {refused = refused} {old = old} {new = new} {f = f} begins fault survives = record {
-  ends = λ clean still.
-      ((rests_still (after (record { guards = []; approved = [] })) old new (begins clean) still).0,
-      λ c rests. (rests_still c old new (begins clean) still).1 rests);
+  ends = λ clean still. (
+    (rests_still (after (record { guards = []; approved = [] })) old new (begins clean) still).0,
+    λ c rests. (rests_still c old new (begins clean) still).1 rests,
+  );
   outside = λ clean was. still_outside old new (begins clean) was;
   cause = λ clean was c rests. cause_of (refused c) old new f (fault clean was);
   survives = survives_weaker old new (λ _. ⊥) _ (λ clean trees h. absurd h) survives;

@@ -1,11 +1,12 @@
 -- What a connection keeps of a guard.
-use Rattle.std.specs.Prelude.{◌≡◌, ◌⊎◌, ◌<◌, ◌^◌, ℕ, false, length, IsTrue, None}
+use Rattle.std.specs.Prelude.{◌≡◌, ◌⊎◌, ◌<◌, ◌^◌, false, length, Contains, IsTrue, None}
 use Rattle.std.specs.List.{AllByRecursion}
 use Rattle.sqlite.specs.Tree.{Trees}
 use Rattle.sqlite.specs.State.{State as Connection}
 use Rattle.office.specs.Openings.{are_serials}
+use Rattle.guard.specs.declared.approved.Approved.{Approved}
 use Rattle.guard.specs.declared.scope.Scope.{Scope}
-use Rattle.guard.specs.State.{State, opened}
+use Rattle.guard.specs.State.{State}
 use Rattle.store_sql.specs.Calls.{IsBare}
 use Rattle.store_sql.specs.Schema.{no_schema}
 use Rattle.guard_sql.specs.Contents.{Kept}
@@ -51,3 +52,9 @@ pub record Stores (c : Connection) (s : State) : Type 0 where
   pub keeps : Keeps c s
   pub is_open : IsTrue c.is_open
   pub crash : Leaves c s s
+
+-- of what an open connection keeps two rows of one serial are the same
+abbrev pub HasOneBodyASerial : Connection → Type 0
+HasOneBodyASerial c =
+    (s : State) → Keeps c s → IsTrue c.is_open → (a b : Approved) → Contains s.approved a → Contains s.approved b
+    → a.serial ≡ b.serial → a ≡ b

@@ -13,7 +13,7 @@ use Rattle.guard_sql.specs.declared.guards.GuardRow.{GuardRow}
 use Rattle.guard_sql.specs.declared.opening_fault.OpeningFault.{OpeningFault}
 use Rattle.guard_sql.specs.declared.opening_fault.OpeningFault.TheVariants as fault
 use Rattle.guard_sql.specs.Contents.{Means}
-use Rattle.guard_sql.specs.Keeping.{HasFailed, HasGuard, IsBlank, IsGuard, Keeps, Stores}
+use Rattle.guard_sql.specs.Keeping.{HasFailed, HasGuard, IsBlank, IsGuard, Stores}
 use Rattle.guard_sql.specs.Rows.{guard_contents}
 use Rattle.guard_sql.specs.Transactions.{Leaves as LeavesAfter}
 

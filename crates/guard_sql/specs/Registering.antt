@@ -10,12 +10,12 @@ use Rattle.guard_sql.specs.Keeping.{HasFailed, Keeps, Leaves}
 
 -- a reading call shows this of what is kept
 pub record Shows {X : Type 0} (Shown : State → X → Type 0) (old new : Connection) (r : Result X RegisterFault) : Type 0
-    where
-  pub honest : HasCleanDisk new → HasCleanDisk old
-  pub row : HasCleanDisk new → (s : State) → Keeps old s → IfOk r (λ x. Shown s x)
-  pub same : HasCleanDisk new → (s : State) → Keeps old s → Keeps new s
-  pub crash : HasCleanDisk new → (s : State) → Keeps old s → Leaves old s s → Leaves new s s
-  pub cause : HasCleanDisk new → (s : State) → Keeps old s → IfErr r (λ e. HasCause e (HasFailed new))
+  where
+    pub honest : HasCleanDisk new → HasCleanDisk old
+    pub row : HasCleanDisk new → (s : State) → Keeps old s → IfOk r (λ x. Shown s x)
+    pub same : HasCleanDisk new → (s : State) → Keeps old s → Keeps new s
+    pub crash : HasCleanDisk new → (s : State) → Keeps old s → Leaves old s s → Leaves new s s
+    pub cause : HasCleanDisk new → (s : State) → Keeps old s → IfErr r (λ e. HasCause e (HasFailed new))
 
 -- of a connection
 abbrev pub ShowsOf : {S X : Type 0} → Ghosts S → (State → X → Type 0) → Held S → Held S → Result X RegisterFault → Type 0

@@ -1,5 +1,5 @@
 -- What is told above the tables.
-use Rattle.std.specs.Prelude.{List, Option, Some, None, Result, Ok, Err}
+use Rattle.std.specs.Prelude.{Result, Ok, Err}
 use Rattle.store_sql.specs.declared.table_fault.Fault.{Fault}
 use Rattle.store_sql.specs.declared.table_fault.Fault.TheVariants as table
 use Rattle.guard.specs.declared.register.RegisterFault.{RegisterFault}

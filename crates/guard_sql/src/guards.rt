@@ -86,7 +86,10 @@ impl Columns for GuardRow {
 }
 
 /// Puts the row of a guard. `Device` also where its id is taken, or the row is too long.
-pub(crate) fn insert_guard<S: Alter>(conn: &mut Connection<S>, guard: &GuardRow) -> Result<(), Fault>
+pub(crate) fn insert_guard<S: Alter>(
+    conn: &mut Connection<S>,
+    guard: &GuardRow,
+) -> Result<(), Fault>
     ensures { Writes S.Store (with_guard guard.now) (RefusesGuard guard.now) conn.old conn.new result }
 {
     done(conn.execute(INSERT_GUARD, &guard.values()))

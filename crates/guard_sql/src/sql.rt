@@ -1,6 +1,7 @@
 //! The statements, each in one place.
 
-pub(crate) const CREATE_GUARD: &str = "CREATE TABLE guard (id INTEGER PRIMARY KEY, schema INTEGER NOT NULL, \
+pub(crate) const CREATE_GUARD: &str =
+    "CREATE TABLE guard (id INTEGER PRIMARY KEY, schema INTEGER NOT NULL, \
     ca BLOB NOT NULL, first INTEGER NOT NULL, last INTEGER NOT NULL) STRICT";
 
 pub(crate) const INSERT_GUARD: &str =

@@ -42,11 +42,7 @@ fn has(alloc: Global, guard: &mut GuardStore<MemStore>, serial: u64, body: &[u8]
 }
 
 /// The serial and the moment of the row that is found from a serial on.
-fn first_from(
-    alloc: Global,
-    guard: &mut GuardStore<MemStore>,
-    serial: u64,
-) -> Option<(u64, u64)> {
+fn first_from(alloc: Global, guard: &mut GuardStore<MemStore>, serial: u64) -> Option<(u64, u64)> {
     match guard.row_from(alloc, serial) {
         Ok(Some(row)) => Some((row.serial, row.moment)),
         _ => None,
@@ -103,7 +99,8 @@ fn refused(alloc: Global, sql: &str) -> Option<OpeningFault> {
     }
 }
 
-const TABLES: &str = "CREATE TABLE guard (id INTEGER PRIMARY KEY, schema INTEGER NOT NULL, ca BLOB NOT NULL, \
+const TABLES: &str =
+    "CREATE TABLE guard (id INTEGER PRIMARY KEY, schema INTEGER NOT NULL, ca BLOB NOT NULL, \
     first INTEGER NOT NULL, last INTEGER NOT NULL) STRICT;";
 
 #[test]
@@ -113,10 +110,12 @@ fn what_is_no_guard_is_refused(rt: HostRuntime) {
     assert_eq!(rt; refused(alloc, TABLES), Some(OpeningFault::NotAGuard));
     let other = "CREATE TABLE guard (id INTEGER PRIMARY KEY) STRICT;";
     assert_eq!(rt; refused(alloc, other), Some(OpeningFault::NotAGuard));
-    let later = "CREATE TABLE guard (id INTEGER PRIMARY KEY, schema INTEGER NOT NULL, ca BLOB NOT NULL, \
+    let later =
+        "CREATE TABLE guard (id INTEGER PRIMARY KEY, schema INTEGER NOT NULL, ca BLOB NOT NULL, \
         first INTEGER NOT NULL, last INTEGER NOT NULL) STRICT; INSERT INTO guard VALUES (1, 2, x'00', 1, 2);";
     assert_eq!(rt; refused(alloc, later), Some(OpeningFault::WrongSchema));
-    let damaged = "CREATE TABLE guard (id INTEGER PRIMARY KEY, schema INTEGER NOT NULL, ca BLOB NOT NULL, \
+    let damaged =
+        "CREATE TABLE guard (id INTEGER PRIMARY KEY, schema INTEGER NOT NULL, ca BLOB NOT NULL, \
         first INTEGER NOT NULL, last INTEGER NOT NULL) STRICT; INSERT INTO guard VALUES (1, 1, x'00', 1, 2);";
     assert_eq!(rt; refused(alloc, damaged), Some(OpeningFault::Damaged));
 }
