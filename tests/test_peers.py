@@ -24,7 +24,7 @@ OPTIONS = "force-command", "source-address", "verify-required"
 EXTENSIONS = ("no-touch-required", "permit-X11-forwarding", "permit-agent-forwarding", "permit-port-forwarding",
               "permit-pty", "permit-user-rc")
 NOW = int(time.time())
-HOUR = {"after": NOW - 60, "before": NOW + 3600}
+HOUR = {"after": NOW - 60, "before": NOW + 7200}
 USER, HOST = 1, 2
 
 # Each certificate by its name: what is asked for.
@@ -36,8 +36,7 @@ ASKED = {
     "fido": dict(keyid="web/fido", principals="alice", options=("verify-required",), **HOUR),
     "all": dict(keyid="web/~all", principals="alice,bob", extensions=EXTENSIONS, after=1000, before=LATEST, options=(
         "verify-required", "source-address 0.0.0.0/0", "force-command /bin/true")),
-    "late": dict(keyid="web/late", principals="alice", after=NOW + 2000, before=NOW + 3000),
-    "ended": dict(keyid="web/ended", principals="alice", after=0, before=NOW + 3),
+    "late": dict(keyid="web/late", principals="alice", after=NOW + 100000, before=NOW + 200000),
     "host": dict(keyid="db/host", principals="localhost,a.example.org", **HOUR),
     "elsewhere": dict(keyid="db/elsewhere", principals="elsewhere.example.org", **HOUR),
 }
@@ -132,8 +131,8 @@ CHECKED = [
     ({"of": "alice@example.org"}, NOT_FOR.format("alice@example.org")),
     ({"Moment": NOW - 61}, "cert is not yet valid"),
     ({"Moment": NOW - 60}, ""),
-    ({"Moment": NOW + 3599}, ""),
-    ({"Moment": NOW + 3600}, "cert has expired"),
+    ({"Moment": NOW + 7199}, ""),
+    ({"Moment": NOW + 7200}, "cert has expired"),
     ({"name": "all", "Moment": LATEST - 1, "Options": OPTIONS}, ""),
     ({"name": "all", "Moment": LATEST, "Options": OPTIONS}, "cert has expired"),
     ({"name": "late"}, "cert is not yet valid"),
@@ -150,7 +149,7 @@ CHECKED = [
     (HOST_AT | {"of": "b.example.org:22"}, NOT_FOR.format("b.example.org")),
     (HOST_AT | {"name": "alice"}, "certificate presented as a host key has type 1"),
     (HOST_AT | {"name": "elsewhere", "of": "elsewhere.example.org:22"}, "no authorities for hostname"),
-    (HOST_AT | {"Moment": NOW + 3600}, "cert has expired"),
+    (HOST_AT | {"Moment": NOW + 7200}, "cert has expired"),
     (HOST_AT | {"Revoked": [SERIALS["host"]]}, f"certificate serial {SERIALS['host']} revoked"),
 ]
 
