@@ -3,7 +3,7 @@ that reads it names its first bad line.
 
 A message of each kind is given another line in one place, and is posted by root to the trial office in memory. Of each
 worked message each beginning is posted as well, and the message with some bytes more. No program prints the number of a
-bad line: a small one that does, bad_lines.rt, is made for the test, of the crate `message` and with no proof. Of
+bad line: a small one that does, bad_lines.txt, is made for the test, of the crate `message` and with no proof. Of
 networks Python and ssh-keygen are asked at each run.
 """
 import base64
@@ -242,7 +242,7 @@ def bad_lines(tmp_path_factory):
                 shutil.copytree(TOP / "crates" / name / part, folder / "crates" / name / part)
     made = folder / "crates/bad_lines"
     (made / "src").mkdir(parents=True)
-    shutil.copy(TOP / "tests/bad_lines.rt", made / "src/main.rt")
+    shutil.copy(TOP / "tests/bad_lines.txt", made / "src/main.rt")
     (folder / "crates.txt").write_text("".join(f"{line}\n" for line, _ in below) + "bad_lines: anyhow message\n")
     (folder / "HANDLES").write_text("Handles allowed: none.\n")
 
