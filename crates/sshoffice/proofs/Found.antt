@@ -1,12 +1,12 @@
 -- What is opened for a job.
-use Rattle.std.proofs.Common.{◌≡◌, Bor, Result, Ok, Err, refl, subst, sym}
+use Rattle.std.proofs.Common.{◌≡◌, Bor, ℕ, List, Result, Ok, Err, refl, subst, sym}
 use Rattle.std.specs.Prelude.{IfOk}
 use Rattle.sqlite_trees.specs.declared.store.Store as store
 use Rattle.sqlite.specs.declared.error.Error.{Error}
 use Rattle.sqlite.specs.Held.{Held}
 use Rattle.store_sql.specs.Honest.{IsOutside, IsUnlimited}
 use Rattle.office.specs.declared.opening.Opening.{Opening}
-use Rattle.sshoffice.specs.declared.database.Database.{Ghosts}
+use Rattle.sshoffice.specs.declared.world.World.{Ghosts}
 use Rattle.sshoffice.specs.declared.job_fault.JobFault.{JobFault}
 use Rattle.sshoffice.specs.declared.job.OfficeJob.{OfficeJob}
 use Rattle.sshoffice.specs.declared.job.OfficeJob.TheVariants.{Init}
@@ -15,11 +15,12 @@ use Rattle.sshoffice.specs.Steps.{Follows}
 use Rattle.sshoffice.specs.Whole.{OpensFree}
 
 -- a job that makes no office wants one that is there
-pub there_for : {D Conn : Type 0} (database : Ghosts D Conn) (job : OfficeJob) (db : D) (found : Result Conn JobFault)
-    (db' : D) → ((opening : Bor Opening) → job ≡ Init opening → ⊥) → OpensThere database db found db'
-    → OpensFor database job db found db'
-there_for database (Init opening) db found db' never h = absurd (never opening refl)
-there_for database other db found db' never h = h
+pub there_for : {W File Conn Incoming Reader Writer : Type 0} (world : Ghosts W File Conn Incoming Reader Writer)
+    (path : List ℕ) (job : OfficeJob) (w : W) (found : Result Conn JobFault) (w' : W)
+    → ((opening : Bor Opening) → job ≡ Init opening → ⊥) → OpensThere world path w found w'
+    → OpensFor world path job w found w'
+there_for world path (Init opening) w found w' never h = absurd (never opening refl)
+there_for world path other w found w' never h = h
 
 -- ---- no transaction is open on what is opened, and its queries may take any number of steps
 
@@ -31,21 +32,27 @@ free_open : {S : Type 0} (store : store.Ghosts S) (got : Result (Held S) Error)
 free_open store (Ok conn) h = h
 free_open store (Err e) h = tt
 
-module _ {S D : Type 0} (store : store.Ghosts S) (database : Ghosts D (Held S)) (free : OpensFree store database) where
-  free_once : (db : D) (found : Result (Held S) JobFault) (db' : D) → Opens database db found db' → IsFree store found
-  free_once db found db' o =
-      subst (IsFree store) (sym o.came) (free_open store o.got (free db o.got db' o.is_opened))
+module _ {W File Tables Incoming Reader Writer : Type 0} (store : store.Ghosts Tables)
+    (world : Ghosts W File (Held Tables) Incoming Reader Writer) (free : OpensFree store world) (path : List ℕ) where
+  free_once : (w : W) (found : Result (Held Tables) JobFault) (w' : W) → Opens world path w found w'
+      → IsFree store found
+  free_once w found w' o =
+      subst (IsFree store) (sym o.came) (free_open store o.got (free w path o.got w' o.is_opened))
 
-  free_step : (first : Result (Unit {0}) JobFault) (ready : D) (found : Result (Held S) JobFault) (db' : D)
-      → Follows (λ _ found. Opens database ready found db') (db' ≡ ready) first found → IsFree store found
-  free_step (Ok x) ready found db' h = free_once ready found db' h
-  free_step (Err e) ready found db' h = subst (IsFree store) (sym h.0) tt
+  free_step : (first : Result (Unit {0}) JobFault) (ready : W) (found : Result (Held Tables) JobFault) (w' : W)
+      → Follows (λ _ found. Opens world path ready found w') (w' ≡ ready) first found → IsFree store found
+  free_step (Ok x) ready found w' h = free_once ready found w' h
+  free_step (Err e) ready found w' h = subst (IsFree store) (sym h.0) tt
 
-  free_after : (First : D → Result (Unit {0}) JobFault → D → Type 0) (db : D) (found : Result (Held S) JobFault)
-      (db' : D) → OpensAfter database First db found db' → IsFree store found
-  free_after First db found db' o = free_step o.first o.ready found db' o.opened
+  free_after : (First : W → Result (Unit {0}) JobFault → W → Type 0) (w : W) (found : Result (Held Tables) JobFault)
+      (w' : W) → OpensAfter world path First w found w' → IsFree store found
+  free_after First w found w' o = free_step o.first o.ready found w' o.opened
 
-  pub free_for : (job : OfficeJob) (db : D) (found : Result (Held S) JobFault) (db' : D)
-      → OpensFor database job db found db' → IsFree store found
-  free_for (Init opening) db found db' h = free_after _ db found db' h
-  free_for other db found db' h = free_after _ db found db' h
+  pub free_for : (job : OfficeJob) (w : W) (found : Result (Held Tables) JobFault) (w' : W)
+      → OpensFor world path job w found w' → IsFree store found
+  free_for (Init opening) w found w' h = free_after _ w found w' h
+  free_for other w found w' h = free_after _ w found w' h
+
+  pub free_there : (w : W) (found : Result (Held Tables) JobFault) (w' : W) → OpensThere world path w found w'
+      → IsFree store found
+  free_there w found w' h = free_after _ w found w' h

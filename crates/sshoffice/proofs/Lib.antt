@@ -5,6 +5,7 @@ pub mod Blank
 pub mod Bodies
 pub mod Carried
 pub mod Causes
+pub mod Commanded
 pub mod Ended
 pub mod Found
 pub mod Made

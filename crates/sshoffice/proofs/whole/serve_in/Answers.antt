@@ -3,6 +3,7 @@ use Rattle.std.specs.Prelude.{IfOk}
 use Rattle.sqlite.specs.declared.error.Error.{Error}
 use Rattle.sshoffice.specs.Ending.{closed}
 use Rattle.sshoffice.specs.declared.job_fault.JobFault.{JobFault}
+use Rattle.sshoffice.proofs.Found.{free_there}
 use Rattle.sshoffice.proofs.whole.serve_in.Goals as goal
 
 -- a status is what it was once the database is closed
@@ -15,15 +16,16 @@ kept (Err e) closing small = tt
 pub returns-in-Ok-clause-serves : goal.returns-in-Ok-clause-serves
 returns-in-Ok-clause-serves g c = record {
   found = Ok c.in-Ok.conn;
-  opened = c.open_there.new.db;
+  opened = c.open_there.new.world;
   is_opened = c.in-Ok.ensures;
   ran = record {
     outcome = c.serve_at_port-served.result.0;
     last = c.serve_at_port-served.result.1;
+    between = c.serve_at_port-served.new.world;
     did = c.serve_at_port-served.ensures.serves;
     honest = c.serve_at_port-served.ensures.honest;
-    closing = c.close.result;
-    is_closed = c.close.ensures;
+    closing = c.close_database.result;
+    is_closed = c.close_database.ensures;
     came = c.closed.ensures;
   };
 }
@@ -31,12 +33,22 @@ returns-in-Ok-clause-serves g c = record {
 pub returns-in-Ok-clause-status : goal.returns-in-Ok-clause-status
 returns-in-Ok-clause-status g c =
     subst (λ (r : Result ℕ JobFault). IfOk r (λ s. s ≤ 1)) (sym c.closed.ensures)
-    (kept c.serve_at_port-served.result.0 c.close.result c.serve_at_port-served.ensures.status)
+    (kept c.serve_at_port-served.result.0 c.close_database.result c.serve_at_port-served.ensures.status)
 
 pub returns-in-Err-clause-serves : goal.returns-in-Err-clause-serves
 returns-in-Err-clause-serves g c = record {
   found = Err c.in-Err.unopened;
-  opened = c.open_there.new.db;
+  opened = c.open_there.new.world;
   is_opened = c.in-Err.ensures;
   ran = (refl, (refl, refl));
 }
+
+pub serve_at_port-served-requires-clause-outside : goal.serve_at_port-served-requires-clause-outside
+serve_at_port-served-requires-clause-outside g c =
+    (free_there g.S.Store g.W.World c.requires c.args.db.now c.args.world.now (Ok c.in-Ok.conn)
+    c.open_there.new.world c.in-Ok.ensures).0
+
+pub serve_at_port-served-requires-clause-unlimited : goal.serve_at_port-served-requires-clause-unlimited
+serve_at_port-served-requires-clause-unlimited g c =
+    (free_there g.S.Store g.W.World c.requires c.args.db.now c.args.world.now (Ok c.in-Ok.conn)
+    c.open_there.new.world c.in-Ok.ensures).1
