@@ -8,6 +8,7 @@ pub mod Causes
 pub mod Commanded
 pub mod Ended
 pub mod Found
+pub mod Kept
 pub mod Made
 pub mod Meeting
 pub mod Printed

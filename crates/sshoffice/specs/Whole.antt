@@ -1,6 +1,6 @@
 -- The whole of what is done in a world: what is opened, made, listened at and closed, in which order, and what is done
 -- in between.
-use Rattle.std.specs.Prelude.{◌≡◌, ◌⊎◌, ◌∷◌, ℕ, List, [], Option, Some, None, Result, Ok, Err, IfOk, IfSome}
+use Rattle.std.specs.Prelude.{◌≡◌, ◌⊎◌, ◌∷◌, ℕ, List, [], Option, Some, None, Result, Ok, Err, IfOk, IfSome, IsTrue}
 use Rattle.std.specs.declared.io.ErrorKind.{ErrorKind}
 use Rattle.std.specs.declared.net.socket_addr.SocketAddrV4.{SocketAddrV4}
 use Rattle.std.specs.Io.KnownBytes.{Appends}
@@ -8,12 +8,14 @@ use Rattle.std.specs.Net.Addr.{ipv4_octets}
 use Rattle.std.specs.Net.Socket.{v4_ip, v4_port}
 use Rattle.sqlite_trees.specs.declared.store.Store as store
 use Rattle.sqlite.specs.declared.error.Error.{Error}
-use Rattle.sqlite.specs.Held.{Held}
-use Rattle.sqlite.specs.State.{State}
+use Rattle.sqlite.specs.Held.{Held, state}
+use Rattle.sqlite.specs.State.{HasCleanDisk, State}
 use Rattle.store_sql.specs.Honest.{IsOutside, IsUnlimited, On, StaysClean}
 use Rattle.lines.specs.declared.key_line.KeyLine.{KeyLine}
 use Rattle.office.specs.declared.opening.Opening.{Opening}
 use Rattle.office.specs.declared.opening.OpeningFault.{OpeningFault}
+use Rattle.store.specs.Transactions.{IsAtRest}
+use Rattle.restart.specs.Runs.{AddsArrivals, KeepsOffice}
 use Rattle.web.specs.declared.exchange.Exchange.{Exchange}
 use Rattle.exchanges.specs.Exchanges.{AreExchanges, IsBadRecord, exchanges_text}
 use Rattle.server.specs.Books.{Book}
@@ -29,12 +31,31 @@ use Rattle.sshoffice.specs.Reading.{IsKeyText}
 use Rattle.sshoffice.specs.Serving.{Heard, Serves}
 use Rattle.sshoffice.specs.Steps.{Follows}
 
--- No transaction is open on what is opened, and its queries may take any number of steps.
-abbrev pub OpensFree : {W File Tables Incoming Reader Writer : Type 0} → store.Ghosts Tables
-    → Ghosts W File (Held Tables) Incoming Reader Writer → Type 0
-OpensFree {W} {File} {Tables} store world =
-    (w : W) (path : List ℕ) (found : Result (Held Tables) Error) (w' : W) → world.opens w path found w'
-    → IfOk found (λ conn. IsOutside store conn × IsUnlimited store conn)
+-- ---- databases
+
+-- No transaction is open, and queries may take any number of steps. If the disk has returned what was written, the
+-- connection is open, and it shows what is committed.
+pub record IsReady {S : Type 0} (store : store.Ghosts S) (conn : Held S) : Type 0 where
+  pub outside : IsOutside store conn
+  pub unlimited : IsUnlimited store conn
+  pub rests : HasCleanDisk (state store conn) → IsTrue (state store conn).is_open × IsAtRest (state store conn)
+
+-- A disk that has returned what was written had done so before, and a connection that is open tells each history that
+-- was told, with arrivals after it.
+abbrev pub Adds : {S : Type 0} → store.Ghosts S → (opened last : Held S) → Type 0
+Adds store opened last =
+    HasCleanDisk (state store last) → HasCleanDisk (state store opened)
+    × (IsTrue (state store last).is_open → AddsArrivals (state store opened) (state store last))
+
+-- What a world's databases keep. What is opened is ready. If arrivals were added to it and it closed well, then all that
+-- a crash may leave of the files holds the office that they held, with arrivals after it.
+pub record KeepsDatabases {W File Tables Incoming Reader Writer : Type 0} (store : store.Ghosts Tables)
+    (world : Ghosts W File (Held Tables) Incoming Reader Writer) : Type 0 where
+  pub ready : (w : W) (path : List ℕ) (found : Result (Held Tables) Error) (w' : W) → world.opens w path found w'
+      → IfOk found (IsReady store)
+  pub keeps : (w opened between w' : W) (path : List ℕ) (conn last : Held Tables) → world.opens w path (Ok conn) opened
+      → Adds store conn last → world.closes between last (Ok tt) w' → world.is_clean w' last
+      → KeepsOffice world.image (world.leaves w' last)
 
 -- this was printed, or the output failed
 abbrev pub Prints : List ℕ → (held holds : Option (List ℕ)) → Result (Unit {0}) JobFault → Type 0
@@ -115,6 +136,7 @@ module _ {W File Tables Incoming Reader Writer : Type 0} (store : store.Ghosts T
     pub honest : StaysClean store conn last
     pub closing : Result (Unit {0}) Error
     pub is_closed : world.closes between last closing w'
+    pub keeps : closing ≡ Ok tt → world.is_clean w' last → KeepsOffice world.image (world.leaves w' last)
     pub came : result ≡ closed outcome closing
 
   -- The database was opened so, once, and this was done over its connection. Or it wasn't opened, and nothing was done.

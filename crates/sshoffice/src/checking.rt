@@ -1,6 +1,6 @@
 //! A list asked about a certificate.
 
-ghost use Rattle.std.specs.Prelude.{◌≡◌, ◌≢◌, ℕ, Err, IfErr, IfSome, OnOk};
+ghost use Rattle.std.specs.Prelude.{◌≡◌, ◌≢◌, Err, IfErr, IfSome, OnOk};
 ghost use Rattle.std.specs.Io.KnownBytes.{Appends};
 ghost use Rattle.krl.specs.Faults.{FirstFault};
 ghost use Rattle.krl.specs.declared.krl_fault.KrlFault.{KrlFault};

@@ -7,7 +7,7 @@ ghost use Rattle.sshoffice.specs.Commands.{ChecksIn, DoesJob, IsFlushed, IsServi
 ghost use Rattle.sshoffice.specs.Finding.{WithFile};
 ghost use Rattle.sshoffice.specs.Making.{due_opening};
 ghost use Rattle.sshoffice.specs.Trial.{TriesFile};
-ghost use Rattle.sshoffice.specs.Whole.{AppliesIn, FoundsIn, OpensFree, ServesIn};
+ghost use Rattle.sshoffice.specs.Whole.{AppliesIn, FoundsIn, KeepsDatabases, ServesIn};
 ghost use Rattle.sshoffice.specs.Words.{IsOfBadWords, status_of_no_words};
 
 use crate::applying::apply_to_trial;
@@ -36,7 +36,7 @@ fn found_at<S: Alter, W: World<Conn = Connection<S>> + AllocGlobal, O: Write>(
     founding: &Founding<'_>,
     out: O,
 ) -> (Result<(), JobFault>, O)
-    requires free { OpensFree S.Store W.World }
+    requires { KeepsDatabases S.Store W.World }
     ensures { WithFile W.World W.File.remaining world.old world.new ca.now
         (λ text opened. FoundsIn S.Store W.World W.Incoming.book opened world.new db.now (due_opening founding.now) text
         (O.contents out) (O.contents result.1)) (O.contents result.1 ≡ O.contents out) result.0 }
@@ -54,7 +54,7 @@ fn apply_at<S: Alter, W: World<Conn = Connection<S>> + AllocGlobal, O: Write>(
     file: &str,
     out: O,
 ) -> (Result<(), JobFault>, O)
-    requires free { OpensFree S.Store W.World }
+    requires { KeepsDatabases S.Store W.World }
     ensures { WithFile W.World W.File.remaining world.old world.new file.now
         (λ text opened. AppliesIn S.Store W.World W.Incoming.book opened world.new db.now text (O.contents out)
         (O.contents result.1)) (O.contents result.1 ≡ O.contents out) result.0 }
@@ -125,7 +125,7 @@ fn serve_at<S: Alter, W: World<Conn = Connection<S>> + AllocGlobal, O: Write, E:
     out: &mut O,
     err: &mut E,
 ) -> Result<u8, JobFault>
-    requires free { OpensFree S.Store W.World }
+    requires { KeepsDatabases S.Store W.World }
     ensures serves { WithFile W.World W.File.remaining world.old world.new nonces.now
         (λ source opened. ServesIn S.Store W.World W.Incoming.book opened world.new db.now port connections source
         (O.contents out.old) (O.contents out.new)) (O.contents out.new ≡ O.contents out.old) result }
@@ -155,7 +155,7 @@ fn done_by<S: Alter, W: World<Conn = Connection<S>> + AllocGlobal, O: Write>(
     job: &Job,
     out: O,
 ) -> (Result<(), JobFault>, O)
-    requires free { OpensFree S.Store W.World }
+    requires keeps { KeepsDatabases S.Store W.World }
     requires unserved { IsServing job.now → ⊥ }
     ensures { DoesJob S.Store W.World W.File.remaining W.Incoming.book world.old world.new job.now (O.contents out)
         (O.contents result.1) result.0 }
@@ -212,7 +212,7 @@ fn run_job<S: Alter, W: World<Conn = Connection<S>> + AllocGlobal, O: Write, E: 
     out: O,
     err: &mut E,
 ) -> (Result<u8, JobFault>, O)
-    requires free { OpensFree S.Store W.World }
+    requires { KeepsDatabases S.Store W.World }
     ensures runs { Runs S.Store W.World W.File.remaining W.Incoming.book world.old world.new job.now (O.contents out)
         (O.contents result.1) result.0 }
     ensures status { IfOk result.0 (λ status. status ≤ 1) }
@@ -245,7 +245,7 @@ pub fn do_job<S: Alter, W: World<Conn = Connection<S>> + AllocGlobal, O: Write, 
     out: O,
     err: &mut E,
 ) -> (u8, O)
-    requires free { OpensFree S.Store W.World }
+    requires { KeepsDatabases S.Store W.World }
     ensures runs { RunsJob S.Store W.World W.File.remaining W.Incoming.book world.old world.new job.now (O.contents out)
         (O.contents result.1) result.0 }
     ensures status { result.0 ≤ 1 }
@@ -284,7 +284,7 @@ pub fn do_words<S: Alter, W: World<Conn = Connection<S>> + AllocGlobal, O: Write
     out: O,
     err: &mut E,
 ) -> (u8, O)
-    requires free { OpensFree S.Store W.World }
+    requires { KeepsDatabases S.Store W.World }
     ensures status { result.0 ≤ BAD_WORDS }
     ensures bad { result.0 ≡ BAD_WORDS → AreBad (map string_bytes words.now) }
 {

@@ -5,7 +5,7 @@
 ghost use Rattle.std.specs.Prelude.{◌≡◌, ◌≤◌, IfOk, IsSomeAnd, map, string_bytes};
 ghost use Rattle.sqlite_wal.specs.Files.{image_at};
 ghost use Rattle.command_line.specs.Answers.{AreBad};
-ghost use Rattle.sshoffice.specs.DatabaseFiles.{ClosesFiles, OpensFiles};
+ghost use Rattle.sshoffice.specs.DatabaseFiles.{AreCleanOf, ClosesFiles, MayBecome, OpensFiles};
 
 use crate::command::{BAD_WORDS, do_words};
 use crate::files::make_file;
@@ -78,6 +78,12 @@ impl<'a, S: Start> World for Host<'a, S> {
     type Incoming = Loopback<'a, HostRuntime>;
 
     ghost opens = { λ _ _ found _. IfOk found (OpensFiles (image_at S.Start)) };
+
+    ghost image = { image_at S.Start };
+
+    ghost is_clean = { λ host conn. IsSomeAnd host.left (AreCleanOf conn) };
+
+    ghost leaves = { λ host conn image. IsSomeAnd host.left (λ files. MayBecome conn files image) };
 
     ghost closes = { λ _ conn closed host. IsSomeAnd host.left (ClosesFiles conn closed) };
 

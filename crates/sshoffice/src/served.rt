@@ -3,7 +3,7 @@
 ghost use Rattle.std.specs.Prelude.{◌≡◌, ◌≤◌, ◌+◌, IfErr, IfOk, OnOk};
 ghost use Rattle.std.specs.Io.KnownBytes.{Appends};
 ghost use Rattle.sqlite.specs.Held.{state};
-ghost use Rattle.store_sql.specs.Honest.{Between, IsOutside, IsUnlimited, On, StaysClean};
+ghost use Rattle.store_sql.specs.Honest.{Between, IsOutside, IsUnlimited, StaysClean};
 ghost use Rattle.server.specs.Connections.{Extends};
 ghost use Rattle.server.specs.Names.{listening_line};
 ghost use Rattle.store.specs.Meaning.{Tells};

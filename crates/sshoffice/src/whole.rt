@@ -3,12 +3,12 @@
 //! Files are opened first. A database is opened once, or not at all where a file can't be read or the database isn't
 //! there. What is left of its connection is closed.
 
-ghost use Rattle.std.specs.Prelude.{◌≡◌, ◌≤◌, IfOk};
+ghost use Rattle.std.specs.Prelude.{◌≤◌, IfOk};
 ghost use Rattle.office.specs.Openings.{IsOpening};
 ghost use Rattle.sshoffice.specs.Finding.{OpensFor};
 ghost use Rattle.sshoffice.specs.Jobs.{Does, IsLawful, told_text};
 ghost use Rattle.sshoffice.specs.Making.{due_opening};
-ghost use Rattle.sshoffice.specs.Whole.{AppliesIn, Begins, DoesIn, FoundsIn, OpensFree, ServesIn};
+ghost use Rattle.sshoffice.specs.Whole.{AppliesIn, Begins, DoesIn, FoundsIn, KeepsDatabases, ServesIn};
 
 use crate::database_opening::{open_for, open_there};
 use crate::ending::{closed, finish};
@@ -30,7 +30,7 @@ pub(crate) fn do_in<S: Alter, W: World<Conn = Connection<S>> + AllocGlobal, O: W
     job: &OfficeJob<'_>,
     out: O,
 ) -> (Result<(), JobFault>, O)
-    requires free { OpensFree S.Store W.World }
+    requires keeps { KeepsDatabases S.Store W.World }
     requires lawful { IsLawful job.now }
     ensures { DoesIn S.Store W.World W.Incoming.book world.old world.new
         (OpensFor W.World db.now job.now) (Does job.now) (told_text job.now)
@@ -55,7 +55,7 @@ pub(crate) fn apply_in<S: Alter, W: World<Conn = Connection<S>> + AllocGlobal, O
     file: W::File,
     out: O,
 ) -> (Result<(), JobFault>, O)
-    requires { OpensFree S.Store W.World }
+    requires { KeepsDatabases S.Store W.World }
     ensures { AppliesIn S.Store W.World W.Incoming.book world.old world.new db.now
         (W.File.remaining file) (O.contents out) (O.contents result.1) result.0 }
 {
@@ -88,7 +88,7 @@ pub(crate) fn found_in<S: Alter, W: World<Conn = Connection<S>> + AllocGlobal, O
     founding: &Founding<'_>,
     out: O,
 ) -> (Result<(), JobFault>, O)
-    requires { OpensFree S.Store W.World }
+    requires { KeepsDatabases S.Store W.World }
     ensures { FoundsIn S.Store W.World W.Incoming.book world.old world.new db.now
         (due_opening founding.now) (W.File.remaining ca) (O.contents out) (O.contents result.1) result.0 }
 {
@@ -115,7 +115,7 @@ pub(crate) fn serve_in<S: Alter, W: World<Conn = Connection<S>> + AllocGlobal, O
     out: &mut O,
     err: &mut E,
 ) -> Result<u8, JobFault>
-    requires { OpensFree S.Store W.World }
+    requires { KeepsDatabases S.Store W.World }
     ensures serves { ServesIn S.Store W.World W.Incoming.book world.old world.new db.now port
         connections (W.File.remaining nonces) (O.contents out.old) (O.contents out.new) result }
     ensures status { IfOk result (λ status. status ≤ 1) }

@@ -3,6 +3,7 @@
 ghost use Rattle.std.specs.Prelude.{Bool, List, Result, ℕ, ⊤};
 ghost use Rattle.std.specs.declared.io.ErrorKind.{ErrorKind as Kind};
 ghost use Rattle.std.specs.declared.net.socket_addr.SocketAddrV4.{SocketAddrV4 as Address};
+ghost use Rattle.sqlite_wal.specs.Recovery.{Image};
 ghost use Rattle.sqlite.specs.declared.error.Error.{Error as Fault};
 ghost use Rattle.server.specs.declared.connection_fault.SelftestFault.{SelftestFault as TestFault};
 
@@ -35,6 +36,14 @@ pub trait World {
     ghost closes: { Self → Self.Conn → Result (Unit {0}) Fault → Self → Type 0 } = { λ _ _ _ _. ⊤ };
 
     ghost listens: { Self → Address → Result (Self.Incoming × ℕ) Kind → Self → Type 0 } = { λ _ _ _ _. ⊤ };
+
+    // What the files of the database that is opened hold; and, of a connection that was closed, whether its disk had
+    // returned what was written, and what a crash may leave of its files.
+    ghost image: { Image };
+
+    ghost is_clean: { Self → Self.Conn → Type 0 };
+
+    ghost leaves: { Self → Self.Conn → Image → Type 0 };
 
     ghost tests: { Self → Result (Unit {0}) TestFault → Self → Type 0 } = { λ _ _ _. ⊤ };
 

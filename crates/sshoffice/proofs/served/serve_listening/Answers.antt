@@ -1,4 +1,4 @@
-use Rattle.std.proofs.Common.{Ok, Err, ap}
+use Rattle.std.proofs.Common.{Ok, ap}
 use Rattle.sqlite.specs.Held.{state}
 use Rattle.sshoffice.proofs.Meeting.{served_at}
 use Rattle.sshoffice.proofs.served.serve_listening.Goals as goal

@@ -1,7 +1,9 @@
 use Rattle.std.proofs.Common.{Ok, Err, ap, refl}
 use Rattle.std.proofs.lemmas.Result.{IfErr-weaker}
+use Rattle.sqlite.specs.Held.{state}
+use Rattle.sshoffice.proofs.Additions.{done as added}
 use Rattle.sshoffice.proofs.Ended.{told}
-use Rattle.sshoffice.proofs.Found.{free_for}
+use Rattle.sshoffice.proofs.Found.{kept, opened_for, ready_for}
 use Rattle.sshoffice.proofs.whole.do_in.Goals as goal
 
 pub returns-in-Ok : goal.returns-in-Ok
@@ -20,6 +22,15 @@ returns-in-Ok g c = record {
       honest = c.do_on-outcome.ensures.honest;
       closing = c.close_database.result;
       is_closed = c.close_database.ensures;
+      keeps = kept g.S.Store g.W.World c.requires.keeps c.args.db.now c.open_for.new.world c.open_for.new.world
+          c.close_database.new.self c.in-Ok.conn c.do_on-outcome.result.conn c.close_database.result
+          (opened_for g.S.Store g.W.World c.requires.keeps c.args.db.now c.args.job.now c.args.world.now c.in-Ok.conn
+          c.open_for.new.world c.in-Ok.ensures)
+          c.do_on-outcome.ensures.honest
+          (λ was rest still clean. added (state g.S.Store c.in-Ok.conn) (state g.S.Store c.do_on-outcome.result.conn) was
+          rest still (λ trees may. g.met.S.Store.settled c.do_on-outcome.result.conn.store trees still may)
+          c.args.job.now _ _ c.do_on-outcome.result.outcome (c.do_on-outcome.ensures.does clean))
+          c.close_database.ensures;
       came = c.closed.ensures;
     };
   };
@@ -43,10 +54,10 @@ returns-in-Err g c = record {
 
 pub do_on-outcome-requires-clause-outside : goal.do_on-outcome-requires-clause-outside
 do_on-outcome-requires-clause-outside g c =
-    (free_for g.S.Store g.W.World c.requires.free c.args.db.now c.args.job.now c.args.world.now (Ok c.in-Ok.conn)
-    c.open_for.new.world c.in-Ok.ensures).0
+    (ready_for g.S.Store g.W.World c.requires.keeps c.args.db.now c.args.job.now c.args.world.now c.in-Ok.conn
+    c.open_for.new.world c.in-Ok.ensures).outside
 
 pub do_on-outcome-requires-clause-unlimited : goal.do_on-outcome-requires-clause-unlimited
 do_on-outcome-requires-clause-unlimited g c =
-    (free_for g.S.Store g.W.World c.requires.free c.args.db.now c.args.job.now c.args.world.now (Ok c.in-Ok.conn)
-    c.open_for.new.world c.in-Ok.ensures).1
+    (ready_for g.S.Store g.W.World c.requires.keeps c.args.db.now c.args.job.now c.args.world.now c.in-Ok.conn
+    c.open_for.new.world c.in-Ok.ensures).unlimited
