@@ -1,9 +1,9 @@
 -- What the calls do, from what their texts mean.
 use Rattle.guard_sql.proofs.Words.{Begin, Changes, Command, Commit, CommitsBy, CommitsShowing, Compiled, Contents}
 use Rattle.guard_sql.proofs.Words.{Database, Delete, Does, Error, Executes, FailsBy, FailsToQuery, Fault, Finds}
-use Rattle.guard_sql.proofs.Words.{FindsOne, FindsSuch, Found, Global, HasCause, HasCleanDisk, Holds, IfErr, IfOk}
-use Rattle.guard_sql.proofs.Words.{Insert, InsertOr, IsDone, IsEachRead, IsFirstRead, IsOneOf, IsUnchanged, IsWrite}
-use Rattle.guard_sql.proofs.Words.{List, Means, None, Ok, OnOk, OnlyReads, Option, Release, Result, Rollback}
+use Rattle.guard_sql.proofs.Words.{FindsOne, FindsSuch, Found, FoundIn, Global, HasCause, HasCleanDisk, Holds, IfErr}
+use Rattle.guard_sql.proofs.Words.{IfOk, Insert, InsertOr, IsDone, IsEachRead, IsFirstRead, IsOneOf, IsUnchanged}
+use Rattle.guard_sql.proofs.Words.{IsWrite, List, Means, None, Ok, OnOk, OnlyReads, Option, Release, Result, Rollback}
 use Rattle.guard_sql.proofs.Words.{RollbackTo, Row, Runs, Shown, State, Survives, Tally, Trees, Update, Vec, Writes}
 use Rattle.guard_sql.proofs.Words.{Wrote, ap, command_of, false, inl, inr, is_pragma, is_query, is_select, length}
 use Rattle.guard_sql.proofs.Words.{refl, statement_of, subst, sym, understood, whole, ℕ, ◌||◌, ◌∙◌, ◌≡◌, ◌⊎◌}
@@ -110,8 +110,9 @@ in_tables : (c : Contents) (db : Database) → Means db c → (db.schema ≡ who
 in_tables c db means = (means.schema, means.kept.holds)
 
 -- such a text shows no rows of a write, whatever the tables are
-silent : {X : Type 0} {sql : List ℕ} {params : Row} {cells : X → Row} {of : Contents → List X} (f : Find sql params cells of)
-    (s : State) (c : Compiled) → understood s.now.schema sql ≡ Ok c → c.returning ≡ None
+silent : {A X : Type 0} {Held : Trees → A → Type 0} {sql : List ℕ} {params : Row} {cells : X → Row} {of : A → List X}
+    (f : FindIn whole Held sql params cells of) (s : State) (c : Compiled) → understood s.now.schema sql ≡ Ok c
+    → c.returning ≡ None
 silent {sql = sql} f s c is =
     let known = is_compiled (understood whole sql) f.is.2 in
     query_everywhere whole s.now.schema sql known.0 c known.1 is (ap is_select (sym (ap command_of known.1) ∙ f.is.0))
@@ -173,3 +174,20 @@ module _ {X : Type 0} {sql : List ℕ} {params : Row} {cells : X → Row} {of : 
 
   pub found_one : (r : Result (Option X) Fault) → IsFirstRead cells answer r → Found (FindsOne of) old new r
   found_one r read = found_such (λ c. IsOneOf (of c)) (λ c trees h found is. is) r read
+
+-- the same of a query over tables of which less is known
+pub found_in : {A X : Type 0} {Held : Trees → A → Type 0} {sql : List ℕ} {params : Row} {cells : X → Row} {of : A → List X}
+    (f : FindIn whole Held sql params cells of) (Has : A → Database → Type 0)
+    → ((a : A) (db : Database) → Has a db → (db.schema ≡ whole) × Held db.trees a) → {old new : State}
+    (answer : Result (Vec Row Global) Error) → (HasCleanDisk new → IfOk answer (λ rows. Shown sql params old new rows.items))
+    → (HasCleanDisk new → IfErr answer (FailsToQuery sql params old new)) → Survives old new (CommitsShowing sql params old)
+    → (r : Result (Vec X Global) Fault) → IsEachRead cells answer r → FoundIn Has of old new r
+found_in {sql = sql} {params = params} {cells = cells} {of = of} f Has known {old = old} {new = new} answer ok err lives r
+    read = record {
+      finds = λ clean. found_all f Has known old new answer (ok clean) (err clean) r read;
+      reads = λ clean. read_only Has cells of old new answer r read
+          (answers_still sql params old new answer (silent f old) (ok clean))
+          (shown f Has known old new answer (ok clean) (err clean));
+      fault = λ clean. found_fails f Has known old new answer (ok clean) (err clean) r read;
+      survives = survives_as old new _ _ (shown_never sql params old (silent f old)) lives;
+    }

@@ -1,11 +1,11 @@
 -- The statements on the table of the guard, and why its row is refused.
-use Rattle.guard_sql.proofs.Words.{AllByRecursion, Binary, Blob, Compare, EVERY_GUARD, Eq, FailsBy, Fault, GuardRow}
-use Rattle.guard_sql.proofs.Words.{Holds, INSERT_GUARD, Insert, Int, IsTooLong, LOWER_GUARD, List, Null, RefusedFor}
-use Rattle.guard_sql.proofs.Words.{RefusesGuard, RefusesLast, Result, Row, State, Term, Update, Values, [], ap, arith}
-use Rattle.guard_sql.proofs.Words.{codes, col, column, drop, ending_at, everything, guard_at, guard_cells}
-use Rattle.guard_sql.proofs.Words.{guard_places, inl, inr, lit, lt-ltb, op2, pos, refl, true, whole, with_guard}
-use Rattle.guard_sql.proofs.Words.{with_last, ℕ, ◌<◌, ◌^◌, ◌∷◌, ◌≡◌}
-use Rattle.store_sql.proofs.CallLemmas.{IsSelect}
+use Rattle.guard_sql.proofs.Words.{AllByRecursion, Binary, Blob, Compare, Database, EVERY_GUARD, Eq, FailsBy, Fault}
+use Rattle.guard_sql.proofs.Words.{GuardRow, HasGuards, Holds, INSERT_GUARD, Insert, Int, IsTooLong, LOWER_GUARD}
+use Rattle.guard_sql.proofs.Words.{List, Lists, Null, RefusedFor, RefusesGuard, RefusesLast, Result, Row, State, Term}
+use Rattle.guard_sql.proofs.Words.{Trees, Update, Values, [], ap, arith, codes, col, column, drop, ending_at}
+use Rattle.guard_sql.proofs.Words.{everything, guard_at, guard_cells, guard_places, inl, inr, lit, lt-ltb, op2, pos}
+use Rattle.guard_sql.proofs.Words.{refl, true, whole, with_guard, with_last, ℕ, ◌<◌, ◌^◌, ◌∷◌, ◌≡◌}
+use Rattle.store_sql.proofs.CallLemmas.{FindIn, IsSelect}
 use Rattle.store_sql.proofs.Edits.{keep_all}
 use Rattle.store_sql.proofs.Queries.{on_table}
 use Rattle.store_sql.proofs.Reasons.{is_exact, never, size, storable}
@@ -13,7 +13,7 @@ use Rattle.store_sql.proofs.Rows.{cast_int, cast_null}
 use Rattle.store_sql.proofs.Selects.{IsTreeOf, select}
 use Rattle.store_sql.proofs.Texts.{query, statement}
 use Rattle.store_sql.proofs.Inserts.{taken_number}
-use Rattle.guard_sql.proofs.CallLemmas.{Find, Write}
+use Rattle.guard_sql.proofs.CallLemmas.{Write}
 use Rattle.guard_sql.proofs.Elsewhere.{guard_apart, in_guard}
 use Rattle.guard_sql.proofs.FaultLemmas.{HasWriteCause, IsStatement}
 use Rattle.guard_sql.proofs.Inserts.{IsInsert, insert, insert_fails}
@@ -62,10 +62,19 @@ every_is : IsSelect whole EVERY_GUARD.now (on_table 0 [] columns []) names 0
 unfolding everything
 every_is = query whole EVERY_GUARD.now _ _ 0 refl refl
 
-pub every : Find EVERY_GUARD.now [] guard_cells (λ c. c.guards)
-every = select tree every_is (λ x. true) (λ v. true)
+abbrev Rows : Trees → List GuardRow → Type 0
+Rows trees rows = Lists guard_cells guard_places (trees 0) rows
+
+its_rows : IsTreeOf Rows guard_cells guard_places 0 (λ rows. rows)
+its_rows = record { stored = λ trees. refl; held = λ trees rows h. h; apart = guard_apart }
+
+pub every : FindIn whole Rows EVERY_GUARD.now [] guard_cells (λ rows. rows)
+every = select its_rows every_is (λ x. true) (λ v. true)
     (λ v. column v 0 ∷ column v 1 ∷ column v 2 ∷ column v 3 ∷ column v 4 ∷ []) (λ x. refl) (λ x. refl) (λ r. refl)
-    (λ r. refl) refl (λ c. keep_all c.guards)
+    (λ r. refl) refl (λ rows. keep_all rows)
+
+pub known : (rows : List GuardRow) (db : Database) → HasGuards rows db → (db.schema ≡ whole) × Rows db.trees rows
+known rows db has = (has.schema, has.holds)
 
 -- ---- UPDATE of the last serial
 

@@ -123,12 +123,12 @@ pub use Rattle.guard_sql.specs.Calls.{OnlyReads, Stays, Steps, WaitsAt}
 pub use Rattle.guard_sql.specs.Cells.{approval_cells, guard_cells}
 pub use Rattle.guard_sql.specs.Changes.{approved_under, ending_at, has_serial, with_approval, with_guard, with_last}
 pub use Rattle.guard_sql.specs.Contents.{Contents, Holds, IsFirstFrom, Kept, Means, approval_places, guard_places}
-pub use Rattle.guard_sql.specs.Contents.{no_contents}
+pub use Rattle.guard_sql.specs.Contents.{HasGuards, no_contents}
 pub use Rattle.guard_sql.specs.Kinds.{blob_in, number_in}
 pub use Rattle.guard_sql.specs.Refusals.{HasCauseOr, HasOne, IsTooLong, RefusedFor, RefusesApproval, RefusesGuard}
 pub use Rattle.guard_sql.specs.Refusals.{RefusesLast}
 pub use Rattle.guard_sql.specs.Schema.{approved, approved_at, guard, guard_at, through_guard, whole}
-pub use Rattle.guard_sql.specs.Statements.{Found, Wrote}
+pub use Rattle.guard_sql.specs.Statements.{Found, FoundIn, Wrote}
 pub use Rattle.guard_sql.specs.declared.approvals.ApprovalRow.{ApprovalRow}
 pub use Rattle.guard_sql.specs.declared.guards.GuardRow.{GuardRow}
 pub use Rattle.guard_sql.specs.declared.sql.TheConstants.{CREATE_APPROVED, CREATE_GUARD, EVERY_GUARD, FIND_APPROVED}

@@ -46,3 +46,8 @@ abbrev pub IsFirstFrom : ℕ → List ApprovalRow → Option ApprovalRow → Typ
 IsFirstFrom from rows (Some a) = Has rows a × (from ≤ a.serial)
     × AllByRecursion (λ b. from ≤ b.serial → a.serial ≤ b.serial) rows
 IsFirstFrom from rows None = AllByRecursion (λ b. b.serial < from) rows
+
+-- the database has just a guard's tables, and that of the guard holds these rows, whatever the other holds
+pub record HasGuards (rows : List GuardRow) (db : Database) : Type 0 where
+  pub schema : db.schema ≡ whole
+  pub holds : Lists guard_cells guard_places (db.trees 0) rows

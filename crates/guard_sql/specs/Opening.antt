@@ -12,7 +12,7 @@ use Rattle.store_sql.specs.Faults.{HasFailed as SqlFailed}
 use Rattle.guard_sql.specs.declared.guards.GuardRow.{GuardRow}
 use Rattle.guard_sql.specs.declared.opening_fault.OpeningFault.{OpeningFault}
 use Rattle.guard_sql.specs.declared.opening_fault.OpeningFault.TheVariants as fault
-use Rattle.guard_sql.specs.Contents.{Means}
+use Rattle.guard_sql.specs.Contents.{HasGuards, Means}
 use Rattle.guard_sql.specs.Keeping.{HasFailed, HasGuard, IsBlank, IsGuard, Stores}
 use Rattle.guard_sql.specs.Rows.{guard_contents}
 use Rattle.guard_sql.specs.Transactions.{Leaves as LeavesAfter}
@@ -31,6 +31,17 @@ abbrev pub scope_in : List GuardRow → Result Scope OpeningFault
 scope_in [] = Err fault.NotAGuard
 scope_in (row ∷ []) = if row.schema == 1 then scope_with row (key_of row.ca) else Err fault.WrongSchema
 scope_in (row ∷ other ∷ rows) = Err fault.NotAGuard
+
+-- of a guard's table with these rows it is found what they say, or memory is refused, or this failed
+abbrev pub Says : List GuardRow → Type 0 → Result Scope OpeningFault → Type 0
+Says rows failed (Ok scope) = scope_in rows ≡ Ok scope
+Says rows failed (Err fault.NoMemory) = Unit {0}
+Says rows failed (Err fault.Device) = failed
+Says rows failed (Err e) = scope_in rows ≡ Err e
+
+-- so it is of each database with a guard's tables
+abbrev pub SaysUnless : Connection → Connection → Result Scope OpeningFault → Type 0
+SaysUnless old new r = (rows : List GuardRow) → HasGuards rows old.now → Says rows (SqlFailed old new) r
 
 -- of tables that hold a guard its scope is found, and nothing has changed; or the call fails, for want of memory or
 -- because the database failed

@@ -7,7 +7,7 @@ ghost use Rattle.office.specs.Openings.{are_serials};
 ghost use Rattle.store_sql.specs.Honest.{On, Outlives, tables_of};
 ghost use Rattle.guard_sql.specs.Calls.{Never, OnlyLooks};
 ghost use Rattle.guard_sql.specs.Look.{is_guard_table};
-ghost use Rattle.guard_sql.specs.Opening.{FindsScope, scope_in, scope_with};
+ghost use Rattle.guard_sql.specs.Opening.{FindsScope, SaysUnless, scope_in, scope_with};
 
 use crate::creating::SCHEMA;
 use crate::faults::opening_fault;
@@ -64,6 +64,7 @@ pub(crate) fn find_scope<S: Alter>(
     conn: &mut Connection<S>,
 ) -> Result<Scope, OpeningFault>
     ensures finds { On S.Store FindsScope conn.old conn.new result }
+    ensures says { On S.Store SaysUnless conn.old conn.new result }
     ensures looks { On S.Store OnlyLooks conn.old conn.new result }
     ensures none { list_any is_guard_table (tables_of S.Store conn.old) ≡ false
         → (result ≡ Err OpeningFault.NotAGuard) × (conn.new ≡ conn.old) }

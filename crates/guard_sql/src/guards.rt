@@ -1,9 +1,9 @@
 //! The table of the guard.
 
-ghost use Rattle.guard_sql.specs.Calls.{Finds};
+ghost use Rattle.guard_sql.specs.Contents.{HasGuards};
 ghost use Rattle.guard_sql.specs.Changes.{with_guard, with_last};
 ghost use Rattle.guard_sql.specs.Refusals.{RefusesGuard, RefusesLast};
-ghost use Rattle.guard_sql.specs.Statements.{Reads, Writes};
+ghost use Rattle.guard_sql.specs.Statements.{ReadsIn, Writes};
 
 use crate::columns::{Columns, found};
 use crate::done::done;
@@ -100,7 +100,7 @@ pub(crate) fn every_guard<S: Alter>(
     alloc: Global,
     conn: &mut Connection<S>,
 ) -> Result<Vec<GuardRow>, Fault>
-    ensures { Reads S.Store (Finds (λ c. c.guards)) conn.old conn.new result }
+    ensures { ReadsIn S.Store HasGuards (λ rows. rows) conn.old conn.new result }
 {
     found(alloc, conn.query_all(EVERY_GUARD, &[]))
 }

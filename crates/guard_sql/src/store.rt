@@ -1,11 +1,11 @@
 //! A guard's register, from its connection and back.
 
-ghost use Rattle.std.specs.Prelude.{◌≡◌, false, Err, IfErr, IfOk, IsTrue};
+ghost use Rattle.std.specs.Prelude.{◌≡◌, false, Err, IfErr, IfOk, IsTrue, Ok};
 ghost use Rattle.std.specs.List.{list_any};
 ghost use Rattle.store_sql.specs.Honest.{Between, IsOutside, IsUnlimited, On, OutlivesBy, StaysClean, tables_of};
 ghost use Rattle.guard_sql.specs.Keeping.{IsScope};
 ghost use Rattle.guard_sql.specs.Look.{is_guard_name, is_guard_table};
-ghost use Rattle.guard_sql.specs.Opening.{Finds, Founds, FoundsNone, LeavesNew, Misses};
+ghost use Rattle.guard_sql.specs.Opening.{Finds, Founds, FoundsNone, LeavesNew, Misses, SaysUnless};
 
 use crate::creating::create;
 use crate::faults::opening_fault;
@@ -83,6 +83,10 @@ impl<S: Alter> GuardStore<S> {
 
         // It keeps each guard that the tables hold, and a crash leaves it.
         ensures opened { IfOk result (λ g. Between S.Store (Finds g.scope) conn g.conn) }
+
+        // It is opened just where the one row of the guard says a scope of this schema; each refusal is what the rows say.
+        ensures said { IfOk result (λ g. On S.Store SaysUnless conn g.conn (Ok g.scope)) }
+        ensures refused { IfErr result (λ e. On S.Store SaysUnless conn e.1 (Err e.0)) }
 
         // Where they hold one, want of memory and a failure of the database are the only faults.
         ensures missed { IfErr result (λ e. On S.Store Misses conn e.1 e.0) }

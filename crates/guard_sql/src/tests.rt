@@ -120,6 +120,41 @@ fn what_is_no_guard_is_refused(rt: HostRuntime) {
     assert_eq!(rt; refused(alloc, damaged), Some(OpeningFault::Damaged));
 }
 
+/// A guard's tables with one approved body, whose moment is negative.
+const DAMAGED: &str =
+    "CREATE TABLE guard (id INTEGER PRIMARY KEY, schema INTEGER NOT NULL, ca BLOB NOT NULL, \
+    first INTEGER NOT NULL, last INTEGER NOT NULL) STRICT; CREATE TABLE approved (serial INTEGER PRIMARY KEY, \
+    moment INTEGER NOT NULL, body BLOB NOT NULL) STRICT; INSERT INTO guard VALUES (1, 1, \
+    x'0000000b7373682d6564323535313900000020\
+    1111111111111111111111111111111111111111111111111111111111111111', 1, 9); \
+    INSERT INTO approved VALUES (3, -1, x'00');";
+
+/// What is answered of a serial by a guard whose tables this SQL made.
+fn body_in(alloc: Global, sql: &str, serial: u64) -> Option<Result<Option<Text>, RegisterFault>> {
+    let Ok(mut conn) = Connection::open_in_memory(alloc) else {
+        return None;
+    };
+    let Ok(()) = conn.execute_batch(sql) else {
+        return None;
+    };
+    let Ok(mut guard) = GuardStore::open(alloc, conn) else {
+        return None;
+    };
+    Some(guard.body_of(alloc, serial))
+}
+
+#[test]
+fn a_damaged_row_is_told_as_such(rt: HostRuntime) {
+    let alloc = rt.alloc();
+    assert!(rt; matches!(body_in(alloc, DAMAGED, 2), Some(Ok(None))));
+    assert!(rt;
+        matches!(
+            body_in(alloc, DAMAGED, 3),
+            Some(Err(RegisterFault::Damaged))
+        )
+    );
+}
+
 /// Why a guard is not made where one is.
 fn made_twice(alloc: Global) -> Option<OpeningFault> {
     let guard = guard_in_memory(alloc)?;
