@@ -154,7 +154,7 @@ CHECKED = [
 ]
 
 
-@pytest.mark.parametrize(("words", "fault"), CHECKED, ids=[repr(it) for it, _ in CHECKED])
+@pytest.mark.parametrize(("words", "fault"), CHECKED, ids=[f"{place}: {it[1]}" for place, it in enumerate(CHECKED)])
 def test_gos_checker_decides(made, go, words, fault):
     it, = go([question(made, **words)])
     assert (True, bool(fault)) == (fault in it["Fault"], bool(it["Fault"])), it["Fault"]
