@@ -466,7 +466,7 @@ def test_a_retired_guard_signs_again_what_it_approved(guard, room):
     (LATEST, (0, "refuse AlreadyEnded\n", "")), (LATEST + 1, (1, "", "sshstation: Clock\n")),
 ])
 def test_a_clock_past_the_latest_moment_is_a_fault(guard, room, moment, wanted):
-    put(room, a=body(1, before=LATEST))
+    put(room, a=body(1, before=LATEST), policy=department(maxlife=LATEST).encode())
     strange = preloaded("strange_system.c", room)
     assert wanted == guard.judge("a", env=os.environ | {"LD_PRELOAD": str(strange), "MOMENT": str(moment)})
     assert [] == guard.bodies()

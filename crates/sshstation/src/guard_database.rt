@@ -6,7 +6,8 @@ ghost use Rattle.sqlite.specs.Files.{IsOpened, file_state};
 ghost use Rattle.sqlite.specs.Held.{IsNew};
 ghost use Rattle.sqlite.specs.State.{HasCleanDisk};
 ghost use Rattle.station_jobs.specs.Jobs.{IsLawful};
-ghost use Rattle.sshstation.specs.GuardFiles.{ClosesGuard, FindsGuard, MakesGuard, of_closing, of_database};
+ghost use Rattle.sshstation.specs.GuardFiles.{ClosesFiles, ClosesGuard, FindsGuard, MakesGuard};
+ghost use Rattle.sshstation.specs.GuardFiles.{of_closing, of_database};
 
 use crate::host::Host;
 use guard::Scope;
@@ -70,6 +71,26 @@ fn open_database<S: Start>(
     match Connection::open_from(rt, path, false, start) {
         Ok(conn) => Ok(conn),
         Err((error, _)) => Err(database_fault(error)),
+    }
+}
+
+/// Closes a connection, and gives its files as the close left them, whether it went well or not.
+fn close_database<S: Start>(conn: FileConnection<S>) -> (Result<(), Error>, Files<FileFrom<S>>)
+    ensures { ClosesFiles conn result.0 result.1 }
+{
+    match conn.close_files() {
+        Ok(files) => (Ok(()), files),
+        Err((error, store)) => (Err(error), store.close()),
+    }
+}
+
+/// What came of a closing.
+fn of_closing(closed: Result<(), Error>) -> Result<(), StationFault>
+    ensures { result ≡ of_closing closed }
+{
+    match closed {
+        Ok(()) => Ok(()),
+        Err(error) => Err(database_fault(error)),
     }
 }
 
@@ -204,16 +225,9 @@ impl<S: Start> GuardFile for GuardDatabase<'_, S> {
     }
 
     fn close(&mut self, guard: FileGuard<S>) -> Result<(), StationFault> {
-        match guard.into_connection().close_files() {
-            Ok(files) => {
-                self.left = Some(files);
-                Ok(())
-            }
-            Err((error, store)) => {
-                self.left = Some(store.close());
-                Err(database_fault(error))
-            }
-        }
+        let (closed, files) = close_database(guard.into_connection());
+        self.left = Some(files);
+        of_closing(closed)
     }
 }
 
