@@ -315,4 +315,5 @@ def test_the_program_answers_as_the_guard_in_python_does(request, sshstation, ro
         seen |= {" ".join(it.split()[:1] if it.startswith("sign ") else it.split()) for it in wanted}
         count += len(lines)
     print(f"figure: {count} judgements, 0 differences")
-    assert KINDS == seen
+    assert seen <= KINDS
+    assert seen == KINDS or count < 50_000, "each kind of answer was due"

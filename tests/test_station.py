@@ -736,8 +736,8 @@ ROUNDS = 200
 
 @pytest.mark.slow
 def test_a_guard_that_is_killed_approves_one_body_for_a_serial(alone, room):
-    """Each of these commands judges two bodies of one serial, and is killed at some moment of its run. A line that was
-    printed holds for ever."""
+    """Each of these commands judges two bodies of one serial, and is killed at some moment of its run, every other one
+    after its first line. A line that was printed holds for ever."""
     def files(serial):
         texts = [body(serial, ca=alone.blob, nonce=bytes([place]) * 32) for place in (1, 2)]
         for place, text in enumerate(texts):
@@ -754,15 +754,16 @@ def test_a_guard_that_is_killed_approves_one_body_for_a_serial(alone, room):
         signs = files(serial)
         words = [alone.program, "judge", "--db", alone.db, "--policy", alone.policy, "--ahead", str(LATEST)]
         process = subprocess.Popen([*words, "body-0", "body-1"], stdout=subprocess.PIPE, stderr=subprocess.DEVNULL)
-        time.sleep(random.uniform(0, 1.2 * usual))
+        first = process.stdout.readline() if serial % 2 else b""
+        time.sleep(random.uniform(0, usual / 10 if first else 1.2 * usual))
         process.send_signal(signal.SIGKILL)
-        lines = process.communicate()[0].decode().splitlines()
+        lines = (first + process.communicate()[0]).decode().splitlines()
         printed.append(len(lines))
         # The second body comes first now. It is approved only if the first one wasn't.
         again = alone.judge("body-1", "body-0")
         assert sorted(again) in (["refuse SerialTaken", signs[0]], ["refuse SerialTaken", signs[1]])
         assert not lines or lines[0] in again, f"{serial}: {lines} was printed before the kill, and then {again}"
-    assert len({*printed}) > 1, "some were killed before their first line, and some after it"
+    assert min(printed) == 0 < max(printed), "some were killed before their first line, and some after it"
     rows = alone.bodies()
     assert [str(it) for it in range(1, ROUNDS + 3)] == [it[0] for it in rows]
     assert b"ok\n" == run(["sqlite3", alone.db, "PRAGMA integrity_check"], check=True).stdout
