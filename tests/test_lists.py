@@ -266,6 +266,7 @@ def pairs_of(revoked, ids):
 
 
 @pytest.mark.slow
+@pytest.mark.timeout(1200)
 def test_random_lists_beside_plain_sets(krl_tool, room, request):
     chance = random.Random(request.config.option.hypothesis_seed)
     counts = {"keeps": 0, "forgets": 0}
