@@ -3,6 +3,7 @@ import contextlib
 import os
 import pathlib
 import random
+import re
 import signal
 import socket
 import subprocess
@@ -21,6 +22,12 @@ ROWS = EXAMPLES / "rows"
 def rows(name):
     """The rows of data/NAME.toml."""
     return tomllib.loads((TOP / f"tests/data/{name}.toml").read_text())
+
+
+def refusals():
+    """The name and the status of each refusal, by its number, as docs/FORMATS.md has them."""
+    found = re.findall(r"^\| (\d+) \| (\w+) \| (\d+) \|", (TOP / "docs/FORMATS.md").read_text(), re.M)
+    return {int(number): (name, int(status)) for number, name, status in found}
 
 
 def left_out(why):

@@ -251,12 +251,14 @@ def bad_lines(tmp_path_factory):
 
 
 @pytest.mark.slow
+@pytest.mark.xdist_group("bad-lines")
 def test_the_first_bad_line_of_each_text_is_named(bad_lines):
     wanted = {f"{place}, {what}": number for place, (what, _, number) in enumerate(POSTED)}
     assert wanted == dict(zip(wanted, bad_lines[:len(POSTED)], strict=True))
 
 
 @pytest.mark.slow
+@pytest.mark.xdist_group("bad-lines")
 @pytest.mark.parametrize(("what", "place"), [(it[0], place) for place, it in enumerate(PRINTED)])
 def test_a_bad_line_is_that_of_the_formats(bad_lines, what, place):
     assert PRINTED[place][2] == bad_lines[len(POSTED) + place]

@@ -20,6 +20,8 @@ from asking import LATEST, department, issue, post, revoke_keyid, revoke_serial
 from fronts import Station
 from running import TOP, Office, run
 
+pytestmark = pytest.mark.xdist_group("peers")
+
 OPTIONS = "force-command", "source-address", "verify-required"
 EXTENSIONS = ("no-touch-required", "permit-X11-forwarding", "permit-agent-forwarding", "permit-port-forwarding",
               "permit-pty", "permit-user-rc")

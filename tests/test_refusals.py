@@ -4,14 +4,12 @@ The office has the departments `web`, whose administrator is ana, and `db`, whos
 certificates the first is signed, the second waits, the key id of the third is revoked, and so is the serial of the
 fourth. No refusal changes anything, so one office answers all rows.
 """
-import re
-
 import pytest
 
 from asking import (CA, LATEST, OTHER_CA, deliver, department, exchange, issue, lasting, post, renew, revoke_keyid,
                     revoke_range, revoke_serial, rollover)
 from fronts import Station
-from running import TOP, Office
+from running import Office, refusals
 
 pytestmark = pytest.mark.rows
 
@@ -108,9 +106,7 @@ def answers(office):
 
 @pytest.fixture(scope="module")
 def table():
-    """The name and the status of each refusal, by its number."""
-    found = re.findall(r"^\| (\d+) \| (\w+) \| (\d+) \|", (TOP / "docs/FORMATS.md").read_text(), re.M)
-    return {int(number): (name, int(status)) for number, name, status in found}
+    return refusals()
 
 
 @pytest.mark.parametrize(("place", "number"), [(place, it[2]) for place, it in enumerate(ROWS)],

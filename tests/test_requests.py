@@ -3,13 +3,11 @@
 All requests are the exchanges of one file, which is applied to the trial office in memory. A refusal's number and
 status are those of the table in docs/FORMATS.md.
 """
-import re
-
 import pytest
 
 from asking import answers, exchange, get, issue, write_exchanges
 from asking import post as posted
-from running import TOP, rows, run
+from running import refusals, rows, run
 
 pytestmark = pytest.mark.rows
 
@@ -108,12 +106,9 @@ def given(program, tmp_path_factory):
     return answers(run([program, "apply", file]).stdout)
 
 
-@pytest.fixture(scope="module")
-def refusals():
-    """The status line and the body of each refusal, by its name."""
-    found = re.findall(r"^\| (\d+) \| (\w+) \| (\d+) \|", (TOP / "docs/FORMATS.md").read_text(), re.M)
-    return {name: (b"HTTP/1.1 %s " % status.encode(), b"refused %s %s\n" % (number.encode(), name.encode()))
-            for number, name, status in found}
+# The status line and the body of each refusal, by its name.
+REFUSED = {name: (b"HTTP/1.1 %d " % status, f"refused {number} {name}\n".encode())
+           for number, (name, status) in refusals().items()}
 
 
 def test_each_request_is_answered(given):
@@ -121,9 +116,9 @@ def test_each_request_is_answered(given):
 
 
 @pytest.mark.parametrize("place", range(len(ROWS)), ids=map(name_of, ROWS))
-def test_a_request_is_judged_by_its_bytes(given, refusals, place):
+def test_a_request_is_judged_by_its_bytes(given, place):
     wanted, response = ROWS[place][2], given[place]
-    line, start = refusals[wanted] if isinstance(wanted, str) else wanted
+    line, start = REFUSED[wanted] if isinstance(wanted, str) else wanted
     is_whole = isinstance(wanted, str) or wanted is ISSUED
     end = len(response.body) if is_whole else len(start)
     assert line + start == response[:len(line)] + response.body[:end]
