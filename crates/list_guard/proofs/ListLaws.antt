@@ -65,8 +65,7 @@ grow (q ∷ qs) s lists t (inl taken) =
       λ kept is.
           let next : IsNext (Some kept) q approved.0 = subst (λ o. IsNext o q approved.0) is approved.2 in
           let first = next_later kept q approved.0 next.0 approved.1 next.1 in
-          subst (AllByRecursion (ComesLater kept)) (sym taken.2)
-          (first, all_later kept q.list taken.0 between first others),
+          subst (AllByRecursion (ComesLater kept)) (sym taken.2) (first, all_later kept q.list taken.0 between first others),
       subst Grow (sym taken.2) (others, rest.1),
     )
 grow (q ∷ qs) s lists t (inr left) = grow qs s lists t left.1
