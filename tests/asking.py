@@ -194,26 +194,27 @@ def write_exchanges(path, exchanges):
 
 def exchanges_of(file):
     """The exchanges of an exchange file's bytes."""
-    found = []
-    while file:
-        line, _, rest = file.partition(b"\n")
-        word, moment, nonce, length = line.split(b" ")
-        assert word == b"exchange", f"no record: {line!r}"
-        found.append(Exchange(rest[:int(length)], int(moment), bytes.fromhex(nonce.decode())))
-        file = rest[int(length):]
+    found, place = [], 0
+    while place < len(file):
+        end = file.index(b"\n", place)
+        word, moment, nonce, length = file[place:end].split(b" ")
+        assert word == b"exchange", f"no record: {file[place:end]!r}"
+        place = end + 1 + int(length)
+        found.append(Exchange(file[end + 1:place], int(moment), bytes.fromhex(nonce.decode())))
     return found
 
 
 def answers(printed):
     """What `apply` printed, cut into a response for each exchange; None is a fault."""
-    found = []
-    while printed:
-        line, _, printed = printed.partition(b"\n")
+    found, place = [], 0
+    while place < len(printed):
+        end = printed.index(b"\n", place)
+        line, place = printed[place:end], end + 1
         if line == b"fault":
             found.append(None)
             continue
         word, length = line.split(b" ")
-        assert word == b"answer" and len(printed) >= int(length), f"no answer: {line!r}"
-        found.append(Response(printed[:int(length)]))
-        printed = printed[int(length):]
+        assert word == b"answer" and place + int(length) <= len(printed), f"no answer: {line!r}"
+        found.append(Response(printed[place:place + int(length)]))
+        place += int(length)
     return found

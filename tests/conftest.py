@@ -25,6 +25,7 @@ def pytest_addoption(parser):
     group.addoption("--steps", type=int, default=1000, help="how many random exchanges test_registers asks (1000)")
     group.addoption("--judgements", type=int, default=100_000,
                     help="how many random bodies test_guard has judged (100000)")
+    group.addoption("--pieces", type=int, default=1000, help="how many random requests test_pieces sends (1000)")
     group.addoption("--counts", action="store_true", help="end with the lines of counts that ./check reads")
 
 
