@@ -23,7 +23,8 @@ import uuid
 FOLDER = pathlib.Path(os.environ.get("OFFICE_BOXES", "/var/cache/sshoffice-boxes"))
 RELEASE = "bookworm"
 PACKAGES = """systemd systemd-sysv dbus libpam-systemd iproute2 procps logrotate cron nginx-light openssh-client
-openssh-server openssl curl sqlite3 python3 ca-certificates""".split()
+openssh-server openssl curl sqlite3 python3 ca-certificates glusterfs-server glusterfs-client
+libnginx-mod-http-js""".split()
 TOOLS = "debootstrap systemd-nspawn unshare nsenter ip mount".split()
 ENVIRONMENT = {"PATH": "/usr/local/sbin:/usr/local/bin:/usr/sbin:/usr/bin:/sbin:/bin", "HOME": "/root", "USER": "root",
                "LANG": "C.UTF-8", "TZ": "UTC"}
@@ -184,7 +185,7 @@ class Rack:
     def enter(self, *words, **how):
         """Starts a command in the rack's namespaces."""
         into = ["nsenter", "-t", str(self.first), "-m", "-n", "-p", "--"]
-        return subprocess.Popen([*into, *words], stdin=subprocess.DEVNULL, **({"env": ENVIRONMENT} | how))
+        return subprocess.Popen([*into, *words], **({"env": ENVIRONMENT, "stdin": subprocess.DEVNULL} | how))
 
     def add(self, *names):
         """Makes boxes and boots them side by side."""
@@ -193,10 +194,14 @@ class Rack:
         for it in self.boxes.values():
             it.write("etc/hosts", self.hosts())
         for it in made:
+            self.furnish(it)
             it.start()
         for it in made:
             it.wait_until_up()
         return made
+
+    def furnish(self, box):
+        """What a box of this rack gets before it starts for the first time."""
 
     def hosts(self):
         lines = ["127.0.0.1 localhost", "::1 localhost"]
@@ -230,7 +235,17 @@ class Box:
         group = f"sshoffice-box-{os.getpid()}-{name}-{uuid.uuid4().hex[:8]}"
         self.groups = [it / group for it in group_folders()]
         self.running = self.init = None
+        self.disks = []
         self.make_files()
+
+    def add_disk(self, place, size):
+        """Gives the box a disk of its own at a folder, before it starts. What is on it stays while the box is off."""
+        disk = self.rack.room / self.name / f"disk{len(self.disks)}"
+        (self.rack.files / self.name / disk.name).mkdir()
+        (self.files / place.lstrip("/")).mkdir(parents=True, exist_ok=True)
+        if self.rack.enter("mount", "-t", "tmpfs", "-o", f"size={size},mode=755", "disk", disk).wait():
+            raise CannotBoot("this machine mounts no tmpfs")
+        self.disks.append(f"--bind={disk}:{place}")
 
     def make_files(self):
         here = self.rack.room / self.name
@@ -275,7 +290,7 @@ class Box:
         words = ["systemd-nspawn", "-D", root, "-M", self.name, "--boot", "--register=no", "--keep-unit",
                  "--network-bridge=rack", "-q", "--console=pipe",
                  # Without these systemd can't filter addresses in the box.
-                 "--capability=CAP_BPF", "--system-call-filter=bpf"]
+                 "--capability=CAP_BPF", "--system-call-filter=bpf", *self.disks]
         self.init = None
         with open(self.rack.files / self.name / "log", "wb") as log:
             self.running = self.rack.enter("sh", "-c", ENTER, "sh", *words, stdout=log, stderr=subprocess.STDOUT,

@@ -20,6 +20,7 @@ def pytest_addoption(parser):
     group.addoption("--krl-tool", metavar="PATH", type=pathlib.Path, default=TOP / "crates/krl_tool/out/krl_tool",
                     help="the krl_tool to test")
     group.addoption("--steps", type=int, default=1000, help="how many random exchanges test_registers asks (1000)")
+    group.addoption("--rounds", type=int, default=60, help="how many faults test_three_machines has happen (60)")
     group.addoption("--counts", action="store_true", help="end with the lines of counts that ./check reads")
 
 
