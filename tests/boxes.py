@@ -235,6 +235,7 @@ class Box:
         group = f"sshoffice-box-{os.getpid()}-{name}-{uuid.uuid4().hex[:8]}"
         self.groups = [it / group for it in group_folders()]
         self.running = self.init = None
+        # Words for systemd-nspawn: disks of its own, and devices.
         self.disks = []
         self.make_files()
 

@@ -20,6 +20,7 @@ import ssl
 import sys
 import threading
 import time
+import traceback
 
 from asking import deliver, issue, lasting, renew, revoke_serial
 
@@ -54,7 +55,7 @@ class Fronts:
 
     def until_answered(self, method, path, body=None, is_over=lambda: False):
         """The status and the text of the first answer of an office, and what came instead before."""
-        instead = []
+        instead, begun = [], time.time()
         at = random.randrange(len(self.addresses))
         while not is_over():
             address = self.addresses[at % len(self.addresses)]
@@ -66,6 +67,8 @@ class Fronts:
             except (OSError, http.client.HTTPException) as fault:
                 instead.append([address, type(fault).__name__])
             at += 1
+            if len(instead) % 100 == 0:
+                print(f"calling: {method} {path} waits since {time.time() - begun:.0f} s: {instead[-4:]}", file=sys.stderr)
             time.sleep(0.2)
         return None, None, instead
 
@@ -115,6 +118,13 @@ class Callers:
             self.serials.append(int(reply.split()[1]))
 
     def go_on(self, number):
+        try:
+            self.until_over(number)
+        except Exception:
+            traceback.print_exc()
+            os._exit(1)
+
+    def until_over(self, number):
         while not self.over.is_set():
             if self.paused.is_set():
                 self.resting.release()

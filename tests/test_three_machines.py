@@ -24,10 +24,11 @@ pytestmark = [pytest.mark.boxes, pytest.mark.root, pytest.mark.slow, pytest.mark
 MACHINES = ["one", "two", "three", "admin", "station"]
 DOOR = "unix:/run/office-door.sock"
 LOG = "/run/office-way/way.log"
-# How much later than it was given an answer may stand in a log.
-SLACK = 0.5
+# For how many seconds after the other machine began to serve a message may be answered by an old server, and a page. An
+# answer stands in the log a moment after it was given. A page comes from memory, until the old server is ended.
+SLACK = {"POST": 0.5, "GET": 20}
 LISTENING = re.compile(r"^(\d+\.\d+) \S+ office-waiting\[\d+\]: listening 8022$", re.M)
-Answer = collections.namedtuple("Answer", "moment machine")
+Answer = collections.namedtuple("Answer", "moment machine method")
 
 
 class Site(boxes.Rack):
@@ -43,6 +44,7 @@ class Site(boxes.Rack):
     def furnish(self, box):
         if box.name in ("one", "two", "three"):
             box.add_disk("/srv/office-brick", "64m")
+            box.disks.append("--bind=/dev/fuse")
 
     def hosts(self):
         """`office` has two addresses."""
@@ -52,7 +54,6 @@ class Site(boxes.Rack):
     def prepare_box(self, box):
         if box.name == "admin":
             box.may_log_in()
-        self.give_fuse(box)
         # The packages are in the folder that every box starts from.
         box.write("usr/local/bin/apt-get", "#!/bin/sh\nexit 0\n", 0o755)
         place = box.files / "root/vethlumi"
@@ -61,9 +62,6 @@ class Site(boxes.Rack):
             out = place / "crates/sshoffice/out"
             out.mkdir(parents=True)
             shutil.copy2(self.program, out / "sshoffice")
-
-    def give_fuse(self, box):
-        box.run("[ -e /dev/fuse ] || mknod -m 666 /dev/fuse c 10 229")
 
     def set_up(self):
         """Types the page's commands."""
@@ -107,18 +105,19 @@ class Site(boxes.Rack):
                 continue
             text = box.run(f"cat {LOG} 2>/dev/null; true", check=False).stdout
             log = [it.split() for it in text.splitlines() if it.count('"') == 2]
-            new = {Answer(float(it[0]), box.name) for it in log if it[-2] == "200" and it[-1] == DOOR}
+            new = {Answer(float(it[0]), box.name, it[1].strip('"')) for it in log if it[-2] == "200" and it[-1] == DOOR}
             # A request that the door refused and the other machine answered has both in its line.
             self.answers = sorted({*self.answers, *new})
             text = box.run("journalctl -u office -o short-unix --no-pager", check=False).stdout
-            self.reigns = sorted({*self.reigns, *[Answer(float(it), box.name) for it in LISTENING.findall(text)]})
+            self.reigns = sorted({*self.reigns, *[Answer(float(it), box.name, "") for it in LISTENING.findall(text)]})
 
     def intruders(self):
         """Answers of a machine after the other one had begun to serve."""
         found = []
         for it in self.answers:
-            begun = [reign for reign in self.reigns if reign.moment < it.moment - SLACK]
-            ruling = {reign.machine for reign in self.reigns if it.moment - SLACK <= reign.moment <= it.moment + SLACK}
+            slack = SLACK[it.method]
+            begun = [reign for reign in self.reigns if reign.moment < it.moment - slack]
+            ruling = {reign.machine for reign in self.reigns if it.moment - slack <= reign.moment <= it.moment + 0.5}
             if it.machine not in ruling | ({begun[-1].machine} if begun else set()):
                 found.append(it)
         return found
@@ -144,7 +143,7 @@ class Site(boxes.Rack):
         return lambda: box.run("gluster --mode=script volume start office force")
 
     def fill_disk(self, box):
-        box.run("dd if=/dev/zero of=/srv/office-brick/full bs=1M 2>/dev/null; true")
+        box.run("dd if=/dev/zero of=/srv/office-brick/full bs=1M 2>/dev/null || true")
         return lambda: box.run("rm -f /srv/office-brick/full")
 
     def cut_link(self, box):
@@ -156,7 +155,6 @@ class Site(boxes.Rack):
         box.pull_the_plug()
         box.start()
         box.wait_until_up()
-        self.give_fuse(box)
 
     # ---- after a fault
 
@@ -371,7 +369,7 @@ def test_faults_at_random(site, calling, request):
     print(f"seed {seed}")
     draw, times = random.Random(seed), collections.defaultdict(list)
     # Each fault at least once, and then by their weights.
-    names = [*WEIGHTS][:rounds] + draw.choices([*WEIGHTS], [*WEIGHTS.values()], k=max(0, rounds - len(WEIGHTS)))
+    names = draw.sample([*WEIGHTS], min(rounds, len(WEIGHTS))) + draw.choices([*WEIGHTS], [*WEIGHTS.values()], k=max(0, rounds - len(WEIGHTS)))
     until(lambda: calling.since(0), seconds=60)
     for name in names:
         records = one_round(site, calling, name, times)
