@@ -28,11 +28,11 @@ def new_office(program, db, last):
 
 
 @contextlib.contextmanager
-def served(program, db, connections=1_000_000):
+def served(program, db, connections=1_000_000, before=()):
     """A server of so many connections that listens, and its port. Where the block ends, however it ends, so has the
-    server."""
+    server. `before` are words before the program, such as `strace`."""
     words = f"serve --db {db} --port 0 --connections {connections} --nonces /dev/urandom"
-    process = subprocess.Popen([program, *words.split()], stdout=subprocess.PIPE, stderr=subprocess.PIPE)
+    process = subprocess.Popen([*before, program, *words.split()], stdout=subprocess.PIPE, stderr=subprocess.PIPE)
     try:
         line = process.stdout.readline()
         if not line.startswith(b"listening "):

@@ -1,6 +1,7 @@
 """What callers ask an office: the texts of messages, the bytes of requests, and files of exchanges."""
 import base64
 import collections
+import hashlib
 import random
 import time
 
@@ -35,6 +36,31 @@ def signature_blob(signature=0x44):
 
 # The CA and the subject of the worked rows. Nobody has the private halves.
 CA, OTHER_CA, KEY = key_line(0x11), key_line(0x12), key_line(0x22)
+
+
+# ---- certificates' bodies
+
+def body(serial=1, *, ca, key_id="web/alice", principals=("alice",), after=None, before=None, kind=1, options=(),
+         extensions=(), key=bytes([0x22]) * 32, nonce=bytes([0x33]) * 32, reserved=b""):
+    """A certificate's body as a CA signs it, by PROTOCOL.certkeys. An option is a name and a value."""
+    now = int(time.time())
+    after, before = (now - 60 if after is None else after), (now + 3600 if before is None else before)
+    return b"".join([
+        string(CERTIFICATE_NAME), string(nonce), string(key), serial.to_bytes(8, "big"),
+        kind.to_bytes(4, "big"), string(key_id.encode()), string(b"".join(string(it.encode()) for it in principals)),
+        after.to_bytes(8, "big"), before.to_bytes(8, "big"),
+        string(b"".join(string(name.encode()) + string(string(value.encode()) if value else b"")
+                        for name, value in options)),
+        string(b"".join(string(it.encode()) + string(b"") for it in extensions)), string(reserved), string(ca)])
+
+
+def digest_of(text):
+    return hashlib.sha256(text).hexdigest()
+
+
+def blob_of(line):
+    """The key blob of a public-key line."""
+    return base64.b64decode(line.split()[1])
 
 
 # ---- messages
@@ -168,26 +194,27 @@ def write_exchanges(path, exchanges):
 
 def exchanges_of(file):
     """The exchanges of an exchange file's bytes."""
-    found = []
-    while file:
-        line, _, rest = file.partition(b"\n")
-        word, moment, nonce, length = line.split(b" ")
-        assert word == b"exchange", f"no record: {line!r}"
-        found.append(Exchange(rest[:int(length)], int(moment), bytes.fromhex(nonce.decode())))
-        file = rest[int(length):]
+    found, place = [], 0
+    while place < len(file):
+        end = file.index(b"\n", place)
+        word, moment, nonce, length = file[place:end].split(b" ")
+        assert word == b"exchange", f"no record: {file[place:end]!r}"
+        place = end + 1 + int(length)
+        found.append(Exchange(file[end + 1:place], int(moment), bytes.fromhex(nonce.decode())))
     return found
 
 
 def answers(printed):
     """What `apply` printed, cut into a response for each exchange; None is a fault."""
-    found = []
-    while printed:
-        line, _, printed = printed.partition(b"\n")
+    found, place = [], 0
+    while place < len(printed):
+        end = printed.index(b"\n", place)
+        line, place = printed[place:end], end + 1
         if line == b"fault":
             found.append(None)
             continue
         word, length = line.split(b" ")
-        assert word == b"answer" and len(printed) >= int(length), f"no answer: {line!r}"
-        found.append(Response(printed[:int(length)]))
-        printed = printed[int(length):]
+        assert word == b"answer" and place + int(length) <= len(printed), f"no answer: {line!r}"
+        found.append(Response(printed[place:place + int(length)]))
+        place += int(length)
     return found

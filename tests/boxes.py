@@ -23,8 +23,8 @@ import uuid
 FOLDER = pathlib.Path(os.environ.get("OFFICE_BOXES", "/var/cache/sshoffice-boxes"))
 RELEASE = "bookworm"
 PACKAGES = """systemd systemd-sysv dbus libpam-systemd iproute2 procps logrotate cron nginx-light openssh-client
-openssh-server openssl curl sqlite3 python3 ca-certificates glusterfs-server glusterfs-client
-libnginx-mod-http-js""".split()
+python3-requests
+openssh-server openssl curl sqlite3 python3 ca-certificates""".split()
 TOOLS = "debootstrap systemd-nspawn unshare nsenter ip mount".split()
 ENVIRONMENT = {"PATH": "/usr/local/sbin:/usr/local/bin:/usr/sbin:/usr/bin:/sbin:/bin", "HOME": "/root", "USER": "root",
                "LANG": "C.UTF-8", "TZ": "UTC"}
@@ -60,43 +60,43 @@ def why_none():
 
 # ---- the folder that every box starts from
 
-def stamp():
-    return hashlib.sha256(" ".join([RELEASE, *PACKAGES]).encode()).hexdigest()
+def stamp(packages):
+    return hashlib.sha256(" ".join([RELEASE, *packages]).encode()).hexdigest()
 
 
-def is_prepared(folder):
+def is_prepared(folder, packages):
     with contextlib.suppress(OSError):
-        return (folder / "stamp").read_text() == stamp()
+        return (folder / "stamp").read_text() == stamp(packages)
     return False
 
 
-def prepare(folder=FOLDER):
+def prepare(folder=FOLDER, packages=PACKAGES):
     """Makes the folder of a Debian with its packages, unless it is there. Several processes may call this at once."""
-    if is_prepared(folder):
+    if is_prepared(folder, packages):
         return folder / "root"
     if reason := why_none():
         raise CannotBoot(reason)
     folder.mkdir(parents=True, exist_ok=True)
     with open(folder / "lock", "w") as lock:
         fcntl.flock(lock, fcntl.LOCK_EX)
-        if not is_prepared(folder):
-            make_root(folder)
+        if not is_prepared(folder, packages):
+            make_root(folder, packages)
     return folder / "root"
 
 
-def make_root(folder):
+def make_root(folder, packages):
     new, root = folder / "new", folder / "root"
     for it in (folder / "stamp", new, root):
         shutil.rmtree(it) if it.is_dir() else it.unlink(missing_ok=True)
     # What it mounts ends with it, also if it is killed.
-    words = ["unshare", "--mount", "debootstrap", "--variant=minbase", f"--include={','.join(PACKAGES)}", RELEASE, new]
+    words = ["unshare", "--mount", "debootstrap", "--variant=minbase", f"--include={','.join(packages)}", RELEASE, new]
     environment = ENVIRONMENT | {"DEBIAN_FRONTEND": "noninteractive"}
     made = subprocess.run(words, capture_output=True, text=True, env=environment)
     if made.returncode:
         raise CannotBoot(f"debootstrap failed: {(made.stdout + made.stderr)[-800:]}")
     shutil.rmtree(new / "var/cache/apt/archives", ignore_errors=True)
     new.rename(root)
-    (folder / "stamp").write_text(stamp())
+    (folder / "stamp").write_text(stamp(packages))
 
 
 # ---- control groups

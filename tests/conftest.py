@@ -9,8 +9,9 @@ import pytest
 
 from browsing import Relay, new_browser
 from differences import difference
-from fronts import Front, Station, new_authority
+from fronts import Front, new_authority
 from running import TOP, Office, Programs
+from stations import new_station
 
 
 def pytest_addoption(parser):
@@ -19,8 +20,14 @@ def pytest_addoption(parser):
                     help="the sshoffice to test")
     group.addoption("--krl-tool", metavar="PATH", type=pathlib.Path, default=TOP / "crates/krl_tool/out/krl_tool",
                     help="the krl_tool to test")
+    group.addoption("--sshstation", metavar="PATH", type=pathlib.Path, default=TOP / "crates/sshstation/out/sshstation",
+                    help="the sshstation to test")
     group.addoption("--steps", type=int, default=1000, help="how many random exchanges test_registers asks (1000)")
-    group.addoption("--rounds", type=int, default=60, help="how many faults test_three_machines has happen (60)")
+    group.addoption("--rounds", type=int, default=0,
+                    help="how many faults test_three_machines has happen (0: it is left out)")
+    group.addoption("--judgements", type=int, default=100_000,
+                    help="how many random bodies test_guard has judged (100000)")
+    group.addoption("--pieces", type=int, default=1000, help="how many random requests test_pieces sends (1000)")
     group.addoption("--counts", action="store_true", help="end with the lines of counts that ./check reads")
 
 
@@ -88,6 +95,11 @@ def krl_tool(request):
     return built(request.config.getoption("--krl-tool"))
 
 
+@pytest.fixture(scope="session")
+def sshstation(request):
+    return built(request.config.getoption("--sshstation"))
+
+
 @pytest.fixture
 def room(tmp_path, monkeypatch):
     monkeypatch.chdir(tmp_path)
@@ -138,9 +150,9 @@ def front(served, make_front):
 
 
 @pytest.fixture
-def station(front, room):
-    return Station(room / "station", front.url, front.office.ca_key, front.certificate("station"),
-                   front.authority / "ca.crt")
+def station(sshstation, front):
+    return new_station(sshstation, front.office, front.url, certificate=front.certificate("station"),
+                       trusted=front.authority / "ca.crt")
 
 
 @pytest.fixture

@@ -1,4 +1,4 @@
-"""An office behind nginx with examples/front, and the signing station of examples/station."""
+"""An office behind nginx with examples/front."""
 import contextlib
 import functools
 import os
@@ -8,7 +8,6 @@ import shutil
 import signal
 import socket
 import ssl
-import subprocess
 
 import requests
 
@@ -132,21 +131,3 @@ class Front:
                 while piece := peer.recv(65536):
                     came += piece
         return Response(came)
-
-
-class Station:
-    """The signing station of examples/station: `ca_key` is the CA's private half, `certificate` the station's own."""
-
-    def __init__(self, folder, url, ca_key, certificate=None, trusted=None):
-        self.url, self.ca_key, self.certificate = url, ca_key, certificate
-        self.home = pathlib.Path(folder).absolute()
-        self.home.mkdir(exist_ok=True)
-        if certificate:
-            (self.home / ".curlrc").write_text(f'cert = "{certificate}"\ncacert = "{trusted}"\n')
-
-    def sign(self, ca_key=None):
-        """Signs what waits, and returns the serials that were signed."""
-        done = subprocess.run([EXAMPLES / "station", self.url, ca_key or self.ca_key], capture_output=True, timeout=60,
-                              env=os.environ | {"CURL_HOME": str(self.home)}, text=True)
-        assert done.returncode == 0, f"the station: status {done.returncode}, {done.stderr}"
-        return [int(line.removeprefix("signed ")) for line in done.stdout.splitlines()]

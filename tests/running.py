@@ -3,10 +3,12 @@ import contextlib
 import os
 import pathlib
 import random
+import re
 import signal
 import socket
 import subprocess
 import time
+import tomllib
 
 import pytest
 
@@ -15,6 +17,17 @@ from asking import Response, answers, get, post, write_exchanges
 TOP = pathlib.Path(__file__).resolve().parent.parent
 EXAMPLES = TOP / "examples"
 ROWS = EXAMPLES / "rows"
+
+
+def rows(name):
+    """The rows of data/NAME.toml."""
+    return tomllib.loads((TOP / f"tests/data/{name}.toml").read_text())
+
+
+def refusals():
+    """The name and the status of each refusal, by its number, as docs/FORMATS.md has them."""
+    found = re.findall(r"^\| (\d+) \| (\w+) \| (\d+) \|", (TOP / "docs/FORMATS.md").read_text(), re.M)
+    return {int(number): (name, int(status)) for number, name, status in found}
 
 
 def left_out(why):

@@ -21,6 +21,8 @@ from running import TOP, left_out
 pytestmark = [pytest.mark.boxes, pytest.mark.root, pytest.mark.slow, pytest.mark.timeout(900)]
 IN_SERVICE = "In service"
 MACHINES = ["admin", "office", "station", "server"]
+# The programs that are built on a machine.
+PROGRAMS = {"office": ["sshoffice"], "spare": ["sshoffice"], "station": ["sshstation"]}
 # What stays in a shell when its commands have ended.
 NAMES = re.compile(r"^(?:export |front=|\w+\(\)).*$", re.M)
 # The office, for curl as root on its machine.
@@ -51,9 +53,9 @@ def base(tmp_path_factory):
 class Site(boxes.Rack):
     """Machines on which the commands of pages are typed, one shell for each."""
 
-    def __init__(self, room, base, program, kept=None):
+    def __init__(self, room, base, programs, kept=None):
         super().__init__(room, base, kept)
-        self.program, self.shells, self.printed = program, {}, {}
+        self.programs, self.shells, self.printed = programs, {}, {}
 
     def add(self, *names):
         made = super().add(*names)
@@ -63,10 +65,10 @@ class Site(boxes.Rack):
             place = box.files / "root/vethlumi"
             if not place.exists():
                 shutil.copytree(TOP / "examples", place / "examples")
-                if box.name in ("office", "spare"):
-                    out = place / "crates/sshoffice/out"
+                for name in PROGRAMS.get(box.name, ()):
+                    out = place / f"crates/{name}/out"
                     out.mkdir(parents=True)
-                    shutil.copy2(self.program, out / "sshoffice")
+                    shutil.copy2(self.programs[name], out / name)
         return made
 
     def shell(self, name):
@@ -101,9 +103,9 @@ def of(printed, *lines):
     return [it for it in printed if it in lines]
 
 
-def install(room, base, program, kept):
+def install(room, base, built_programs, kept):
     """Types the page's commands into machines, and keeps the machines."""
-    made = Site(room, base, program)
+    made = Site(room, base, built_programs)
     with contextlib.closing(made):
         made.add(*MACHINES)
         printed = made.type(set_up())
@@ -114,7 +116,12 @@ def install(room, base, program, kept):
 
 
 @pytest.fixture(scope="session")
-def installed(base, program, tmp_path_factory):
+def built_programs(program, sshstation):
+    return {"sshoffice": program, "sshstation": sshstation}
+
+
+@pytest.fixture(scope="session")
+def installed(base, built_programs, tmp_path_factory):
     """A folder with the machines as the page leaves them. Tests that run side by side share it."""
     common = tmp_path_factory.getbasetemp()
     common = common.parent if os.environ.get("PYTEST_XDIST_WORKER") else common
@@ -123,15 +130,15 @@ def installed(base, program, tmp_path_factory):
         fcntl.flock(lock, fcntl.LOCK_EX)
         if not kept.exists():
             new = tmp_path_factory.mktemp("machines")
-            install(tmp_path_factory.mktemp("rack"), base, program, new)
+            install(tmp_path_factory.mktemp("rack"), base, built_programs, new)
             new.rename(kept)
     return kept
 
 
 @pytest.fixture
-def site(base, installed, program, tmp_path):
+def site(base, installed, built_programs, tmp_path):
     """The machines of the page, which have just been switched on. Their shells have the page's names."""
-    made = Site(tmp_path, base, program, installed)
+    made = Site(tmp_path, base, built_programs, installed)
     with contextlib.closing(made):
         made.add(*MACHINES)
         made.shell("admin").run("\n".join(NAMES.findall(set_up())))
@@ -470,6 +477,9 @@ def test_drill_a_taken_front(site):
     printed = drill(site, "A taken front")
     assert ["granted", "amiss", "refused", "granted"] == of(printed, "granted", "refused", "amiss")
     assert "other|eve|*e" in printed and "web|ana|alice" in printed
+    assert [] == [it for it in printed if it.startswith("foreign: ")]
+    assert ["1 web/alice", "2 web/other"] == [f"{it[0]} {it[3]}" for it in map(str.split, printed)
+                                              if len(it) == 4 and len(it[1]) == 64]
     key = site.boxes["station"].says("ssh-keygen -l -f first.pub").split()[1]
     assert [key] == [it.split()[1] for it in site.boxes["server"].says(f"ssh-keygen -l -f {CAS}").splitlines()]
     assert any(it.startswith("front: the certificate is another authority's") for it in printed)
@@ -486,6 +496,7 @@ def test_drill_a_lost_office(site):
     printed = drill(site, "A lost office")
     assert ["refused", "granted"] == of(printed, "granted", "refused")
     assert "alice-cert.pub serial 1000000" in printed
+    assert any(it.startswith("1 ") and it.endswith(" web/alice") for it in printed), "the guard knows what is out"
 
 
 def test_drill_another_machine(site):

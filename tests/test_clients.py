@@ -1,4 +1,4 @@
-"""station, request, figures and list-of-table: what they ask is bounded, names no secret, and what fails is said."""
+"""request, figures and list-of-table: what they ask is bounded, names no secret, and what fails is said."""
 import concurrent.futures
 import os
 import pathlib
@@ -8,10 +8,10 @@ import subprocess
 
 import pytest
 
-from asking import department, issue, lasting
+from asking import department
 from fetching import Web, response, script, small_disk
-from recording import whole_request
 from running import EXAMPLES, run, until
+from stations import new_station
 
 CALLS = "calls"
 
@@ -34,9 +34,10 @@ def new_key(name="alice"):
 
 
 @pytest.fixture
-def asked(served):
-    """An office that serves, with the department web."""
+def asked(served, sshstation):
+    """An office that serves, with the department web, and its signing station."""
     assert 200 == served.post("root", "web", department()).status
+    served.station = new_station(sshstation, served.office, served.url)
     return served
 
 
@@ -54,19 +55,19 @@ def calls_of(watched, name):
 def test_each_request_has_a_time_limit_and_its_url_is_taken_as_it_is(asked, watched):
     new_key()
     assert 1 == request(asked)[0]
-    assert 0 == script("station", asked.url, asked.office.ca_key)[0]
+    assert [1] == asked.station.sign(PATH=f"{asked.station.folder}:{os.environ['PATH']}")
     assert 0 == request(asked)[0]
     for name in ("fetch-list", "fetch-ca-keys"):
         script(name, *["--fingerprint", "SHA256:" + 43 * "A"] * (name != "fetch-list"), asked.url, "fetched")
     calls = calls_of(watched, "curl")
-    assert len(calls) >= 8
+    assert len(calls) >= 5
     assert [] == [it for it in calls if "--max-time " not in it or "--globoff" not in it or " --url http" not in it]
 
 
 def test_no_secret_is_an_argument(asked, watched):
     new_key()
     assert 1 == request(asked)[0]
-    assert 0 == script("station", asked.url, asked.office.ca_key)[0]
+    assert [1] == asked.station.sign(PATH=f"{asked.station.folder}:{os.environ['PATH']}")
     text = watched.read_text()
     signature = asked.get("/v1/certs/1").text.split()[1][-20:-4]
     for secret in (*asked.office.ca_key.read_text().splitlines(), *(pathlib.Path("alice").read_text().splitlines())):
@@ -75,95 +76,15 @@ def test_no_secret_is_an_argument(asked, watched):
 
 
 @pytest.mark.parametrize("name, words", [
-    ("station", ["{url}/{{a,b}}[1-3]", "key.pem"]),
     ("fetch-list", ["{url}/{{a,b}}[1-3]", "list"]),
     ("request", ["--caller", "ana", "--wait", "1", "{url}/{{a,b}}[1-3]", "web", "web/a", "alice.pub", "alice", "1h"]),
 ], ids=lambda it: it if isinstance(it, str) else "")
 def test_braces_of_a_url_are_no_pattern(room, name, words):
     new_key()
-    run(["openssl", "genpkey", "-algorithm", "ed25519", "-out", "key.pem"], check=True)
     with Web(response(b"no", "404 Not Found")) as web:
         script(name, *[it.format(url=web.url) for it in words])
         assert 1 == len(web.requests)
         assert b" /{a,b}[1-3]/v1/" in web.requests[0].split(b"\r\n")[0]
-
-
-# ---- station
-
-def test_a_body_that_cannot_be_had_starves_no_other(asked):
-    for name in ("one", "two", "three"):
-        asked.post("ana", name, issue(f"web/{name}", **lasting(3600)))
-    pending = asked.get("/v1/pending").body
-    serials = [it.split()[0] for it in pending.decode().splitlines()]
-    assert ["1", "2", "3"] == serials
-    lines = pending.decode().splitlines()
-    with Forwarding(asked, pending=f"{lines[0]}\n9 {lines[0].split()[1]}\n{lines[2]}\n".encode()) as false:
-        status, out, errors = script("station", false.url, asked.office.ca_key)
-    assert (1, "signed 1\nsigned 3\n") == (status, out)
-    assert "station: serial 9 isn't signed" == errors[-1]
-    assert (0, "signed 2\n", []) == script("station", asked.url, asked.office.ca_key)
-    assert (0, "", []) == script("station", asked.url, asked.office.ca_key)
-
-
-class Forwarding(Web):
-    """A server before an office that says of its own what waits."""
-
-    def __init__(self, served, pending):
-        super().__init__()
-        self.served, self.pending = served, pending
-
-    def finish_request(self, peer, address):
-        came = whole_request(peer)
-        if came.startswith(b"GET /v1/pending "):
-            peer.sendall(response(self.pending))
-        else:
-            peer.sendall(self.served.ask(came).bytes)
-
-
-PENDING = [
-    ("a serial with a path", b"1/../2 " + 64 * b"a" + b"\n"),
-    ("a serial that is an option", b"--output " + 64 * b"a" + b"\n"),
-    ("no digest", b"1\n"),
-    ("another page", b"<html>sign in to the network</html>\n"),
-]
-
-
-@pytest.mark.parametrize("body", [it[1] for it in PENDING], ids=[it[0] for it in PENDING])
-def test_what_is_no_list_of_what_waits_is_not_followed(office, body):
-    with Web(response(body)) as web:
-        status, out, errors = script("station", web.url, office.ca_key)
-        assert (1, "", f"station: {web.url} says something else than what waits") == (status, out, errors[-1])
-        assert 1 == len(web.requests)
-
-
-def test_an_endless_body_is_not_signed(office):
-    class Endless(Web):
-        def finish_request(self, peer, address):
-            self.endless = b""
-            if not self.requests:
-                self.answer = response(b"1 " + 64 * b"a" + b"\n")
-            else:
-                self.answer, self.endless = response(b"", length=""), bytes(1 << 16)
-            super().finish_request(peer, address)
-
-    with Endless() as web:
-        status, out, errors = script("station", web.url, office.ca_key)
-        assert (1, "", "station: serial 1 isn't signed") == (status, out, errors[-1])
-
-
-@pytest.mark.parametrize("words, status, why", [
-    ([], 2, None), (["url"], 2, None), (["a", "b", "c", "d"], 2, None), (["--no-such-word", "x"], 2, None),
-    (["http://127.0.0.1:1", "none"], 1, "station: can't read none"),
-    (["http://127.0.0.1:1", "no-key"], 1, "station: no-key is no private key"),
-], ids=str)
-def test_bad_words_of_the_station(room, words, status, why):
-    (room / "no-key").write_text("no key\n")
-    got, out, errors = script("station", *words)
-    assert (status, "", why or "station URL KEY [CALLER]") == (got, out, errors[-1] if why else errors[0])
-
-
-def test_the_stations_help():
-    assert (0, "station URL KEY [CALLER]") == (lambda it: (it[0], it[1].splitlines()[0]))(script("station", "--help"))
 
 
 # ---- request
@@ -174,7 +95,7 @@ def test_two_at_once_get_one_certificate(asked):
         done = list(threads.map(lambda _: request(asked, wait=2), range(4)))
     assert {1} == {it[0] for it in done}
     assert b"total 1 version 0\n" in asked.get("/v1/table").body
-    script("station", asked.url, asked.office.ca_key)
+    asked.station.sign()
     assert (0, "alice-cert.pub serial 1\n", []) == request(asked)
 
 
@@ -184,7 +105,7 @@ def test_a_command_that_was_killed_may_be_run_again_at_once(asked):
     with subprocess.Popen(words, stderr=subprocess.DEVNULL, start_new_session=True) as process:
         until(lambda: b"total 1 " in asked.get("/v1/table").body)
         os.killpg(process.pid, signal.SIGKILL)
-    script("station", asked.url, asked.office.ca_key)
+    asked.station.sign()
     assert (0, "alice-cert.pub serial 1\n", []) == request(asked)
 
 
@@ -194,7 +115,7 @@ def test_a_key_may_have_any_name(asked, name, room):
     for end in ("", ".pub"):
         (room / f"alice{end}").rename(room / f"{name}{end}")
     assert 1 == request(asked, name)[0]
-    script("station", asked.url, asked.office.ca_key)
+    asked.station.sign()
     status, out, errors = request(asked, name)
     assert (0, []) == (status, errors)
     assert f"{name}-cert.pub serial 1\n" == out.removeprefix("./")
@@ -233,7 +154,7 @@ def test_a_folder_in_place_of_the_certificate(asked, room):
     new_key()
     (room / "alice-cert.pub").mkdir()
     request(asked)
-    script("station", asked.url, asked.office.ca_key)
+    asked.station.sign()
     why = "request: can't write alice-cert.pub; alice.request is kept: run the same command again"
     assert (1, "", [why]) == request(asked)
     assert [] == os.listdir("alice-cert.pub")
@@ -259,11 +180,11 @@ def test_a_full_disk_keeps_what_was_asked(asked, room, blocks):
         status, _, errors = request(asked, "disk/alice")
         assert 1 == status
         assert blocks or errors == ["request: can't write disk/alice.request"]
-        script("station", asked.url, asked.office.ca_key)
+        asked.station.sign()
         request(asked, "disk/alice")
         (room / "disk/filling").unlink()
         request(asked, "disk/alice")
-        script("station", asked.url, asked.office.ca_key)
+        asked.station.sign()
         assert 0 == request(asked, "disk/alice")[0] or (room / "disk/alice-cert.pub").exists()
         assert b"-cert-v01" in (room / "disk/alice-cert.pub").read_bytes()
 
@@ -287,15 +208,13 @@ def test_bad_words_send_nothing(room, words, url, why):
     assert not (room / "alice.request").exists()
 
 
-@pytest.mark.parametrize("name, words, missing", [
-    ("request", ["http://127.0.0.1:1", "web", "web/alice", "alice.pub", "alice", "1h"], "curl"),
-    ("station", ["http://127.0.0.1:1", "alice"], "base64")])
-def test_a_program_that_is_missing_is_named(room, name, words, missing):
+def test_a_program_that_is_missing_is_named(room):
     new_key()
     (room / "bin").mkdir()
     for program in ("env", "bash"):
         (room / "bin" / program).symlink_to(f"/usr/bin/{program}")
-    assert (1, "", [f"{name}: {missing} is missing"]) == script(name, *words, env={"PATH": str(room / "bin")})
+    words = ["http://127.0.0.1:1", "web", "web/alice", "alice.pub", "alice", "1h"]
+    assert (1, "", ["request: curl is missing"]) == script("request", *words, env={"PATH": str(room / "bin")})
 
 
 # ---- figures and list-of-table

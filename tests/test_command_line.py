@@ -6,7 +6,7 @@ import subprocess
 import pytest
 
 from asking import CA, OTHER_CA
-from running import ROWS, run
+from running import ROWS, rows, run
 
 pytestmark = pytest.mark.rows
 
@@ -90,55 +90,8 @@ def init(db, ca="ca.pub", root="root", station="station", first=1, last=92233720
     return f"init --db {db} --ca {ca} --root {root} --station {station} --first {first} --last {last}"
 
 
-# Words, and the fault in which they end. The first fault is named.
-FAULTS = [
-    # An office is founded once.
-    (init("ready.db"), "AlreadyAnOffice"),
-    ("migrate --db ready.db", "WrongSchema"),
-    # An opening has its faults in order.
-    (init("opening.db", root="Root", station="Root", first=0, last=0), "BadName"),
-    (init("opening.db", root="root", station="root", first=0, last=0), "SameName"),
-    (init("opening.db", first=0, last=1), "BadSerials"),
-    (init("opening.db", first=2, last=1), "BadSerials"),
-    (init("numbers.db", first=0, last=2 ** 64 - 1), "BadSerials"),
-    (init("no/where.db", ca="no.pub", root="Root", station="Root", first=0, last=0), "File"),
-    (init("no/where.db", ca="bad.pub", root="Root", station="Root", first=0, last=0), "BadBase64"),
-    (init("no/where.db", root="Root", station="Root", first=0, last=0), "BadName"),
-    (init("no/where.db", first=2, last=1), "BadSerials"),
-    (init("no/where.db", first=1, last=2), "Device"),
-    # A faulty list has its fault.
-    ("check --ca ca.pub longer.krl 6 web/x", "Truncated"),
-    ("check --ca ca.pub other.krl 6 web/x", "Unsupported(2)"),
-    ("check --ca ca.pub cut.krl 6 web/x", "Truncated"),
-    ("check --ca ca.pub short.krl 6 web/x", "BadSection"),
-    ("check --ca no.pub no.krl 6 web/x", "File"),
-    ("check --ca rsa.pub no.krl 6 web/x", "WrongType"),
-    ("check --ca bad.pub no.krl 6 web/x", "BadBase64"),
-    ("check --ca ca.pub no.krl 6 web/x", "File"),
-    # A file is read up to its limit, and one of exchanges whole or not at all.
-    ("check --ca most.pub no.krl 6 web/x", "BadComment"),
-    ("check --ca longer.pub no.krl 6 web/x", "File"),
-    ("check --ca /dev/zero no.krl 6 web/x", "File"),
-    ("apply longer.exchange", "BadExchange 1"),
-    ("apply /dev/zero", "BadExchange 1"),
-    ("apply 10001.exchange", "BadExchange 10001"),
-    *[(f"apply {name}.exchange", "BadExchange 2") for name in BAD_RECORDS],
-    *[(f"apply {name}.exchange", "BadExchange 1") for name in NO_RECORDS],
-    ("apply no.exchange", "File"),
-    ("apply -- -one", "File"),
-    ("apply --db no/where.db no.exchange", "File"),
-    ("apply --db no/where.db request-cut.exchange", "BadExchange 1"),
-    ("apply --db no/where.db /dev/null", "NotAnOffice"),
-    ("apply --db ca.pub/where.db /dev/null", "Device"),
-    ("apply --db none.db /dev/null", "NotAnOffice"),
-    ("krl --db no/where.db", "NotAnOffice"),
-    ("krl --db ca.pub/where.db", "Device"),
-    ("signers --db none.db", "NotAnOffice"),
-    ("migrate --db none.db", "NotAnOffice"),
-    ("serve --db no/where.db --port 0 --connections 1 --nonces no.nonces", "File"),
-    ("serve --db ca.pub/where.db --port 0 --connections 1 --nonces /dev/zero", "Device"),
-    ("serve --db none.db --port 0 --connections 1 --nonces /dev/zero", "NotAnOffice"),
-]
+# Words, and the fault in which they end.
+FAULTS = rows("commands")["faults"].items()
 
 # Words, and what is printed.
 PRINTED = [

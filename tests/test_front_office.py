@@ -10,9 +10,10 @@ import time
 import pytest
 
 from asking import department, issue, lasting
-from fronts import Front, Station
+from fronts import Front
 from recording import getting, posting, rest, statuses, whole_request
 from running import EXAMPLES, Programs, is_listening, left_out, run, until
+from stations import new_station
 
 pytestmark = [pytest.mark.front, pytest.mark.xdist_group("front_office")]
 AWAY = "front: no answer came from the office; send the same bytes again\n"
@@ -76,10 +77,6 @@ class Relay(socketserver.ThreadingTCPServer):
         peer.sendall(answer)
 
 
-def station_of(front, office):
-    return Station("station", front.url, office.ca_key, front.certificate("station"), front.authority / "ca.crt")
-
-
 def asking_for(front, name):
     """The words that ask for a certificate of a new key of this name."""
     run(["ssh-keygen", "-q", "-t", "ed25519", "-N", "", "-f", name], check=True)
@@ -87,21 +84,22 @@ def asking_for(front, name):
             "--wait", 30, front.url, "web", f"web/{name}", f"{name}.pub", "alice", "1h"]
 
 
-def certificate_of(front, office, served, name, asking):
+def certificate_of(sshstation, front, office, served, name, asking):
     """What `request` prints in the end, once the station has signed."""
     until(lambda: f" web/{name}\n" in served.get("/v1/table").text, seconds=30)
-    station_of(front, office).sign()
+    new_station(sshstation, office, front.url, certificate=front.certificate("station"),
+                trusted=front.authority / "ca.crt").sign()
     return asking.communicate(timeout=30)[0].decode()
 
 
 @pytest.mark.timeout(200)
-def test_three_answers_are_lost_and_one_certificate_comes_of_it(served, make_front, programs):
+def test_three_answers_are_lost_and_one_certificate_comes_of_it(sshstation, served, make_front, programs):
     served.post("root", "web-1", department())
     with Relay(served, 3) as relay:
         front = make_front(relay.port)
         asking = programs.begin(asking_for(front, "lost"), stdout=subprocess.PIPE)
         until(lambda: not relay.losses)
-        assert "lost-cert.pub serial 1\n" == certificate_of(front, served.office, served, "lost", asking)
+        assert "lost-cert.pub serial 1\n" == certificate_of(sshstation, front, served.office, served, "lost", asking)
         relay.shutdown()
     assert 1 == served.get("/v1/table").text.count(" web/lost\n")
 
@@ -135,7 +133,7 @@ def test_a_front_that_is_killed_loses_nothing(put):
     assert told(first) == told(send(put, "ana", "killed-1", message))
 
 
-def test_an_office_that_was_killed_gives_the_same_bytes(office, make_front, programs):
+def test_an_office_that_was_killed_gives_the_same_bytes(sshstation, office, make_front, programs):
     message = issued("killed")
     with office.serving() as served:
         front = make_front(served.port)
@@ -149,7 +147,7 @@ def test_an_office_that_was_killed_gives_the_same_bytes(office, make_front, prog
     time.sleep(1.2)
     with office.serving(port=served.port) as again:
         assert told(first) == told(send(front, "ana", "killed-1", message))
-        assert "away-cert.pub serial 2\n" == certificate_of(front, office, again, "away", asking)
+        assert "away-cert.pub serial 2\n" == certificate_of(sshstation, front, office, again, "away", asking)
 
 
 # ---- certificates that are taken back

@@ -10,8 +10,8 @@ import time
 import pytest
 
 from asking import department, issue, lasting, revoke_serial
-from fronts import Station
 from running import left_out, run, until
+from stations import new_station
 
 # ---- a copy while the office serves
 
@@ -98,14 +98,14 @@ def test_a_snapshot_of_a_frozen_file_system_has_each_answer_before_it(program, m
 
 # ---- the lists of two offices
 
-def office_with_a_list(make_office, room, name):
+def office_with_a_list(sshstation, make_office, room, name):
     """An office whose certificate NAME-cert.pub, of serial 1, is revoked in NAME.krl; and its CA's fingerprint."""
     office = make_office(f"{name}.db")
     run(["ssh-keygen", "-q", "-t", "ed25519", "-N", "", "-f", name], check=True)
     with office.serving() as served:
         served.post("root", "web", department())
         served.post("ana", "one", issue("web/x", key=(room / f"{name}.pub").read_text().strip(), **lasting(3600)))
-        assert [1] == Station(room / f"{name}-station", served.url, office.ca_key).sign()
+        assert [1] == new_station(sshstation, office, served.url, f"{name}-guard.db").sign()
         (room / f"{name}-cert.pub").write_bytes(served.get("/v1/certs/1").body)
         served.post("ana", "gone", revoke_serial(1))
         (room / f"{name}.krl").write_bytes(served.get("/v1/krl").body)
@@ -116,8 +116,8 @@ def is_revoked(krl, certificate):
     return {0: False, 1: True}[run(["ssh-keygen", "-Q", "-f", krl, certificate]).returncode]
 
 
-def test_two_lists_that_are_joined_revoke_under_both_cas(make_office, room):
-    fingerprints = [office_with_a_list(make_office, room, name) for name in ("a", "b")]
+def test_two_lists_that_are_joined_revoke_under_both_cas(sshstation, make_office, room):
+    fingerprints = [office_with_a_list(sshstation, make_office, room, name) for name in ("a", "b")]
     assert (True, False) == (is_revoked("a.krl", "a-cert.pub"), is_revoked("b.krl", "a-cert.pub"))
     run(["sh", "-c", "{ cat a.krl && tail -c +45 b.krl; } >joined.krl"], check=True)
     shown = run(["ssh-keygen", "-Q", "-l", "-f", "joined.krl"], check=True).stdout.decode()

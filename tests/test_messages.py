@@ -1,16 +1,21 @@
-"""Which texts are messages, each limit at and past its end: a text that is none is refused as BadMessage.
+"""Which texts are messages, each limit at and past its end: a text that is none is refused as BadMessage, and the crate
+that reads it names its first bad line.
 
 A message of each kind is given another line in one place, and is posted by root to the trial office in memory. Of each
-worked message each beginning is posted as well, and the message with some bytes more. Of networks Python and ssh-keygen
-are asked at each run.
+worked message each beginning is posted as well, and the message with some bytes more. No program prints the number of a
+bad line: a small one that does, bad_lines.txt, is made for the test, of the crate `message` and with no proof. Of
+networks Python and ssh-keygen are asked at each run.
 """
 import base64
 import ipaddress
+import random
+import re
+import shutil
 
 import pytest
 
 from asking import KEY, OTHER_CA, answers, exchange, post, string, write_exchanges
-from running import run
+from running import TOP, left_out, run
 
 pytestmark = pytest.mark.rows
 
@@ -152,19 +157,25 @@ def shown(line):
     return repr(line) if len(line) <= 70 else f"{line[:40]!r}.. of {len(line)} characters"
 
 
+# Lines that another message may have in their place, so that the first bad line is a later one: a department for hosts
+# has no options, and behind an option stands another or the extensions.
+LATER = {("department web", "kind host"): 5, ("issue web", "option verify-required"): 8}
+
+
 def all_rows():
-    """What is posted: what it is, its bytes, and whether they are a message."""
+    """What is posted: what it is, its bytes, and the number of the first bad line, or 0 where they are a message."""
     for lines, place, good, bad in ROWS:
         for line, is_message in [*((it, True) for it in good), *((it, False) for it in bad)]:
             changed = [*lines[:place], line, *lines[place + 1:]]
-            yield f"{lines[0]!r} with {shown(line)} as line {place + 1}", text(changed), is_message
+            number = 0 if is_message else LATER.get((lines[0], line), place + 1)
+            yield f"{lines[0]!r} with {shown(line)} as line {place + 1}", text(changed), number
     for lines, _ in WORKED:
         whole = text(lines)
-        yield f"{lines[0]!r} whole", whole, True
+        yield f"{lines[0]!r} whole", whole, 0
         for more in (b"\n", b"x", b"\0", b" ", whole):
-            yield f"{lines[0]!r} with {shown(more.decode())} behind it", whole + more, False
+            yield f"{lines[0]!r} with {shown(more.decode())} behind it", whole + more, len(lines) + 1
         for size in range(len(whole)):
-            yield f"the first {size} bytes of {lines[0]!r}", whole[:size], False
+            yield f"the first {size} bytes of {lines[0]!r}", whole[:size], whole[:size].count(b"\n") + 1
 
 
 POSTED = [*all_rows()]
@@ -188,13 +199,69 @@ def test_each_text_is_answered(replies):
     assert len(POSTED) == len(replies)
 
 
-@pytest.mark.parametrize(("place", "is_message"), [(place, it[2]) for place, it in enumerate(POSTED)],
+@pytest.mark.parametrize(("place", "number"), [(place, it[2]) for place, it in enumerate(POSTED)],
                          ids=[what for what, _, _ in POSTED])
-def test_a_text_is_a_message_or_none(replies, place, is_message):
-    if is_message:
+def test_a_text_is_a_message_or_none(replies, place, number):
+    if number == 0:
         assert BAD != replies[place]
     else:
         assert BAD == replies[place]
+
+
+# ---- the first bad line
+
+WHOLE = text(ISSUE)
+# What docs/FORMATS.md says of the issue there.
+PRINTED = [
+    *[(f"the first {size} bytes", WHOLE[:size], 1) for size in range(10)],
+    *[(f"the first {size} bytes", WHOLE[:size], 2) for size in range(10, 26)],
+    ("without the last LF", WHOLE[:161], 7),
+    ("with one more LF", WHOLE + b"\n", 8),
+    ("with another line 2", text([ISSUE[0], "kind user", *ISSUE[2:]]), 2),
+    ("with an option without its value", text([*ISSUE[:6], "option force-command", ISSUE[6]]), 7),
+    ("with an option twice", text([*ISSUE[:6], *["option force-command a"] * 2, ISSUE[6]]), 8),
+    # And what follows from its rule: a fourth option, and what stands behind three.
+    ("with a fourth option", text([*WITH_ALL[:9], WITH_ALL[8], WITH_ALL[9]]), 10),
+    ("with three options and no extensions", text(WITH_ALL[:9]), 10),
+    ("with three options and a line more", text([*WITH_ALL, "x"]), 11),
+]
+
+
+@pytest.fixture(scope="module")
+def bad_lines(tmp_path_factory):
+    """The number of the first bad line of each text, as the crate `message` of this repository says it: of those that are
+    posted above, and of those that docs/FORMATS.md shows."""
+    if not shutil.which("rt"):
+        left_out("the toolchain's command rt isn't on the PATH")
+    folder = tmp_path_factory.mktemp("bad-lines")
+    lists = re.findall(r"^((\w+):.*)$", (TOP / "crates.txt").read_text(), re.M)
+    below = lists[:[name for _, name in lists].index("message") + 1]
+    for _, name in below:
+        for part in ("src", "specs", "proofs"):
+            if (TOP / "crates" / name / part).is_dir():
+                shutil.copytree(TOP / "crates" / name / part, folder / "crates" / name / part)
+    made = folder / "crates/bad_lines"
+    (made / "src").mkdir(parents=True)
+    shutil.copy(TOP / "tests/bad_lines.txt", made / "src/main.rt")
+    (folder / "crates.txt").write_text("".join(f"{line}\n" for line, _ in below) + "bad_lines: anyhow message\n")
+    (folder / "HANDLES").write_text("Handles allowed: none.\n")
+
+    (made / "texts").write_bytes(b"".join(string(it) for _, it, _ in POSTED + PRINTED))
+    return [*map(int, run(["rt", "try", "--", "texts"], cwd=made, timeout=500, check=True).stdout.split())]
+
+
+@pytest.mark.slow
+@pytest.mark.xdist_group("bad-lines")
+def test_the_first_bad_line_of_each_text_is_named(bad_lines):
+    wanted = {f"{place}, {what}": number for place, (what, _, number) in enumerate(POSTED)}
+    assert wanted == dict(zip(wanted, bad_lines[:len(POSTED)], strict=True))
+
+
+@pytest.mark.slow
+@pytest.mark.xdist_group("bad-lines")
+@pytest.mark.parametrize(("what", "place"), [(it[0], place) for place, it in enumerate(PRINTED)])
+def test_a_bad_line_is_that_of_the_formats(bad_lines, what, place):
+    assert PRINTED[place][2] == bad_lines[len(POSTED) + place]
 
 
 def by_python(network):
@@ -223,3 +290,27 @@ def test_python_and_ssh_keygen_agree_on_networks(keys, networks):
         run(["ssh-keygen", "-q", "-s", keys / "ca", *words], check=True)
         shown_by_keygen = run(["ssh-keygen", "-L", "-f", keys / "user-cert.pub"], check=True).stdout.decode()
         assert f"source-address {networks}\n" in shown_by_keygen
+
+
+def some_networks(seed, count):
+    """Texts that are networks or nearly so, other ones at each run."""
+    pick = random.Random(seed)
+    for _ in range(count):
+        size = pick.choice([0, 1, 7, 8, 9, 16, 23, 24, 31, 32, 33])
+        address = pick.getrandbits(32) & -(1 << max(0, 32 - size + pick.choice([0, 0, -1, -2, 1])))
+        parts = [str(address >> place & 255) for place in (24, 16, 8, 0)]
+        yield pick.choice(["{}/{}"] * 12 + ["0{}/{}", "{}/0{}", "{}.0/{}", "{} /{}", "{}/{}.", "{}", "{}/-{}", "+{}/{}"]
+                          ).format(".".join(parts[:pick.choice([4, 4, 4, 4, 3])]), size)
+
+
+def test_python_the_office_and_ssh_keygen_agree_on_other_networks(program, keys, room, request):
+    """What the office takes, Python and ssh-keygen take, and what ssh-keygen refuses, the office refuses."""
+    networks = [*some_networks(request.config.getoption("hypothesis_seed"), 200)]
+    write_exchanges("networks.exchange", [exchange(post("root", f"n{place}", text(
+        [*ISSUE[:6], f"option source-address {it}", ISSUE[6]])), 1000, 0x33) for place, it in enumerate(networks)])
+    given = [BAD != it.body for it in answers(run([program, "apply", "networks.exchange"]).stdout)]
+    assert dict(zip(networks, map(by_python, networks))) == dict(zip(networks, given))
+    assert 40 < sum(given) < 160, "some are networks, and some are none"
+    for network, is_taken in zip(networks, given):
+        made = run(["ssh-keygen", "-q", "-s", keys / "ca", "-I", "x", "-O", f"source-address={network}", keys / "user.pub"])
+        assert made.returncode == 0 or not is_taken, network

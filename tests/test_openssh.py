@@ -9,8 +9,8 @@ import time
 import pytest
 
 from asking import LATEST, department, issue, revoke_keyid, revoke_range, revoke_serial, rollover
-from fronts import Station
 from running import Office, run
+from stations import Guard, Station
 
 pytestmark = [pytest.mark.slow, pytest.mark.xdist_group("openssh")]
 
@@ -56,6 +56,7 @@ class Story:
     """An office, its server and its two CAs, in the folder where the keys and certificates lie."""
     office: Office
     folder: pathlib.Path
+    sshstation: pathlib.Path
     served: object = None
     # The list, and the serials that messages had named, at each step.
     lists: dict = dataclasses.field(default_factory=dict)
@@ -78,8 +79,10 @@ class Story:
                 key_id, key=key, principals=principals, options=options, extensions=extensions, **validity))
             assert f"issued {serial}" == reply[0]
 
-    def sign(self, what, ca_key):
-        self.signed[what] = Station(self.folder / "station", self.served.url, ca_key).sign()
+    def sign(self, what, office, other):
+        """Signs what is pending for an office's CA, and leaves alone what is for the other's."""
+        guard = Guard(self.sshstation, self.folder / f"{what}.guard", office.ca, WEB + DB)
+        self.signed[what] = Station(guard, self.served.url, ["--key", office.ca_key], other_cas=[other.ca]).sign()
         for serial in self.signed[what]:
             (self.folder / f"{serial}-cert.pub").write_bytes(self.curl(f"/v1/certs/{serial}", "-f"))
 
@@ -90,17 +93,17 @@ class Story:
 
 
 @pytest.fixture(scope="module")
-def story(program, tmp_path_factory):
+def story(program, sshstation, tmp_path_factory):
     """All that is asked of the office and of the station, with what came, and the served pages as files."""
     folder = tmp_path_factory.mktemp("openssh")
     office = Office(program, folder / "office.db", first=FIRST, last=1000)
     new = Office(program, folder / "new.db")
-    it = Story(office, folder)
+    it = Story(office, folder, sshstation)
     with open(folder / "faults", "wb") as faults, office.serving(stderr=faults) as it.served:
         it.while_served = office.run("table", "--db", office.db)
         it.departments = [it.send("root", name, text) for name, text in (("web", WEB), ("db", DB))]
         it.ask_for(FIRST, ASKED)
-        it.sign("old", office.ca_key)
+        it.sign("old", office, new)
         it.pending = it.curl("/v1/pending", "-f")
         it.keep_list("nothing")
         for what, message, caller, revoked in (
@@ -110,8 +113,8 @@ def story(program, tmp_path_factory):
             it.keep_list(what, *revoked)
         it.rolled = it.send("root", "rollover", rollover(new.ca.read_text().strip()))
         it.ask_for(FIRST + len(ASKED), LATER)
-        it.sign("old again", office.ca_key)
-        it.sign("new", new.ca_key)
+        it.sign("old again", office, new)
+        it.sign("new", new, office)
         it.keep_list("two CAs")
         assert "revoked" == it.send("root", "across", revoke_range(14, 17))[0]
         it.keep_list("a range across the rollover", 14, 16, 17)

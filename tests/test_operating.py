@@ -27,6 +27,7 @@ LINES = [
     ("an office is made", "office ready 1 9223372036854775806"),
     ("a department is put", "department web"),
     ("a certificate is issued", "issued 1"),
+    ("a guard is made for the CA", "guard ready 1 9223372036854775806"),
     ("it is signed", "signed 1"),
     ("a host certificate is issued", "issued 2"),
     ("it is signed", "signed 2"),
@@ -35,6 +36,8 @@ LINES = [
     ("sshd refuses the login then", "refused"),
     ("another CA serves", "rollover 2"),
     ("it serves from the next serial on", "since 3"),
+    ("the guard of the old CA signs up to the serial before", "retired 1 2"),
+    ("the guard of the new one from there", "guard ready 3 9223372036854775806"),
     ("the copy is sound", "ok"),
     ("it has both certificates", "2"),
     ("its table ends with the version", "total 2 version 1"),
@@ -78,7 +81,7 @@ class Commands:
 
 
 @pytest.fixture(scope="module")
-def commands(program, tmp_path_factory):
+def commands(program, sshstation, tmp_path_factory):
     """Runs the page's commands by a verbose shell, in order."""
     room = tmp_path_factory.mktemp("operating")
     script = BEFORE + "".join(f"{line}\n" for line in lines_of(PAGE.read_text()))
@@ -86,6 +89,7 @@ def commands(program, tmp_path_factory):
     for name in ("tools", "folder"):
         (room / name).mkdir()
     (room / "tools/sshoffice").symlink_to(program)
+    (room / "tools/sshstation").symlink_to(sshstation)
     (room / "tools/examples").symlink_to(TOP / "examples")
     ports = {name: str(free_port()) for name in PORTS}
     with open(room / "log", "w") as log:

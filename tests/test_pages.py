@@ -19,6 +19,7 @@ import re
 import shutil
 import subprocess
 import textwrap
+import tomllib
 
 import pytest
 
@@ -41,8 +42,10 @@ ELSEWHERE = {
     "./check": Elsewhere("this test is a part of it", ".ci/run", "exec ./check"),
     "/usr/bin/python3 -m pytest tests/test_rows.py":
         Elsewhere("the check runs it beside this test", "check", '"-m", "pytest"'),
-    "examples/station http://127.0.0.1:8022 ca.pem":
-        Elsewhere("it asks an office", "tests/fronts.py", 'EXAMPLES / "station"'),
+    "examples/station --once --db guard.db --policy policy --key ca.pem http://127.0.0.1:8022":
+        Elsewhere("it asks an office", "tests/stations.py", 'EXAMPLES / "station"'),
+    "export SOFTHSM2_CONF=/etc/vethlumi/station/softhsm2.conf":
+        Elsewhere("it makes a token", "tests/test_station.py", '"softhsm2-util", "--init-token"'),
     "examples/request --cert ana.pem --cacert ca.crt https://office.example.org:8443 web web/alice alice.pub alice 8h":
         Elsewhere(A_FRONT, "tests/test_scripts.py", 'script("request"'),
     "examples/fetch-list --cacert ca.crt https://office.example.org:8443 revoked.krl":
@@ -233,6 +236,13 @@ def wrong_bodies_of(page):
     return {it for cell in rows if not cell.startswith("those of") for it in re.findall(r"`([a-z0-9-]+)`", cell)}
 
 
+def wrong_bodies(crate):
+    """The names of a crate's wrong bodies: tables of one file, and files of their own."""
+    folder = TOP / "crates" / crate
+    tables = [tomllib.loads(it.read_text()) for it in folder.glob("wrong-bodies.toml")]
+    return [name for it in tables for name in it] + [it.stem for it in folder.glob("*/*.edit")]
+
+
 def page_of(crate):
     return TEXTS.get(f"crates/{crate}/README.md", "")
 
@@ -261,12 +271,11 @@ def test_the_page_of_a_crate_names_what_it_gives_to_others(crate):
 
 @pytest.mark.parametrize("crate", CRATES)
 def test_the_page_of_a_crate_names_its_wrong_bodies(crate):
-    edits = {it.stem for it in TOP.glob(f"crates/{crate}/*/*.edit")}
-    assert sorted(edits) == sorted(wrong_bodies_of(page_of(crate)))
+    assert sorted(wrong_bodies(crate)) == sorted(wrong_bodies_of(page_of(crate)))
 
 
 def test_readme_says_how_many_wrong_bodies_there_are():
-    count = len(list(TOP.glob("crates/*/*/*.edit")))
+    count = sum(len(wrong_bodies(it)) for it in CRATES)
     assert f"`./check` tries {count} of them" in " ".join(TEXTS["README.md"].split())
 
 

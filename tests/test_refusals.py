@@ -4,13 +4,12 @@ The office has the departments `web`, whose administrator is ana, and `db`, whos
 certificates the first is signed, the second waits, the key id of the third is revoked, and so is the serial of the
 fourth. No refusal changes anything, so one office answers all rows.
 """
-import re
-
 import pytest
 
-from asking import (CA, LATEST, OTHER_CA, deliver, department, exchange, issue, post, renew, revoke_keyid, revoke_range,
-                    revoke_serial, rollover)
-from running import TOP, Office
+from asking import (CA, LATEST, OTHER_CA, deliver, department, exchange, issue, lasting, post, renew, revoke_keyid,
+                    revoke_range, revoke_serial, rollover)
+from fronts import Station
+from running import Office, refusals
 
 pytestmark = pytest.mark.rows
 
@@ -107,9 +106,7 @@ def answers(office):
 
 @pytest.fixture(scope="module")
 def table():
-    """The name and the status of each refusal, by its number."""
-    found = re.findall(r"^\| (\d+) \| (\w+) \| (\d+) \|", (TOP / "docs/FORMATS.md").read_text(), re.M)
-    return {int(number): (name, int(status)) for number, name, status in found}
+    return refusals()
 
 
 @pytest.mark.parametrize(("place", "number"), [(place, it[2]) for place, it in enumerate(ROWS)],
@@ -124,3 +121,18 @@ def test_a_message_is_refused(answers, table, place, number):
 def test_a_key_is_reused_or_a_moment_is_too_late(office, table, caller, key, moment, number):
     answer, = office.apply([exchange(post(caller, key, asked()), moment)])
     assert f"refused {number} {table[number][0]}\n" == answer.text
+
+
+def test_a_renewal_is_refused_where_it_is_served(make_office, table, room):
+    """A validity has ended by the clock of the system. Of two refusals that apply the least number is answered."""
+    due = [f"refused {number} {table[number][0]}\n" for number in (15, 16)]
+    office = make_office()
+    with office.serving() as served:
+        served.post("root", "web", department("web"))
+        assert served.post("ana", "i", issue("web/alice", **lasting(3600))).text.startswith("issued 1\n")
+        assert [1] == Station(room / "station", served.url, office.ca_key).sign()
+        assert served.post("ana", "r", renew(1, **lasting(3000))).text.startswith("issued 2\n")
+        assert due[0] == served.post("ana", "ended", renew(1, **lasting(-1))).text
+        assert served.post("root", "k", revoke_keyid("web/alice")).text.startswith("revoked\n")
+        assert due == [served.post("ana", f"again{place}", renew(1, **lasting(seconds))).text
+                       for place, seconds in enumerate((-1, 1800))]

@@ -3,13 +3,11 @@
 All requests are the exchanges of one file, which is applied to the trial office in memory. A refusal's number and
 status are those of the table in docs/FORMATS.md.
 """
-import re
-
 import pytest
 
 from asking import answers, exchange, get, issue, write_exchanges
 from asking import post as posted
-from running import TOP, run
+from running import refusals, rows, run
 
 pytestmark = pytest.mark.rows
 
@@ -36,25 +34,9 @@ POSTS = [
     *[(HEAD + MESSAGE[:size], "ShortBody") for size in range(162)],
 ]
 
-# The header lines of a POST with no body.
-LENGTHS = [(post(lines), refusal) for lines, refusal in [
-    (b"", "LengthRequired"),
-    (b"content-length: 16385\r\n", "TooLong"),
-    (b"content-length: 100000000000000000000000000000\r\n", "TooLong"),
-    (b"content-length: 16384\r\n", "ShortBody"),
-    (b"Content-Length: 16384\r\n", "ShortBody"),
-    (b"content-length: 0000000000000000000000000000001\r\n", "ShortBody"),
-    (b"content-length: 1\r\ncontent-length: 1\r\n", "BadHead"),
-    (b"content-length: 1\r\nCONTENT-LENGTH: 1\r\n", "BadHead"),
-    (b"content-length: +1\r\n", "BadHead"),
-    (b"content-length: 1 1\r\n", "BadHead"),
-    (b"content-length:\r\n", "BadHead"),
-    (b"transfer-encoding: chunked\r\n", "LengthRequired"),
-    (b"content-length: 1\r\nTransfer-Encoding: chunked\r\n", "LengthRequired"),
-    (b"content-length: 16385\r\ntransfer-encoding: chunked\r\n", "LengthRequired"),
-    *[(b"content-length: 0\r\ntransfer-encoding: %s\r\n" % it, "LengthRequired")
-      for it in (b"gzip", b"identity", b"gzip, chunked", b"")],
-]]
+# Rows of the header lines of a POST with no body, and of methods and targets.
+GIVEN = rows("requests")
+LENGTHS = [(post(lines.encode()), refusal) for lines, refusal in GIVEN["lengths"]]
 
 # A line is found behind so many others: one that asks for more than is there, and one that smuggles a body.
 BEHIND = [row for count in range(1, 32) for row in [
@@ -89,47 +71,7 @@ AROUND = [row for path in [it for it, _ in RESOURCES] + [b"/v1/certs/1", b"/v1/c
     (get(b"/" + path), "NoRoute"),
 ]]
 
-PATHS = [(get(path, method), wanted) for method, path, wanted in [
-    (b"GET", b"/v1/certs/01/body", "NoRoute"),
-    (b"GET", b"/v1/certs/0/body", "NoRoute"),
-    (b"GET", b"/v1/certs//body", "NoRoute"),
-    (b"GET", b"/v1/certs/+1/body", "NoRoute"),
-    (b"GET", b"/v1/certs/9223372036854775807/body", "NoRoute"),
-    (b"GET", b"/v1/certs/100000000000000000000000000000/body", "NoRoute"),
-    (b"GET", b"/v1/certs/9223372036854775806/body", "UnknownSerial"),
-    (b"GET", b"/v1/certs/9223372036854775806", "UnknownSerial"),
-    (b"GET", b"/v1/certs/1", "NotSigned"),
-    (b"GET", b"/v1/certs/1/body?x", "NoRoute"),
-    (b"GET", b"/v1/certs/1/body/", "NoRoute"),
-    (b"GET", b"/v1/certs/1/bod", "NoRoute"),
-    (b"GET", b"/v1/certs/01", "NoRoute"),
-    (b"GET", b"/v1/certs/9223372036854775807", "NoRoute"),
-    (b"GET", b"/v1/certs/body", "NoRoute"),
-    (b"GET", b"/v1/certs/", "NoRoute"),
-    (b"GET", b"/v1/certs", "NoRoute"),
-    (b"GET", b"/v1/", "NoRoute"),
-    (b"GET", b"/v1/KRL", "NoRoute"),
-    (b"GET", b"//v1/certs/1/body", "NoRoute"),
-    (b"GET", b"/V1/certs/1/body", "NoRoute"),
-    (b"GET", b"/v1/certs/%31/body", "NoRoute"),
-    (b"GET", b"/", "NoRoute"),
-    (b"GET", b"*", "NoRoute"),
-    (b"GET", b"http://127.0.0.1/v1/certs/1/body", "NoRoute"),
-    (b"POST", b"/v1/certs/1/body", "WrongMethod"),
-    (b"HEAD", b"/v1/certs/1/body", "WrongMethod"),
-    (b"get", b"/v1/certs/1/body", "WrongMethod"),
-    (b"GET", b"/v1/callers/ana/requests/i1", "WrongMethod"),
-    (b"GET", b"/v1/callers/Ana/requests/i1", "NoRoute"),
-    (b"POST", b"/v1/callers/ana/requests/i_1", "NoRoute"),
-    (b"POST", b"/v1/callers/ana/requests/", "NoRoute"),
-    (b"POST", b"/v1/callers//requests/i1", "NoRoute"),
-    (b"POST", b"/v1/callers/ana/requests/i1/", "NoRoute"),
-    (b"POST", b"/v1/callers/a/b/requests/i1", "NoRoute"),
-    (b"POST", b"/v1/callers/" + LONGEST_NAME + b"6/requests/i1", "NoRoute"),
-    (b"POST", b"/v1/callers/" + LONGEST_NAME + b"/requests/i1", "LengthRequired"),
-    (b"POST", b"/v1/callers/ana/requests/" + LONGEST_NAME + b"6", "NoRoute"),
-    (b"POST", b"/v1/callers/ana/requests/" + LONGEST_NAME, "LengthRequired"),
-]]
+PATHS = [(get(path, method), refusal) for method, path, refusal in GIVEN["paths"]]
 
 TABLES = {
     "posted": POSTS,
@@ -164,12 +106,9 @@ def given(program, tmp_path_factory):
     return answers(run([program, "apply", file]).stdout)
 
 
-@pytest.fixture(scope="module")
-def refusals():
-    """The status line and the body of each refusal, by its name."""
-    found = re.findall(r"^\| (\d+) \| (\w+) \| (\d+) \|", (TOP / "docs/FORMATS.md").read_text(), re.M)
-    return {name: (b"HTTP/1.1 %s " % status.encode(), b"refused %s %s\n" % (number.encode(), name.encode()))
-            for number, name, status in found}
+# The status line and the body of each refusal, by its name.
+REFUSED = {name: (b"HTTP/1.1 %d " % status, f"refused {number} {name}\n".encode())
+           for number, (name, status) in refusals().items()}
 
 
 def test_each_request_is_answered(given):
@@ -177,9 +116,9 @@ def test_each_request_is_answered(given):
 
 
 @pytest.mark.parametrize("place", range(len(ROWS)), ids=map(name_of, ROWS))
-def test_a_request_is_judged_by_its_bytes(given, refusals, place):
+def test_a_request_is_judged_by_its_bytes(given, place):
     wanted, response = ROWS[place][2], given[place]
-    line, start = refusals[wanted] if isinstance(wanted, str) else wanted
+    line, start = REFUSED[wanted] if isinstance(wanted, str) else wanted
     is_whole = isinstance(wanted, str) or wanted is ISSUED
     end = len(response.body) if is_whole else len(start)
     assert line + start == response[:len(line)] + response.body[:end]

@@ -5,6 +5,7 @@ that stand still or run, connections that can't be accepted, and sockets that wa
 and the responses are those of examples/rows. A server stands still until all of its clients have connected and written.
 """
 import contextlib
+import json
 import os
 import pathlib
 import shutil
@@ -16,7 +17,7 @@ import time
 import pytest
 
 from asking import LATEST, answers, department, exchanges_of, get, issue, key_line, post, rollover
-from running import ROWS, Office, preloaded, run
+from running import ROWS, Office, preloaded, run, until
 
 
 def row(name):
@@ -137,6 +138,20 @@ class System:
             peers = [server.client(request) for request in requests]
             server.go_on()
             return [given(peer) for peer in peers], server.ended()
+
+    def dripped(self, request, **strange):
+        """The same of a client that sends each byte alone, once the server waits for it."""
+        def waits():
+            return server.process.poll() is not None or sum(it.startswith("read") for it in lines("dripped.waits"))
+
+        with self.serving(1, WAITS="dripped.waits", **strange) as server:
+            peer = server.client(b"")
+            server.go_on()
+            for number in range(len(request)):
+                until(lambda: waits() is True or waits() > number)
+                with contextlib.suppress(BrokenPipeError, ConnectionResetError):
+                    peer.sendall(request[number:number + 1])
+            return [given(peer)], server.ended()
 
     def selftest(self, **strange):
         done = run([self.program, "selftest"], env=self.environment(strange))
@@ -263,6 +278,23 @@ def test_it_listens_on_loopback_alone(system):
         assert [] == listening("tcp6")
 
 
+def addresses():
+    """The addresses of this machine but 127.0.0.1, as Linux has them. All that begin with 127 are its own."""
+    told = json.loads(run(["ip", "-json", "address"], check=True).stdout)
+    own = [it["local"] for interface in told for it in interface.get("addr_info", ()) if it.get("scope") != "link"]
+    return ["127.0.0.2", *(it for it in own if it != "127.0.0.1")]
+
+
+def test_at_another_address_of_the_machine_nobody_listens(system):
+    with system.serving(1) as server:
+        for address in addresses():
+            with pytest.raises(ConnectionRefusedError):
+                socket.create_connection((address, server.port), timeout=10)
+        peer = server.client(LIST)
+        server.go_on()
+        assert (NO_LIST, ends()) == (given(peer), server.ended())
+
+
 def test_a_longest_body_is_served(system):
     """It is read whole, and is no message."""
     longest = post("ana", "i1", b"a" * 16384)
@@ -275,10 +307,30 @@ def nonce(body):
     return body[40:72]
 
 
-def test_each_certificate_has_a_nonce_of_its_own(served):
-    served.post("root", "web", department())
-    assert [200] * 20 == [served.post("ana", f"k{it}", issue(f"web/{it}")).status for it in range(20)]
-    assert 20 == len({nonce(served.get(f"/v1/certs/{it}/body").body) for it in range(1, 21)})
+def nonces_of(office, places, **how):
+    """The nonces of certificates that are issued by one server, in a department that it makes. A connection each."""
+    with office.serving(**how) as served:
+        asked = [served.post("root", f"web{places[0]}", department())]
+        asked += [served.post("ana", f"k{it}", issue(f"web/{it}")) for it in places]
+        assert [200] * len(asked) == [it.status for it in asked]
+        return [nonce(served.get(f"/v1/certs/{it}/body").body) for it in places]
+
+
+def test_each_certificate_has_a_nonce_of_its_own(office):
+    """Also after another start."""
+    nonces = nonces_of(office, range(1, 21)) + nonces_of(office, range(21, 41))
+    assert (40, False) == (len({*nonces}), bytes(32) in nonces)
+
+
+def test_nonces_are_the_bytes_of_the_file_one_after_the_other(office, room):
+    """The department's connection takes the first 32 bytes."""
+    file = bytes(number % 251 for number in range(32 * 20))
+    (room / "known.nonces").write_bytes(file)
+    assert [file[32 * it:32 * it + 32] for it in (1, 2, 3)] == nonces_of(office, [1, 2, 3], nonces="known.nonces")
+
+
+def test_of_zeros_the_nonces_are_zeros(office):
+    assert [bytes(32)] * 3 == nonces_of(office, [1, 2, 3], nonces="/dev/zero")
 
 
 # ---- clocks
@@ -310,14 +362,22 @@ def test_messages_come_at_the_moment_of_this_systems_clock(system):
     assert REVOKED_LIST.replace(then, date) == listed
 
 
-# The clock is read when the connection is accepted, before each of the 24 bytes of the request, and before the response
-# is written. So a byte is read after its number of ticks, and the response is written after 25.
+# The clock is read when the connection is accepted, before the request is read, and before the response is written.
 @pytest.mark.parametrize(("tick", "fault"), [
-    (1, None), (2399, None), (2400, b"Write"), (2499, b"Write"), (2500, b"Read"), (2600, b"Read")])
+    (1, None), (29_999, None), (30_000, b"Write"), (59_999, b"Write"), (60_000, b"Read"), (70_000, b"Read")])
 def test_a_connection_has_a_minute(system, tick, fault):
-    """A byte takes so many milliseconds."""
+    """A reading of the clock takes so many milliseconds."""
     wanted = ([b""], ends(b"1 " + fault)) if fault else ([NO_LIST], ends())
     assert wanted == system.met(LIST, TICK=tick)
+
+
+# Before each of the 24 bytes of the request, if each comes alone. So a byte is read after its number of ticks, and the
+# response is written after 25.
+@pytest.mark.parametrize(("tick", "fault"), [
+    (1, None), (2399, None), (2400, b"Write"), (2499, b"Write"), (2500, b"Read"), (2600, b"Read")])
+def test_a_connection_whose_bytes_come_alone_has_a_minute(system, tick, fault):
+    wanted = ([b""], ends(b"1 " + fault)) if fault else ([NO_LIST], ends())
+    assert wanted == system.dripped(LIST, TICK=tick)
 
 
 def left(tick, readings):
@@ -326,9 +386,17 @@ def left(tick, readings):
 
 
 def test_each_wait_is_ten_seconds_or_what_is_left_of_the_minute(system):
-    assert ([NO_LIST], ends()) == system.met(LIST, TICK=2200, WAITS="served.waits")
+    assert ([NO_LIST], ends()) == system.dripped(LIST, TICK=2200)
     *reads, write = left(2200, 25)
-    assert [*(f"read {wait}" for wait in reads), f"write {write}"] == lines("served.waits")
+    assert [*(f"read {wait}" for wait in reads), f"write {write}"] == lines("dripped.waits")
+
+
+@pytest.mark.parametrize(("asked", "count"), [(DEPARTMENT, 1), (post("ana", "i1", b"a" * 16384), 2)],
+                         ids=["a short request", "the longest body"])
+def test_a_request_that_came_whole_is_read_at_once(system, asked, count):
+    """So is what is missing of a body behind the first 4096 bytes."""
+    system.met(asked, WAITS="served.waits")
+    assert [f"read {STEP}"] * count + [f"write {STEP}"] == lines("served.waits")
 
 
 def test_a_silent_peer_is_waited_for_ten_seconds(system):
@@ -339,9 +407,9 @@ def test_a_silent_peer_is_waited_for_ten_seconds(system):
 
 
 def test_at_the_end_of_its_minute_a_silent_peer_is_waited_for_what_is_left(system):
-    with system.serving(1, HURRIED=PART, TICK=4600, WAITS="silent.waits") as server:
+    with system.serving(1, HURRIED=PART, TICK=27_600, WAITS="silent.waits") as server:
         got, seconds = timed(server, server.client(HALF))
-        due = left(4600, len(HALF) + 1)
+        due = left(27_600, 2)
         assert (b"", True, ends(b"1 Read")) == (got, is_about(due[-1], seconds), server.ended())
         assert [f"read {wait}" for wait in due] == lines("silent.waits")
 
@@ -392,11 +460,15 @@ def test_a_read_and_a_write_that_are_interrupted_are_made_again(system):
     with system.serving(2, office="long.db", SMALL_SOCKETS="yes", WAITS="interrupted.waits") as server:
         halting, late = server.client(HALF), server.client(SIGNERS, is_small=True)
         server.go_on()
-        reads = interrupted(server, "interrupted.waits", "read", len(HALF) + 3)
+        reads = interrupted(server, "interrupted.waits", "read", 5)
         halting.sendall(LIST[len(HALF):])
         assert (True, NO_LIST) == (reads, given(halting))
         writes = interrupted(server, "interrupted.waits", "write", 5)
         assert (True, long_page(), ends()) == (writes, given(late), server.ended())
+
+
+def test_nonces_are_read_however_often_signals_interrupt(system):
+    assert ([NO_LIST], ends()) == system.met(LIST, INTERRUPTED=100)
 
 
 # ---- the program as its own client

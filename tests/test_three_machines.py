@@ -21,6 +21,9 @@ from asking import department
 from running import TOP, left_out, until
 
 pytestmark = [pytest.mark.boxes, pytest.mark.root, pytest.mark.slow, pytest.mark.timeout(5400)]
+# The folder that these boxes start from, and what is in it beside the packages of others.
+FOLDER = boxes.FOLDER.with_name(f"{boxes.FOLDER.name}-volume")
+PACKAGES = ["glusterfs-server", "glusterfs-client", "libnginx-mod-http-js"]
 MACHINES = ["one", "two", "three", "admin", "station"]
 DOOR = "unix:/run/office-door.sock"
 LOG = "/run/office-way/way.log"
@@ -241,9 +244,11 @@ class Calling:
 
 
 @pytest.fixture
-def site(program, tmp_path):
+def site(program, tmp_path, request):
+    if not request.config.getoption("--rounds"):
+        left_out("--rounds N says how many faults there are to be; sixty take an hour")
     try:
-        made = Site(tmp_path, None, program)
+        made = Site(tmp_path, boxes.prepare(FOLDER, [*boxes.PACKAGES, *PACKAGES]), program)
     except boxes.CannotBoot as reason:
         left_out(reason)
     try:

@@ -9,8 +9,6 @@ import sys
 import threading
 import time
 
-import toolchain
-
 # The share of the free memory that proofs may take, and the share that a proof takes of what rt reckons with at most.
 MEMORY_TAKEN = 0.85
 SHARE_OF_NEED = 0.5
@@ -77,8 +75,8 @@ class Progress:
 
 
 def prove(crate, progress, jobs, keeps, logs):
-    """Proves a library, unless it is proved already, and returns whether that went well. Its proof is kept where that is
-    wanted, or where it isn't the first."""
+    """Proves a library, unless it is proved already, and returns whether that went well. Its proof is kept if that is
+    wanted, or if it isn't the first."""
     if crate.is_built():
         progress.was_proved()
         return True
@@ -108,7 +106,7 @@ def make(program, flags, log):
     """Proves a program, compiles and links it, and returns the status. The first time no proofs are kept: to keep those
     of the link takes a seventh of the time."""
     if program.has_kept() or os.path.isfile(f"{program.folder}/out/{program.name}"):
-        words = [sys.executable, toolchain.__file__, "run", *flags, "--", "--help"]
+        words = ["rt", "run", *flags, "--", "--help"]
         how = {"cwd": program.folder, "stdin": subprocess.DEVNULL, "stdout": log, "stderr": subprocess.STDOUT}
         return subprocess.run(words, **how).returncode
     os.makedirs(f"{program.folder}/out", exist_ok=True)

@@ -135,26 +135,6 @@ def items_in(path, text, types):
     return found
 
 
-def pairs_of(edit):
-    """The pairs of an edit, in their order."""
-    path, old, pairs = "", "", []
-    with open(edit, encoding="utf-8") as it:
-        for line in it.read().split("\n"):
-            if line.startswith("file: "):
-                path = line[len("file: ") :].strip()
-            elif line.startswith("old: "):
-                old = line[len("old: ") :]
-            elif line.startswith("new:"):
-                pairs.append(Pair(path, old, line[len("new:") :].removeprefix(" ")))
-    return pairs
-
-
-def functions_in(edit):
-    """The functions that an edit names by lines `function: NAME`, since a statement that they need is changed."""
-    with open(edit, encoding="utf-8") as it:
-        return [line[len("function: ") :].strip() for line in it.read().split("\n") if line.startswith("function: ")]
-
-
 class Sources:
     """The sources of a crate, and the functions and constants in them."""
 
@@ -192,7 +172,7 @@ class Sources:
     def changed(self, edit):
         """The names of the functions whose bodies an edit changes, of which each that names a changed constant is one.
         There are none where it changes something else."""
-        items = [self.item_of(it) if it.path.startswith("src/") else None for it in pairs_of(edit)]
+        items = [self.item_of(it) if it.path.startswith("src/") else None for it in edit.pairs]
         if None in items:
             return []
         names = [[it.name] if not it.is_constant else self.users(it.name) for it in items]
@@ -200,13 +180,13 @@ class Sources:
 
     def constant(self, edit):
         """The name of the one constant that an edit changes, or None: it changes something else."""
-        items = [self.item_of(it) if it.path.startswith("src/") else None for it in pairs_of(edit)]
+        items = [self.item_of(it) if it.path.startswith("src/") else None for it in edit.pairs]
         names = {it.name if it and it.is_constant else None for it in items}
         return names.pop() if len(names) == 1 else None
 
     def can_have_twins(self, edit):
         """Whether an edit changes one function, of which a copy of the crate can hold several."""
-        items = {self.item_of(it) for it in pairs_of(edit)}
+        items = {self.item_of(it) for it in edit.pairs}
         return len(items) == 1 and items.pop().can_have_twins
 
     def users(self, constant):
@@ -241,7 +221,7 @@ class Sources:
         as that one is proved, what refuses the others is what was changed in them."""
         places, texts, changed, unchanged, seen = {}, {}, {}, {}, {}
         for edit in edits:
-            changed[edit], pairs = self.changed(edit), pairs_of(edit)
+            changed[edit], pairs = self.changed(edit), edit.pairs
             number = seen[tuple(changed[edit])] = seen.get(tuple(changed[edit]), 0) + 1
             if number == 1:
                 for pair in pairs:

@@ -1,25 +1,57 @@
 """What the scripts of this folder take from the toolchain: the crates, the words of a check, and its order of tasks.
 
 The command `rt` is a Python program. Its own code decides how a crate is proved and how an edit is applied, so these
-scripts load that code and call it. They add only what is tried, and what counts as an answer.
+scripts load that code and call it. They add only what is tried, and what counts as an answer. Nothing of it is replaced.
+TAKEN names all that they take: where a toolchain lacks one of these or wants other arguments, they say so at once, and
+do nothing.
 """
 
 import importlib.machinery
 import importlib.util
+import inspect
 import os
+import re
 import shutil
 import subprocess
 import sys
 import tempfile
-import threading
 
 TOP = os.path.dirname(os.path.dirname(os.path.realpath(__file__)))
+KITS = "rattle-kit-13b and rattle-kit-13f"
+
+# What the scripts take from `rt`: functions and methods, each with the arguments that they are called with, and values.
+# A method's first argument is the crate. `share_work`, which older toolchains don't have, is called only where it is.
+CALLED = """need(crate) free() processors() must_fail(crate, edit, flags, kept) rtlib.guarded() rtlib.blanked(folder)
+rtlib.crates_below(top) rtlib.files_of(folder) rtlib.sum_of(file) rtlib.text_of(file) rtlib.lock(crates)
+rtlib.Crate.stamp(crate) rtlib.Crate.below(crate) rtlib.Crate.count(crate, pattern) rtlib.Crate.call(crate, word, word)
+rtlib.Crate.words(crate, flags, keeps=) rtlib.Crate.build_rlib(crate, flags, anew=) rtlib.Crate.is_built(crate)
+rtlib.Crate.has_kept(crate) rtlib.Crate.has_tests(crate)"""
+VALUES = "rtlib.KIT rtlib.RATTLE rtlib.PARTS".split()
 
 
 def stop(why):
     """Ends the script with one sentence."""
     print(f"{os.path.basename(sys.argv[0])}: {why}", file=sys.stderr)
     sys.exit(2)
+
+
+def named(module, name):
+    """What a toolchain has under this name, or None."""
+    for part in name.split("."):
+        module = getattr(module, part, None)
+    return module
+
+
+def lacking(module):
+    """What the scripts take, and a toolchain doesn't have so."""
+    yield from (it for it in VALUES if named(module, it) is None)
+    for name, words in re.findall(r"([\w.]+)\(([^)]*)\)", CALLED):
+        given = [it for it in words.split(", ") if it]
+        try:
+            by_name = {it[:-1]: None for it in given if it.endswith("=")}
+            inspect.signature(named(module, name)).bind(*[it for it in given if not it.endswith("=")], **by_name)
+        except TypeError:
+            yield f"{name}({words})"
 
 
 def load():
@@ -32,33 +64,12 @@ def load():
     module = importlib.util.module_from_spec(importlib.util.spec_from_loader("rt", loader))
     sys.modules["rt"] = module
     loader.exec_module(module)
-    wanted = ("read_edit", "unread", "edits_of", "need", "free", "processors", "in_lanes", "rtlib")
-    missing = [name for name in wanted if not hasattr(module, name)]
+    missing = [*lacking(module)]
     if missing:
-        stop(f"this toolchain's rt has no {', '.join(missing)}: these scripts were written for rattle-kit-13b and 13f")
+        stop(f"this toolchain's rt has no {', no '.join(missing)}: these scripts were written for {KITS}")
     # Its first call sets a signal's handler, which only the main thread may do.
     module.rtlib.guarded()
-    read_once(module.rtlib.Crate)
     return module
-
-
-def read_once(kind):
-    """Has the stamp of a crate read the files of each crate below once. The toolchain's own reads them once for each
-    way that leads down to that crate, and of these there are thousands."""
-    stamp, known = kind.stamp, threading.local()
-
-    def stamped(crate):
-        if not hasattr(known, "stamps"):
-            known.stamps = {}
-            try:
-                return stamp(crate)
-            finally:
-                del known.stamps
-        if crate.name not in known.stamps:
-            known.stamps[crate.name] = stamp(crate)
-        return known.stamps[crate.name]
-
-    kind.stamp = stamped
 
 
 def checked(rt, crate, texts, flags, kept):
@@ -95,7 +106,3 @@ def standing_on(crates, names):
     chosen = {*names}
     return [crate for crate in crates.values() if chosen & {crate.name, *(it.name for it in crate.below())}]
 
-
-if __name__ == "__main__":
-    # The command `rt` itself, with these words, in the folder of a crate.
-    sys.exit(load().main(sys.argv[1:]))

@@ -6,6 +6,7 @@
      HURRIED=N        a socket waits for the Nth part of the time that was set
      WAITS=FILE       each time that is set is added to this file: `read` or `write`, and its microseconds
      UNACCEPTED=N     the first N times no connection can be accepted
+     INTERRUPTED=N    signals interrupt the first N reads of 32 bytes
      SMALL_SOCKETS    a connection that is accepted holds few bytes that its peer doesn't read
      TURNED_BYTES     the first byte of all that a socket gives is another one
      TURNED_END       so is the last, of more than one
@@ -90,4 +91,14 @@ ssize_t recv(int socket, void *bytes, size_t size, int flags) {
         got = 1;
     }
     return got;
+}
+
+ssize_t read(int file, void *bytes, size_t size) {
+    static int interrupted;
+    const char *most = getenv("INTERRUPTED");
+    if (most && size == 32 && interrupted < atoi(most)) {
+        interrupted++;
+        return fail(EINTR);
+    }
+    return syscall(SYS_read, file, bytes, size);
 }

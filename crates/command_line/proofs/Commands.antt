@@ -6,7 +6,7 @@ use Rattle.clap.specs.declared.builder.arg.Arg.{Arg}
 use Rattle.clap.specs.declared.builder.command.Command.{Command}
 use Rattle.command_line.specs.Command.{IsArgument, IsSubcommand, subcommand}
 use Rattle.command_line.specs.Parts.{rule_of_part}
-use Rattle.command_line.specs.declared.command.Part.{Part}
+use Rattle.command_line.specs.declared.parts.Part.{Part}
 
 -- A command with the first parts of a list, and then with the next.
 pub one_part : (old : Command) (a : Arg) (new : Command) (name : Text) (parts : List Part) (k : ℕ) (d : Part)

@@ -3,7 +3,7 @@ use Rattle.std.proofs.Common.{◌≡◌, ◌⊎◌, ◌∙◌, true, List, Optio
 use Rattle.clap.specs.Words.{App, IsAmong, Text, fault_of, is_simple_and_free}
 use Rattle.clap.specs.declared.error.kind.ErrorKind.{ErrorKind}
 use Rattle.clap.specs.declared.error.kind.ErrorKind.TheVariants.{OutOfMemory}
-use Rattle.command_line.specs.Answers.{IsAnswered, IsFaultOf, IsLack, IsLackOfAny}
+use Rattle.command_line.specs.Answers.{IsAnswered, IsErrorOf, IsFaultOf, IsLack, IsLackOfAny}
 use Rattle.command_line.specs.Asked.{Asked, asked_of}
 use Rattle.command_line.specs.Command.{office_command}
 use Rattle.command_line.specs.declared.words_fault.WordsFault.{WordsFault}
@@ -30,18 +30,24 @@ lack_is_fault words found (BadWords text) same lack = inr (sym same ∙ lack)
 lack_is_fault words found NoMemory same lack = tt
 
 -- An error of clap, said of the words.
+pub error_says : (app : App) (words : List Text) (kind : ErrorKind) (fault : WordsFault) → IsAnswered kind fault
+    → (kind ≡ OutOfMemory) ⊎ IsAmong kind (fault_of app words) → IsErrorOf app words fault
+error_says app words kind (Help text) (inl help) (inl none) = absurd cc
+error_says app words kind (Help text) (inr version) (inl none) = absurd cc
+error_says app words kind (Help text) answered (inr among) = (kind, among, answered)
+error_says app words kind (BadWords text) answered (inl none) = absurd (answered.2 none)
+error_says app words kind (BadWords text) answered (inr among) = (kind, among, answered)
+error_says app words kind NoMemory answered among = tt
+
+-- So it is of the office's command.
 pub error_is_fault : (app : App) (words : List Text) (kind : ErrorKind) (fault : WordsFault) → app ≡ office_command
     → IsAnswered kind fault → (is_simple_and_free app ≡ true → (kind ≡ OutOfMemory) ⊎ IsAmong kind (fault_of app words))
     → IsFaultOf words fault
 error_is_fault app words kind fault same answered among =
-    go fault answered (subst (λ (a : App). (kind ≡ OutOfMemory) ⊎ IsAmong kind (fault_of a words)) same
-    (among (ap is_simple_and_free same)))
+    go fault (error_says office_command words kind fault answered
+    (subst (λ (a : App). (kind ≡ OutOfMemory) ⊎ IsAmong kind (fault_of a words)) same (among (ap is_simple_and_free same))))
   where
-    go : (fault : WordsFault) → IsAnswered kind fault → (kind ≡ OutOfMemory) ⊎ IsAmong kind (fault_of office_command words)
-        → IsFaultOf words fault
-    go (Help text) (inl help) (inl none) = absurd cc
-    go (Help text) (inr version) (inl none) = absurd cc
-    go (Help text) answered (inr among) = (kind, among, answered)
-    go (BadWords text) answered (inl none) = absurd (answered.2 none)
-    go (BadWords text) answered (inr among) = inl (kind, among, answered)
-    go NoMemory answered among = tt
+    go : (fault : WordsFault) → IsErrorOf office_command words fault → IsFaultOf words fault
+    go (Help text) says = says
+    go (BadWords text) says = inl says
+    go NoMemory says = tt

@@ -1,6 +1,6 @@
 -- What the words are answered with.
 use Rattle.std.specs.Prelude.{◌≡◌, ◌≢◌, ◌⊎◌, [], List, Option, Some, None}
-use Rattle.clap.specs.Words.{IsAmong, Kinds, Text, fault_of}
+use Rattle.clap.specs.Words.{App, IsAmong, Kinds, Text, fault_of}
 use Rattle.clap.specs.declared.error.kind.ErrorKind.{ErrorKind}
 use Rattle.clap.specs.declared.error.kind.ErrorKind.TheVariants.{DisplayHelp, DisplayVersion, OutOfMemory}
 use Rattle.command_line.specs.Asked.{asked, asked_of}
@@ -25,19 +25,33 @@ IsMistake kind = (kind ≢ DisplayHelp) × (kind ≢ DisplayVersion) × (kind �
 abbrev pub IsWish : ErrorKind → Type 0
 IsWish kind = (kind ≡ DisplayHelp) ⊎ (kind ≡ DisplayVersion)
 
+-- the words have a mistake, by clap's meaning of a command
+abbrev pub HaveMistake : App → List Text → Type 0
+HaveMistake app words = (kind : ErrorKind) × IsAmong kind (fault_of app words) × IsMistake kind
+
+-- the words ask for help or the version of a command
+abbrev pub AskForTextOf : App → List Text → Type 0
+AskForTextOf app words = (kind : ErrorKind) × IsAmong kind (fault_of app words) × IsWish kind
+
 -- The words have a mistake, or ask for nothing.
 abbrev pub AreBad : List Text → Type 0
-AreBad words = ((kind : ErrorKind) × IsAmong kind (faults_of words) × IsMistake kind) ⊎ (asked_of words ≡ None)
+AreBad words = HaveMistake office_command words ⊎ (asked_of words ≡ None)
 
 -- The words ask for help or the version.
 abbrev pub AskForText : List Text → Type 0
-AskForText words = (kind : ErrorKind) × IsAmong kind (faults_of words) × IsWish kind
+AskForText = AskForTextOf office_command
 
 -- what is said of the words by what is answered in place of a job
 abbrev pub IsFaultOf : List Text → WordsFault → Type 0
 IsFaultOf words (Help text) = AskForText words
 IsFaultOf words (BadWords text) = AreBad words
 IsFaultOf words NoMemory = Unit {0}
+
+-- what is said of words of a command by what an error of clap is answered with
+abbrev pub IsErrorOf : App → List Text → WordsFault → Type 0
+IsErrorOf app words (Help text) = AskForTextOf app words
+IsErrorOf app words (BadWords text) = HaveMistake app words
+IsErrorOf app words NoMemory = Unit {0}
 
 -- what an error of clap is answered with
 abbrev pub IsAnswered : ErrorKind → WordsFault → Type 0

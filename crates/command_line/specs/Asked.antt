@@ -1,6 +1,7 @@
 -- What the words ask for: a subcommand with the values that clap finds for it.
 use Rattle.std.specs.Prelude.{ℕ, List, Option, Some, None, codes, bytes_eq}
 use Rattle.std.specs.Prelude.{if◌then◌else◌, option_and_then, option_map, string_bytes}
+use Rattle.std.specs.Option.{option_map_or}
 use Rattle.std.specs.Str.Parse.{digits_value, without_leading_plus}
 use Rattle.clap.specs.ValueTests.{is_unsigned_in}
 use Rattle.clap.specs.Words.{Row, Text, first_of, subcommand_of}
@@ -40,6 +41,10 @@ number_of low high t = if is_unsigned_in low high t then Some (digits_value 10 (
 -- the number that was given for an option or word
 abbrev pub number_at : List Row → Text → ℕ → ℕ → Option ℕ
 number_at rows name low high = option_and_then (number_of low high) (first_of name rows)
+
+-- the same for an option that may be left out, and then this number
+abbrev pub number_or : List Row → Text → (limits : ℕ × ℕ) → ℕ → Option ℕ
+number_or rows name limits none = option_map_or (number_of limits.0 limits.1) (first_of name rows) (Some none)
 
 infixl 10 ◌>>=◌
 abbrev pub ◌>>=◌ : {A B : Type 0} → Option A → (A → Option B) → Option B

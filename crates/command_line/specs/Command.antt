@@ -4,6 +4,7 @@ use Rattle.clap.specs.Words.{App, Rule, Shape, Text, app_of, new_app, new_rule, 
 use Rattle.clap.specs.declared.builder.arg.Arg.{Arg}
 use Rattle.clap.specs.declared.builder.command.Command.{Command}
 use Rattle.clap.specs.declared.builder.command.Command.TheViews.{out-Command}
+use Rattle.clap.specs.declared.builder.action.ArgAction.TheVariants.{Append}
 use Rattle.clap.specs.declared.builder.value_parser.ValueParser.TheVariants.{Unsigned}
 use Rattle.command_line.specs.declared.command.TheConstants.{MOST_CONNECTIONS}
 
@@ -35,6 +36,15 @@ word name = record (new_rule name) { required = true }
 -- a number by its place, from `low` to `high`
 abbrev pub number_word : Text → ℕ → ℕ → Rule
 number_word name low high = record (new_rule name) { required = true; parser = Some (Unsigned low high) }
+
+-- `--name N`, with N from `low` to `high`, which may be left out
+abbrev pub optional_number : Text → ℕ → ℕ → Rule
+optional_number name low high =
+    record (new_rule name) { long = Some name; value_names = 1; parser = Some (Unsigned low high) }
+
+-- one word or more, at the end
+abbrev pub words : Text → Rule
+words name = record (new_rule name) { required = true; action = Some Append }
 
 -- a subcommand with these options and words
 abbrev pub subcommand : Text → List Rule → Shape

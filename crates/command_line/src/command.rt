@@ -1,86 +1,18 @@
 //! The command that clap reads, with its help.
 
-ghost use Rattle.std.specs.Prelude.{◌≡◌, [], IfOk, map};
-ghost use Rattle.clap.specs.Words.{App, Shape, app_of, with_subcommand};
-ghost use Rattle.command_line.specs.Command.{IsArgument, IsSubcommand, apply_command, check_command, init_command};
-ghost use Rattle.command_line.specs.Command.{number, number_word, office_command, on_database, optional, required};
-ghost use Rattle.command_line.specs.Command.{selftest_command, serve_command, subcommand, top_command, word};
-ghost use Rattle.command_line.specs.Parts.{rule_of_part, with_readings};
+ghost use Rattle.std.specs.Prelude.{◌≡◌, [], IfOk};
+ghost use Rattle.clap.specs.Words.{App, app_of};
+ghost use Rattle.command_line.specs.Command.{IsSubcommand, apply_command, check_command, init_command, office_command};
+ghost use Rattle.command_line.specs.Command.{on_database, selftest_command, serve_command, top_command};
+ghost use Rattle.command_line.specs.Parts.{with_readings};
 
 use crate::help;
-use clap::builder::ValueParser;
-use clap::{Arg, Command};
+use crate::parts::{Part, job_command, plain_command, with_job};
+use clap::Command;
 use std::alloc::{AllocError, Global};
 
 /// The most connections that one run of `serve` may be asked for.
 pub const MOST_CONNECTIONS: u64 = 1_000_000;
-
-// An option or word of a job: its name, what help calls its value, its limits and what help says of it.
-#[derive(Clone, Copy)]
-enum Part<'a> {
-    // `--name VALUE`, which may be left out.
-    Optional(&'a str, &'a str, &'a str),
-    // `--name VALUE`, which must be given.
-    Required(&'a str, &'a str, &'a str),
-    // `--name N`, with a number within the limits.
-    Number(&'a str, &'a str, u64, u64, &'a str),
-    // A word by its place.
-    Word(&'a str, &'a str),
-    // A number by its place, within the limits.
-    NumberWord(&'a str, u64, u64, &'a str),
-}
-
-// `--name VALUE`, which may be left out.
-fn optional<'a>(alloc: Global, name: &'a str, value: &'a str, help: &'a str) -> Arg<'a>
-    ensures { IsArgument (optional name.entry.now) result }
-{
-    Arg::new(alloc, name)
-        .long(name)
-        .value_name(value)
-        .help(help)
-}
-
-// `--name VALUE`, which must be given.
-fn required<'a>(alloc: Global, name: &'a str, value: &'a str, help: &'a str) -> Arg<'a>
-    ensures { IsArgument (required name.entry.now) result }
-{
-    optional(alloc, name, value, help).required(true)
-}
-
-// `--name N`, with a number from `low` to `high`.
-fn number<'a>(
-    alloc: Global,
-    name: &'a str,
-    value: &'a str,
-    low: u64,
-    high: u64,
-    help: &'a str,
-) -> Arg<'a>
-    ensures { IsArgument (number name.entry.now low high) result }
-{
-    required(alloc, name, value, help).value_parser(ValueParser::Unsigned(low, high))
-}
-
-// A word by its place.
-fn word<'a>(alloc: Global, name: &'a str, help: &'a str) -> Arg<'a>
-    ensures { IsArgument (word name.entry.now) result }
-{
-    Arg::new(alloc, name).required(true).help(help)
-}
-
-// A number by its place, from `low` to `high`.
-fn number_word<'a>(alloc: Global, name: &'a str, low: u64, high: u64, help: &'a str) -> Arg<'a>
-    ensures { IsArgument (number_word name.entry.now low high) result }
-{
-    word(alloc, name, help).value_parser(ValueParser::Unsigned(low, high))
-}
-
-// A command with no options and words yet.
-fn plain_command<'a>(alloc: Global, name: &'a str, about: &'a str, more: &'a str) -> Command<'a>
-    ensures { IsSubcommand (subcommand name.entry.now []) result }
-{
-    Command::new(alloc, name).about(about).after_help(more)
-}
 
 // The command with no subcommands yet.
 fn top_command<'a>(alloc: Global) -> Command<'a>
@@ -88,36 +20,6 @@ fn top_command<'a>(alloc: Global) -> Command<'a>
 {
     let office = plain_command(alloc, "sshoffice", help::OFFICE, help::OFFICE_MORE);
     office.version(help::VERSION).subcommand_required(true)
-}
-
-// What clap takes for a part.
-fn argument<'a>(alloc: Global, part: Part<'a>) -> Arg<'a>
-    ensures { IsArgument (rule_of_part part.entry) result }
-{
-    match part {
-        Part::Optional(name, value, help) => optional(alloc, name, value, help),
-        Part::Required(name, value, help) => required(alloc, name, value, help),
-        Part::Number(name, value, low, high, help) => number(alloc, name, value, low, high, help),
-        Part::Word(name, help) => word(alloc, name, help),
-        Part::NumberWord(name, low, high, help) => number_word(alloc, name, low, high, help),
-    }
-}
-
-// A command with these options and words.
-fn job_command<'a>(
-    alloc: Global,
-    name: &'a str,
-    about: &'a str,
-    more: &'a str,
-    parts: &[Part<'a>],
-) -> Result<Command<'a>, AllocError>
-    ensures { IfOk result (IsSubcommand (subcommand name.entry.now (map rule_of_part parts.now))) }
-{
-    let mut command = plain_command(alloc, name, about, more);
-    for part in parts {
-        command = command.arg(argument(alloc, *part))?;
-    }
-    Ok(command)
 }
 
 fn init_command<'a>(alloc: Global) -> Result<Command<'a>, AllocError>
@@ -186,27 +88,6 @@ fn selftest_command<'a>(alloc: Global) -> Command<'a>
     ensures { IsSubcommand selftest_command result }
 {
     plain_command(alloc, "selftest", help::SELFTEST, help::SELFTEST_MORE)
-}
-
-// The office's command with one more job, unless memory was refused for one of them.
-fn with_job<'a>(
-    office: Result<Command<'a>, AllocError>,
-    job: Result<Command<'a>, AllocError>,
-) -> Result<Command<'a>, AllocError>
-    ensures { (app : App) (shape : Shape) → IfOk office.entry (λ c. app_of c ≡ app)
-        → IfOk job.entry (IsSubcommand shape) → IfOk result (λ c. app_of c ≡ with_subcommand app shape) }
-{
-    match (office, job) {
-        (Ok(office), Ok(job)) => office.subcommand(job),
-        (Err(refused), job) => {
-            drop(job);
-            Err(refused)
-        }
-        (Ok(office), Err(refused)) => {
-            drop(office);
-            Err(refused)
-        }
-    }
 }
 
 // The same with the jobs that read an office.

@@ -9,11 +9,14 @@
 mod command;
 mod help;
 mod job;
+mod parts;
 mod values;
 mod words_fault;
 mod words_reader;
 
 pub use command::MOST_CONNECTIONS;
 pub use job::Job;
+pub use parts::{Part, job_command, plain_command, with_job};
+pub use values::{lack, number_at, number_if_given, text_at, text_if_given, texts_at};
 pub use words_fault::WordsFault;
-pub use words_reader::read_words;
+pub use words_reader::{fault_by, read_words};

@@ -1,10 +1,11 @@
 //! The values that clap found for a subcommand.
 
-ghost use Rattle.std.specs.Prelude.{◌≡◌, ◌≤◌, Some, IfErr, IfOk, IfSome, option_map, string_bytes};
-ghost use Rattle.clap.specs.Words.{first_of, found_of, rows_of};
+ghost use Rattle.std.specs.Prelude.{◌≡◌, ◌≤◌, ◌++◌, [], ◌∷◌, Some, IfErr, IfOk, IfSome, OnOk, map, option_map};
+ghost use Rattle.std.specs.Prelude.{string_bytes};
+ghost use Rattle.clap.specs.Words.{all_of, first_of, found_of, rows_of};
 ghost use Rattle.command_line.specs.Answers.{IsLack, IsLackOfAny};
 ghost use Rattle.command_line.specs.declared.words_fault.WordsFault.TheVariants.{NoMemory};
-ghost use Rattle.command_line.specs.Asked.{number_at, number_of};
+ghost use Rattle.command_line.specs.Asked.{number_at, number_of, number_or};
 
 use crate::WordsFault;
 use clap::ArgMatches;
@@ -94,6 +95,84 @@ pub fn number_at(
             Some(number) => Ok(number),
             None => Err(lack(alloc, name)),
         },
+        None => Err(lack(alloc, name)),
+    }
+}
+
+/// The number that was given for an option that may be left out, from `low` to `high`, or else `none`.
+///
+/// # Errors
+///
+/// `BadWords`, only where something else than a number within the limits was given. `NoMemory`, where a growth was
+/// refused.
+pub fn number_if_given(
+    alloc: Global,
+    found: &ArgMatches<'_>,
+    name: &str,
+    limits: (u64, u64),
+    none: u64,
+) -> Result<u64, WordsFault>
+    ensures ok { IfOk result (λ n. number_or (rows_of (found_of found.now)) name.now limits none ≡ Some n) }
+    ensures err { IfErr result (IsLack (number_or (rows_of (found_of found.now)) name.now limits none)) }
+{
+    match value_at(found, name) {
+        Some(text) => match number_of(text, limits.0, limits.1) {
+            Some(number) => Ok(number),
+            None => Err(lack(alloc, name)),
+        },
+        None => Ok(none),
+    }
+}
+
+// The words that were given for a name.
+fn values_at<'m, 'a>(found: &'m ArgMatches<'a>, name: &str) -> Option<&'m [&'a str]>
+    ensures { option_map (λ s. map (λ v. v.now) s.now) result ≡ all_of name.now (rows_of (found_of found.now)) }
+{
+    found.get_strs(name)
+}
+
+// A word as text of its own.
+fn pushed(alloc: Global, texts: &mut Vec<String>, word: &str) -> Result<(), WordsFault>
+    ensures ok { OnOk result (map string_bytes texts.new.items ≡ map string_bytes texts.old.items ++ word.now ∷ []) }
+    ensures err { IfErr result (λ fault. fault ≡ NoMemory) }
+{
+    match texts.push(String::from_str(alloc, word)?) {
+        Ok(()) => Ok(()),
+        Err(refused) => {
+            drop(refused);
+            Err(WordsFault::NoMemory)
+        }
+    }
+}
+
+// Words as texts of their own.
+fn owned(alloc: Global, words: &[&str]) -> Result<Vec<String>, WordsFault>
+    ensures ok { IfOk result (λ texts. map string_bytes texts.items ≡ map (λ v. v.now) words.now) }
+    ensures err { IfErr result (λ fault. fault ≡ NoMemory) }
+{
+    let mut texts = Vec::new(alloc);
+    for word in words {
+        pushed(alloc, &mut texts, word)?;
+    }
+    Ok(texts)
+}
+
+/// The words that were given for a name, in their order.
+///
+/// # Errors
+///
+/// `BadWords`, only where none was given. `NoMemory`, where a growth was refused.
+pub fn texts_at(
+    alloc: Global,
+    found: &ArgMatches<'_>,
+    name: &str,
+) -> Result<Vec<String>, WordsFault>
+    ensures ok { IfOk result (λ texts. all_of name.now (rows_of (found_of found.now))
+        ≡ Some (map string_bytes texts.items)) }
+    ensures err { IfErr result (IsLack (all_of name.now (rows_of (found_of found.now)))) }
+{
+    match values_at(found, name) {
+        Some(words) => owned(alloc, words),
         None => Err(lack(alloc, name)),
     }
 }

@@ -126,7 +126,8 @@ fn job_by(alloc: Global, matches: &ArgMatches<'_>) -> Result<Job, WordsFault>
     }
 }
 
-fn fault_by(alloc: Global, error: &Error) -> WordsFault
+/// What an error of clap is answered with: its text, or `NoMemory` where memory was refused.
+pub fn fault_by(alloc: Global, error: &Error) -> WordsFault
     ensures { IsAnswered (kind_of error.now) result }
 {
     if matches!(error.kind(), ErrorKind::OutOfMemory) {

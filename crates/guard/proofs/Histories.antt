@@ -130,7 +130,8 @@ once scope l = all_once (opened scope) l (λ a b has_a has_b same. absurd (omega
 
 -- ---- what may be signed may be signed again
 
-one_kept : (serial : ℕ) (body : List ℕ) (s : State) (q : Question) → body_of s serial ≡ Some body
+-- what is kept under a serial is kept after one more question
+pub one_kept : (serial : ℕ) (body : List ℕ) (s : State) (q : Question) → body_of s serial ≡ Some body
     → body_of (after s q) serial ≡ Some body
 one_kept serial body s q kept =
     left_by (λ x. body_of x serial ≡ Some body) s q kept (λ c new. kept_with_row s q c serial body kept)

@@ -4,3 +4,4 @@ pub mod Histories
 pub mod PolicyLines
 pub mod BodyTexts
 pub mod PolicyReadings
+pub mod Retired

@@ -1,12 +1,14 @@
 -- What judging a body answers, whatever keeps the guard.
-use Rattle.std.specs.Prelude.{◌≡◌, ℕ, List, Some, None}
+use Rattle.std.specs.Prelude.{◌≡◌, ◌<◌, ◌≤◌, ◌^◌, ℕ, List, length, Some, None}
 use Rattle.std.specs.Option.{option_map}
 use Rattle.lines.specs.Digests.{digest_text}
+use Rattle.guard.specs.declared.approved.Approved.{Approved}
 use Rattle.guard.specs.declared.judging.Answer.{Answer}
 use Rattle.guard.specs.declared.judging.Answer.TheVariants as answer
 use Rattle.guard.specs.declared.register.RegisterFault.{RegisterFault}
 use Rattle.guard.specs.declared.register.RegisterFault.TheVariants as register
 use Rattle.guard.specs.declared.refusal.Refusal.TheVariants.{NotABody}
+use Rattle.guard.specs.declared.body.TheConstants.{LONGEST_BODY}
 use Rattle.guard.specs.Machine.{State, Question, body_of, fields_of, refusal_of}
 use Rattle.guard.specs.Reading.{IsFault}
 
@@ -24,7 +26,14 @@ IsKept (answer.Sign serial digest) s body = body_of s serial ≡ Some body
 IsKept (answer.NotABody e) s body = Unit {0}
 IsKept (answer.Refuse r) s body = Unit {0}
 
--- what a fault of a register says
+-- what a register has room for: numbers below 2^63, and a body of at most 16384 bytes
+pub record IsKeepable (row : Approved) : Type 0 where
+  pub serial : row.serial < 2 ^ 63
+  pub moment : row.moment < 2 ^ 63
+  pub body : length row.body ≤ LONGEST_BODY
+
+-- what a fault of a register that keeps a guard says: such a register is never damaged
 abbrev pub HasCause : RegisterFault → Type 0 → Type 0
 HasCause register.Device failed = failed
+HasCause register.Damaged failed = ⊥
 HasCause register.NoMemory failed = Unit {0}

@@ -1,5 +1,6 @@
 pub mod Refusals
 pub mod State
+pub mod Retiring
 pub mod Machine
 pub mod History
 pub mod Reading
@@ -9,3 +10,5 @@ pub mod Policies
 pub mod Judged
 pub mod PolicyTexts
 pub mod AnswerLines
+pub mod Scopes
+pub mod Retirement

@@ -1,6 +1,9 @@
 //! What a guard keeps of each body that it approved.
 
-use text::Text;
+ghost use Rattle.std.specs.Prelude.{◌≡◌, IfOk};
+
+use std::alloc::Global;
+use text::{NoMemory, Text};
 
 /// A body that was approved. It is kept for good.
 #[derive(Drop)]
@@ -11,4 +14,17 @@ pub struct Approved {
     pub moment: u64,
     /// The body's bytes, over which the signature is made.
     pub body: Text,
+}
+
+impl Approved {
+    /// A copy, unless memory is refused.
+    pub fn copied(&self, alloc: Global) -> Result<Approved, NoMemory>
+        ensures { IfOk result (λ copy. copy ≡ self.now) }
+    {
+        Ok(Approved {
+            serial: self.serial,
+            moment: self.moment,
+            body: self.body.copied(alloc)?,
+        })
+    }
 }

@@ -1,6 +1,6 @@
 //! Bodies judged, one after the other.
 
-ghost use Rattle.std.specs.Prelude.{◌≡◌, Some, IfErr, IfOk, OnOk, OnErr};
+ghost use Rattle.std.specs.Prelude.{◌≡◌, ◌<◌, ◌^◌, Some, IfErr, IfOk, OnOk, OnErr};
 ghost use Rattle.cert.specs.declared.fields.CertFields.{CertFields};
 ghost use Rattle.guard.specs.Decided.{Decided, question};
 ghost use Rattle.guard.specs.Judged.{Answers, HasCause, IsKept};
@@ -47,7 +47,10 @@ fn verdict_on<R: Register>(
     ensures decided { R.is_honest register.new → (s : State) → R.keeps register.old s
         → IfOk result (λ v. Decided v s (question policy.now window body.now) fields.now) }
     ensures same { R.is_honest register.new → (s : State) → R.keeps register.old s → R.keeps register.new s }
-    ensures cause { IfErr result (λ e. HasCause e (R.has_failed register.new)) }
+    ensures crash { R.is_honest register.new → (s : State) → R.keeps register.old s → R.leaves register.old s s
+        → R.leaves register.new s s }
+    ensures cause { R.is_honest register.new → (s : State) → R.keeps register.old s
+        → IfErr result (λ e. HasCause e (R.has_failed register.new)) }
 {
     let scope = register.scope()?;
     let kept = register.body_of(alloc, fields.serial)?;
@@ -73,7 +76,16 @@ fn settle<R: Register>(
         → Decided verdict s q c → OnOk result (R.keeps register.new (after s q)) }
     ensures fault { R.is_honest register.new → (s : State) → R.keeps register.old s
         → OnErr result (R.keeps register.new s) }
-    ensures cause { IfErr result (λ e. HasCause e (R.has_failed register.new)) }
+    ensures durable { R.is_honest register.new → (s : State) → R.keeps register.old s → R.leaves register.old s s
+        → (q : Question) (c : CertFields) → q.moment ≡ moment → q.body ≡ body.now → c.serial ≡ serial
+        → Decided verdict s q c → OnOk result (R.leaves register.new (after s q) (after s q)) }
+    ensures crash { R.is_honest register.new → (s : State) → R.keeps register.old s → R.leaves register.old s s
+        → (q : Question) (c : CertFields) → q.moment ≡ moment → q.body ≡ body.now → c.serial ≡ serial
+        → Decided verdict s q c → R.leaves register.new s (after s q) }
+    ensures cause { R.is_honest register.new → (s : State) → R.keeps register.old s → (q : Question) (c : CertFields)
+        → fields_of q.body ≡ Some c → q.moment ≡ moment → q.body ≡ body.now → c.serial ≡ serial
+        → Decided verdict s q c → s.scope.last < 2 ^ 63 → moment < 2 ^ 63
+        → IfErr result (λ e. HasCause e (R.has_failed register.new)) }
 {
     match verdict {
         Verdict::Approve => {
@@ -128,7 +140,13 @@ fn judge_fields<R: Register>(
         → IfOk result (λ a. IsKept a (after s (question policy.now window body.now)) body.now) }
     ensures fault { R.is_honest register.new → (s : State) → R.keeps register.old s
         → OnErr result (R.keeps register.new s) }
-    ensures cause { IfErr result (λ e. HasCause e (R.has_failed register.new)) }
+    ensures durable { R.is_honest register.new → (s : State) → R.keeps register.old s → R.leaves register.old s s
+        → OnOk result (R.leaves register.new (after s (question policy.now window body.now))
+        (after s (question policy.now window body.now))) }
+    ensures crash { R.is_honest register.new → (s : State) → R.keeps register.old s → R.leaves register.old s s
+        → R.leaves register.new s (after s (question policy.now window body.now)) }
+    ensures cause { R.is_honest register.new → (s : State) → R.keeps register.old s → s.scope.last < 2 ^ 63
+        → window.moment < 2 ^ 63 → IfErr result (λ e. HasCause e (R.has_failed register.new)) }
 {
     let verdict = verdict_on(alloc, register, policy, window, body, fields)?;
     let answer = answer_of(fields.serial, body, verdict);
@@ -168,8 +186,19 @@ pub fn judge<R: Register>(
     ensures fault { R.is_honest register.new → (s : State) → R.keeps register.old s
         → OnErr result (R.keeps register.new s) }
 
-    // The register is said to have failed only if its database has.
-    ensures cause { IfErr result (λ e. HasCause e (R.has_failed register.new)) }
+    // What is answered outlasts a crash.
+    ensures durable { R.is_honest register.new → (s : State) → R.keeps register.old s → R.leaves register.old s s
+        → OnOk result (R.leaves register.new (after s (question policy.now window body.now))
+        (after s (question policy.now window body.now))) }
+
+    // A crash in its midst leaves what was kept, or that with this body.
+    ensures crash { R.is_honest register.new → (s : State) → R.keeps register.old s → R.leaves register.old s s
+        → R.leaves register.new s (after s (question policy.now window body.now)) }
+
+    // A register that keeps a guard tells no damage, and is said to have failed only if its database has. Its last
+    // serial and the moment are below 2^63.
+    ensures cause { R.is_honest register.new → (s : State) → R.keeps register.old s → s.scope.last < 2 ^ 63
+        → window.moment < 2 ^ 63 → IfErr result (λ e. HasCause e (R.has_failed register.new)) }
 {
     match fields_of(alloc, body) {
         Ok(fields) => {

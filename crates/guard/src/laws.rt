@@ -1,6 +1,7 @@
 //! Laws of every list of questions. The functions do nothing: their clauses are what is proved.
 
-ghost use Rattle.std.specs.Prelude.{◌≡◌, ℕ, List, [], ◌∷◌, ◌++◌, All, Contains, true, Some, None, Ok, map};
+ghost use Rattle.std.specs.Prelude.{◌≡◌, ◌<◌, ℕ, List, [], ◌∷◌, ◌++◌, All, Contains, true, Some, None, Ok};
+ghost use Rattle.std.specs.Prelude.{is_some, map};
 ghost use Rattle.krl.specs.Reading.{IsBytes};
 ghost use Rattle.cert.specs.declared.fields.CertFields.{CertFields};
 ghost use Rattle.guard.specs.declared.approved.Approved.{Approved};
@@ -11,6 +12,7 @@ ghost use Rattle.guard.specs.History.{IsStill, MaySign, WasAsked, state};
 ghost use Rattle.guard.specs.Policies.{policy_at};
 ghost use Rattle.guard.specs.PolicyTexts.{AreBetween, AreParts, Part, policy_text};
 ghost use Rattle.guard.specs.Laws.{IsBodyOf, ascend_from};
+ghost use Rattle.guard.specs.Retirement.{retirement};
 
 /// The refusals stand in the order of their numbers, from 31 on: so the first that applies is the one with the least.
 pub fn refusals_ascend()
@@ -67,4 +69,22 @@ pub fn a_body_that_was_approved_stays()
 pub fn an_approved_body_is_signed_again()
     ensures { (scope : Scope) (l later : List Question) (q again : Question) → refusal_of (state scope l) q ≡ None
         → again.body ≡ q.body → refusal_of (state scope (l ++ q ∷ later)) again ≡ None }
+{}
+
+/// A retired guard keeps what it approved.
+pub fn a_retired_guard_keeps_its_bodies()
+    ensures { (s retired : State) (last : ℕ) → retirement s last ≡ Ok retired → retired.approved ≡ s.approved }
+{}
+
+/// A retired guard signs each body again that it approved before.
+pub fn a_retired_guard_signs_again()
+    ensures { (s retired : State) (last : ℕ) (q : Question) (c : CertFields) → retirement s last ≡ Ok retired
+        → fields_of q.body ≡ Some c → body_of s c.serial ≡ Some q.body → refusal_of s q ≡ None
+        → refusal_of retired q ≡ None }
+{}
+
+/// A retired guard signs no body with a serial over its last one.
+pub fn a_retired_guard_signs_none_over_its_last_serial()
+    ensures { (s retired : State) (last : ℕ) (q : Question) (c : CertFields) → retirement s last ≡ Ok retired
+        → fields_of q.body ≡ Some c → last < c.serial → is_some (refusal_of retired q) ≡ true }
 {}

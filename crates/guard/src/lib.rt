@@ -18,6 +18,7 @@ mod policy_fault;
 mod policy_reader;
 mod refusal;
 mod register;
+mod retiring;
 mod scope;
 #[cfg(test)]
 mod tests;
@@ -30,14 +31,16 @@ pub use deciding::decide;
 pub use judging::{Answer, judge};
 pub use laws::{
     a_body_that_was_approved_stays, a_policy_is_read_as_its_departments, a_question_is_one_step,
-    a_refusal_changes_nothing, a_serial_has_one_body, an_approved_body_is_signed_again,
-    an_approved_body_was_permitted, refusals_ascend, what_has_fields_is_a_body,
-    what_may_be_signed_is_approved,
+    a_refusal_changes_nothing, a_retired_guard_keeps_its_bodies, a_retired_guard_signs_again,
+    a_retired_guard_signs_none_over_its_last_serial, a_serial_has_one_body,
+    an_approved_body_is_signed_again, an_approved_body_was_permitted, refusals_ascend,
+    what_has_fields_is_a_body, what_may_be_signed_is_approved,
 };
 pub use memory::MemoryGuard;
 pub use policy::{LONGEST_POLICY, Policy};
 pub use policy_fault::PolicyFault;
 pub use refusal::Refusal;
 pub use register::{Register, RegisterFault};
+pub use retiring::{RetireFault, retire};
 pub use scope::Scope;
 pub use verdict::{Verdict, View, Window};

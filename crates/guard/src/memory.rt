@@ -1,8 +1,10 @@
 //! A guard's register in memory.
 
-ghost use Rattle.std.specs.Prelude.{◌≡◌, ◌==◌, IfOk, find, option_copied};
+ghost use Rattle.std.specs.Prelude.{◌≡◌, ◌==◌, ◌⊎◌, ◌++◌, ◌∷◌, [], List, IfOk, find, option_copied};
+ghost use Rattle.std.proofs.Common.{inl, inr};
 ghost use Rattle.std.specs.Option.{option_map};
-ghost use Rattle.guard.specs.State.{opened};
+ghost use Rattle.guard.specs.Retiring.{IsFirstFrom};
+ghost use Rattle.guard.specs.State.{State, opened};
 
 use crate::approved::Approved;
 use crate::register::{Register, RegisterFault};
@@ -45,6 +47,31 @@ fn copied(alloc: Global, body: Option<&Text>) -> Result<Option<Text>, NoMemory>
     }
 }
 
+/// The nearer one to a serial, from there on: this row, or the one that was found.
+fn nearer<'a>(serial: u64, row: &'a Approved, found: Option<&'a Approved>) -> Option<&'a Approved>
+    ensures { (rows : List Approved) → IsFirstFrom serial rows (option_copied found.entry)
+        → IsFirstFrom serial (rows ++ row.now ∷ []) (option_copied result) }
+{
+    if row.serial < serial {
+        return found;
+    }
+    match found {
+        Some(other) if other.serial <= row.serial => Some(other),
+        _ => Some(row),
+    }
+}
+
+/// The row with the least serial that is at least this one.
+fn row_from(approved: &[Approved], serial: u64) -> Option<&Approved>
+    ensures { IsFirstFrom serial approved.now (option_copied result) }
+{
+    let mut found: Option<&Approved> = None;
+    for row in approved {
+        found = nearer(serial, row, found);
+    }
+    found
+}
+
 impl MemoryGuard {
     /// A guard that has approved nothing yet.
     pub fn new(alloc: Global, scope: Scope) -> MemoryGuard
@@ -62,7 +89,11 @@ impl Register for MemoryGuard {
 
     ghost keeps = { λ g s. g ≡ s };
 
+    ghost leaves = { λ g s t. (g ≡ s) ⊎ (g ≡ t) };
+
     ghost has_failed = { λ _. ⊥ };
+
+    ghost widens = { λ g s t h. elim h [ inl e ↦ inl e | inr e ↦ inl e ] };
 
     fn scope(&mut self) -> Result<Scope, RegisterFault> {
         Ok(self.scope)
@@ -70,6 +101,13 @@ impl Register for MemoryGuard {
 
     fn body_of(&mut self, alloc: Global, serial: u64) -> Result<Option<Text>, RegisterFault> {
         Ok(copied(alloc, body_in(self.approved.as_slice(), serial))?)
+    }
+
+    fn row_from(&mut self, alloc: Global, serial: u64) -> Result<Option<Approved>, RegisterFault> {
+        match row_from(self.approved.as_slice(), serial) {
+            Some(row) => Ok(Some(row.copied(alloc)?)),
+            None => Ok(None),
+        }
     }
 
     fn keep(&mut self, row: Approved) -> Result<(), RegisterFault> {
@@ -80,5 +118,10 @@ impl Register for MemoryGuard {
                 Err(RegisterFault::NoMemory)
             }
         }
+    }
+
+    fn set_last(&mut self, last: u64) -> Result<(), RegisterFault> {
+        self.scope.last = last;
+        Ok(())
     }
 }

@@ -39,6 +39,13 @@ impl Policy {
         Policy { departments }
     }
 
+    /// The departments, in the order of the file.
+    pub fn departments(&self) -> &[Department]
+        ensures { result.now ≡ self.now }
+    {
+        self.departments.as_slice()
+    }
+
     /// The department of a name.
     pub fn named(&self, name: &[u8]) -> Option<&Department>
         ensures { option_copied result ≡ department_named self.now name.now }

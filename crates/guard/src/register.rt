@@ -2,7 +2,8 @@
 
 ghost use Rattle.std.specs.Prelude.{◌≡◌, None, IfErr, IfOk, OnOk, OnErr};
 ghost use Rattle.guard.specs.Machine.{State, body_of, with_approved};
-ghost use Rattle.guard.specs.Judged.{HasCause};
+ghost use Rattle.guard.specs.Judged.{HasCause, IsKeepable};
+ghost use Rattle.guard.specs.Retiring.{IsLowered, IsRowFrom, with_last};
 
 use crate::approved::Approved;
 use crate::scope::Scope;
@@ -12,22 +13,28 @@ use text::Text;
 /// Why a register did not answer. What it keeps is as before.
 #[derive(Clone, Copy, Debug, PartialEq, Eq)]
 pub enum RegisterFault {
-    /// The database failed, or is shut.
+    /// The database failed, or is shut, or has no room for a row.
     Device,
+    /// What is there is no guard's: the tables are damaged.
+    Damaged,
     /// A growth was refused.
     NoMemory,
 }
 
 /// What keeps a guard's state: tables in a file, or a list in memory.
 ///
-/// Each call's clauses are asked of an honest register alone, as the call leaves it: honesty only falls. `Device` is
-/// answered only if the database has failed.
+/// Each call's clauses are asked of an honest register alone, as the call leaves it: honesty only falls. A register that
+/// keeps a state tells no damage, and `Device` only if its database has failed. What was kept when a call answered is
+/// what a crash leaves; a crash in the midst of a call leaves that, or what the call leads to.
 pub trait Register {
     /// So far every answer of the disk was true.
     ghost is_honest: { Self → Type 0 };
 
     /// What it has is this state.
     ghost keeps: { Self → State → Type 0 };
+
+    /// What a crash leaves now has the one state or the other.
+    ghost leaves: { Self → State → State → Type 0 };
 
     /// The database has failed by now, or is shut.
     ghost has_failed: { Self → Type 0 };
@@ -37,14 +44,30 @@ pub trait Register {
         ensures honest { is_honest self.new → is_honest self.old }
         ensures row { is_honest self.new → (s : State) → keeps self.old s → IfOk result (λ scope. scope ≡ s.scope) }
         ensures same { is_honest self.new → (s : State) → keeps self.old s → keeps self.new s }
-        ensures cause { IfErr result (λ e. HasCause e (has_failed self.new)) };
+        ensures crash { is_honest self.new → (s : State) → keeps self.old s → leaves self.old s s
+            → leaves self.new s s }
+        ensures cause { is_honest self.new → (s : State) → keeps self.old s
+            → IfErr result (λ e. HasCause e (has_failed self.new)) };
 
     /// The body that was approved under a serial.
     fn body_of(&mut self, alloc: Global, serial: u64) -> Result<Option<Text>, RegisterFault>
         ensures honest { is_honest self.new → is_honest self.old }
         ensures row { is_honest self.new → (s : State) → keeps self.old s → IfOk result (λ b. b ≡ body_of s serial) }
         ensures same { is_honest self.new → (s : State) → keeps self.old s → keeps self.new s }
-        ensures cause { IfErr result (λ e. HasCause e (has_failed self.new)) };
+        ensures crash { is_honest self.new → (s : State) → keeps self.old s → leaves self.old s s
+            → leaves self.new s s }
+        ensures cause { is_honest self.new → (s : State) → keeps self.old s
+            → IfErr result (λ e. HasCause e (has_failed self.new)) };
+
+    /// The row with the least serial that is at least this one.
+    fn row_from(&mut self, alloc: Global, serial: u64) -> Result<Option<Approved>, RegisterFault>
+        ensures honest { is_honest self.new → is_honest self.old }
+        ensures row { is_honest self.new → (s : State) → keeps self.old s → IfOk result (IsRowFrom s serial) }
+        ensures same { is_honest self.new → (s : State) → keeps self.old s → keeps self.new s }
+        ensures crash { is_honest self.new → (s : State) → keeps self.old s → leaves self.old s s
+            → leaves self.new s s }
+        ensures cause { is_honest self.new → (s : State) → keeps self.old s
+            → IfErr result (λ e. HasCause e (has_failed self.new)) };
 
     /// Keeps a body under a serial that has none. After a fault the register keeps what it kept.
     fn keep(&mut self, row: Approved) -> Result<(), RegisterFault>
@@ -52,7 +75,29 @@ pub trait Register {
         ensures kept { is_honest self.new → (s : State) → keeps self.old s → body_of s row.serial ≡ None
             → OnOk result (keeps self.new (with_approved s row)) }
         ensures fault { is_honest self.new → (s : State) → keeps self.old s → OnErr result (keeps self.new s) }
-        ensures cause { IfErr result (λ e. HasCause e (has_failed self.new)) };
+        ensures durable { is_honest self.new → (s : State) → keeps self.old s → body_of s row.serial ≡ None
+            → OnOk result (leaves self.new (with_approved s row) (with_approved s row)) }
+        ensures crash { is_honest self.new → (s : State) → keeps self.old s → leaves self.old s s
+            → body_of s row.serial ≡ None → leaves self.new s (with_approved s row) }
+        ensures cause { is_honest self.new → (s : State) → keeps self.old s → body_of s row.serial ≡ None
+            → IsKeepable row → IfErr result (λ e. HasCause e (has_failed self.new)) };
+
+    /// Makes this the last serial that may be signed, where that lowers it. After a fault the register keeps what it
+    /// kept.
+    fn set_last(&mut self, last: u64) -> Result<(), RegisterFault>
+        ensures honest { is_honest self.new → is_honest self.old }
+        ensures kept { is_honest self.new → (s : State) → keeps self.old s → IsLowered s last
+            → OnOk result (keeps self.new (with_last s last)) }
+        ensures fault { is_honest self.new → (s : State) → keeps self.old s → OnErr result (keeps self.new s) }
+        ensures durable { is_honest self.new → (s : State) → keeps self.old s → IsLowered s last
+            → OnOk result (leaves self.new (with_last s last) (with_last s last)) }
+        ensures crash { is_honest self.new → (s : State) → keeps self.old s → leaves self.old s s → IsLowered s last
+            → leaves self.new s (with_last s last) }
+        ensures cause { is_honest self.new → (s : State) → keeps self.old s → IsLowered s last
+            → IfErr result (λ e. HasCause e (has_failed self.new)) };
+
+    /// What has the one state has that or another.
+    ghost widens: { (g : Self) (s t : State) → leaves g s s → leaves g s t };
 }
 
 impl From<text::NoMemory> for RegisterFault {

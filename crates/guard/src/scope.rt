@@ -1,5 +1,11 @@
 //! What a guard answers for.
 
+ghost use Rattle.std.specs.Prelude.{◌≡◌, IfSome, IsTrue};
+ghost use Rattle.office.specs.Openings.{are_serials};
+ghost use Rattle.guard.specs.Scopes.{made_scope};
+
+use values::LAST_SERIAL;
+
 /// The CA and the serials that a guard answers for.
 #[derive(Clone, Copy)]
 pub struct Scope {
@@ -9,4 +15,17 @@ pub struct Scope {
     pub first: u64,
     /// The last serial that may be signed.
     pub last: u64,
+}
+
+impl Scope {
+    /// The scope of these values, or none if it isn't so that 1 <= first <= last <= 9223372036854775806.
+    pub fn new(ca: [u8; 32], first: u64, last: u64) -> Option<Scope>
+        ensures made { result ≡ made_scope ca first last }
+        ensures lawful { IfSome result (λ s. IsTrue (are_serials s.first s.last)) }
+    {
+        if first < 1 || last < first || LAST_SERIAL < last {
+            return None;
+        }
+        Some(Scope { ca, first, last })
+    }
 }

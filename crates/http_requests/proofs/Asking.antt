@@ -10,7 +10,6 @@ use Rattle.httparse.specs.Grammar.{RequestHead}
 use Rattle.httparse.proofs.GrammarLemmas.{ReadsRequest-append}
 use Rattle.values.specs.declared.refusal.Refusal.TheVariants.{BadHead, NoRoute, WrongMethod}
 use Rattle.values.specs.declared.refusal.Refusal.TheVariants.{LengthRequired, TooLong, ShortBody}
-use Rattle.http_requests.specs.declared.limits.TheConstants.{MAX_BODY}
 use Rattle.http_requests.specs.Heads.{IsHead, lengths, is_coded}
 use Rattle.http_requests.specs.Paths.{Path, message, resource, IsPath}
 use Rattle.http_requests.specs.Asks.{Ask, refused, get, post, posted, asked_at, HeadAsks, Asks, IsLawful}
@@ -26,14 +25,14 @@ taken caller key n rest = cond (nat_lt (length rest) n) (refused ShortBody) (pos
 -- what holds of each answer that no bytes change, and of a message, holds of what is asked, with the size wanted
 module _ (P : (List ℕ → Ask) → ℕ → Type 0)
     (fixed : (a : Ask) → IsLawful a → ¬ (a ≡ refused ShortBody) → P (λ rest. a) 0)
-    (body : (caller key : List ℕ) (n : ℕ) → IsPath (message caller key) → n ≤ MAX_BODY → P (taken caller key n) n) where
+    (body : (caller key : List ℕ) (n : ℕ) → IsPath (message caller key) → n ≤ 16384 → P (taken caller key n) n) where
   posted_cases : (caller key : List ℕ) → IsPath (message caller key) → (known : List (List ℕ)) (coded : Bool)
       → P (λ rest. posted caller key known coded rest) (stated_size known coded)
   posted_cases caller key is [] coded = fixed (refused LengthRequired) (lit≤ tt) (λ e. cc)
   posted_cases caller key is (digits ∷ more) true = fixed (refused LengthRequired) (lit≤ tt) (λ e. cc)
-  posted_cases caller key is (digits ∷ more) false = by (nat_lt MAX_BODY (digits_value 10 digits)) refl
+  posted_cases caller key is (digits ∷ more) false = by (nat_lt 16384 (digits_value 10 digits)) refl
     where
-      by : (v : Bool) → nat_lt MAX_BODY (digits_value 10 digits) ≡ v → P (λ rest. cond v (refused TooLong)
+      by : (v : Bool) → nat_lt 16384 (digits_value 10 digits) ≡ v → P (λ rest. cond v (refused TooLong)
           (taken caller key (digits_value 10 digits) rest)) (cond v 0 (digits_value 10 digits))
       by true e = fixed (refused TooLong) (lit≤ tt) (λ e. cc)
       by false e = body caller key (digits_value 10 digits) is (grind (arith, nat_tests))
@@ -53,7 +52,7 @@ module _ (P : (List ℕ → Ask) → ℕ → Type 0)
 
 -- ---- it is lawful
 
-taken_lawful : (rest caller key : List ℕ) (n : ℕ) → IsPath (message caller key) → n ≤ MAX_BODY
+taken_lawful : (rest caller key : List ℕ) (n : ℕ) → IsPath (message caller key) → n ≤ 16384
     → IsLawful (taken caller key n rest)
 taken_lawful rest caller key n is few = cond_both (nat_lt (length rest) n) _ _ IsLawful (λ _. lit≤ tt)
     (λ _. (is.0, is.1, omega (arith, length-take n rest)))

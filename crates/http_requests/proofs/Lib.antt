@@ -6,3 +6,4 @@ pub mod Matching
 pub mod OneAsk
 pub mod Asking
 pub mod Reading
+pub mod Places

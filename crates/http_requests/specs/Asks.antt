@@ -7,7 +7,6 @@ use Rattle.httparse.specs.Grammar.{RequestHead}
 use Rattle.values.specs.declared.refusal.Refusal.{Refusal}
 use Rattle.values.specs.declared.refusal.Refusal.TheVariants.{BadHead, NoRoute, WrongMethod}
 use Rattle.values.specs.declared.refusal.Refusal.TheVariants.{LengthRequired, TooLong, ShortBody}
-use Rattle.http_requests.specs.declared.limits.TheConstants.{MAX_BODY}
 use Rattle.http_requests.specs.declared.resource.Resource.{Resource}
 use Rattle.http_requests.specs.Heads.{IsGood, lengths, is_coded}
 use Rattle.values.specs.Names.{is_name}
@@ -25,7 +24,7 @@ abbrev pub posted : List ℕ → List ℕ → List (List ℕ) → Bool → List 
 posted caller key [] coded rest = refused LengthRequired
 posted caller key (digits ∷ more) coded rest =
     if coded then refused LengthRequired
-    else if nat_lt MAX_BODY (digits_value 10 digits) then refused TooLong
+    else if nat_lt 16384 (digits_value 10 digits) then refused TooLong
     else if nat_lt (length rest) (digits_value 10 digits) then refused ShortBody
     else post caller key (take (digits_value 10 digits) rest)
 
@@ -51,4 +50,4 @@ Asks bytes a =
 abbrev pub IsLawful : Ask → Type 0
 IsLawful (refused r) = refusal_number r ≤ 6
 IsLawful (get r) = IsPath (resource r)
-IsLawful (post caller key text) = IsTrue (is_name caller) × IsTrue (is_name key) × (length text ≤ MAX_BODY)
+IsLawful (post caller key text) = IsTrue (is_name caller) × IsTrue (is_name key) × (length text ≤ 16384)

@@ -3,7 +3,6 @@ use Rattle.std.specs.Prelude.{◌≡◌, ◌≢◌, ◌⊎◌, ℕ, Bool, List, 
 use Rattle.std.specs.Str.{bytes_eq}
 use Rattle.std.specs.Str.Parse.{digits_value}
 use Rattle.httparse.specs.Grammar.{RequestHead}
-use Rattle.http_requests.specs.declared.limits.TheConstants.{MAX_BODY}
 use Rattle.http_requests.specs.Heads.{lengths, is_coded}
 use Rattle.http_requests.specs.Paths.{Path, message, resource, IsPath, path_text}
 
@@ -12,7 +11,7 @@ abbrev pub stated_size : List (List ℕ) → Bool → ℕ
 stated_size [] coded = 0
 stated_size (digits ∷ more) coded =
     if coded then 0
-    else if nat_lt MAX_BODY (digits_value 10 digits) then 0
+    else if nat_lt 16384 (digits_value 10 digits) then 0
     else digits_value 10 digits
 
 -- at a path, by the method

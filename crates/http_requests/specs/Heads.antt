@@ -1,18 +1,17 @@
 -- The head of a request: RFC 9112, sections 2 to 5, with this office's limits, and what it says of the body (RFC 9110,
 -- section 8.6; RFC 9112, section 6).
-use Rattle.std.specs.Prelude.{◌≡◌, ℕ, ◌+◌, ◌≤◌, Bool, List, [], ◌∷◌, length, map}
+use Rattle.std.specs.Prelude.{◌≡◌, ℕ, ◌≤◌, Bool, List, [], ◌∷◌, length, map}
 use Rattle.std.specs.Prelude.{filter, All, codes, min, nat_lt, Option, Some, None}
 use Rattle.std.specs.Str.{str_eq_ignore_ascii_case}
 use Rattle.std.specs.Str.Parse.{IsNumeral, digits_value}
 use Rattle.httparse.specs.Grammar.{RequestHead, ReadsRequest, print_request}
 use Rattle.httparse.specs.Spans.{name_and_value}
-use Rattle.http_requests.specs.declared.limits.TheConstants.{MAX_HEAD, MAX_HEADER_LINES, MAX_BODY}
 
 -- the bytes begin with a head of lawful size, and rest comes after it
 pub record IsHead (bytes : List ℕ) (h : RequestHead) (rest : List ℕ) : Type 0 where
   pub reads : ReadsRequest bytes h rest
-  pub size : length (print_request h) ≤ MAX_HEAD
-  pub lines : length h.fields ≤ MAX_HEADER_LINES
+  pub size : length (print_request h) ≤ 8192
+  pub lines : length h.fields ≤ 32
 
 -- a header line: its name and its value
 abbrev pub Line : Type 0
@@ -50,4 +49,4 @@ IsGood bytes h rest = IsHead bytes h rest × AreLawful (lengths h)
 -- the length that the lines state, or one too many where it is over the limit
 abbrev pub States : Option ℕ → List (List ℕ) → Type 0
 States None known = known ≡ []
-States (Some n) known = (digits : List ℕ) × (known ≡ digits ∷ []) × (n ≡ min (MAX_BODY + 1) (digits_value 10 digits))
+States (Some n) known = (digits : List ℕ) × (known ≡ digits ∷ []) × (n ≡ min 16385 (digits_value 10 digits))

@@ -9,3 +9,5 @@ pub mod Asks
 pub mod Asked
 pub mod BodySizes
 pub mod Reading
+pub mod Places
+pub mod Plans

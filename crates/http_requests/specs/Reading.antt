@@ -1,13 +1,12 @@
 -- Heads in bytes that are still coming.
 use Rattle.std.specs.Prelude.{◌≡◌, ℕ, ◌<◌, ◌≤◌, List, [], ◌++◌, length, take}
 use Rattle.httparse.specs.Grammar.{RequestHead, ReadsRequest, MayBecomeRequest}
-use Rattle.http_requests.specs.declared.limits.TheConstants.{MAX_HEADER_LINES}
 use Rattle.http_requests.specs.declared.progress.Progress.{Progress}
 use Rattle.http_requests.specs.declared.progress.Progress.TheVariants.{Whole, Waits, Hopeless}
 
 -- the bytes begin with the head, which has a lawful number of lines, and rest comes after it
 abbrev pub BeginsWith : List ℕ → RequestHead → List ℕ → Type 0
-BeginsWith bytes h rest = ReadsRequest bytes h rest × (length h.fields ≤ MAX_HEADER_LINES)
+BeginsWith bytes h rest = ReadsRequest bytes h rest × (length h.fields ≤ 32)
 
 -- some head is there
 abbrev pub HoldsHead : List ℕ → Type 0

@@ -3,6 +3,7 @@
 ghost use Rattle.std.specs.Prelude.{◌≡◌, ◌≢◌, ◌↔◌, ◌<◌, ℕ, List, ◌++◌, length};
 ghost use Rattle.httparse.specs.Grammar.{RequestHead};
 ghost use Rattle.values.specs.declared.refusal.Refusal.{Refusal};
+ghost use Rattle.http_requests.specs.declared.limits.TheConstants.{MAX_HEAD, MAX_HEADER_LINES, MAX_BODY};
 ghost use Rattle.http_requests.specs.Asks.{Ask, Asks, HeadAsks, IsLawful, refused};
 ghost use Rattle.http_requests.specs.BodySizes.{WantsBody};
 ghost use Rattle.http_requests.specs.Paths.{Path, IsPath, path_text};
@@ -34,4 +35,11 @@ pub fn later_bytes_change_nothing()
 pub fn short_bodies_are_below_the_size()
     ensures { (h : RequestHead) (n : ℕ) (rest : List ℕ) (a : Ask) → WantsBody h n → HeadAsks h rest a
         → (a ≡ refused Refusal.ShortBody) ↔ (length rest < n) }
+{}
+
+/// The limits of a request. The definitions have them as numbers.
+pub fn limits_of_requests()
+    ensures head { MAX_HEAD ≡ 8192 }
+    ensures lines { MAX_HEADER_LINES ≡ 32 }
+    ensures body { MAX_BODY ≡ 16384 }
 {}

@@ -8,22 +8,26 @@
 
 mod asked;
 mod fields;
+mod growing;
 mod head;
 mod laws;
 mod limits;
+mod plan;
 mod progress;
 mod resource;
 mod response;
 mod route;
 mod router;
 
-pub use asked::{Asked, asks, body_size};
+pub use asked::{Asked, asks};
+pub use growing::Spot;
 pub use head::{Head, read_head};
 pub use laws::{
-    asks_are_lawful, later_bytes_change_nothing, one_ask, short_bodies_are_below_the_size,
-    texts_tell_paths,
+    asks_are_lawful, later_bytes_change_nothing, limits_of_requests, one_ask,
+    short_bodies_are_below_the_size, texts_tell_paths,
 };
 pub use limits::{MAX_BODY, MAX_HEAD, MAX_HEADER_LINES};
+pub use plan::{Plan, plan_of};
 pub use progress::{Progress, progress_of};
 pub use resource::Resource;
 pub use response::{MAX_REFUSAL, MAX_RESPONSE_HEAD, MediaType, begin_response, refuse, respond};

@@ -16,3 +16,14 @@ pub mod ShortestParts
 pub mod Publishing
 pub mod LengthLaws
 pub mod WritingLaws
+pub mod FrontLaws
+pub mod RunLaws
+pub mod RunsRead
+pub mod RunsKept
+pub mod SectionLaws
+pub mod WholeSections
+pub mod IdLaws
+pub mod ListedLaws
+pub mod PartsKept
+pub mod OneList
+pub mod Forgetting

@@ -25,7 +25,7 @@ inner_fits (p ∷ ps) h =
     let both = length-append (part_text p) (flat_map part_text ps) in
     (omega arith, inner_fits ps (omega arith))
 
-strings_fit : (ids : List (List ℕ)) → IsString (flat_map string_text ids) → AllByRecursion IsString ids
+pub strings_fit : (ids : List (List ℕ)) → IsString (flat_map string_text ids) → AllByRecursion IsString ids
 strings_fit [] h = tt
 strings_fit (i ∷ ids) h =
     let both = length-append (string_text i) (flat_map string_text ids) in
@@ -246,7 +246,7 @@ bytes_other a b apart = by_test (bytes_eq a b) refl
     by_test false e = refl
 
 -- keys of two blobs that are one are one
-blob_key : (a b : List ℕ) → key_blob a ≡ key_blob b → a ≡ b
+pub blob_key : (a b : List ℕ) → key_blob a ≡ key_blob b → a ≡ b
 blob_key a b e = cc
 
 none_revokes : (blob : List ℕ) (serial : ℕ) (key_id : List ℕ) (cas : List CaPart) (ids : List (List ℕ)) → ((p : CaPart) → IsCaPartOf p cas → key_blob p.ca ≢ blob) → list_any (part_revokes blob serial key_id ids) cas ≡ false

@@ -4,3 +4,5 @@ pub mod Faults
 pub mod Reading
 pub mod Published
 pub mod Lengths
+pub mod Contents
+pub mod Fronts

@@ -1,8 +1,10 @@
-//! Laws of runs.
+//! Laws of runs, and of published lists.
 
-ghost use Rattle.std.specs.Prelude.{◌≡◌, ◌&&◌, ◌+◌, ◌≤◌, ◌^◌, Bool, List, ℕ};
+ghost use Rattle.std.specs.Prelude.{◌≡◌, ◌↔◌, ◌&&◌, ◌+◌, ◌≤◌, ◌^◌, Bool, List, ℕ};
 ghost use Rattle.krl.specs.declared.run.Run.{Run};
 ghost use Rattle.krl.specs.Sets.{AreRuns, IsOneOf, IsRunOf, contains, is_counted, runs_in};
+ghost use Rattle.krl.specs.Format.{RevocationList};
+ghost use Rattle.krl.specs.Contents.{AreContents, Contents, ForgetsNothing, KeepsEachPair, Publishes, list_of};
 
 /// The runs of a set are its intervals that can't be made longer, and all of these.
 pub fn runs_are_maximal()
@@ -22,4 +24,24 @@ pub fn a_set_has_its_runs()
         → contains (runs_in set from count) n ≡ (is_counted from count n && set n) }
     ensures only { (set : ℕ → Bool) (from count : ℕ) (rs : List Run) → AreRuns rs
         → ((n : ℕ) → contains rs n ≡ (is_counted from count n && set n)) → rs ≡ runs_in set from count }
+{}
+
+/// Bytes publish one list alone: a text tells the head, the parts of the CAs that have a section, and the key ids. The
+/// list tells the text, so lists that are read alike have the same bytes.
+pub fn a_text_has_one_list()
+    ensures list { (bytes : List ℕ) (c d : Contents) → Publishes bytes c → Publishes bytes d → c ≡ d }
+    ensures text { (a b : List ℕ) (c : Contents) → Publishes a c → Publishes b c → a ≡ b }
+{}
+
+/// A list forgets nothing of itself. What forgets nothing of a list forgets nothing of those of which that list forgets
+/// nothing: where each list forgets nothing of the one before it, what is revoked only grows.
+pub fn revocations_only_grow()
+    ensures same { (a : RevocationList) → ForgetsNothing a a }
+    ensures on { (a b c : RevocationList) → ForgetsNothing a b → ForgetsNothing b c → ForgetsNothing a c }
+{}
+
+/// To forget nothing is to keep each pair of CA and serial, and each pair of CA and key id.
+pub fn nothing_is_forgotten_by_pairs()
+    ensures { (old new : Contents) → AreContents old → AreContents new
+        → ForgetsNothing (list_of old) (list_of new) ↔ KeepsEachPair old new }
 {}

@@ -2,18 +2,20 @@
 //!
 //!     krl_tool list SPECIFICATION VERSION DATE
 //!     krl_tool check LIST KEY SERIAL KEYID
+//!     krl_tool compare LIST LIST..
 //!     krl_tool time RUNS
 //!     krl_tool add SERIALS STRIDE
 //!     krl_tool gather SERIAL..
 //!
 //! `list` writes the list of a specification to standard output. `check` prints whether a list revokes the certificate
-//! of this serial and key id under the CA of a public key, or why the list is refused. `time` writes a list of so many
-//! runs into memory and reads it again, and `add` adds so many serials to a set; how long that took goes to standard
-//! error. `gather` prints the runs of the serials that it is given. Files and the clock are the system's, and nothing
-//! is proved of them.
+//! of this serial and key id under the CA of a public key, or why the list is refused. `compare` prints of each list but
+//! the first whether it keeps all that the one before it revokes. `time` writes a list of so many runs into memory and
+//! reads it again, and `add` adds so many serials to a set; how long that took goes to standard error. `gather` prints
+//! the runs of the serials that it is given. Files and the clock are the system's, and nothing is proved of them.
 #![tactic(auto)]
 
 mod answer;
+mod comparing;
 mod gathering;
 mod listing;
 mod specification;
@@ -21,6 +23,7 @@ mod timing;
 
 use answer::Answer;
 use anyhow::{Context, Result, bail};
+use comparing::compare;
 use gathering::gather;
 use krl::KrlHead;
 use listing::list_of;
@@ -63,11 +66,13 @@ fn run<R: Files + Clock + Print + Eprint + AllocGlobal>(rt: &R, words: &[&str]) 
             list(rt, file, &head)
         }
         [_, "check", file, key, serial, key_id] => check(rt, file, key, serial.parse()?, key_id),
+        [_, "compare", ref files @ ..] => compare(rt, files),
         [_, "time", runs] => timing::time(rt, runs.parse()?),
         [_, "add", serials, stride] => timing::add(rt, serials.parse()?, stride.parse()?),
         [_, "gather", ref serials @ ..] => gather(rt, serials),
         _ => bail!(
-            "list FILE VERSION DATE, check LIST KEY SERIAL KEYID, time RUNS, add SERIALS STRIDE, or gather SERIAL.."
+            "list FILE VERSION DATE, check LIST KEY SERIAL KEYID, compare LIST LIST.., time RUNS, \
+            add SERIALS STRIDE, or gather SERIAL.."
         ),
     }
 }

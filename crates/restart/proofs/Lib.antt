@@ -1,4 +1,8 @@
 pub mod OneSchema
+pub mod HalfMade
 pub mod Opened
 pub mod Left
+pub mod Ended
+pub mod HowEnded
+pub mod Lives
 pub mod Adding

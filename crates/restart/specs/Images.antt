@@ -1,23 +1,46 @@
 -- What the two files of a database hold: the file itself and its log.
-use Rattle.std.specs.Prelude.{◌≡◌, ◌⊎◌, List, [], ◌∷◌, ◌++◌, length}
+use Rattle.std.specs.Prelude.{◌⊎◌, List, [], ◌∷◌, ◌++◌, Option, None, Some}
 use Rattle.sqlite_wal.specs.Recovery.{Image}
 use Rattle.sqlite_trees.specs.Tree.{Trees}
-use Rattle.sqlite.specs.Files.{HoldsDatabase, IsEmpty}
+use Rattle.sqlite_catalog.specs.Listing.{IsSound}
+use Rattle.sqlite.specs.Files.{HoldsDatabase, IsNothing}
 use Rattle.office.specs.declared.opening.Opening.{Opening}
 use Rattle.office.specs.declared.arrival.Arrival.{Arrival}
 use Rattle.store_sql.specs.Contents.{Kept}
+use Rattle.store_sql.specs.Schema.{no_schema, without_ca}
 use Rattle.store.specs.Rows.{office_contents}
+use Rattle.store.specs.Former.{Had, HasNoRollover, former_contents}
+use Rattle.store.specs.Meaning.{IsHistory}
 
 -- a database with the rows of the office of this opening after this history
 pub record HoldsOffice (image : Image) (o : Opening) (l : List Arrival) : Type 0 where
+  pub history : IsHistory o l
   pub trees : Trees
   pub holds : ∥ HoldsDatabase image trees ∥₁
   pub kept : Kept trees (office_contents o l)
+
+-- a database with those rows as schema 1 has them, which knows no rollover
+pub record HoldsFormer (image : Image) (o : Opening) (l : List Arrival) : Type 0 where
+  pub history : IsHistory o l
+  pub plain : HasNoRollover l
+  pub trees : Trees
+  pub holds : ∥ HoldsDatabase image trees ∥₁
+  pub had : Had (former_contents o l) (record { schema = without_ca; trees = trees })
 
 -- that office, or that office after one arrival more
 abbrev pub HoldsAtLeast : Image → Opening → List Arrival → Type 0
 HoldsAtLeast image o l = ∥ HoldsOffice image o l ⊎ ((a : Arrival) × HoldsOffice image o (l ++ a ∷ [])) ∥₁
 
--- No office yet: the database file is empty or isn't there, or the files hold a database without a row.
+-- No office yet: the database file is empty, or isn't there, or was only half made by a first open that was cut off.
+-- Or the files hold a database without a table.
 abbrev pub HoldsNone : Image → Type 0
-HoldsNone image = (length image.db ≡ 0) ⊎ ((trees : Trees) × ∥ HoldsDatabase image trees ∥₁ × IsEmpty trees)
+HoldsNone image = IsNothing image ⊎ ((trees : Trees) × ∥ HoldsDatabase image trees ∥₁ × IsSound no_schema trees)
+
+-- no office yet, or the office of an opening after a history
+abbrev pub Standing : Type 0
+Standing = Option (Opening × List Arrival)
+
+-- the files hold that
+abbrev pub Holds : Image → Standing → Type 0
+Holds image None = HoldsNone image
+Holds image (Some p) = HoldsOffice image p.0 p.1

@@ -1,4 +1,6 @@
 pub mod Schemas
 pub mod Images
+pub mod Lives
 pub mod Runs
+pub mod Ending
 pub mod Adding

@@ -1,21 +1,28 @@
 -- One run of the program, from the two files that it finds to those that it leaves.
-use Rattle.std.specs.Prelude.{◌≡◌, List, ◌++◌, IsTrue, None}
+use Rattle.std.specs.Prelude.{◌≡◌, ◌⊎◌, List, [], ◌++◌, IsTrue, Option, None, Some}
 use Rattle.sqlite_disk.specs.declared.Disk.{Ghosts}
 use Rattle.sqlite_disk.specs.declared.Files.{Files}
 use Rattle.sqlite_wal.specs.Recovery.{Image}
 use Rattle.sqlite_wal.specs.Files.{outcomes}
 use Rattle.sqlite_wal.specs.Reads.{AreClean}
+use Rattle.sqlite_trees.specs.Tree.{Trees}
 use Rattle.sqlite_store.specs.declared.store.FileStore.{FileStore}
+use Rattle.sqlite_store.specs.FileStore as store
 use Rattle.sqlite.specs.State.{State, HasCleanDisk, IsLive, Opens}
-use Rattle.sqlite.specs.Held.{Held}
-use Rattle.sqlite.specs.Files.{file_state}
+use Rattle.sqlite.specs.Held.{AreDatabases, Held}
+use Rattle.sqlite.specs.Files.{file_state, IsOpened}
 use Rattle.sqlite.specs.Closing.{IsCopied}
 use Rattle.office.specs.declared.opening.Opening.{Opening}
 use Rattle.office.specs.declared.arrival.Arrival.{Arrival}
 use Rattle.store_sql.specs.Contents.{Kept}
 use Rattle.store.specs.Rows.{office_contents}
-use Rattle.store.specs.Meaning.{IsBlank, IsHistory, Tells}
-use Rattle.restart.specs.Images.{HoldsAtLeast, HoldsNone, HoldsOffice}
+use Rattle.store.specs.Transactions.{IsAsBefore}
+use Rattle.store.specs.Former.{TellsBefore}
+use Rattle.store.specs.Meaning.{IsBlank, IsHistory, Stores, Tells}
+use Rattle.web.specs.Runs.{AllDue}
+use Rattle.restart.specs.Images.{HoldsAtLeast, HoldsFormer, HoldsNone, HoldsOffice}
+use Rattle.restart.specs.Lives.{Asked, End, GivesNone, IsRun}
+use Rattle.restart.specs.Lives.End.{closed, cut}
 
 -- ---- the open
 
@@ -27,11 +34,21 @@ FoundIsTold s =
 
 -- it tells each history whose office the files held
 abbrev pub TellsWhatIsHeld : Image → State → Type 0
-TellsWhatIsHeld image s = (o : Opening) (l : List Arrival) → IsHistory o l → HoldsOffice image o l → Tells s o l
+TellsWhatIsHeld image s = (o : Opening) (l : List Arrival) → HoldsOffice image o l → Tells s o l
+
+-- it tells in schema 1 each history whose office the files held so
+abbrev pub TellsFormer : Image → State → Type 0
+TellsFormer image s = (o : Opening) (l : List Arrival) → HoldsFormer image o l → TellsBefore s o l
 
 -- it is blank if the files held no office
 abbrev pub IsBlankIfNone : Image → State → Type 0
 IsBlankIfNone image s = HoldsNone image → IsBlank s
+
+-- all of this, of a connection to files whose disk has returned what was written
+pub record IsFound {D : Type 0} {g : Ghosts D} (image : Image) (conn : Held (FileStore D g)) : Type 0 where
+  pub opened : IsOpened conn
+  pub told : TellsWhatIsHeld image (file_state conn)
+  pub blank : IsBlankIfNone image (file_state conn)
 
 -- ---- the end
 
@@ -45,6 +62,14 @@ LeavesWhatIsTold g s files =
 abbrev pub ClosesWell : {D : Type 0} {g : Ghosts D} → Held (FileStore D g) → Files D → Type 0
 ClosesWell {D} {g} conn files = AreClean g files.log files.db → LeavesWhatIsTold g (file_state conn) files
 
+-- The connection was given up, shut or not. Its disk has returned what was written. A crash leaves databases, and none
+-- that it could not leave before.
+pub record IsGivenUp {D : Type 0} {g : Ghosts D} (conn : Held (FileStore D g)) (it : FileStore D g) : Type 0 where
+  pub clean : HasCleanDisk (file_state conn)
+  pub numbered : IsTrue (store.view it).is_numbered
+  pub sound : AreDatabases (store.recovers it)
+  pub fewer : (trees : Trees) → store.recovers it trees → (file_state conn).may_leave trees
+
 -- whatever a crash leaves, the files hold the office of the history that was told, or it after one arrival more
 abbrev pub LeavesAtLeast : State → (Image → Type 0) → Type 0
 LeavesAtLeast s may_leave =
@@ -55,17 +80,16 @@ LeavesAtLeast s may_leave =
 -- If the files held an office, all that may be left holds that office, and no arrival is lost.
 abbrev pub KeepsOffice : Image → (Image → Type 0) → Type 0
 KeepsOffice image may_leave =
-    (o : Opening) (l : List Arrival) → IsHistory o l → HoldsOffice image o l
-    → (more : List Arrival) × IsHistory o (l ++ more)
-    × ((after : Image) → may_leave after → HoldsOffice after o (l ++ more))
+    (o : Opening) (l : List Arrival) → HoldsOffice image o l
+    → (more : List Arrival) × ((after : Image) → may_leave after → HoldsOffice after o (l ++ more))
 
 -- each history that was told is told with arrivals after it
 abbrev pub AddsArrivals : State → State → Type 0
 AddsArrivals old new =
     (o : Opening) (l : List Arrival) → Tells old o l → (more : List Arrival) × Tells new o (l ++ more)
 
--- What was done between the open and the close: a disk that is clean was clean, and a connection that is open tells each
--- history that was told, with arrivals after it.
+-- What was done between the open and the close: a disk that is clean was clean, and a connection that is open tells
+-- each history that was told, with arrivals after it.
 abbrev pub Extends : {D : Type 0} {g : Ghosts D} → (opened last : Held (FileStore D g)) → Type 0
 Extends opened last =
     HasCleanDisk (file_state last) → HasCleanDisk (file_state opened)
@@ -78,11 +102,61 @@ RunKeepsOffice {D} g files =
     → (HasCleanDisk (file_state opened) → TellsWhatIsHeld image (file_state opened)) → Extends opened last
     → IsCopied last files → KeepsOffice image (outcomes g files.log files.db)
 
+-- ---- what is due in a run
+
+-- the office that was to be made is stored, and nothing has come since
+abbrev pub IsFounded : Option Opening → State → Type 0
+IsFounded founds s = (o : Opening) × (founds ≡ Some o) × Stores s o []
+
+-- trees with all rows of the office that was to be made
+abbrev pub AreFounded : Option Opening → Trees → Type 0
+AreFounded founds trees =
+    (o : Opening) × (founds ≡ Some o) × IsHistory o [] × Kept trees (office_contents o [])
+
+-- The database is as it was, unless a failed disk has shut the connection. A crash leaves what it could leave before,
+-- or the whole office that was to be made.
+pub record IsUnfounded (founds : Option Opening) (opened last : State) : Type 0 where
+  pub before : IsAsBefore opened last
+  pub crash : (trees : Trees) → last.may_leave trees → opened.may_leave trees ⊎ AreFounded founds trees
+
+-- What was done over the connection: an office that it told is told with the arrivals of the exchanges, each of which
+-- was given what is due, or a fault. Over a database without tables no response was given, and the office that was to
+-- be made is made or not.
+pub record Does (asked : Asked) (opened last : State) : Type 0 where
+  pub office : (o : Opening) (l : List Arrival) → Tells opened o l → (after : List Arrival)
+      × AllDue o l asked.exchanges asked.given after × Tells last o after
+  pub none : IsBlank opened → GivesNone asked
+      × (IsFounded asked.founds last ⊎ IsUnfounded asked.founds opened last)
+
+-- if the disk has returned what was written, it had done so before, and this was done
+abbrev pub DoesOver : {D : Type 0} {g : Ghosts D} → Asked → (opened last : Held (FileStore D g)) → Type 0
+DoesOver asked opened last =
+    HasCleanDisk (file_state last) → HasCleanDisk (file_state opened) × Does asked (file_state opened) (file_state last)
+
+-- what came of these files is a run of the program that ended so, whatever a crash makes of what is left
+abbrev pub AreRuns : Image → Asked → End → (Image → Type 0) → Type 0
+AreRuns image asked end may_leave = (left : Image) → may_leave left
+    → IsRun (record { found = image; asked = asked; end = end; left = left })
+
+-- a run that found these files, did this and closed well
+abbrev pub ClosedRuns : {D : Type 0} (g : Ghosts D) → Files D → Type 0
+ClosedRuns {D} g files =
+    (image : Image) (asked : Asked) (opened last : Held (FileStore D g))
+    → (HasCleanDisk (file_state opened) → IsFound image opened) → DoesOver asked opened last → IsCopied last files
+    → AreRuns image asked closed (outcomes g files.log files.db)
+
+-- a run that found these files, did this, and whose connection was given up
+abbrev pub CutRuns : {D : Type 0} (g : Ghosts D) → FileStore D g → Type 0
+CutRuns {D} g it =
+    (image : Image) (asked : Asked) (opened last : Held (FileStore D g))
+    → (HasCleanDisk (file_state opened) → IsFound image opened) → DoesOver asked opened last → IsGivenUp last it
+    → AreRuns image asked cut (store.state it).may_leave
+
 -- ---- the next run
 
 -- The files that the next run finds are among those that the last one may have left. It tells the history that all of
 -- these hold.
 abbrev pub TellsAfter : (Image → Type 0) → Image → State → Type 0
 TellsAfter may_leave image s =
-    may_leave image → (o : Opening) (l : List Arrival) → IsHistory o l
-    → ((after : Image) → may_leave after → HoldsOffice after o l) → Tells s o l
+    may_leave image → (o : Opening) (l : List Arrival) → ((after : Image) → may_leave after → HoldsOffice after o l)
+    → Tells s o l

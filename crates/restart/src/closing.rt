@@ -5,7 +5,7 @@ ghost use Rattle.sqlite_wal.specs.Reads.{AreClean};
 ghost use Rattle.sqlite_store.specs.FileStore.{state as store_state, view};
 ghost use Rattle.sqlite_trees.specs.View.{IsClean};
 ghost use Rattle.sqlite.specs.Files.{file_state};
-ghost use Rattle.restart.specs.Runs.{ClosesWell, LeavesAtLeast, LeavesWhatIsTold};
+ghost use Rattle.restart.specs.Runs.{ClosesWell, IsGivenUp, LeavesAtLeast, LeavesWhatIsTold};
 
 use sqlite::{Connection, Error, FileFrom, FileStore, Files, Start};
 use sqlite_disk::Disk;
@@ -47,9 +47,11 @@ pub fn close_path<S: Start>(
 
 /// Gives a connection up, even one that a failed disk has shut, and gives back the store of its files.
 pub fn store_of<D: Disk + Drop>(conn: Connection<FileStore<D>>) -> FileStore<D>
+    ensures up { IsClean (view result) → IsGivenUp conn result }
+
     // Whatever a crash makes of the files, they hold the office of the history that was told, or that office after one
     // arrival more.
-    ensures { IsClean (view result) → LeavesAtLeast (file_state conn) (store_state result).may_leave }
+    ensures left { IsClean (view result) → LeavesAtLeast (file_state conn) (store_state result).may_leave }
 {
     conn.into_store()
 }

@@ -2,10 +2,11 @@
 
 ghost use Rattle.sqlite.specs.Held.{state};
 ghost use Rattle.restart.specs.Adding.{ArrivalsStay};
-ghost use Rattle.restart.specs.Runs.{FoundIsTold, RunKeepsOffice};
+ghost use Rattle.restart.specs.Lives.{LivesAreDue, RunsGoOn};
+ghost use Rattle.restart.specs.Runs.{ClosedRuns, CutRuns, FoundIsTold, RunKeepsOffice};
 ghost use Rattle.restart.specs.Schemas.{OneSchema};
 
-use sqlite::{Alter, Connection, Files};
+use sqlite::{Alter, Connection, FileStore, Files};
 use sqlite_disk::Disk;
 
 /// The trees of a database that is sound have one schema, if it has no views. So no schema has to be compared at an
@@ -31,4 +32,26 @@ pub fn a_run_keeps_the_office<D: Disk + Drop>(files: &Files<D>)
 /// Exchanges add arrivals to a history, and take none away.
 pub fn arrivals_stay()
     ensures { ArrivalsStay }
+{}
+
+/// A run that found files, did what it was asked and closed well is a run of the program, whatever a crash makes of the
+/// files that it left.
+pub fn a_closed_run_is_a_run<D: Disk + Drop>(files: &Files<D>)
+    ensures { ClosedRuns D.Disk files.now }
+{
+    let _ = files;
+}
+
+/// So is one whose connection was given up, whatever a crash makes of the files of its store.
+pub fn a_cut_run_is_a_run<D: Disk + Drop>(store: &FileStore<D>)
+    ensures { CutRuns D.Disk store.now }
+{
+    let _ = store;
+}
+
+/// Runs of the program, of which the first found no file and each other one what the one before had left, gave all that
+/// was due. So does a run after them.
+pub fn lives_are_due()
+    ensures due { LivesAreDue }
+    ensures goes_on { RunsGoOn }
 {}

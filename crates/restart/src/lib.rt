@@ -10,9 +10,14 @@
 #![tactic(auto)]
 
 mod closing;
+mod ending;
 mod laws;
 mod opening;
 
 pub use closing::{close_at, close_path, store_of};
-pub use laws::{a_run_keeps_the_office, arrivals_stay, one_schema, what_is_found_is_told};
+pub use ending::{EndFault, end_at};
+pub use laws::{
+    a_closed_run_is_a_run, a_cut_run_is_a_run, a_run_keeps_the_office, arrivals_stay,
+    lives_are_due, one_schema, what_is_found_is_told,
+};
 pub use opening::{open_again, open_at};

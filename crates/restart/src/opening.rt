@@ -5,7 +5,7 @@ ghost use Rattle.sqlite_wal.specs.Files.{image_at, outcomes};
 ghost use Rattle.sqlite.specs.Held.{IsNew};
 ghost use Rattle.sqlite.specs.State.{HasCleanDisk};
 ghost use Rattle.sqlite.specs.Files.{IsOpened, file_state};
-ghost use Rattle.restart.specs.Runs.{IsBlankIfNone, TellsAfter, TellsWhatIsHeld};
+ghost use Rattle.restart.specs.Runs.{IsBlankIfNone, TellsAfter, TellsFormer, TellsWhatIsHeld};
 
 use crate::laws::what_is_found_is_told;
 use sqlite::{Connection, Error, FileFrom, FileStore, Files, Start};
@@ -28,7 +28,11 @@ pub fn open_at<S: Start>(
     ensures told { IfOk result (λ c. HasCleanDisk (file_state c)
         → TellsWhatIsHeld (image_at S.Start) (file_state c)) }
 
-    // If they held no row, an office can be made.
+    // It tells in schema 1 each history whose office they held so, so that the office can be moved.
+    ensures former { IfOk result (λ c. HasCleanDisk (file_state c)
+        → TellsFormer (image_at S.Start) (file_state c)) }
+
+    // If they held no table, an office can be made.
     ensures blank { IfOk result (λ c. HasCleanDisk (file_state c)
         → IsBlankIfNone (image_at S.Start) (file_state c)) }
 {

@@ -12,6 +12,7 @@ use crate::watch::Watch;
 use std::net::{TcpListener, TcpStream};
 use std::time::{Clock, SystemTime, UNIX_EPOCH};
 use values::LATEST_MOMENT;
+use wire::Buffered;
 
 /// A listener of TCP, whose connections are waited for with patience. Of its bytes nothing is told.
 #[derive(Drop)]
@@ -46,7 +47,7 @@ fn moment_of<C: Clock>(clock: &C) -> Option<u64>
 }
 
 impl<'a, C: Clock> Listener for Loopback<'a, C> {
-    type Reader = Timed<'a, TcpStream, C>;
+    type Reader = Buffered<Timed<'a, TcpStream, C>>;
 
     type Writer = Timed<'a, TcpStream, C>;
 
@@ -64,7 +65,7 @@ impl<'a, C: Clock> Listener for Loopback<'a, C> {
             return Err(Fault::Socket);
         };
         Ok(Connection {
-            reader: Timed::new(stream, watch.same()),
+            reader: Buffered::new(Timed::new(stream, watch.same())),
             writer: Timed::new(twin, watch),
             moment,
         })

@@ -30,7 +30,7 @@ use Rattle.sshoffice.specs.Listing.{Lists}
 use Rattle.sshoffice.specs.Making.{Makes, Migrates}
 use Rattle.sshoffice.specs.Opening.{TellsOn}
 use Rattle.sshoffice.specs.Reporting.{Reports}
-use Rattle.sshoffice.specs.Serving.{Serves}
+use Rattle.sshoffice.specs.Serving.{Heard, Serves}
 
 -- tables that tell what they told add nothing
 adds_none : (old new : State) → TellsOn old new → AddsArrivals old new
@@ -162,19 +162,19 @@ module _ (old new : State) (was : IsTrue old.is_open) (rest : IsAtRest old) (sti
   done job.Table held holds r h = reported report.Table held holds r h
   done job.Migrate held holds r h = moved r h.0
 
-  pub served : (connections : ℕ) (nonces held holds : Option (List ℕ)) (r : Result ℕ JobFault)
-      → Serves connections nonces old new held holds r → AddsArrivals old new
-  served connections nonces held holds (Ok status) h =
-      λ o l told. let more = h.served o l told in (more.more, more.history)
-  served connections nonces held holds (Err fault.Socket) h = adds_none old new h.0
-  served connections nonces held holds (Err fault.Write) h = adds_none old new h
-  served connections nonces held holds (Err fault.NoMemory) h = adds_none old new h.0.tells
-  served connections nonces held holds (Err (fault.Store e)) h = adds_none old new h.0.tells
-  served connections nonces held holds (Err fault.File) h = absurd h
-  served connections nonces held holds (Err (fault.Connection x)) h = absurd h
-  served connections nonces held holds (Err fault.Mismatch) h = absurd h
-  served connections nonces held holds (Err (fault.BadExchange k)) h = absurd h
-  served connections nonces held holds (Err (fault.Line x)) h = absurd h
-  served connections nonces held holds (Err (fault.Opening x)) h = absurd h
-  served connections nonces held holds (Err (fault.List x)) h = absurd h
-  served connections nonces held holds (Err fault.Fault) h = absurd h
+  pub served : (connections : ℕ) (source : Option (List ℕ)) (heard : Heard) (held holds : Option (List ℕ))
+      (r : Result ℕ JobFault) → Serves connections source heard old new held holds r → AddsArrivals old new
+  served connections source heard held holds (Ok status) h =
+      λ o l told. let more = h.4.served o l told in (more.more, more.history)
+  served connections source heard held holds (Err fault.Socket) h = adds_none old new h.2
+  served connections source heard held holds (Err fault.Write) h = adds_none old new h.2
+  served connections source heard held holds (Err fault.NoMemory) h = adds_none old new h.1.tells
+  served connections source heard held holds (Err (fault.Store e)) h = adds_none old new h.1.tells
+  served connections source heard held holds (Err fault.File) h = absurd h
+  served connections source heard held holds (Err (fault.Connection x)) h = absurd h
+  served connections source heard held holds (Err fault.Mismatch) h = absurd h
+  served connections source heard held holds (Err (fault.BadExchange k)) h = absurd h
+  served connections source heard held holds (Err (fault.Line x)) h = absurd h
+  served connections source heard held holds (Err (fault.Opening x)) h = absurd h
+  served connections source heard held holds (Err (fault.List x)) h = absurd h
+  served connections source heard held holds (Err fault.Fault) h = absurd h

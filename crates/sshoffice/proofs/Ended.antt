@@ -2,8 +2,10 @@
 use Rattle.std.proofs.Common.{◌≡◌, ℕ, List, Option, Result, Ok, Err, refl}
 use Rattle.std.specs.Prelude.{IfErr, IsOk, OnOk}
 use Rattle.std.specs.Io.KnownBytes.{Appends}
+use Rattle.server.specs.declared.connection_fault.SelftestFault.{SelftestFault}
 use Rattle.sshoffice.specs.declared.job_fault.JobFault.{JobFault}
 use Rattle.sshoffice.specs.declared.job_fault.JobFault.TheVariants.{Write}
+use Rattle.sshoffice.specs.Faults.{of_selftest, test_result}
 use Rattle.sshoffice.specs.Steps.{Follows}
 use Rattle.sshoffice.specs.Whole.{Prints}
 
@@ -14,3 +16,13 @@ pub told : (text : List ℕ) (held holds : Option (List ℕ)) (done result : Res
 told text held holds (Err e) result fault silent ok only = (fault, silent)
 told text held holds (Ok x) (Ok y) fault silent ok only = ok
 told text held holds (Ok x) (Err e) fault silent ok only = only refl
+
+-- what is told of an office's test of itself
+pub test_told : (text : List ℕ) (held holds : Option (List ℕ)) (tested : Result Unit SelftestFault)
+    (result : Result Unit JobFault) → IfErr tested (λ e. result ≡ Err (of_selftest e))
+    → IfErr tested (λ _. holds ≡ held) → OnOk result (Appends held holds text)
+    → (IsOk tested → IfErr result (λ e. e ≡ Write))
+    → Follows (λ _. Prints text held holds) (holds ≡ held) (test_result tested) result
+test_told text held holds (Err e) result fault silent ok only = (fault, silent)
+test_told text held holds (Ok x) (Ok y) fault silent ok only = ok
+test_told text held holds (Ok x) (Err e) fault silent ok only = only refl

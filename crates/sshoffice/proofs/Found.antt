@@ -1,51 +1,80 @@
--- What is opened for a job.
-use Rattle.std.proofs.Common.{◌≡◌, Bor, Result, Ok, Err, refl, subst, sym}
-use Rattle.std.specs.Prelude.{IfOk}
+-- What is opened for a job, and what is kept of it.
+use Rattle.std.proofs.Common.{◌≡◌, Bor, ℕ, List, Result, Ok, Err, refl, subst}
+use Rattle.std.specs.Prelude.{IsTrue}
 use Rattle.sqlite_trees.specs.declared.store.Store as store
 use Rattle.sqlite.specs.declared.error.Error.{Error}
-use Rattle.sqlite.specs.Held.{Held}
-use Rattle.store_sql.specs.Honest.{IsOutside, IsUnlimited}
+use Rattle.sqlite.specs.Held.{Held, state}
+use Rattle.sqlite.specs.State.{HasCleanDisk}
+use Rattle.store_sql.specs.Honest.{StaysClean}
 use Rattle.office.specs.declared.opening.Opening.{Opening}
-use Rattle.sshoffice.specs.declared.database.Database.{Ghosts}
+use Rattle.store.specs.Transactions.{IsAtRest}
+use Rattle.restart.specs.Runs.{AddsArrivals, KeepsOffice}
+use Rattle.sshoffice.specs.declared.world.World.{Ghosts}
 use Rattle.sshoffice.specs.declared.job_fault.JobFault.{JobFault}
 use Rattle.sshoffice.specs.declared.job.OfficeJob.{OfficeJob}
 use Rattle.sshoffice.specs.declared.job.OfficeJob.TheVariants.{Init}
-use Rattle.sshoffice.specs.Finding.{Opens, OpensAfter, OpensFor, OpensThere, found_open}
+use Rattle.sshoffice.specs.Finding.{Opens, OpensFor, OpensThere, found_open}
 use Rattle.sshoffice.specs.Steps.{Follows}
-use Rattle.sshoffice.specs.Whole.{OpensFree}
+use Rattle.sshoffice.specs.Whole.{IsReady, KeepsDatabases}
 
 -- a job that makes no office wants one that is there
-pub there_for : {D Conn : Type 0} (database : Ghosts D Conn) (job : OfficeJob) (db : D) (found : Result Conn JobFault)
-    (db' : D) → ((opening : Bor Opening) → job ≡ Init opening → ⊥) → OpensThere database db found db'
-    → OpensFor database job db found db'
-there_for database (Init opening) db found db' never h = absurd (never opening refl)
-there_for database other db found db' never h = h
+pub there_for : {W File Conn Incoming Reader Writer : Type 0} (world : Ghosts W File Conn Incoming Reader Writer)
+    (path : List ℕ) (job : OfficeJob) (w : W) (found : Result Conn JobFault) (w' : W)
+    → ((opening : Bor Opening) → job ≡ Init opening → ⊥) → OpensThere world path w found w'
+    → OpensFor world path job w found w'
+there_for world path (Init opening) w found w' never h = absurd (never opening refl)
+there_for world path other w found w' never h = h
 
--- ---- no transaction is open on what is opened, and its queries may take any number of steps
+-- ---- what is opened is ready
 
-abbrev pub IsFree : {S : Type 0} → store.Ghosts S → Result (Held S) JobFault → Type 0
-IsFree store found = IfOk found (λ conn. IsOutside store conn × IsUnlimited store conn)
+one_ok : {A E : Type 0} (found : Result A E) (x y : A) → found ≡ Ok x → found ≡ Ok y → y ≡ x
+one_ok found x y first second = cc
 
-free_open : {S : Type 0} (store : store.Ghosts S) (got : Result (Held S) Error)
-    → IfOk got (λ conn. IsOutside store conn × IsUnlimited store conn) → IsFree store (found_open got)
-free_open store (Ok conn) h = h
-free_open store (Err e) h = tt
+module _ {W File Tables Incoming Reader Writer : Type 0} (store : store.Ghosts Tables)
+    (world : Ghosts W File (Held Tables) Incoming Reader Writer) (databases : KeepsDatabases store world)
+    (path : List ℕ) where
+  -- the connection that was found was opened from some world
+  abbrev pub WasOpened : Held Tables → W → Type 0
+  WasOpened conn w' = (w : W) × world.opens w path (Ok conn) w'
 
-module _ {S D : Type 0} (store : store.Ghosts S) (database : Ghosts D (Held S)) (free : OpensFree store database) where
-  free_once : (db : D) (found : Result (Held S) JobFault) (db' : D) → Opens database db found db' → IsFree store found
-  free_once db found db' o =
-      subst (IsFree store) (sym o.came) (free_open store o.got (free db o.got db' o.is_opened))
+  once : (got : Result (Held Tables) Error) (w : W) (conn : Held Tables) (w' : W) → world.opens w path got w'
+      → Ok conn ≡ found_open got → WasOpened conn w'
+  once (Ok other) w conn w' opens came =
+      (w, subst (λ (c : Held Tables). world.opens w path (Ok c) w') (one_ok (Ok conn) conn other refl came) opens)
+  once (Err e) w conn w' opens came = absurd (cc)
 
-  free_step : (first : Result (Unit {0}) JobFault) (ready : D) (found : Result (Held S) JobFault) (db' : D)
-      → Follows (λ _ found. Opens database ready found db') (db' ≡ ready) first found → IsFree store found
-  free_step (Ok x) ready found db' h = free_once ready found db' h
-  free_step (Err e) ready found db' h = subst (IsFree store) (sym h.0) tt
+  step : (first : Result (Unit {0}) JobFault) (ready : W) (conn : Held Tables) (w' : W)
+      → Follows (λ _ found. Opens world path ready found w') (w' ≡ ready) first (Ok conn) → WasOpened conn w'
+  step (Ok x) ready conn w' h = once h.got ready conn w' h.is_opened h.came
+  step (Err e) ready conn w' h = let no = h.0 in absurd (cc)
 
-  free_after : (First : D → Result (Unit {0}) JobFault → D → Type 0) (db : D) (found : Result (Held S) JobFault)
-      (db' : D) → OpensAfter database First db found db' → IsFree store found
-  free_after First db found db' o = free_step o.first o.ready found db' o.opened
+  pub opened_there : (w : W) (conn : Held Tables) (w' : W) → OpensThere world path w (Ok conn) w' → WasOpened conn w'
+  opened_there w conn w' h = step h.first h.ready conn w' h.opened
 
-  pub free_for : (job : OfficeJob) (db : D) (found : Result (Held S) JobFault) (db' : D)
-      → OpensFor database job db found db' → IsFree store found
-  free_for (Init opening) db found db' h = free_after _ db found db' h
-  free_for other db found db' h = free_after _ db found db' h
+  pub opened_for : (job : OfficeJob) (w : W) (conn : Held Tables) (w' : W) → OpensFor world path job w (Ok conn) w'
+      → WasOpened conn w'
+  opened_for (Init opening) w conn w' h = step h.first h.ready conn w' h.opened
+  opened_for other w conn w' h = step h.first h.ready conn w' h.opened
+
+  pub ready_there : (w : W) (conn : Held Tables) (w' : W) → OpensThere world path w (Ok conn) w' → IsReady store conn
+  ready_there w conn w' h = let was = opened_there w conn w' h in databases.ready was.0 path (Ok conn) w' was.1
+
+  pub ready_for : (job : OfficeJob) (w : W) (conn : Held Tables) (w' : W) → OpensFor world path job w (Ok conn) w'
+      → IsReady store conn
+  ready_for job w conn w' h = let was = opened_for job w conn w' h in databases.ready was.0 path (Ok conn) w' was.1
+
+  -- a run that added arrivals keeps the office
+  pub kept : (opened between w' : W) (conn last : Held Tables) (closing : Result (Unit {0}) Error)
+      → WasOpened conn opened → StaysClean store conn last
+      → (IsTrue (state store conn).is_open → IsAtRest (state store conn) → IsTrue (state store last).is_open
+      → HasCleanDisk (state store last) → AddsArrivals (state store conn) (state store last))
+      → world.closes between last closing w' → closing ≡ Ok tt → world.is_clean w' last
+      → KeepsOffice world.image (world.leaves w' last)
+  kept opened between w' conn last closing was honest adds closes well =
+      let ready = databases.ready was.0 path (Ok conn) opened was.1 in
+      databases.keeps was.0 opened between w' path conn last was.1
+      (λ clean. (
+        honest clean,
+        λ still. let rests = ready.rests (honest clean) in adds rests.0 rests.1 still clean,
+      ))
+      (subst (λ (r : Result (Unit {0}) Error). world.closes between last r w') well closes)

@@ -5,8 +5,10 @@ pub mod Blank
 pub mod Bodies
 pub mod Carried
 pub mod Causes
+pub mod Commanded
 pub mod Ended
 pub mod Found
+pub mod Kept
 pub mod Made
 pub mod Meeting
 pub mod Printed

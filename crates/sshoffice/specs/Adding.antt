@@ -7,7 +7,7 @@ use Rattle.restart.specs.Runs.{AddsArrivals}
 use Rattle.sshoffice.specs.declared.job.OfficeJob.{OfficeJob}
 use Rattle.sshoffice.specs.declared.job_fault.JobFault.{JobFault}
 use Rattle.sshoffice.specs.Jobs.{Does}
-use Rattle.sshoffice.specs.Serving.{Serves}
+use Rattle.sshoffice.specs.Serving.{Heard, Serves}
 
 module _ {S : Type 0} (g : Ghosts S) (new : Held S) where
   -- A job over a connection that was at rest, as a new one is, and that is open before and after. Each history that the
@@ -22,5 +22,6 @@ module _ {S : Type 0} (g : Ghosts S) (new : Held S) where
   abbrev pub ServersAddArrivals : Type 0
   ServersAddArrivals =
       (old : Held S) → IsTrue (state g old).is_open → IsAtRest (state g old) → IsTrue (state g new).is_open
-      → (connections : ℕ) (nonces held holds : Option (List ℕ)) (r : Result ℕ JobFault)
-      → Serves connections nonces (state g old) (state g new) held holds r → AddsArrivals (state g old) (state g new)
+      → (connections : ℕ) (nonces : Option (List ℕ)) (heard : Heard) (held holds : Option (List ℕ))
+      (r : Result ℕ JobFault) → Serves connections nonces heard (state g old) (state g new) held holds r
+      → AddsArrivals (state g old) (state g new)

@@ -3,6 +3,7 @@ use Rattle.std.specs.Prelude.{◌≡◌, Result, Ok, IfErr}
 use Rattle.sqlite_disk.specs.declared.Disk.{Ghosts}
 use Rattle.sqlite_disk.specs.declared.Files.{Files}
 use Rattle.sqlite_wal.specs.Recovery.{Image}
+use Rattle.sqlite_wal.specs.Files.{outcomes}
 use Rattle.sqlite_wal.specs.Reads.{AreClean}
 use Rattle.sqlite_store.specs.declared.store.FileStore.{FileStore}
 use Rattle.sqlite_store.specs.FileStore.{view, files as files_of}
@@ -32,3 +33,11 @@ module _ {D : Type 0} {g : Ghosts D} where
     pub quiet : IsClosed conn last
     pub copied : closed ≡ Ok tt → AreClean g files.log files.db → IsCopied conn files
     pub fails : IfErr closed (λ e. IsClean (view last) → FailsToClose conn last e)
+
+  -- the disk of this connection has returned what was written to its files
+  abbrev pub AreCleanOf : Held (FileStore D g) → Files D → Type 0
+  AreCleanOf conn files = AreClean g files.log files.db
+
+  -- a crash may make this of its files
+  abbrev pub MayBecome : Held (FileStore D g) → Files D → Image → Type 0
+  MayBecome conn files image = outcomes g files.log files.db image

@@ -68,6 +68,11 @@ abbrev pub of_selftest : SelftestFault → JobFault
 of_selftest (selftest.Unserved fault) = Connection fault
 of_selftest selftest.Mismatch = Mismatch
 
+-- what came of that test, as of a job
+abbrev pub test_result : Result (Unit {0}) SelftestFault → Result (Unit {0}) JobFault
+test_result (Ok done) = Ok done
+test_result (Err fault) = Err (of_selftest fault)
+
 -- of a file that can't be opened or read, by the kind of the error
 abbrev pub of_file : ErrorKind → JobFault
 of_file OutOfMemory = NoMemory

@@ -1,18 +1,24 @@
--- Databases looked for or made, and opened.
-use Rattle.std.specs.Prelude.{◌≡◌, Bool, false, true, Result, Ok, Err}
+-- Files opened, and databases looked for or made, and opened.
+use Rattle.std.specs.Prelude.{◌≡◌, ℕ, List, Bool, false, true, Option, Result, Ok, Err}
 use Rattle.std.specs.declared.io.ErrorKind.{ErrorKind}
 use Rattle.std.specs.declared.io.ErrorKind.TheVariants.{OutOfMemory}
 use Rattle.sqlite.specs.declared.error.Error.{Error}
 use Rattle.office.specs.declared.store_fault.StoreFault.TheVariants.{Device, NotAnOffice}
-use Rattle.sshoffice.specs.declared.database.Database.{Ghosts}
+use Rattle.sshoffice.specs.declared.world.World.{Ghosts}
 use Rattle.sshoffice.specs.declared.job_fault.JobFault.{JobFault}
 use Rattle.sshoffice.specs.declared.job_fault.JobFault.TheVariants.{NoMemory, Store}
 use Rattle.sshoffice.specs.declared.job.OfficeJob.{OfficeJob}
 use Rattle.sshoffice.specs.declared.job.OfficeJob.TheVariants.{Init}
 use Rattle.sshoffice.specs.Ending.{of_database}
+use Rattle.sshoffice.specs.Faults.{of_file}
 use Rattle.sshoffice.specs.Steps.{Follows}
 
 -- ---- faults
+
+-- the file that was opened, or the fault
+abbrev pub found_file : {A : Type 0} → Result A ErrorKind → Result A JobFault
+found_file (Ok file) = Ok file
+found_file (Err kind) = Err (of_file kind)
 
 -- of a database that nobody can look for, or that can't be made, by the kind of the error
 abbrev pub of_look : ErrorKind → JobFault
@@ -35,38 +41,55 @@ abbrev pub found_open : {A : Type 0} → Result A Error → Result A JobFault
 found_open (Ok conn) = Ok conn
 found_open (Err error) = Err (of_database error)
 
--- ---- databases
+-- ---- in a world
 
--- A database is looked for, made and opened so.
-module _ {D Conn : Type 0} (database : Ghosts D Conn) where
-  -- it was opened, and that is what came of it
-  pub record Opens (db : D) (found : Result Conn JobFault) (db' : D) : Type 0 where
+module _ {W File Conn Incoming Reader Writer : Type 0} (world : Ghosts W File Conn Incoming Reader Writer) (path : List ℕ) where
+  -- the file at the path was opened, and that is what came of it
+  pub record Reads (w : W) (file : Result File JobFault) (w' : W) : Type 0 where
+    pub got : Result File ErrorKind
+    pub is_opened : world.reads w path got w'
+    pub came : file ≡ found_file got
+
+  -- the database at the path was opened, and that is what came of it
+  pub record Opens (w : W) (found : Result Conn JobFault) (w' : W) : Type 0 where
     pub got : Result Conn Error
-    pub is_opened : database.opens db got db'
+    pub is_opened : world.opens w path got w'
     pub came : found ≡ found_open got
 
   -- Something was done first. Where it went well the database was opened. Otherwise its fault is what came of it, and
   -- nothing was opened.
-  pub record OpensAfter (First : D → Result (Unit {0}) JobFault → D → Type 0) (db : D) (found : Result Conn JobFault)
-      (db' : D) : Type 0 where
+  pub record OpensAfter (First : W → Result (Unit {0}) JobFault → W → Type 0) (w : W)
+      (found : Result Conn JobFault) (w' : W) : Type 0 where
     pub first : Result (Unit {0}) JobFault
-    pub ready : D
-    pub is_ready : First db first ready
-    pub opened : Follows (λ _ found. Opens ready found db') (db' ≡ ready) first found
+    pub ready : W
+    pub is_ready : First w first ready
+    pub opened : Follows (λ _ found. Opens ready found w') (w' ≡ ready) first found
 
   -- it was looked for, and opened if it is there
-  abbrev pub OpensThere : D → Result Conn JobFault → D → Type 0
+  abbrev pub OpensThere : W → Result Conn JobFault → W → Type 0
   OpensThere =
-      OpensAfter (λ db first ready.
-      (there : Result Bool ErrorKind) × database.finds db there ready × (first ≡ of_looking there))
+      OpensAfter (λ w first ready.
+      (there : Result Bool ErrorKind) × world.finds w path there ready × (first ≡ of_looking there))
 
   -- it was made, if it wasn't there, and opened
-  abbrev pub OpensNew : D → Result Conn JobFault → D → Type 0
+  abbrev pub OpensNew : W → Result Conn JobFault → W → Type 0
   OpensNew =
-      OpensAfter (λ db first ready.
-      (made : Result (Unit {0}) ErrorKind) × database.makes db made ready × (first ≡ of_making made))
+      OpensAfter (λ w first ready.
+      (made : Result (Unit {0}) ErrorKind) × world.makes w path made ready × (first ≡ of_making made))
 
   -- That of a new office is made if it isn't there. Any other has to be there.
-  abbrev pub OpensFor : OfficeJob → D → Result Conn JobFault → D → Type 0
+  abbrev pub OpensFor : OfficeJob → W → Result Conn JobFault → W → Type 0
   OpensFor (Init opening) = OpensNew
   OpensFor other = OpensThere
+
+-- A world as it was before is `w`, and as it is afterwards `w'`. A file is left to read so.
+module _ {W File Conn Incoming Reader Writer : Type 0} (world : Ghosts W File Conn Incoming Reader Writer)
+    (remaining : File → Option (List ℕ)) (w w' : W) where
+  -- The file at a path was opened first, and what it gives was used. Or it wasn't opened, and nothing else was done.
+  pub record WithFile {A : Type 0} (path : List ℕ)
+      (Used : (text : Option (List ℕ)) → (opened : W) → Result A JobFault → Type 0) (Nothing : Type 0)
+      (result : Result A JobFault) : Type 0 where
+    pub file : Result File JobFault
+    pub opened : W
+    pub is_opened : Reads world path w file opened
+    pub used : Follows (λ it. Used (remaining it) opened) ((w' ≡ opened) × Nothing) file result

@@ -16,6 +16,5 @@ pub mod DatabaseFiles
 pub mod Steps
 pub mod Finding
 pub mod Whole
-pub mod Tasks
+pub mod Commands
 pub mod Words
-pub mod Asked

@@ -3,6 +3,7 @@ use Rattle.std.specs.Prelude.{◌≢◌, ◌++◌, ◌∷◌, [], ℕ, List, cod
 use Rattle.sqlite.specs.State.{State, Survives}
 use Rattle.lines.specs.Digests.{fingerprint_text}
 use Rattle.office.specs.declared.opening.Opening.{Opening}
+use Rattle.office.specs.declared.opening.OpeningFault.{OpeningFault}
 use Rattle.office.specs.declared.arrival.Arrival.{Arrival}
 use Rattle.office.specs.declared.store_fault.StoreFault.{StoreFault}
 use Rattle.office.specs.declared.store_fault.StoreFault.TheVariants as store
@@ -14,10 +15,16 @@ use Rattle.store.specs.Transactions.{Has, IsAsBefore, Leaves, Rests}
 use Rattle.store.specs.Former.{Had, TellsBefore, ca_of, migrated}
 use Rattle.store.specs.Migrating.{HasStopped, IsExcused, Judges}
 use Rattle.store.specs.Meaning.{DiskFailed, IsBlank, IsHistory, Tells}
+use Rattle.office.specs.Openings.{made_opening}
+use Rattle.sshoffice.specs.declared.founding.Founding.{Founding}
 use Rattle.sshoffice.specs.declared.job_fault.JobFault.{JobFault}
 use Rattle.sshoffice.specs.declared.job_fault.JobFault.TheVariants.{NoMemory, Store}
 
 -- ---- an office made
+
+-- what an office with this CA is to begin with, or the first fault of it
+abbrev pub due_opening : Founding → List ℕ → Result Opening OpeningFault
+due_opening f ca = made_opening ca f.root.now f.station.now f.first f.last
 
 -- a crash in the midst leaves the database as it was, or with the whole office
 abbrev pub IsMadeWhole : Opening → (old new : State) → Type 0

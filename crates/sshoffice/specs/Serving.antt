@@ -1,5 +1,6 @@
 -- An office in a database, served at a port.
-use Rattle.std.specs.Prelude.{◌≡◌, ◌≤◌, ℕ, List, length, map, flat_map, IsTrue, Option, None, Result, Ok, Err}
+use Rattle.std.specs.Prelude.{◌≡◌, ◌≤◌, ℕ, List, length, map, flat_map, IsTrue, Option, Some, None, Result, Ok, Err}
+use Rattle.std.specs.declared.io.ErrorKind.{ErrorKind}
 use Rattle.std.specs.Io.KnownBytes.{Appends, Consumes}
 use Rattle.sqlite.specs.State.{HasCleanDisk, State}
 use Rattle.office.specs.declared.store_fault.StoreFault.TheVariants as store
@@ -23,22 +24,32 @@ pub record MeetsOver (connections : ℕ) (book book' : Option Book) (nonces nonc
   pub served : HasCleanDisk new → AllServed (Tells old) (Tells new) (λ o l. Tells new o l × IsTrue new.is_open)
       (map exchange_of visits) (map given_of visits)
 
--- The line of the port is printed. So many connections were met, of which nobody tells, each with the response that is
--- due or a fault; or there was no memory to begin with.
-pub record IsServed (connections : ℕ) (nonces : Option (List ℕ)) (old new : State) (held holds : Option (List ℕ))
-    (status : ℕ) : Type 0 where
-  pub port : ℕ
-  pub listening : Appends held holds (listening_line port)
-  pub met : status ≡ 0 → (left : Option (List ℕ)) × MeetsOver connections None None nonces left old new
+-- The connections that the listener tells were met, each with the response that is due or a fault; or there was no
+-- memory to begin with.
+pub record IsServed (connections : ℕ) (book : Option Book) (nonces : Option (List ℕ)) (old new : State) (status : ℕ)
+    : Type 0 where
+  pub met : status ≡ 0
+      → (book' : Option Book) × (left : Option (List ℕ)) × MeetsOver connections book book' nonces left old new
   pub served : Extends connections (Tells old) (Tells new)
   pub lawful : status ≤ 1
 
--- what came of it
-abbrev pub Serves : (connections : ℕ) → (nonces : Option (List ℕ)) → (old new : State) → (held holds : Option (List ℕ))
-    → Result ℕ JobFault → Type 0
-Serves connections source old new held holds (Ok status) = IsServed connections source old new held holds status
-Serves connections source old new held holds (Err Socket) = TellsOn old new × (holds ≡ held)
-Serves connections source old new held holds (Err Write) = TellsOn old new
-Serves connections source old new held holds (Err NoMemory) = IsUnopened old new store.NoMemory × (holds ≡ held)
-Serves connections source old new held holds (Err (Store e)) = IsUnopened old new e × (holds ≡ held)
-Serves connections source old new held holds (Err other) = ⊥
+-- What came of listening: nobody tried, or there is a listener with this book at a port, or there is none.
+abbrev pub Heard : Type 0
+Heard = Option (Result (Option Book × ℕ) ErrorKind)
+
+-- What came of it. Nobody listens before the office is open. Then the line of the port is printed, and the listener's
+-- connections are served.
+abbrev pub Serves : (connections : ℕ) → (source : Option (List ℕ)) → Heard → (old new : State)
+    → (held holds : Option (List ℕ)) → Result ℕ JobFault → Type 0
+Serves connections source heard old new held holds (Ok status) =
+    (book : Option Book) × (port : ℕ) × (heard ≡ Some (Ok (book, port))) × Appends held holds (listening_line port)
+    × IsServed connections book source old new status
+Serves connections source heard old new held holds (Err Socket) =
+    (kind : ErrorKind) × (heard ≡ Some (Err kind)) × TellsOn old new × (holds ≡ held)
+Serves connections source heard old new held holds (Err Write) =
+    (at : Option Book × ℕ) × (heard ≡ Some (Ok at)) × TellsOn old new
+Serves connections source heard old new held holds (Err NoMemory) =
+    (heard ≡ None) × IsUnopened old new store.NoMemory × (holds ≡ held)
+Serves connections source heard old new held holds (Err (Store e)) =
+    (heard ≡ None) × IsUnopened old new e × (holds ≡ held)
+Serves connections source heard old new held holds (Err _) = ⊥

@@ -1,13 +1,16 @@
 -- What `apply` prints for a file of exchanges.
-use Rattle.std.specs.Prelude.{◌≡◌, ℕ, List, [], ◌∷◌, Bool, Option}
+use Rattle.std.specs.Prelude.{◌≡◌, ◌≢◌, ℕ, List, [], ◌∷◌, Bool, false, true, Option, Result, Err, IfErr, IfSome, OnOk}
 use Rattle.std.specs.Io.KnownBytes.{Appends}
 use Rattle.values.specs.declared.limits.TheConstants.{LAST_SERIAL}
 use Rattle.office.specs.declared.arrival.Arrival.{Arrival}
 use Rattle.web.specs.declared.exchange.Exchange.{Exchange}
 use Rattle.web.specs.declared.exchange.Given.{Given}
 use Rattle.web.specs.Runs.{AllDue}
-use Rattle.exchanges.specs.Exchanges.{AreExchanges, exchanges_text}
+use Rattle.exchanges.specs.Exchanges.{AreExchanges, IsBadRecord, exchanges_text}
 use Rattle.exchanges.specs.Printing.{all_given_text, has_fault}
+use Rattle.sshoffice.specs.declared.job_fault.JobFault.{JobFault}
+use Rattle.sshoffice.specs.declared.job_fault.JobFault.TheVariants as job
+use Rattle.sshoffice.specs.Faults.{IsOfATrial}
 use Rattle.sshoffice.specs.TrialOffice.{opening_of, trial_arrival}
 
 -- The file is the text of exchanges. What is printed behind what the output held are the responses that are due to them
@@ -21,3 +24,12 @@ pub record AppliesToTrial (file : List ℕ) (old new : Option (List ℕ)) (fault
   pub due : AllDue (opening_of 1 LAST_SERIAL) (trial_arrival ∷ []) exchanges given last
   pub printed : Appends old new (all_given_text given)
   pub faults : has_fault given ≡ fault
+
+-- What came of a file. Each exchange is answered, or some are given a fault, and this is printed. Or the file is none
+-- of exchanges. After any fault but that of an exchange or of the output nothing is printed.
+pub record TriesFile (file held holds : Option (List ℕ)) (result : Result (Unit {0}) JobFault) : Type 0 where
+  pub ok : OnOk result (IfSome file (λ text. AppliesToTrial text held holds false))
+  pub fault : result ≡ Err job.Fault → IfSome file (λ text. AppliesToTrial text held holds true)
+  pub bad : (k : ℕ) → result ≡ Err (job.BadExchange k) → IfSome file (λ text. IsBadRecord text k)
+  pub only : IfErr result IsOfATrial
+  pub silent : IfErr result (λ e. e ≢ job.Write → e ≢ job.Fault → holds ≡ held)

@@ -1,19 +1,25 @@
--- The whole of a job, from the opening of its database to the closing.
-use Rattle.std.specs.Prelude.{◌≡◌, ◌⊎◌, ℕ, List, [], Option, Result, Ok, Err, IfOk, IfSome}
+-- The whole of what is done in a world: what is opened, made, listened at and closed, in which order, and what is done
+-- in between.
+use Rattle.std.specs.Prelude.{◌≡◌, ◌⊎◌, ◌∷◌, ℕ, List, [], Option, Some, None, Result, Ok, Err, IfOk, IfSome, IsTrue}
+use Rattle.std.specs.declared.io.ErrorKind.{ErrorKind}
+use Rattle.std.specs.declared.net.socket_addr.SocketAddrV4.{SocketAddrV4}
 use Rattle.std.specs.Io.KnownBytes.{Appends}
+use Rattle.std.specs.Net.Addr.{ipv4_octets}
+use Rattle.std.specs.Net.Socket.{v4_ip, v4_port}
 use Rattle.sqlite_trees.specs.declared.store.Store as store
 use Rattle.sqlite.specs.declared.error.Error.{Error}
-use Rattle.sqlite.specs.Held.{Held}
-use Rattle.sqlite.specs.State.{State}
+use Rattle.sqlite.specs.Held.{Held, state}
+use Rattle.sqlite.specs.State.{HasCleanDisk, State}
 use Rattle.store_sql.specs.Honest.{IsOutside, IsUnlimited, On, StaysClean}
 use Rattle.lines.specs.declared.key_line.KeyLine.{KeyLine}
 use Rattle.office.specs.declared.opening.Opening.{Opening}
 use Rattle.office.specs.declared.opening.OpeningFault.{OpeningFault}
-use Rattle.office.specs.Openings.{made_opening}
+use Rattle.store.specs.Transactions.{IsAtRest}
+use Rattle.restart.specs.Runs.{AddsArrivals, KeepsOffice}
 use Rattle.web.specs.declared.exchange.Exchange.{Exchange}
 use Rattle.exchanges.specs.Exchanges.{AreExchanges, IsBadRecord, exchanges_text}
-use Rattle.sshoffice.specs.declared.database.Database.{Ghosts}
-use Rattle.sshoffice.specs.declared.founding.Founding.{Founding}
+use Rattle.server.specs.Books.{Book}
+use Rattle.sshoffice.specs.declared.world.World.{Ghosts}
 use Rattle.sshoffice.specs.declared.job_fault.JobFault.{JobFault}
 use Rattle.sshoffice.specs.declared.job_fault.JobFault.TheVariants.{BadExchange, Write}
 use Rattle.sshoffice.specs.Applying.{Applies}
@@ -22,93 +28,163 @@ use Rattle.sshoffice.specs.Faults.{IsOfAKey, IsOfAnOpening, IsOfExchanges}
 use Rattle.sshoffice.specs.Finding.{OpensNew, OpensThere}
 use Rattle.sshoffice.specs.Making.{Makes, ready_text}
 use Rattle.sshoffice.specs.Reading.{IsKeyText}
-use Rattle.sshoffice.specs.Serving.{Serves}
+use Rattle.sshoffice.specs.Serving.{Heard, Serves}
 use Rattle.sshoffice.specs.Steps.{Follows}
 
--- ---- steps
+-- ---- databases
 
--- No transaction is open on what is opened, and its queries may take any number of steps.
-abbrev pub OpensFree : {S D : Type 0} → store.Ghosts S → Ghosts D (Held S) → Type 0
-OpensFree {S} {D} store database =
-    (db : D) (found : Result (Held S) Error) (db' : D) → database.opens db found db'
-    → IfOk found (λ conn. IsOutside store conn × IsUnlimited store conn)
+-- No transaction is open, and queries may take any number of steps. If the disk has returned what was written, the
+-- connection is open, and it shows what is committed.
+pub record IsReady {S : Type 0} (store : store.Ghosts S) (conn : Held S) : Type 0 where
+  pub outside : IsOutside store conn
+  pub unlimited : IsUnlimited store conn
+  pub rests : HasCleanDisk (state store conn) → IsTrue (state store conn).is_open × IsAtRest (state store conn)
+
+-- A disk that has returned what was written had done so before, and a connection that is open tells each history that
+-- was told, with arrivals after it.
+abbrev pub Adds : {S : Type 0} → store.Ghosts S → (opened last : Held S) → Type 0
+Adds store opened last =
+    HasCleanDisk (state store last) → HasCleanDisk (state store opened)
+    × (IsTrue (state store last).is_open → AddsArrivals (state store opened) (state store last))
+
+-- What a world's databases keep. What is opened is ready. If arrivals were added to it and it closed well, then all that
+-- a crash may leave of the files holds the office that they held, with arrivals after it.
+pub record KeepsDatabases {W File Tables Incoming Reader Writer : Type 0} (store : store.Ghosts Tables)
+    (world : Ghosts W File (Held Tables) Incoming Reader Writer) : Type 0 where
+  pub ready : (w : W) (path : List ℕ) (found : Result (Held Tables) Error) (w' : W) → world.opens w path found w'
+      → IfOk found (IsReady store)
+  pub keeps : (w opened between w' : W) (path : List ℕ) (conn last : Held Tables) → world.opens w path (Ok conn) opened
+      → Adds store conn last → world.closes between last (Ok tt) w' → world.is_clean w' last
+      → KeepsOffice world.image (world.leaves w' last)
 
 -- this was printed, or the output failed
 abbrev pub Prints : List ℕ → (held holds : Option (List ℕ)) → Result (Unit {0}) JobFault → Type 0
 Prints told held holds (Ok done) = Appends held holds told
 Prints told held holds (Err e) = e ≡ Write
 
--- ---- files
+-- ---- what files hold
 
 -- the exchanges of this file, or why it has none
 abbrev pub AreOf : Option (List ℕ) → Result (List Exchange) JobFault → Type 0
 AreOf file (Ok es) = IfSome file (λ text. AreExchanges es × (text ≡ exchanges_text es))
 AreOf file (Err e) = IsOfExchanges e × ((k : ℕ) → e ≡ BadExchange k → IfSome file (λ text. IsBadRecord text k))
 
--- what an office with this CA is to begin with, or the first fault of it
-abbrev pub due_opening : Founding → List ℕ → Result Opening OpeningFault
-due_opening f ca = made_opening ca f.root.now f.station.now f.first f.last
+-- the key of this file, or why it has none
+abbrev pub IsKeyOf : Option (List ℕ) → Result KeyLine JobFault → Type 0
+IsKeyOf file (Ok k) = IfSome file (λ text. IsKeyText text k)
+IsKeyOf file (Err e) = IsOfAKey e
 
--- the opening with the key of this file, or why there is none
-abbrev pub Begins : Option (List ℕ) → Founding → Result Opening JobFault → Type 0
-Begins file founding (Ok o) =
-    (k : KeyLine) × IfSome file (λ text. IsKeyText text k) × (due_opening founding k.key ≡ Ok o)
-Begins file founding (Err e) =
-    IsOfAKey e
-    ⊎ ((k : KeyLine) × IfSome file (λ text. IsKeyText text k) × IsOfAnOpening (due_opening founding k.key) e)
+-- the opening that is due with the key of this file, or why there is none
+abbrev pub Begins : Option (List ℕ) → (due : List ℕ → Result Opening OpeningFault) → Result Opening JobFault → Type 0
+Begins file due (Ok o) = (k : KeyLine) × IfSome file (λ text. IsKeyText text k) × (due k.key ≡ Ok o)
+Begins file due (Err e) =
+    IsOfAKey e ⊎ ((k : KeyLine) × IfSome file (λ text. IsKeyText text k) × IsOfAnOpening (due k.key) e)
+
+-- ---- listening
+
+-- at this port of 127.0.0.1
+pub record IsLoopback (at : ℕ) (address : SocketAddrV4) : Type 0 where
+  pub ip : ipv4_octets (v4_ip address) ≡ 127 ∷ 0 ∷ 0 ∷ 1 ∷ []
+  pub port : v4_port address ≡ at
+
+-- what came of it, by the listener's book
+abbrev pub heard_of : {Incoming : Type 0} → (Incoming → Option Book) → Option (Result (Incoming × ℕ) ErrorKind) → Heard
+heard_of book None = None
+heard_of book (Some (Err kind)) = Some (Err kind)
+heard_of book (Some (Ok at)) = Some (Ok (book at.0, at.1))
+
+module _ {W File Conn Incoming Reader Writer : Type 0} (world : Ghosts W File Conn Incoming Reader Writer) where
+  -- what of listening at this port
+  abbrev pub Listens : ℕ → W → Result (Incoming × ℕ) ErrorKind → W → Type 0
+  Listens port before heard after =
+      (address : SocketAddrV4) × IsLoopback port address × world.listens before address heard after
+
+  -- where it was tried
+  abbrev pub MayListen : ℕ → W → Option (Result (Incoming × ℕ) ErrorKind) → W → Type 0
+  MayListen port before None after = after ≡ before
+  MayListen port before (Some heard) after = Listens port before heard after
+
+module _ {W File Tables Incoming Reader Writer : Type 0} (store : store.Ghosts Tables)
+    (world : Ghosts W File (Held Tables) Incoming Reader Writer) (book : Incoming → Option Book) where
+  -- An open office was served at this port of the loopback interface.
+  pub record ServesOpen (port connections : ℕ) (nonces held holds : Option (List ℕ)) (before after : W)
+      (conn last : Held Tables) (result : Result ℕ JobFault) : Type 0 where
+    pub heard : Result (Incoming × ℕ) ErrorKind
+    pub listened : Listens world port before heard after
+    pub serves : On store (λ old new. Serves connections nonces (heard_of book (Some heard)) old new held holds) conn last
+        result
+
+  -- The office was opened, and then served so. Nobody listened before it was open.
+  pub record ServesAt (port connections : ℕ) (nonces held holds : Option (List ℕ)) (before after : W)
+      (conn last : Held Tables) (result : Result ℕ JobFault) : Type 0 where
+    pub heard : Option (Result (Incoming × ℕ) ErrorKind)
+    pub listened : MayListen world port before heard after
+    pub serves : On store (λ old new. Serves connections nonces (heard_of book heard) old new held holds) conn last result
 
 -- ---- jobs
 
--- A database is looked for, made, opened and closed so. As it was before it is `db`, and as it is afterwards `db'`.
-module _ {S D : Type 0} (store : store.Ghosts S) (database : Ghosts D (Held S)) (db db' : D) where
+-- A world as it was before is `w`, and as it is afterwards `w'`. A listener tells of its connections so.
+module _ {W File Tables Incoming Reader Writer : Type 0} (store : store.Ghosts Tables)
+    (world : Ghosts W File (Held Tables) Incoming Reader Writer) (book : Incoming → Option Book) (w w' : W) where
   -- This was done over the connection, and what it left was closed. A fault of either is what came of it.
-  pub record RunsOver {A : Type 0} (Did : State → State → Result A JobFault → Type 0) (opened : D) (conn : Held S)
-      (result : Result A JobFault) : Type 0 where
+  pub record RunsOver {A : Type 0} (Did : W → W → Held Tables → Held Tables → Result A JobFault → Type 0) (opened : W)
+      (conn : Held Tables) (result : Result A JobFault) : Type 0 where
     pub outcome : Result A JobFault
-    pub last : Held S
-    pub did : On store Did conn last outcome
+    pub last : Held Tables
+    pub between : W
+    pub did : Did opened between conn last outcome
     pub honest : StaysClean store conn last
     pub closing : Result (Unit {0}) Error
-    pub is_closed : database.closes opened last closing db'
+    pub is_closed : world.closes between last closing w'
+    pub keeps : closing ≡ Ok tt → world.is_clean w' last → KeepsOffice world.image (world.leaves w' last)
     pub came : result ≡ closed outcome closing
 
   -- The database was opened so, once, and this was done over its connection. Or it wasn't opened, and nothing was done.
-  pub record RunsIn {A : Type 0} (Opens : D → Result (Held S) JobFault → D → Type 0)
-      (Did : State → State → Result A JobFault → Type 0) (Nothing : Type 0) (result : Result A JobFault) : Type 0 where
-    pub found : Result (Held S) JobFault
-    pub opened : D
-    pub is_opened : Opens db found opened
-    pub ran : Follows (RunsOver Did opened) ((db' ≡ opened) × Nothing) found result
+  pub record RunsIn {A : Type 0} (Opens : W → Result (Held Tables) JobFault → W → Type 0)
+      (Did : W → W → Held Tables → Held Tables → Result A JobFault → Type 0) (Nothing : Type 0)
+      (result : Result A JobFault) : Type 0 where
+    pub found : Result (Held Tables) JobFault
+    pub opened : W
+    pub is_opened : Opens w found opened
+    pub ran : Follows (RunsOver Did opened) ((w' ≡ opened) × Nothing) found result
+
+  -- this was done between the tables, and nothing else was asked of the world
+  abbrev pub Quietly : (State → State → Result (Unit {0}) JobFault → Type 0) → W → W → Held Tables → Held Tables
+      → Result (Unit {0}) JobFault → Type 0
+  Quietly Did before after conn last result = (after ≡ before) × On store Did conn last result
 
   -- The same, and once the database was closed what is told of it is printed.
-  pub record DoesIn (Opens : D → Result (Held S) JobFault → D → Type 0)
+  pub record DoesIn (Opens : W → Result (Held Tables) JobFault → W → Type 0)
       (Did : State → State → Option (List ℕ) → Option (List ℕ) → Result (Unit {0}) JobFault → Type 0)
       (told : List ℕ) (held holds : Option (List ℕ)) (result : Result (Unit {0}) JobFault) : Type 0 where
     pub between : Option (List ℕ)
     pub done : Result (Unit {0}) JobFault
-    pub ran : RunsIn Opens (λ old new. Did old new held between) (between ≡ held) done
+    pub ran : RunsIn Opens (Quietly (λ old new. Did old new held between)) (between ≡ held) done
     pub told_of : Follows (λ _. Prints told between holds) (holds ≡ between) done result
 
   -- The exchanges of the file were applied. Or it has none, and then nothing was looked for or opened, and nothing is
   -- printed.
-  pub record AppliesIn (file held holds : Option (List ℕ)) (result : Result (Unit {0}) JobFault) : Type 0 where
+  pub record AppliesIn (db : List ℕ) (file held holds : Option (List ℕ)) (result : Result (Unit {0}) JobFault)
+      : Type 0 where
     pub exchanges : Result (List Exchange) JobFault
     pub are_of : AreOf file exchanges
-    pub applied : Follows (λ es. DoesIn (OpensThere database) (Applies es) [] held holds) ((db' ≡ db) × (holds ≡ held))
+    pub applied : Follows (λ es. DoesIn (OpensThere world db) (Applies es) [] held holds) ((w' ≡ w) × (holds ≡ held))
         exchanges result
 
   -- The office with the key of the file was made, and is told of. Or there is none, and then nothing was made or
   -- opened, and nothing is printed.
-  pub record FoundsIn (founding : Founding) (file held holds : Option (List ℕ)) (result : Result (Unit {0}) JobFault)
-      : Type 0 where
+  pub record FoundsIn (db : List ℕ) (due : List ℕ → Result Opening OpeningFault) (file held holds : Option (List ℕ))
+      (result : Result (Unit {0}) JobFault) : Type 0 where
     pub opening : Result Opening JobFault
-    pub begins : Begins file founding opening
+    pub begins : Begins file due opening
     pub made : Follows
-        (λ o. DoesIn (OpensNew database) (λ old new from to r. Makes o old new r × (to ≡ from)) (ready_text o) held
+        (λ o. DoesIn (OpensNew world db) (λ old new from to r. Makes o old new r × (to ≡ from)) (ready_text o) held
         holds)
-        ((db' ≡ db) × (holds ≡ held)) opening result
+        ((w' ≡ w) × (holds ≡ held)) opening result
 
   -- The office was served, with nonces from this source. Or it wasn't opened, and nothing is printed.
-  abbrev pub ServesIn : (connections : ℕ) → (nonces held holds : Option (List ℕ)) → Result ℕ JobFault → Type 0
-  ServesIn connections nonces held holds result =
-      RunsIn (OpensThere database) (λ old new. Serves connections nonces old new held holds) (holds ≡ held) result
+  abbrev pub ServesIn : (db : List ℕ) → (port connections : ℕ) → (nonces held holds : Option (List ℕ))
+      → Result ℕ JobFault → Type 0
+  ServesIn db port connections nonces held holds result =
+      RunsIn (OpensThere world db) (ServesAt store world book port connections nonces held holds) (holds ≡ held)
+      result

@@ -1,15 +1,19 @@
 //! A list asked about a certificate.
 
-ghost use Rattle.std.specs.Prelude.{◌≡◌, ◌≢◌, ℕ, Err, IfErr, IfSome, OnOk};
+ghost use Rattle.std.specs.Prelude.{◌≡◌, ◌≢◌, Err, IfErr, IfSome, OnOk};
 ghost use Rattle.std.specs.Io.KnownBytes.{Appends};
 ghost use Rattle.krl.specs.Faults.{FirstFault};
 ghost use Rattle.krl.specs.declared.krl_fault.KrlFault.{KrlFault};
-ghost use Rattle.sshoffice.specs.Checking.{Checks, verdict_text};
+ghost use Rattle.sshoffice.specs.Checking.{Checks, ChecksFile, verdict_text};
+ghost use Rattle.sshoffice.specs.Commands.{ChecksIn};
 ghost use Rattle.sshoffice.specs.Faults.{IsOfChecking};
+ghost use Rattle.sshoffice.specs.Finding.{WithFile};
 
-use crate::file_reader::read_list;
+use crate::file_reader::{read_key, read_list};
+use crate::files::open_file;
 use crate::job_fault::JobFault;
 use crate::output::write_out;
+use crate::world::World;
 use std::alloc::Global;
 use std::io::{Read, Write};
 
@@ -47,5 +51,44 @@ pub fn check_list<R: Read + Drop, W: Write>(
     match krl::check(bytes.as_slice(), ca, serial, key_id) {
         Ok(revoked) => print_verdict(out, revoked),
         Err(fault) => Err(JobFault::from(fault)),
+    }
+}
+
+// The list of the file at a path, asked so.
+fn check_at<W: World + AllocGlobal, O: Write>(
+    world: &mut W,
+    ca: &[u8; 32],
+    list: &str,
+    serial: u64,
+    key_id: &str,
+    out: &mut O,
+) -> Result<(), JobFault>
+    ensures { WithFile W.World W.File.remaining world.old world.new list.now
+        (λ bytes opened r. (world.new ≡ opened)
+        × ChecksFile bytes ca.now serial key_id.now (O.contents out.old) (O.contents out.new) r)
+        (O.contents out.new ≡ O.contents out.old) result }
+{
+    match open_file(world, list) {
+        Ok(list) => check_list(world.alloc(), ca, list, serial, key_id.as_bytes(), out),
+        Err(fault) => Err(fault),
+    }
+}
+
+/// Prints whether the list of the file at a path revokes the certificate of this serial and key id, under the CA of a
+/// file.
+pub(crate) fn check_in<W: World + AllocGlobal, O: Write>(
+    world: &mut W,
+    ca: W::File,
+    list: &str,
+    serial: u64,
+    key_id: &str,
+    out: &mut O,
+) -> Result<(), JobFault>
+    ensures { ChecksIn W.World W.File.remaining world.old world.new list.now serial key_id.now (W.File.remaining ca)
+        (O.contents out.old) (O.contents out.new) result }
+{
+    match read_key(world.alloc(), ca) {
+        Ok(ca) => check_at(world, &ca.key, list, serial, key_id, out),
+        Err(fault) => Err(fault),
     }
 }

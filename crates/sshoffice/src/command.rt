@@ -1,115 +1,262 @@
-//! Jobs done.
+//! Jobs done, in a world.
 
-ghost use Rattle.std.specs.Prelude.{◌≡◌, ◌≤◌, map, string_bytes};
+ghost use Rattle.std.specs.Prelude.{◌≡◌, ◌≤◌, IfOk, map, string_bytes};
+ghost use Rattle.std.specs.Io.KnownBytes.{Keeps};
 ghost use Rattle.command_line.specs.Answers.{AreBad};
-ghost use Rattle.sshoffice.specs.Words.{IsOfBadWords};
+ghost use Rattle.sshoffice.specs.Commands.{ChecksIn, DoesJob, IsFlushed, IsServing, Runs, RunsJob, TestsItself};
+ghost use Rattle.sshoffice.specs.Finding.{WithFile};
+ghost use Rattle.sshoffice.specs.Making.{due_opening};
+ghost use Rattle.sshoffice.specs.Trial.{TriesFile};
+ghost use Rattle.sshoffice.specs.Whole.{AppliesIn, FoundsIn, KeepsDatabases, ServesIn};
+ghost use Rattle.sshoffice.specs.Words.{IsOfBadWords, status_of_no_words};
 
 use crate::applying::apply_to_trial;
-use crate::asked::{Service, asked_of, founding_of, service_of};
-use crate::database_file::{apply_at, do_at, found_at, serve_at};
+use crate::checking::check_in;
 use crate::ending::{flushed, status_of, test_ended};
-use crate::files::{check, open_file};
+use crate::files::open_file;
+use crate::founding::Founding;
+use crate::job::OfficeJob;
 use crate::job_fault::JobFault;
 use crate::output::write_out;
 use crate::trial::trial_office;
+use crate::whole::{apply_in, do_in, found_in, serve_in};
+use crate::world::World;
 use command_line::{Job, WordsFault, read_words};
-use server::selftest;
-use sqlite::Start;
+use sqlite::{Alter, Connection};
 use std::io::{ErrorKind, Write};
 
 /// The status of bad words.
 pub const BAD_WORDS: u8 = 2;
 
-fn apply<S: Start, O: Write, E: Write>(
-    rt: &HostRuntime,
-    start: S,
-    db: Option<&str>,
+// An office made with the key of the file at a path.
+fn found_at<S: Alter, W: World<Conn = Connection<S>> + AllocGlobal, O: Write>(
+    world: &mut W,
+    db: &str,
+    ca: &str,
+    founding: &Founding<'_>,
+    out: O,
+) -> (Result<(), JobFault>, O)
+    requires { KeepsDatabases S.Store W.World }
+    ensures { WithFile W.World W.File.remaining world.old world.new ca.now
+        (λ text opened. FoundsIn S.Store W.World W.Incoming.book opened world.new db.now (due_opening founding.now) text
+        (O.contents out) (O.contents result.1)) (O.contents result.1 ≡ O.contents out) result.0 }
+{
+    match open_file(world, ca) {
+        Ok(ca) => found_in(world, db, ca, founding, out),
+        Err(fault) => (Err(fault), out),
+    }
+}
+
+// The exchanges of the file at a path, applied to the office in a database.
+fn apply_at<S: Alter, W: World<Conn = Connection<S>> + AllocGlobal, O: Write>(
+    world: &mut W,
+    db: &str,
+    file: &str,
+    out: O,
+) -> (Result<(), JobFault>, O)
+    requires { KeepsDatabases S.Store W.World }
+    ensures { WithFile W.World W.File.remaining world.old world.new file.now
+        (λ text opened. AppliesIn S.Store W.World W.Incoming.book opened world.new db.now text (O.contents out)
+        (O.contents result.1)) (O.contents result.1 ≡ O.contents out) result.0 }
+{
+    match open_file(world, file) {
+        Ok(file) => apply_in(world, db, file, out),
+        Err(fault) => (Err(fault), out),
+    }
+}
+
+// The exchanges of the file at a path, applied to the trial office.
+fn try_at<W: World + AllocGlobal, O: Write>(
+    world: &mut W,
     file: &str,
     out: &mut O,
-    err: &mut E,
-) -> Result<(), JobFault> {
-    match db {
-        Some(db) => apply_at(rt, start, db, file, out, err),
-        None => apply_to_trial(rt.alloc(), open_file(rt, file)?, out),
+) -> Result<(), JobFault>
+    ensures { WithFile W.World W.File.remaining world.old world.new file.now
+        (λ text opened r. (world.new ≡ opened) × TriesFile text (O.contents out.old) (O.contents out.new) r)
+        (O.contents out.new ≡ O.contents out.old) result }
+{
+    match open_file(world, file) {
+        Ok(file) => apply_to_trial(world.alloc(), file, out),
+        Err(fault) => Err(fault),
     }
 }
 
-/// Serves the trial office one request of its own, and prints that it was answered as is due.
-fn test_itself<O: Write>(rt: &HostRuntime, out: &mut O) -> Result<(), JobFault> {
-    let mut office = trial_office(rt.alloc())?;
-    let tested = selftest(rt, &mut office);
-    let _ = office.into_connection();
-    test_ended(out, tested)
+// The list of a file, asked about a certificate under the CA of the file at a path.
+fn check_by<W: World + AllocGlobal, O: Write>(
+    world: &mut W,
+    ca: &str,
+    list: &str,
+    serial: u64,
+    key_id: &str,
+    out: &mut O,
+) -> Result<(), JobFault>
+    ensures { WithFile W.World W.File.remaining world.old world.new ca.now
+        (λ text opened. ChecksIn W.World W.File.remaining opened world.new list.now serial key_id.now text
+        (O.contents out.old) (O.contents out.new)) (O.contents out.new ≡ O.contents out.old) result }
+{
+    match open_file(world, ca) {
+        Ok(ca) => check_in(world, ca, list, serial, key_id, out),
+        Err(fault) => Err(fault),
+    }
 }
 
-// All but serving.
-fn done_by<S: Start, O: Write, E: Write>(
-    rt: &HostRuntime,
-    start: S,
-    job: &Job,
+/// Has the trial office serve itself one request, and prints that it was answered as is due.
+fn test_itself<W: World + AllocGlobal, O: Write>(world: &mut W, out: &mut O) -> Result<(), JobFault>
+    ensures { TestsItself W.World world.old world.new (O.contents out.old) (O.contents out.new) result }
+{
+    match trial_office(world.alloc()) {
+        Ok(office) => {
+            let mut office = office;
+            let tested = world.test_office(&mut office);
+            let _ = office.into_connection();
+            test_ended(out, tested)
+        }
+        Err(fault) => Err(JobFault::from(fault)),
+    }
+}
+
+// An office served with the nonces of the file at a path.
+fn serve_at<S: Alter, W: World<Conn = Connection<S>> + AllocGlobal, O: Write, E: Write>(
+    world: &mut W,
+    db: &str,
+    nonces: &str,
+    port: u16,
+    connections: u64,
     out: &mut O,
     err: &mut E,
-) -> Result<(), JobFault> {
-    if let Some((db, asked)) = asked_of(job) {
-        return do_at(rt, start, db, asked, out, err);
+) -> Result<u8, JobFault>
+    requires { KeepsDatabases S.Store W.World }
+    ensures serves { WithFile W.World W.File.remaining world.old world.new nonces.now
+        (λ source opened. ServesIn S.Store W.World W.Incoming.book opened world.new db.now port connections source
+        (O.contents out.old) (O.contents out.new)) (O.contents out.new ≡ O.contents out.old) result }
+    ensures status { IfOk result (λ status. status ≤ 1) }
+{
+    match open_file(world, nonces) {
+        Ok(nonces) => serve_in(world, db, nonces, port, connections, out, err),
+        Err(fault) => Err(fault),
     }
-    if let Some((db, ca, founding)) = founding_of(job) {
-        return found_at(rt, start, db, ca, founding, out, err);
+}
+
+// What came of a job, once its output is flushed. The status of one that was done is 0.
+fn ended<O: Write>(done: Result<(), JobFault>, out: O) -> (Result<u8, JobFault>, O)
+    ensures kept { Keeps (O.contents out) (O.contents result.1) }
+    ensures flushed { IsFlushed done result.0 }
+{
+    let mut out = out;
+    match flushed(&mut out, done) {
+        Ok(()) => (Ok(0), out),
+        Err(fault) => (Err(fault), out),
     }
+}
+
+// Does a job in a world, but doesn't serve.
+fn done_by<S: Alter, W: World<Conn = Connection<S>> + AllocGlobal, O: Write>(
+    world: &mut W,
+    job: &Job,
+    out: O,
+) -> (Result<(), JobFault>, O)
+    requires keeps { KeepsDatabases S.Store W.World }
+    requires unserved { IsServing job.now → ⊥ }
+    ensures { DoesJob S.Store W.World W.File.remaining W.Incoming.book world.old world.new job.now (O.contents out)
+        (O.contents result.1) result.0 }
+{
+    let mut out = out;
     match job {
-        Job::Apply { db, file } => {
-            let db = db.as_ref().map(|db| db.as_str());
-            apply(rt, start, db, file.as_str(), out, err)
+        Job::Init {
+            db,
+            ca,
+            root,
+            station,
+            first,
+            last,
+        } => {
+            let founding = Founding {
+                root: root.as_str(),
+                station: station.as_str(),
+                first: *first,
+                last: *last,
+            };
+            found_at(world, db.as_str(), ca.as_str(), &founding, out)
+        }
+        Job::Apply { db: Some(db), file } => apply_at(world, db.as_str(), file.as_str(), out),
+        Job::Apply { db: None, file } => {
+            let done = try_at(world, file.as_str(), &mut out);
+            (done, out)
         }
         Job::Check {
             ca,
             list,
             serial,
             key_id,
-        } => check(
-            rt,
-            ca.as_str(),
-            list.as_str(),
-            *serial,
-            key_id.as_str(),
-            out,
-        ),
-        Job::Selftest => test_itself(rt, out),
-        _ => Ok(()),
+        } => {
+            let (ca, list, key_id) = (ca.as_str(), list.as_str(), key_id.as_str());
+            let done = check_by(world, ca, list, *serial, key_id, &mut out);
+            (done, out)
+        }
+        Job::Selftest => {
+            let done = test_itself(world, &mut out);
+            (done, out)
+        }
+        Job::Krl { db } => do_in(world, db.as_str(), &OfficeJob::Krl, out),
+        Job::Signers { db } => do_in(world, db.as_str(), &OfficeJob::Signers, out),
+        Job::Table { db } => do_in(world, db.as_str(), &OfficeJob::Table, out),
+        Job::Migrate { db } => do_in(world, db.as_str(), &OfficeJob::Migrate, out),
+        Job::Serve { .. } => (Ok(()), out),
     }
 }
 
-fn serve_by<S: Start, O: Write, E: Write>(
-    rt: &HostRuntime,
-    start: S,
-    service: &Service<'_>,
-    out: &mut O,
-    err: &mut E,
-) -> u8
-    ensures { result ≤ 1 }
-{
-    match serve_at(rt, start, service, out, err) {
-        Ok(status) => status,
-        Err(fault) => status_of(err, Err(fault)),
-    }
-}
-
-/// Does a job: what it gives is written to `out`, and the name of a fault to `err`. Answers the status. `start` stands
-/// for what the files of the job's database hold.
-pub fn do_job<S: Start, O: Write, E: Write>(
-    rt: &HostRuntime,
-    start: S,
+// Does a job in a world, or serves.
+fn run_job<S: Alter, W: World<Conn = Connection<S>> + AllocGlobal, O: Write, E: Write>(
+    world: &mut W,
     job: &Job,
-    out: &mut O,
+    out: O,
     err: &mut E,
-) -> u8
-    ensures { result ≤ 1 }
+) -> (Result<u8, JobFault>, O)
+    requires { KeepsDatabases S.Store W.World }
+    ensures runs { Runs S.Store W.World W.File.remaining W.Incoming.book world.old world.new job.now (O.contents out)
+        (O.contents result.1) result.0 }
+    ensures status { IfOk result.0 (λ status. status ≤ 1) }
+    ensures silent { (IsServing job.now → ⊥) → err.new ≡ err.old }
 {
-    if let Some(service) = service_of(job) {
-        return serve_by(rt, start, &service, out, err);
+    match job {
+        Job::Serve {
+            db,
+            port,
+            connections,
+            nonces,
+        } => {
+            let mut out = out;
+            let (db, nonces) = (db.as_str(), nonces.as_str());
+            let served = serve_at(world, db, nonces, *port, *connections, &mut out, err);
+            (served, out)
+        }
+        _ => {
+            let (done, out) = done_by(world, job, out);
+            ended(done, out)
+        }
     }
-    let done = done_by(rt, start, job, out, err);
-    status_of(err, flushed(out, done))
+}
+
+/// Does a job in a world: opens the files and the database that the job names, in its order, does it, closes, prints
+/// what it gives to `out`, and the name of a fault to `err`. Answers the status and `out`.
+pub fn do_job<S: Alter, W: World<Conn = Connection<S>> + AllocGlobal, O: Write, E: Write>(
+    world: &mut W,
+    job: &Job,
+    out: O,
+    err: &mut E,
+) -> (u8, O)
+    requires { KeepsDatabases S.Store W.World }
+    ensures runs { RunsJob S.Store W.World W.File.remaining W.Incoming.book world.old world.new job.now (O.contents out)
+        (O.contents result.1) result.0 }
+    ensures status { result.0 ≤ 1 }
+
+    // Of a job that was done nothing is told but by a server.
+    ensures silent { (IsServing job.now → ⊥) → result.0 ≡ 0 → err.new ≡ err.old }
+{
+    match run_job(world, job, out, err) {
+        (Ok(status), out) => (status, out),
+        (Err(fault), out) => (status_of(err, Err(fault)), out),
+    }
 }
 
 // What is answered to words that ask for no job: the text of clap, or a fault.
@@ -130,31 +277,35 @@ fn answer_words<O: Write, E: Write>(fault: WordsFault, out: &mut O, err: &mut E)
     }
 }
 
-/// Does the job that the words ask for, or shows the text of clap. Answers the status. `start` stands for what the
-/// files of the job's database hold.
-pub fn do_words<S: Start, O: Write, E: Write>(
-    rt: &HostRuntime,
-    start: S,
+/// Does the job that the words ask for, or shows the text of clap. Answers the status and `out`.
+pub fn do_words<S: Alter, W: World<Conn = Connection<S>> + AllocGlobal, O: Write, E: Write>(
+    world: &mut W,
     words: &[String],
-    out: &mut O,
+    out: O,
     err: &mut E,
-) -> u8
-    ensures status { result ≤ BAD_WORDS }
-    ensures bad { result ≡ BAD_WORDS → AreBad (map string_bytes words.now) }
+) -> (u8, O)
+    requires { KeepsDatabases S.Store W.World }
+    ensures status { result.0 ≤ BAD_WORDS }
+    ensures bad { result.0 ≡ BAD_WORDS → AreBad (map string_bytes words.now) }
 {
-    match read_words(rt.alloc(), words) {
-        Ok(job) => do_job(rt, start, &job, out, err),
-        Err(fault) => answer_words(fault, out, err),
+    match read_words(world.alloc(), words) {
+        Ok(job) => do_job(world, &job, out, err),
+        Err(fault) => {
+            let mut out = out;
+            (answer_words(fault, &mut out, err), out)
+        }
     }
 }
 
 /// The status where the words can't be had: memory was refused, or a word isn't UTF-8.
 pub fn do_no_words<E: Write>(fault: ErrorKind, err: &mut E) -> u8
-    ensures { result ≤ BAD_WORDS }
+    ensures { result ≡ status_of_no_words fault }
 {
-    if fault == ErrorKind::OutOfMemory {
-        return status_of(err, Err(JobFault::NoMemory));
+    match fault {
+        ErrorKind::OutOfMemory => status_of(err, Err(JobFault::NoMemory)),
+        _ => {
+            let _ = write_out(err, b"error: a word is not UTF-8\n");
+            BAD_WORDS
+        }
     }
-    let _ = write_out(err, b"error: a word is not UTF-8\n");
-    BAD_WORDS
 }

@@ -3,10 +3,10 @@
 ghost use Rattle.std.specs.Prelude.{◌≡◌};
 ghost use Rattle.sshoffice.specs.Finding.{Opens, OpensFor, OpensNew, OpensThere, of_look, of_looking, of_making};
 
-use crate::database::Database;
 use crate::ending::database_fault;
 use crate::job::OfficeJob;
 use crate::job_fault::JobFault;
+use crate::world::World;
 use office::StoreFault;
 use std::io::ErrorKind;
 
@@ -41,41 +41,45 @@ fn made(done: Result<(), ErrorKind>) -> Result<(), JobFault>
     }
 }
 
-fn opened<D: Database>(db: &mut D) -> Result<D::Conn, JobFault>
-    ensures { Opens D.Database db.old result db.new }
+fn opened<W: World>(world: &mut W, path: &str) -> Result<W::Conn, JobFault>
+    ensures { Opens W.World path.now world.old result world.new }
 {
-    match db.open() {
+    match world.open_database(path) {
         Ok(conn) => Ok(conn),
         Err(error) => Err(database_fault(error)),
     }
 }
 
-/// Opens a database that has to be there. If it isn't, nothing is opened.
-pub(crate) fn open_there<D: Database>(db: &mut D) -> Result<D::Conn, JobFault>
-    ensures { OpensThere D.Database db.old result db.new }
+/// Opens the database at a path, which has to be there. If it isn't, nothing is opened.
+pub(crate) fn open_there<W: World>(world: &mut W, path: &str) -> Result<W::Conn, JobFault>
+    ensures { OpensThere W.World path.now world.old result world.new }
 {
-    match looked_for(db.is_there()) {
-        Ok(()) => opened(db),
+    match looked_for(world.has_database(path)) {
+        Ok(()) => opened(world, path),
         Err(fault) => Err(fault),
     }
 }
 
-/// Opens a database, which is made if it isn't there. If it can't be made, nothing is opened.
-pub(crate) fn open_new<D: Database>(db: &mut D) -> Result<D::Conn, JobFault>
-    ensures { OpensNew D.Database db.old result db.new }
+/// Opens the database at a path, which is made if it isn't there. If it can't be made, nothing is opened.
+pub(crate) fn open_new<W: World>(world: &mut W, path: &str) -> Result<W::Conn, JobFault>
+    ensures { OpensNew W.World path.now world.old result world.new }
 {
-    match made(db.make()) {
-        Ok(()) => opened(db),
+    match made(world.make_database(path)) {
+        Ok(()) => opened(world, path),
         Err(fault) => Err(fault),
     }
 }
 
 /// Opens the database of a job.
-pub(crate) fn open_for<D: Database>(db: &mut D, job: &OfficeJob<'_>) -> Result<D::Conn, JobFault>
-    ensures { OpensFor D.Database job.now db.old result db.new }
+pub(crate) fn open_for<W: World>(
+    world: &mut W,
+    path: &str,
+    job: &OfficeJob<'_>,
+) -> Result<W::Conn, JobFault>
+    ensures { OpensFor W.World path.now job.now world.old result world.new }
 {
     match job {
-        OfficeJob::Init(_) => open_new(db),
-        _ => open_there(db),
+        OfficeJob::Init(_) => open_new(world, path),
+        _ => open_there(world, path),
     }
 }

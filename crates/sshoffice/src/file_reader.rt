@@ -6,12 +6,13 @@ ghost use Rattle.exchanges.specs.Exchanges.{AreExchanges, IsBadRecord, TellsOf, 
 ghost use Rattle.sshoffice.specs.Faults.{IsOfAFile, IsOfAKey, IsOfExchanges, of_file};
 ghost use Rattle.sshoffice.specs.Reading.{IsKeyText};
 
+use crate::files::kind_fault;
 use crate::job_fault::JobFault;
 use exchanges::{MAX_FILE, read_exchanges};
 use lines::{KeyLine, read_key_line};
 use std::alloc::Global;
 use std::io;
-use std::io::{ErrorKind, Read};
+use std::io::Read;
 use web::Exchange;
 
 /// The most bytes of a file with a key line: some KiB more than any has.
@@ -25,10 +26,7 @@ pub fn file_fault(error: &io::Error) -> JobFault
     ensures value { result ≡ of_file (error_kind error.now) }
     ensures only { IsOfAFile result }
 {
-    match error.kind() {
-        ErrorKind::OutOfMemory => JobFault::NoMemory,
-        _ => JobFault::File,
-    }
+    kind_fault(error.kind())
 }
 
 /// The first bytes that a reader gives, `most` of them where it gives so many.

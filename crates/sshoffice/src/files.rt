@@ -1,15 +1,13 @@
 //! Files, opened and made.
 
-ghost use Rattle.std.specs.Prelude.{IfErr};
-ghost use Rattle.sshoffice.specs.Faults.{IsOfAFile};
+ghost use Rattle.std.specs.Prelude.{◌≡◌, IfErr};
+ghost use Rattle.sshoffice.specs.Faults.{IsOfAFile, of_file};
+ghost use Rattle.sshoffice.specs.Finding.{Reads};
 
-use crate::checking::check_list;
-use crate::file_reader::{file_fault, read_key};
 use crate::job_fault::JobFault;
-use lines::KeyLine;
-use std::fs;
+use crate::world::World;
 use std::fs::{File, OpenOptions, Permissions};
-use std::io::{self, ErrorKind, Write};
+use std::io::{self, ErrorKind};
 use std::os::unix::fs::{OpenOptionsExt, PermissionsExt};
 use std::rt::Files;
 
@@ -31,34 +29,24 @@ pub(crate) fn make_file<R: Files<File = File>>(rt: &R, path: &str) -> io::Result
     }
 }
 
-/// Opens the file at a path.
-pub(crate) fn open_file<R: Files<File = File>>(rt: &R, path: &str) -> Result<File, JobFault>
-    ensures { IfErr result IsOfAFile }
+/// The fault of a file that can't be opened or read.
+pub(crate) fn kind_fault(kind: ErrorKind) -> JobFault
+    ensures value { result ≡ of_file kind }
+    ensures only { IsOfAFile result }
 {
-    match fs::open(rt, path) {
-        Ok(file) => Ok(file),
-        Err(error) => Err(file_fault(&error)),
+    match kind {
+        ErrorKind::OutOfMemory => JobFault::NoMemory,
+        _ => JobFault::File,
     }
 }
 
-/// The key of the file at a path.
-pub(crate) fn read_key_file<R: Files<File = File> + AllocGlobal>(
-    rt: &R,
-    path: &str,
-) -> Result<KeyLine, JobFault> {
-    read_key(rt.alloc(), open_file(rt, path)?)
-}
-
-/// Prints whether the list of a file revokes the certificate of this serial and key id, under the CA of a file.
-pub(crate) fn check<R: Files<File = File> + AllocGlobal, W: Write>(
-    rt: &R,
-    ca: &str,
-    list: &str,
-    serial: u64,
-    key_id: &str,
-    out: &mut W,
-) -> Result<(), JobFault> {
-    let ca = read_key_file(rt, ca)?;
-    let list = open_file(rt, list)?;
-    check_list(rt.alloc(), &ca.key, list, serial, key_id.as_bytes(), out)
+/// Opens the file at a path.
+pub(crate) fn open_file<W: World>(world: &mut W, path: &str) -> Result<W::File, JobFault>
+    ensures opened { Reads W.World path.now world.old result world.new }
+    ensures only { IfErr result IsOfAFile }
+{
+    match world.open_file(path) {
+        Ok(file) => Ok(file),
+        Err(kind) => Err(kind_fault(kind)),
+    }
 }

@@ -13,16 +13,14 @@
 
 mod adding;
 mod applying;
-mod asked;
 mod checking;
 mod command;
-mod database;
-mod database_file;
 mod database_opening;
 mod ending;
 mod file_reader;
 mod files;
 mod founding;
+mod host;
 mod job;
 mod job_fault;
 mod listing;
@@ -31,10 +29,12 @@ mod opening;
 mod output;
 mod reporting;
 mod served;
-mod task;
 mod trial;
 mod whole;
+mod world;
 
+use crate::command::do_no_words;
+use crate::host::run;
 use sqlite::Unknown;
 use std::io::BufWriter;
 use std::process::ExitCode;
@@ -50,15 +50,9 @@ fn status_by(rt: &HostRuntime) -> u8 {
     let mut err = rt.stderr();
     let out = BufWriter::new(rt.alloc(), rt.stdout());
     match (words_of(rt), out) {
-        (Ok(words), Ok(mut out)) => command::do_words(
-            rt,
-            Unknown,
-            words.as_slice(),
-            &mut out,
-            &mut err,
-        ),
-        (Err(fault), _) => command::do_no_words(fault.kind(), &mut err),
-        (_, Err(fault)) => command::do_no_words(fault.kind(), &mut err),
+        (Ok(words), Ok(out)) => run(rt, Unknown, words.as_slice(), out, &mut err).0,
+        (Err(fault), _) => do_no_words(fault.kind(), &mut err),
+        (_, Err(fault)) => do_no_words(fault.kind(), &mut err),
     }
 }
 

@@ -1,20 +1,23 @@
 //! An office served.
 
-ghost use Rattle.std.specs.Prelude.{◌≡◌, ◌≤◌, ◌+◌, IfOk};
+ghost use Rattle.std.specs.Prelude.{◌≡◌, ◌≤◌, ◌+◌, IfErr, IfOk, OnOk};
+ghost use Rattle.std.specs.Io.KnownBytes.{Appends};
 ghost use Rattle.sqlite.specs.Held.{state};
-ghost use Rattle.store_sql.specs.Honest.{Between, IsOutside, IsUnlimited, On, StaysClean};
+ghost use Rattle.store_sql.specs.Honest.{Between, IsOutside, IsUnlimited, StaysClean};
 ghost use Rattle.server.specs.Connections.{Extends};
+ghost use Rattle.server.specs.Names.{listening_line};
 ghost use Rattle.store.specs.Meaning.{Tells};
-ghost use Rattle.sshoffice.specs.Serving.{MeetsOver, Serves};
+ghost use Rattle.sshoffice.specs.Serving.{MeetsOver};
+ghost use Rattle.sshoffice.specs.Whole.{Listens, ServesAt, ServesOpen};
 
 use crate::job_fault::JobFault;
 use crate::opening::open_office;
-use server::{Listener, Loopback, listen, serve_on};
+use crate::world::World;
+use server::{Listener, serve_on};
 use sqlite::{Alter, Connection};
-use std::alloc::Global;
-use std::io::{Read, Write};
-use std::net::{Net, TcpListener, TcpStream};
-use std::time::Clock;
+use std::io;
+use std::io::{ErrorKind, Write};
+use std::net::{Ipv4Addr, SocketAddrV4};
 use store::Store;
 use wire::{FromRead, Source};
 
@@ -46,38 +49,56 @@ pub fn serve_over<R: AllocGlobal, S: Alter, L: Listener, N: Source, O: Write, E:
     (status, office.into_connection())
 }
 
-/// Serves the office in a database at a port of the loopback interface. Nobody listens before the office is open.
-pub fn serve_at_port<
-    R: Net<Listener = TcpListener, Stream = TcpStream> + Clock + AllocGlobal,
-    S: Alter,
-    N: Read + Drop,
-    O: Write,
-    E: Write,
->(
-    rt: &R,
-    conn: Connection<S>,
-    nonces: N,
+// Asks the world for a listener at this port of 127.0.0.1.
+fn listen_on<W: World>(world: &mut W, port: u16) -> Result<(W::Incoming, u16), ErrorKind>
+    ensures { Listens W.World port world.old result world.new }
+{
+    world.listen(SocketAddrV4::new(Ipv4Addr::LOCALHOST, port))
+}
+
+// Prints the line of a port.
+fn print_line<O: Write>(out: &mut O, port: u16) -> io::Result<()>
+    ensures { OnOk result (Appends (O.contents out.old) (O.contents out.new) (listening_line port)) }
+{
+    writeln!(out, "listening {port}")?;
+    out.flush()
+}
+
+// Prints the line of a port at which a server listens.
+fn print_port<O: Write>(out: &mut O, port: u16) -> Result<(), JobFault>
+    ensures ok { OnOk result (Appends (O.contents out.old) (O.contents out.new) (listening_line port)) }
+    ensures only { IfErr result (λ e. e ≡ JobFault.Write) }
+{
+    match print_line(out, port) {
+        Ok(()) => Ok(()),
+        Err(_) => Err(JobFault::Write),
+    }
+}
+
+// Listens, prints the port, and serves the open office.
+fn serve_listening<S: Alter, W: World<Conn = Connection<S>> + AllocGlobal, O: Write, E: Write>(
+    world: &mut W,
+    store: Store<S>,
+    nonces: W::File,
     port: u16,
     connections: u64,
     out: &mut O,
     err: &mut E,
 ) -> (Result<u8, JobFault>, Connection<S>)
-    requires outside { IsOutside S.Store conn }
-    requires unlimited { IsUnlimited S.Store conn }
-    ensures serves { On S.Store (λ old new. Serves connections (N.remaining nonces) old new (O.contents out.old)
-        (O.contents out.new)) conn result.1 result.0 }
-    ensures honest { StaysClean S.Store conn result.1 }
+    ensures serves { ServesOpen S.Store W.World W.Incoming.book port connections (W.File.remaining nonces)
+        (O.contents out.old) (O.contents out.new) world.old world.new store.conn result.1 result.0 }
+    ensures honest { StaysClean S.Store store.conn result.1 }
     ensures status { IfOk result.0 (λ status. status ≤ 1) }
 {
-    match open_office(rt.alloc(), conn) {
-        Ok(store) => match listen(rt, port, out) {
-            Ok(listener) => {
+    match listen_on(world, port) {
+        Ok((incoming, at)) => match print_port(out, at) {
+            Ok(()) => {
                 let mut source = FromRead::new(nonces);
-                let mut met = Loopback::new(&listener, rt);
+                let mut incoming = incoming;
                 let (status, conn) = serve_over(
-                    rt,
+                    world,
                     store,
-                    &mut met,
+                    &mut incoming,
                     &mut source,
                     connections,
                     out,
@@ -85,8 +106,31 @@ pub fn serve_at_port<
                 );
                 (Ok(status), conn)
             }
-            Err(fault) => (Err(JobFault::from(fault)), store.into_connection()),
+            Err(fault) => (Err(fault), store.into_connection()),
         },
+        Err(_) => (Err(JobFault::Socket), store.into_connection()),
+    }
+}
+
+/// Serves the office in a database at a port of the loopback interface. Nobody listens before the office is open.
+pub fn serve_at_port<S: Alter, W: World<Conn = Connection<S>> + AllocGlobal, O: Write, E: Write>(
+    world: &mut W,
+    conn: Connection<S>,
+    nonces: W::File,
+    port: u16,
+    connections: u64,
+    out: &mut O,
+    err: &mut E,
+) -> (Result<u8, JobFault>, Connection<S>)
+    requires outside { IsOutside S.Store conn }
+    requires unlimited { IsUnlimited S.Store conn }
+    ensures serves { ServesAt S.Store W.World W.Incoming.book port connections (W.File.remaining nonces)
+        (O.contents out.old) (O.contents out.new) world.old world.new conn result.1 result.0 }
+    ensures honest { StaysClean S.Store conn result.1 }
+    ensures status { IfOk result.0 (λ status. status ≤ 1) }
+{
+    match open_office(world.alloc(), conn) {
+        Ok(store) => serve_listening(world, store, nonces, port, connections, out, err),
         Err((fault, conn)) => (Err(JobFault::from(fault)), conn),
     }
 }

@@ -10,7 +10,7 @@ use Rattle.store_sql.specs.Calls.{Steps, Changes, MayLeave, Begins}
 use Rattle.store_sql.specs.declared.table_fault.Fault.{Fault}
 use Rattle.store_sql.proofs.Later.{inside_is, stops}
 use Rattle.store.specs.Transactions.{Has, Goes, Answers, Makes, Waits, HasEnded, Concludes, LeavesAnswered, Ends}
-use Rattle.store.specs.Transactions.{Leaves as AfterAll}
+use Rattle.store.specs.Transactions.{Leaves as AfterAll, LeavesDue}
 
 -- ---- one part
 
@@ -139,14 +139,14 @@ module _ {A X : Type 0} (Before : A → Database → Type 0) (Due : A → X → 
       undone a b c d f begun.1 (λ x before still. (answers x before begun.1.mode).committed still) told.1
 
   -- what a crash leaves of the whole
-  pub left : {E : Type 0} (a b c d : State) (r : Result X E)
+  pub left_due : {E : Type 0} (a b c d : State) (r : Result X E)
       → (HasCleanDisk b → Begins {X = Unit {0}} {E = Fault} a b (Ok tt))
       → (HasCleanDisk c → Answers Before Due after b c r) → Survives a b (λ _. ⊥) → Survives b c (Waits Before b)
-      → Survives c d (LeavesAnswered r c) → Survives a d (AfterAll Before after a)
-  left {E = E} a b c d r begun answers one two three =
-      survives_then a b d (λ _. ⊥) (AfterAll Before after a) (AfterAll Before after a) (λ clean trees h. absurd h)
-      (λ clean trees h. h) one
-      (survives_then b c d (Waits Before b) (LeavesAnswered r c) (AfterAll Before after a)
+      → Survives c d (LeavesAnswered r c) → Survives a d (LeavesDue Before Due after a)
+  left_due {E = E} a b c d r begun answers one two three =
+      survives_then a b d (λ _. ⊥) (LeavesDue Before Due after a) (LeavesDue Before Due after a)
+      (λ clean trees h. absurd h) (λ clean trees h. h) one
+      (survives_then b c d (Waits Before b) (LeavesAnswered r c) (LeavesDue Before Due after a)
       (λ clean trees h.
       let start : HasCleanDisk b = omega (arith, two.clean, three.clean) in
       let was = begun start in (
@@ -162,6 +162,16 @@ module _ {A X : Type 0} (Before : A → Database → Type 0) (Due : A → X → 
       two three)
     where
       kept : (r : Result X E) (trees : Trees) → LeavesAnswered r c trees → (x : A) → Answers Before Due after b c r
-          → Before x b.now → Kept trees (after x)
-      kept (Ok v) trees h x answers before = subst (λ t. Kept t (after x)) (sym h) (answers x before).1.means.kept
+          → Before x b.now → (v : X) × Due x v × Kept trees (after x)
+      kept (Ok v) trees h x answers before =
+          let done = answers x before in (v, done.0, subst (λ t. Kept t (after x)) (sym h) done.1.means.kept)
       kept (Err e) trees h x answers before = absurd h
+
+  -- so it does where nothing is said of what was due
+  pub left : {E : Type 0} (a b c d : State) (r : Result X E)
+      → (HasCleanDisk b → Begins {X = Unit {0}} {E = Fault} a b (Ok tt))
+      → (HasCleanDisk c → Answers Before Due after b c r) → Survives a b (λ _. ⊥) → Survives b c (Waits Before b)
+      → Survives c d (LeavesAnswered r c) → Survives a d (AfterAll Before after a)
+  left a b c d r begun answers one two three =
+      survives_weaker a d (LeavesDue Before Due after a) (AfterAll Before after a)
+      (λ clean trees h. (h.0, λ x rests. (h.1 x rests).2)) (left_due a b c d r begun answers one two three)

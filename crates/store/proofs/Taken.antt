@@ -12,7 +12,7 @@ use Rattle.office.specs.declared.arrival.Outcome.{Outcome}
 use Rattle.office.specs.declared.store_fault.StoreFault.{StoreFault}
 use Rattle.office.specs.Faults.{HasCause, IsOfARegister}
 use Rattle.office.specs.History.{due}
-use Rattle.store.specs.Transactions.{Ends, IsAsBefore, KeepsOnErr, Leaves, Rests}
+use Rattle.store.specs.Transactions.{Ends, IsAsBefore, KeepsOnErr, LeavesDue, Rests}
 use Rattle.store.specs.Faults.{fault_of, told}
 use Rattle.store.specs.Meaning.{Tells}
 use Rattle.store.specs.Arriving.{IsAfter, IsAnswered, IsAny, IsCaused, IsStopped, contents_with}
@@ -62,7 +62,7 @@ module _ (a : Arrival) (old new : Connection) where
   pub applied : (r : Result Outcome Fault) (q : Result Outcome StoreFault) → q ≡ told r
       → (HasCleanDisk new → Ends (IsAfter IsAny) (IsAnswered a) (contents_with a) old new r)
       → (HasCleanDisk new → IfErr r (IsCaused a old new)) → (HasCleanDisk new → KeepsOnErr old new r)
-      → Survives old new (Leaves (IsAfter IsAny) (contents_with a) old)
+      → Survives old new (LeavesDue (IsAfter IsAny) (IsAnswered a) (contents_with a) old)
       → ((trees : Trees) → IsTrue new.is_open → new.may_leave trees → trees ≡ new.committed.trees)
       → Applied a old new q
   applied r q is ends cause before survives settled =
@@ -107,7 +107,8 @@ module _ (a : Arrival) (old new : Connection) where
               record { autocommit = rests.autocommit; now = rests.now.means; committed = rests.committed.means };
           left = λ trees may. elim (survives.crash clean trees may) [
             | inl before ↦ tells.left trees before
-            | inr more ↦ inr (a, more.1 (o, l) (rests_of old o l tells more.0))
+            | inr more ↦
+                let due = more.1 (o, l) (rests_of old o l tells more.0) in inr (a, due.1.history, due.2)
           ];
         };
         before = λ clean _. before clean;

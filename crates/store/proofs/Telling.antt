@@ -10,7 +10,7 @@ use Rattle.office.specs.declared.opening.Opening.{Opening}
 use Rattle.office.specs.declared.arrival.Arrival.{Arrival}
 use Rattle.store.specs.Transactions.{Has, Rests}
 use Rattle.store.specs.Rows.{office_contents}
-use Rattle.store.specs.Meaning.{DiskFailed, IsLeft, Tells}
+use Rattle.store.specs.Meaning.{DiskFailed, IsLeft, KeepsTelling, Tells}
 
 -- where no query has a limit on its steps, only a disk fails
 pub disk_failed : (old new : State) → old.step_limit ≡ None → HasFailed old new → DiskFailed old new
@@ -52,6 +52,20 @@ tells_still old new survives clean fails o l tells = record {
   left = λ trees may. elim (survives.crash clean trees may) [
     | inl before ↦ tells.left trees before
     | inr none ↦ absurd none
+  ];
+}
+
+-- a call that commits nothing over a connection that was shut, and leaves what an open one tells
+pub keeps_telling : (old new : State) (Commits : Trees → Type 0) → HasCleanDisk new → Survives old new Commits
+    → (IsTrue new.is_open → IsTrue old.is_open) → ((trees : Trees) → Commits trees → IsTrue old.is_open)
+    → ((o : Opening) (l : List Arrival) → Tells old o l → IsTrue old.is_open → Tells new o l) → KeepsTelling old new
+keeps_telling old new Commits clean survives was commits same o l tells = record {
+  history = tells.history;
+  unlimited = survives.limit ∙ tells.unlimited;
+  rows = λ still. (same o l tells (was still)).rows still;
+  left = λ trees may. elim (survives.crash clean trees may) [
+    | inl before ↦ tells.left trees before
+    | inr more ↦ (same o l tells (commits trees more)).left trees may
   ];
 }
 

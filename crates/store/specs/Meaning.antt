@@ -29,9 +29,12 @@ pub record IsHistory (o : Opening) (l : List Arrival) : Type 0 where
   pub office : IsOffice o l
   pub nonces : AllByRecursion (λ a. length a.nonce ≡ 32) l
 
--- the trees hold the rows of the office of this opening after this history, or after it and one arrival more
+-- The trees hold the rows of the office of this opening after this history, or after it and one arrival more. With that
+-- arrival it is again a history.
 abbrev pub IsLeft : Opening → List Arrival → Trees → Type 0
-IsLeft o l trees = Kept trees (office_contents o l) ⊎ ((a : Arrival) × Kept trees (office_contents o (l ++ a ∷ [])))
+IsLeft o l trees =
+    Kept trees (office_contents o l)
+    ⊎ ((a : Arrival) × IsHistory o (l ++ a ∷ []) × Kept trees (office_contents o (l ++ a ∷ [])))
 
 -- No query has a limit on its steps, no transaction is open, and the tables hold the rows of the office of this opening
 -- after this history. Of the tables of a connection that a failed disk has shut that isn't said; but what a crash

@@ -141,3 +141,9 @@ KeepsOnErr old new r = OnErr r (IsAsBefore old new)
 -- connection was open
 abbrev pub Leaves : {A : Type 0} → (A → Database → Type 0) → (A → Contents) → State → Trees → Type 0
 Leaves {A} Before after old trees = IsTrue old.is_open × ((a : A) → Rests (Before a) old → Kept trees (after a))
+
+-- the same, and what was due was to be answered
+abbrev pub LeavesDue : {A X : Type 0} → (A → Database → Type 0) → (A → X → Type 0) → (A → Contents) → State → Trees
+    → Type 0
+LeavesDue {A} {X} Before Due after old trees =
+    IsTrue old.is_open × ((a : A) → Rests (Before a) old → (x : X) × Due a x × Kept trees (after a))

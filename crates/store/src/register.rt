@@ -54,6 +54,9 @@ impl<S: Alter> Store<S> {
         // Of an empty database want of memory and a failure of the database are the only faults.
         ensures only { IfErr result (λ e. On S.Store IsExcusedOfBlank conn e.1 e.0) }
 
+        // A connection that told the history of an office tells it, also one that a failed disk has shut.
+        ensures told { IfErr result (λ e. Between S.Store KeepsTelling conn e.1) }
+
         // A crash in its midst leaves the database without tables, or with the whole office.
         ensures crash { IfOk result (λ s. OutlivesBy S.Store (LeavesOnBlank (office_contents opening.now []))
             conn s.conn) }
@@ -116,6 +119,9 @@ impl<S: Alter> Store<S> {
         ensures before { IfErr result (λ e. Between S.Store IsAsBefore conn e.1) }
         ensures back { IfErr result (λ e. Between S.Store KeepsTellingBefore conn e.1) }
         ensures only { IfErr result (λ e. OnOpen S.Store IsExcusedOfFormer conn e.1 e.0) }
+
+        // A connection that told the history of an office of schema 2 tells it, also one that a failed disk has shut.
+        ensures told { IfErr result (λ e. Between S.Store KeepsTelling conn e.1) }
 
         // Row by row: it is done where the one row of the office is of schema 1, and each fault has its cause.
         ensures moved { IfOk result (λ s. Between S.Store Moves conn s.conn) }

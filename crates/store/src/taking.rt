@@ -1,7 +1,7 @@
 //! One arrival, in one transaction.
 
 ghost use Rattle.std.specs.Prelude.{◌≡◌, length};
-ghost use Rattle.store.specs.Transactions.{Ends, KeepsOnErr, Leaves};
+ghost use Rattle.store.specs.Transactions.{Ends, KeepsOnErr, LeavesDue};
 ghost use Rattle.store.specs.Arriving.{FailsAsCaused, IsAfter, IsAnswered, IsAny, contents_with, of_statement};
 ghost use Rattle.store_sql.specs.Honest.{On, OutlivesBy};
 
@@ -34,8 +34,9 @@ pub(crate) fn take<S: Alter>(
     ensures cause { On S.Store (FailsAsCaused arrival.now) conn.old conn.new result }
     ensures before { On S.Store KeepsOnErr conn.old conn.new result }
 
-    // A crash in its midst leaves the tables as they were, or with the arrival.
-    ensures survives { OutlivesBy S.Store (Leaves (IsAfter IsAny) (contents_with arrival.now)) conn.old conn.new }
+    // A crash in its midst leaves the tables as they were, or with the arrival, with which the history goes on.
+    ensures survives { OutlivesBy S.Store (LeavesDue (IsAfter IsAny) (IsAnswered arrival.now)
+        (contents_with arrival.now)) conn.old conn.new }
 {
     match begin(conn) {
         Ok(()) => {

@@ -1,33 +1,28 @@
 -- Which bytes are taken for one request.
-use Rattle.std.specs.Prelude.{◌≡◌, ◌⊎◌, ◌<◌, ◌≤◌, ℕ, List, ◌++◌, length, Option}
+use Rattle.std.specs.Prelude.{◌≡◌, ◌⊎◌, ◌<◌, ◌≤◌, ℕ, List, length, Option}
 use Rattle.std.specs.Io.KnownBytes.{Consumes, IsAtEnd}
 use Rattle.httparse.specs.Grammar.{RequestHead}
-use Rattle.http_requests.specs.declared.limits.TheConstants.{MAX_HEAD}
 use Rattle.http_requests.specs.Heads.{IsGood}
 use Rattle.http_requests.specs.Reading.{HoldsHead, NeverHolds, WaitsBefore}
 use Rattle.http_requests.specs.BodySizes.{WantsBody}
+use Rattle.http_requests.specs.Asks.{Ask, Asks, refused, get, post}
+use Rattle.web.specs.declared.request.Request.{Request}
+use Rattle.web.specs.declared.request.Request.TheVariants.{Refused, Get, Post}
 
 -- Enough bytes to tell: they hold a head, they are as many as a head may have, nothing is left, or they are the
 -- beginning of no head.
 abbrev pub IsEnough : (left : Option (List ℕ)) → List ℕ → Type 0
-IsEnough left bytes = HoldsHead bytes ⊎ ((MAX_HEAD ≤ length bytes) ⊎ (IsAtEnd left ⊎ NeverHolds bytes))
+IsEnough left bytes = HoldsHead bytes ⊎ ((8192 ≤ length bytes) ⊎ (IsAtEnd left ⊎ NeverHolds bytes))
 
 -- the shortest beginning that tells whether a head comes; a head that it holds is all of it
 pub record IsFront (left : Option (List ℕ)) (bytes : List ℕ) : Type 0 where
-  pub size : length bytes ≤ MAX_HEAD
+  pub size : length bytes ≤ 8192
   pub enough : IsEnough left bytes
   pub shortest : WaitsBefore bytes
 
 -- so many bytes, or all there are
 abbrev pub IsFilled : (left : Option (List ℕ)) → List ℕ → ℕ → Type 0
 IsFilled left bytes size = (length bytes ≡ size) ⊎ ((length bytes < size) × IsAtEnd left)
-
--- so many bytes more were taken, or all there were
-pub record TakesMore (old new : Option (List ℕ)) (before after : List ℕ) (size : ℕ) : Type 0 where
-  pub bytes : List ℕ
-  pub added : after ≡ before ++ bytes
-  pub consumed : Consumes old new bytes
-  pub filled : IsFilled new bytes size
 
 -- a head that isn't refused at once, and as much of the body that it asks for as there is
 pub record IsWhole (left : Option (List ℕ)) (bytes : List ℕ) : Type 0 where
@@ -46,3 +41,23 @@ pub record IsRefused (left : Option (List ℕ)) (bytes : List ℕ) : Type 0 wher
 -- the bytes of one request, after which these are left
 abbrev pub IsOneRequest : (left : Option (List ℕ)) → List ℕ → Type 0
 IsOneRequest left bytes = IsWhole left bytes ⊎ IsRefused left bytes
+
+-- what a request asks
+abbrev pub request_ask : Request → Ask
+request_ask (Refused r) = refused r
+request_ask (Get r) = get r
+request_ask (Post caller key message) = post caller key message
+
+-- so many bytes of body were taken, or all there were, with which this is asked
+pub record TakesBody (old new : Option (List ℕ)) (size : ℕ) (ask : List ℕ → Ask) (request : Request) : Type 0 where
+  pub body : List ℕ
+  pub consumed : Consumes old new body
+  pub filled : IsFilled new body size
+  pub asks : request_ask request ≡ ask body
+
+-- the bytes of one request were taken, which ask what the request does
+pub record IsTaken (old new : Option (List ℕ)) (request : Request) : Type 0 where
+  pub bytes : List ℕ
+  pub consumed : Consumes old new bytes
+  pub one : IsOneRequest new bytes
+  pub asks : Asks bytes (request_ask request)

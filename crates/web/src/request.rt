@@ -1,13 +1,15 @@
 //! What a request is answered.
 
-ghost use Rattle.std.specs.Prelude.{◌≡◌, IfOk, OnOk, OnErr, IfErr};
+ghost use Rattle.std.specs.Prelude.{◌≡◌, ℕ, List, IfOk, OnOk, OnErr, IfErr};
 ghost use Rattle.http_requests.specs.declared.resource.Resource.TheVariants.{RevocationList};
-ghost use Rattle.office.specs.declared.arrival.Arrival.{Arrival};
+ghost use Rattle.http_requests.specs.Asked.{ask_of};
+ghost use Rattle.http_requests.specs.Asks.{Asks};
 ghost use Rattle.office.specs.Faults.{HasCause};
 ghost use Rattle.office.specs.History.{state};
 ghost use Rattle.office.specs.Registers.{AnswersBy, FailsAsARegister, MeansTheSame, WhereMeant};
-ghost use Rattle.web.specs.Answers.{IsAnswered, Keeps, ListFits, arrival_by, resource_response};
+ghost use Rattle.web.specs.Answers.{IsAnswered, Keeps, ListFits, resource_response};
 ghost use Rattle.web.specs.Causes.{FailsWithin, StopsAt};
+ghost use Rattle.web.specs.Requests.{request_ask};
 
 use crate::answering::to_arrival;
 use crate::certificate_lines::{to_certificate, to_pending, to_serial_body};
@@ -18,24 +20,42 @@ use http_requests::{Asked, Resource, Routes, asks};
 use office::{Arrival, Registry, StoreFault};
 use std::alloc::Global;
 use text::{NoMemory, Text};
+use values::Refusal;
 
-fn arrival_of(
-    alloc: Global,
-    caller: &[u8],
-    key: &[u8],
-    message: &[u8],
-    moment: u64,
-    nonce: &[u8; 32],
-) -> Result<Arrival, NoMemory>
-    ensures { IfOk result (λ a. a ≡ arrival_by caller.now key.now message.now moment nonce.now) }
-{
-    Ok(Arrival {
-        caller: Text::from_slice(alloc, caller)?,
-        key: Text::from_slice(alloc, key)?,
-        bytes: Text::from_slice(alloc, message)?,
-        moment,
-        nonce: *nonce,
-    })
+/// What a request asks, with texts of its own.
+#[derive(Drop)]
+pub(crate) enum Request {
+    /// Nothing that is answered.
+    Refused(Refusal),
+    /// A resource.
+    Get(Resource),
+    /// That the office take a message of this caller under this request key.
+    Post {
+        caller: Text,
+        key: Text,
+        message: Text,
+    },
+}
+
+impl Request {
+    /// What was asked.
+    fn of(alloc: Global, asked: Asked<'_>) -> Result<Request, NoMemory>
+        ensures { IfOk result (λ request. request_ask request ≡ ask_of asked.entry) }
+    {
+        match asked {
+            Asked::Refused(refusal) => Ok(Request::Refused(refusal)),
+            Asked::Get(resource) => Ok(Request::Get(resource)),
+            Asked::Post {
+                caller,
+                key,
+                message,
+            } => Ok(Request::Post {
+                caller: Text::from_slice(alloc, caller)?,
+                key: Text::from_slice(alloc, key)?,
+                message: Text::from_slice(alloc, message)?,
+            }),
+        }
+    }
 }
 
 /// The response with a resource.
@@ -67,6 +87,45 @@ fn to_resource<R: Registry>(
     }
 }
 
+/// The response to a request that was read before, whatever its bytes were.
+pub(crate) fn answer_request<R: Registry>(
+    registry: &mut R,
+    alloc: Global,
+    request: Request,
+    moment: u64,
+    nonce: &[u8; 32],
+) -> Result<Vec<u8>, StoreFault>
+    ensures honest { R.is_honest registry.new → R.is_honest registry.old }
+    ensures was_open { R.is_honest registry.new → R.is_open registry.new → R.is_open registry.old }
+    ensures stays_open { R.is_honest registry.new → OnOk result (R.is_open registry.old → R.is_open registry.new) }
+    ensures answered { R.is_honest registry.new → (bytes : List ℕ) → Asks bytes (request_ask request)
+        → IfOk result (λ v. IsAnswered (R.means registry.old) (R.means registry.new)
+        (Keeps R.means R.is_open registry.new) bytes moment nonce.now v.items) }
+    ensures fault { R.is_honest registry.new → OnErr result (MeansTheSame R.means registry.old registry.new) }
+    ensures cause { R.is_honest registry.new → (bytes : List ℕ) → Asks bytes (request_ask request) → IfErr result
+        (λ e. HasCause e (StopsAt R.means R.fails R.stops bytes moment nonce.now registry.old registry.new)) }
+    ensures only { R.is_honest registry.new → FailsAsARegister R.means registry.old result }
+{
+    match request {
+        Request::Refused(refusal) => to_refusal(alloc, refusal),
+        Request::Get(resource) => to_resource(registry, alloc, resource),
+        Request::Post {
+            caller,
+            key,
+            message,
+        } => {
+            let arrival = Arrival {
+                caller,
+                key,
+                bytes: message,
+                moment,
+                nonce: *nonce,
+            };
+            to_arrival(registry, alloc, arrival)
+        }
+    }
+}
+
 /// As `answer`, by routes that were made before.
 pub fn answer_by<R: Registry>(
     routes: &Routes,
@@ -86,18 +145,8 @@ pub fn answer_by<R: Registry>(
         (λ e. HasCause e (StopsAt R.means R.fails R.stops request.now moment nonce.now registry.old registry.new)) }
     ensures only { R.is_honest registry.new → FailsAsARegister R.means registry.old result }
 {
-    match asks(routes, request) {
-        Asked::Refused(refusal) => to_refusal(alloc, refusal),
-        Asked::Get(resource) => to_resource(registry, alloc, resource),
-        Asked::Post {
-            caller,
-            key,
-            message,
-        } => {
-            let arrival = arrival_of(alloc, caller, key, message, moment, nonce)?;
-            to_arrival(registry, alloc, arrival)
-        }
-    }
+    let request = Request::of(alloc, asks(routes, request))?;
+    answer_request(registry, alloc, request, moment, nonce)
 }
 
 /// The response to the bytes of a request (RFC 9112): the one that is due after the arrivals so far. Bytes after the

@@ -12,7 +12,7 @@ ghost use Rattle.web.specs.Faults.{is_read, is_write, IfServed, IfUnserved};
 ghost use Rattle.web.specs.Nonces.{Draws, FailsBy};
 ghost use Rattle.web.specs.Served.{Served, Stopped};
 
-use crate::request::answer_by;
+use crate::request::answer_request;
 use crate::serve_fault::ServeFault;
 use crate::taking::{take_nonce, take_request};
 use http_requests::Routes;
@@ -75,7 +75,7 @@ pub fn serve_one<R: Source, W: Sink, S: Registry, N: Source>(
 {
     let request = take_request(routes, reader, alloc)?;
     let nonce = take_nonce(nonces)?;
-    let response = answer_by(routes, registry, alloc, &request, moment, &nonce)?;
+    let response = answer_request(registry, alloc, request, moment, &nonce)?;
     match write_all(writer, &response) {
         Ok(()) => Ok(()),
         Err(Failed) => Err(ServeFault::Write),

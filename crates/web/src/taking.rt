@@ -1,14 +1,18 @@
 //! Requests and nonces taken from where they come.
 
-ghost use Rattle.std.specs.Prelude.{◌≡◌, ◌<◌, ◌+◌, length, IfOk, IfErr, OnOk, if◌then◌else◌};
+ghost use Rattle.std.specs.Prelude.{◌≡◌, ◌<◌, ◌+◌, length, IfOk, IfErr, if◌then◌else◌};
 ghost use Rattle.std.specs.Io.KnownBytes.{Consumes};
+ghost use Rattle.http_requests.specs.Plans.{posted_with};
 ghost use Rattle.web.specs.Faults.{is_read, IsOfTaking};
-ghost use Rattle.web.specs.Requests.{IsFront, TakesMore, IsOneRequest};
+ghost use Rattle.web.specs.Requests.{IsFront, IsTaken, TakesBody};
 ghost use Rattle.web.specs.Nonces.{Draws, FailsBy};
 
+use crate::request::Request;
 use crate::serve_fault::ServeFault;
-use http_requests::{MAX_HEAD, Progress, Routes, body_size, progress_of, read_head};
+use http_requests::{MAX_HEAD, Plan, Progress, Routes, Spot, plan_of};
 use std::alloc::Global;
+use text::Text;
+use values::Refusal;
 use wire::{Source, read_full};
 
 /// Takes bytes one at a time, up to the first that tells whether a head comes.
@@ -20,12 +24,8 @@ fn take_front<R: Source>(source: &mut R, alloc: Global) -> Result<Vec<u8>, Serve
     ensures only { IfErr result IsOfTaking }
 {
     let mut taken = Vec::new(alloc);
+    let mut spot = Spot::start();
     for _count in 0..MAX_HEAD {
-        match progress_of(&taken) {
-            Progress::Waits => {}
-            Progress::Whole => return Ok(taken),
-            Progress::Hopeless => return Ok(taken),
-        }
         let mut byte = [0];
         let Ok(n) = source.read(&mut byte) else {
             return Err(ServeFault::Read);
@@ -36,54 +36,63 @@ fn take_front<R: Source>(source: &mut R, alloc: Global) -> Result<Vec<u8>, Serve
         let Ok(()) = taken.push(byte[0]) else {
             return Err(ServeFault::NoMemory);
         };
+        spot = spot.next(byte[0]);
+        match spot.progress(&taken) {
+            Progress::Waits => {}
+            Progress::Whole => return Ok(taken),
+            Progress::Hopeless => return Ok(taken),
+        }
     }
     Ok(taken)
 }
 
-/// Takes so many bytes more, or all there are.
-fn take_more<R: Source>(
+/// Takes a message of so many bytes, or all bytes there are.
+fn take_message<R: Source>(
     source: &mut R,
     alloc: Global,
-    taken: &mut Vec<u8>,
+    caller: &[u8],
+    key: &[u8],
     size: usize,
-) -> Result<(), ServeFault>
+) -> Result<Request, ServeFault>
     requires { R.failed source.old < u64.MAX }
-    ensures more { OnOk result (TakesMore (R.remaining source.old) (R.remaining source.new)
-        taken.old.items taken.new.items size) }
+    ensures body { IfOk result (TakesBody (R.remaining source.old) (R.remaining source.new) size
+        (posted_with caller.now key.now size)) }
     ensures failed { R.failed source.new ≡ (if is_read result then R.failed source.old + 1 else R.failed source.old) }
     ensures only { IfErr result IsOfTaking }
 {
-    let Ok(mut room) = vec![in alloc; 0; size] else {
+    let Ok(mut message) = vec![in alloc; 0; size] else {
         return Err(ServeFault::NoMemory);
     };
-    let Ok(n) = read_full(source, &mut room) else {
+    let Ok(n) = read_full(source, &mut message) else {
         return Err(ServeFault::Read);
     };
-    match taken.extend_from_slice(&room[..n]) {
-        Ok(()) => Ok(()),
-        Err(_) => Err(ServeFault::NoMemory),
+    if n < size {
+        return Ok(Request::Refused(Refusal::ShortBody));
     }
+    Ok(Request::Post {
+        caller: Text::from_slice(alloc, caller)?,
+        key: Text::from_slice(alloc, key)?,
+        message: Text::from_vec(message),
+    })
 }
 
-/// Takes the bytes of one request and no more.
+/// Takes the bytes of one request and no more. The head is parsed once, for what it asks.
 pub(crate) fn take_request<R: Source>(
     routes: &Routes,
     source: &mut R,
     alloc: Global,
-) -> Result<Vec<u8>, ServeFault>
+) -> Result<Request, ServeFault>
     requires { R.failed source.old < u64.MAX }
-    ensures consumed { IfOk result (λ taken. Consumes (R.remaining source.old) (R.remaining source.new) taken.items) }
-    ensures one { IfOk result (λ taken. IsOneRequest (R.remaining source.new) taken.items) }
+    ensures taken { IfOk result (IsTaken (R.remaining source.old) (R.remaining source.new)) }
     ensures failed { R.failed source.new ≡ (if is_read result then R.failed source.old + 1 else R.failed source.old) }
     ensures only { IfErr result IsOfTaking }
 {
-    let mut taken = take_front(source, alloc)?;
-    let size = match read_head(&taken) {
-        Some(head) => body_size(routes, &head),
-        None => return Ok(taken),
-    };
-    take_more(source, alloc, &mut taken, size)?;
-    Ok(taken)
+    let head = take_front(source, alloc)?;
+    match plan_of(routes, &head) {
+        Plan::Refused(refusal) => Ok(Request::Refused(refusal)),
+        Plan::Get(resource) => Ok(Request::Get(resource)),
+        Plan::Post { caller, key, size } => take_message(source, alloc, caller, key, size),
+    }
 }
 
 /// Takes a nonce.

@@ -5,6 +5,7 @@
 //! laid to it only where it failed. One that tells its bytes lets contracts say which were taken, also after a failure.
 #![tactic(auto)]
 
+mod buffered;
 mod cursor;
 mod failure;
 mod from_read;
@@ -15,6 +16,7 @@ mod sink;
 mod source;
 mod vec_sink;
 
+pub use buffered::Buffered;
 pub use cursor::Cursor;
 pub use failure::Failed;
 pub use from_read::FromRead;

@@ -2,5 +2,4 @@ use Rattle.sqlite_wal.specs.Files.{image_at}
 use Rattle.restart.proofs.opening.open_again.Goals as goal
 
 pub returns-in-Ok : goal.returns-in-Ok
-returns-in-Ok g c clean may o l history kept =
-    c.in-Ok.ensures.told clean o l history (kept (image_at g.T.Start) may)
+returns-in-Ok g c clean may o l kept = c.in-Ok.ensures.told clean o l (kept (image_at g.T.Start) may)

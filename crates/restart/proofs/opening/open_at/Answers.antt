@@ -1,6 +1,6 @@
 use Rattle.sqlite_wal.specs.Files.{image_at}
 use Rattle.sqlite.specs.Files.{file_state}
-use Rattle.restart.proofs.Opened.{blank_if_none, tells_what_is_held}
+use Rattle.restart.proofs.Opened.{blank_if_none, tells_former, tells_what_is_held}
 use Rattle.restart.proofs.opening.open_at.Goals as goal
 
 pub returns-in-Ok-clause-told : goal.returns-in-Ok-clause-told
@@ -13,3 +13,8 @@ pub returns-in-Ok-clause-blank : goal.returns-in-Ok-clause-blank
 returns-in-Ok-clause-blank g c clean =
     let opened = c.in-Ok.ensures.opened clean in
     blank_if_none (image_at g.S.Start) (file_state c.in-Ok.conn) opened.0 opened.1 (c.in-Ok.ensures.found clean)
+
+pub returns-in-Ok-clause-former : goal.returns-in-Ok-clause-former
+returns-in-Ok-clause-former g c clean =
+    let opened = c.in-Ok.ensures.opened clean in
+    tells_former (image_at g.S.Start) (file_state c.in-Ok.conn) opened.0 opened.1 (c.in-Ok.ensures.found clean)

@@ -6,10 +6,10 @@ use Rattle.sshoffice.proofs.database_opening.open_for.Goals as goal
 
 pub returns-in-Init : goal.returns-in-Init
 returns-in-Init g c =
-    subst (λ (job : OfficeJob). OpensFor g.D.Database job c.args.db.now c.open_new.result c.open_new.new.db)
-    (sym c.in-Init.is) c.open_new.ensures
+    subst (λ (job : OfficeJob). OpensFor g.W.World c.args.path.now job c.args.world.now c.open_new.result
+    c.open_new.new.world) (sym c.in-Init.is) c.open_new.ensures
 
 pub returns-in_default : goal.returns-in_default
 returns-in_default g c =
-    there_for g.D.Database c.args.job.now c.args.db.now c.open_there.result c.open_there.new.db c.in_default.not-Init
-    c.open_there.ensures
+    there_for g.W.World c.args.path.now c.args.job.now c.args.world.now c.open_there.result c.open_there.new.world
+    c.in_default.not-Init c.open_there.ensures

@@ -1,9 +1,33 @@
-use Rattle.std.proofs.Common.{ap, arith, refl, subst, sym}
+use Rattle.std.proofs.Common.{◌≡◌, Err, ap, arith, refl, subst, sym}
 use Rattle.sqlite.specs.Held.{state}
 use Rattle.sqlite.specs.State.{State, HasCleanDisk}
-use Rattle.sshoffice.specs.Making.{IsMoved}
+use Rattle.office.specs.declared.store_fault.StoreFault.{StoreFault}
+use Rattle.office.specs.declared.store_fault.StoreFault.TheVariants as store
+use Rattle.sshoffice.specs.declared.job_fault.JobFault.{JobFault}
+use Rattle.sshoffice.specs.Faults.{of_store}
+use Rattle.sshoffice.specs.Making.{IsMoved, IsUnmoved, Migrates}
 use Rattle.sshoffice.proofs.Unlike.{had_no_cas}
 use Rattle.sshoffice.proofs.migrating.migrate_over.Goals as goal
+
+unmoved : (e : StoreFault) (old new : State) → IsUnmoved old new e → Migrates old new (Err (of_store e))
+unmoved store.NoMemory old new u = u
+unmoved store.Device old new u = u
+unmoved store.AlreadyAnOffice old new u = u
+unmoved store.NotAnOffice old new u = u
+unmoved store.WrongSchema old new u = u
+unmoved store.Damaged old new u = u
+
+pub returns-in-Err-clause-migrates : goal.returns-in-Err-clause-migrates
+returns-in-Err-clause-migrates g c = λ clean.
+    let old = state g.S.Store c.args.conn in
+    let new = state g.S.Store c.in-Err.conn in
+    subst (λ (f : JobFault). Migrates old new (Err f)) (sym c.from.ensures) (unmoved c.in-Err.fault old new (record {
+      judged = c.in-Err.ensures.judged_back clean;
+      only = c.in-Err.ensures.only clean;
+      before = c.in-Err.ensures.before clean;
+      back = c.in-Err.ensures.back clean;
+      crash = c.in-Err.ensures.crash_back;
+    }))
 
 pub returns-in-Ok-clause-migrates : goal.returns-in-Ok-clause-migrates
 returns-in-Ok-clause-migrates g c = λ honest.

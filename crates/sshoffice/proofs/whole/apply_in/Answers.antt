@@ -8,9 +8,9 @@ pub returns-in-Ok : goal.returns-in-Ok
 returns-in-Ok g c = record {
   exchanges = Ok c.in-Ok.exchanges.items;
   are_of = c.in-Ok.ensures.found;
-  applied = subst (λ es. DoesIn g.S.Store g.D.Database c.args.db.now c.do_in.new.db (OpensThere g.D.Database)
-      (Applies es) [] (g.W.Write.contents c.args.out) (g.W.Write.contents c.do_in.result.1) c.do_in.result.0)
-      c.as_slice.ensures.value c.do_in.ensures;
+  applied = subst (λ es. DoesIn g.S.Store g.W.World g.W.Incoming.Listener.book c.args.world.now c.do_in.new.world
+      (OpensThere g.W.World c.args.db.now) (Applies es) [] (g.O.Write.contents c.args.out)
+      (g.O.Write.contents c.do_in.result.1) c.do_in.result.0) c.as_slice.ensures.value c.do_in.ensures;
 }
 
 pub returns-in-Err : goal.returns-in-Err

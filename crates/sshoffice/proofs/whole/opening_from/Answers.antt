@@ -5,13 +5,14 @@ use Rattle.office.specs.declared.opening.Opening.{Opening}
 use Rattle.sshoffice.specs.declared.founding.Founding.{Founding}
 use Rattle.sshoffice.specs.declared.job_fault.JobFault.{JobFault}
 use Rattle.sshoffice.specs.Faults.{IsOfAnOpening}
+use Rattle.sshoffice.specs.Making.{due_opening}
 use Rattle.sshoffice.specs.Reading.{IsKeyText}
-use Rattle.sshoffice.specs.Whole.{Begins, due_opening}
+use Rattle.sshoffice.specs.Whole.{Begins}
 use Rattle.sshoffice.proofs.whole.opening_from.Goals as goal
 
 begun : (file : Option (List ℕ)) (f : Founding) (k : KeyLine) (r : Result Opening JobFault)
     → IfSome file (λ text. IsKeyText text k) → IfOk r (λ o. due_opening f k.key ≡ Ok o)
-    → IfErr r (IsOfAnOpening (due_opening f k.key)) → Begins file f r
+    → IfErr r (IsOfAnOpening (due_opening f k.key)) → Begins file (due_opening f) r
 begun file f k (Ok o) read made fault = (k, read, made)
 begun file f k (Err e) read made fault = inr (k, read, fault)
 

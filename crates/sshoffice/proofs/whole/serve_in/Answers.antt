@@ -1,29 +1,44 @@
 use Rattle.std.proofs.Common.{◌≤◌, ℕ, Result, Ok, Err, refl, subst, sym}
 use Rattle.std.specs.Prelude.{IfOk}
 use Rattle.sqlite.specs.declared.error.Error.{Error}
+use Rattle.sqlite.specs.Held.{state}
 use Rattle.sshoffice.specs.Ending.{closed}
 use Rattle.sshoffice.specs.declared.job_fault.JobFault.{JobFault}
+use Rattle.sshoffice.proofs.Additions.{served as added}
+use Rattle.sshoffice.proofs.Found.{kept, opened_there, ready_there}
 use Rattle.sshoffice.proofs.whole.serve_in.Goals as goal
 
 -- a status is what it was once the database is closed
-kept : (done : Result ℕ JobFault) (closing : Result Unit Error) → IfOk done (λ s. s ≤ 1)
+status_kept : (done : Result ℕ JobFault) (closing : Result Unit Error) → IfOk done (λ s. s ≤ 1)
     → IfOk (closed done closing) (λ s. s ≤ 1)
-kept (Ok x) (Ok u) small = small
-kept (Ok x) (Err e) small = tt
-kept (Err e) closing small = tt
+status_kept (Ok x) (Ok u) small = small
+status_kept (Ok x) (Err e) small = tt
+status_kept (Err e) closing small = tt
 
 pub returns-in-Ok-clause-serves : goal.returns-in-Ok-clause-serves
 returns-in-Ok-clause-serves g c = record {
   found = Ok c.in-Ok.conn;
-  opened = c.open_there.new.db;
+  opened = c.open_there.new.world;
   is_opened = c.in-Ok.ensures;
   ran = record {
     outcome = c.serve_at_port-served.result.0;
     last = c.serve_at_port-served.result.1;
+    between = c.serve_at_port-served.new.world;
     did = c.serve_at_port-served.ensures.serves;
     honest = c.serve_at_port-served.ensures.honest;
-    closing = c.close.result;
-    is_closed = c.close.ensures;
+    closing = c.close_database.result;
+    is_closed = c.close_database.ensures;
+    keeps = kept g.S.Store g.W.World c.requires c.args.db.now c.open_there.new.world
+        c.serve_at_port-served.new.world c.close_database.new.self c.in-Ok.conn c.serve_at_port-served.result.1
+        c.close_database.result
+        (opened_there g.S.Store g.W.World c.requires c.args.db.now c.args.world.now c.in-Ok.conn
+        c.open_there.new.world c.in-Ok.ensures)
+        c.serve_at_port-served.ensures.honest
+        (λ was rest still clean. added (state g.S.Store c.in-Ok.conn) (state g.S.Store c.serve_at_port-served.result.1)
+        was rest still (λ trees may. g.met.S.Store.settled c.serve_at_port-served.result.1.store trees still may)
+        c.args.connections _ _ _ _ c.serve_at_port-served.result.0
+        (c.serve_at_port-served.ensures.serves.serves clean))
+        c.close_database.ensures;
     came = c.closed.ensures;
   };
 }
@@ -31,12 +46,22 @@ returns-in-Ok-clause-serves g c = record {
 pub returns-in-Ok-clause-status : goal.returns-in-Ok-clause-status
 returns-in-Ok-clause-status g c =
     subst (λ (r : Result ℕ JobFault). IfOk r (λ s. s ≤ 1)) (sym c.closed.ensures)
-    (kept c.serve_at_port-served.result.0 c.close.result c.serve_at_port-served.ensures.status)
+    (status_kept c.serve_at_port-served.result.0 c.close_database.result c.serve_at_port-served.ensures.status)
 
 pub returns-in-Err-clause-serves : goal.returns-in-Err-clause-serves
 returns-in-Err-clause-serves g c = record {
   found = Err c.in-Err.unopened;
-  opened = c.open_there.new.db;
+  opened = c.open_there.new.world;
   is_opened = c.in-Err.ensures;
   ran = (refl, (refl, refl));
 }
+
+pub serve_at_port-served-requires-clause-outside : goal.serve_at_port-served-requires-clause-outside
+serve_at_port-served-requires-clause-outside g c =
+    (ready_there g.S.Store g.W.World c.requires c.args.db.now c.args.world.now c.in-Ok.conn
+    c.open_there.new.world c.in-Ok.ensures).outside
+
+pub serve_at_port-served-requires-clause-unlimited : goal.serve_at_port-served-requires-clause-unlimited
+serve_at_port-served-requires-clause-unlimited g c =
+    (ready_there g.S.Store g.W.World c.requires c.args.db.now c.args.world.now c.in-Ok.conn
+    c.open_there.new.world c.in-Ok.ensures).unlimited

@@ -4,7 +4,7 @@ use Rattle.sqlite.specs.State.{HasCleanDisk}
 use Rattle.store.specs.Transactions.{Waits}
 use Rattle.store.proofs.Before.{concludes_before}
 use Rattle.store.proofs.Causes.{stops_for}
-use Rattle.store.proofs.Steps.{ends, left}
+use Rattle.store.proofs.Steps.{ends, left_due}
 use Rattle.store.specs.Arriving.{IsAfter, IsAnswered, IsAny, ExceedsTables, contents_with}
 use Rattle.store.proofs.taking.take.Goals as goal
 
@@ -33,7 +33,7 @@ returns-in-Ok g c =
           (end.concludes clean) (end.cause clean);
       before = λ clean. concludes_before old first last new r q (begins (early clean)) (part.stays (late clean))
           (end.concludes clean);
-      survives = left (IsAfter IsAny) (IsAnswered a) (contents_with a) old first last new r begins
+      survives = left_due (IsAfter IsAny) (IsAnswered a) (contents_with a) old first last new r begins
           (λ clean. part.settles clean tt) started
           part.survives end.survives;
     }

@@ -1,17 +1,22 @@
 use Rattle.std.proofs.Common.{◌≡◌, ℕ, List, Option, length}
 use Rattle.std.specs.Io.KnownBytes.{Consumes}
-use Rattle.http_requests.specs.Reading.{WaitsBefore}
+use Rattle.http_requests.specs.declared.growing.Spot.{Spot}
+use Rattle.http_requests.specs.declared.progress.Progress.TheVariants.{Waits}
+use Rattle.http_requests.specs.Places.{IsAt}
+use Rattle.http_requests.specs.Reading.{HasCome, WaitsBefore}
 use Rattle.web.proofs.taking.take_front.Given as goal
 
 -- so many bytes were taken, each while those before it waited, and no call failed
-pub record SoFar (old new : Option (List ℕ)) (was is : ℕ) (taken : List ℕ) (count : ℕ) : Type 0 where
+pub record SoFar (old new : Option (List ℕ)) (was is : ℕ) (spot : Spot) (taken : List ℕ) (count : ℕ) : Type 0 where
   pub consumed : Consumes old new taken
   pub shortest : WaitsBefore taken
+  pub waits : HasCome Waits taken
+  pub at : IsAt spot taken
   pub size : length taken ≡ count
   pub failed : is ≡ was
 
 abbrev pub invariant-loop-count : goal.invariant-loop-count
 invariant-loop-count g l =
     let source = g.R.Source in
-    SoFar (source.remaining l.fn.source) (source.remaining l.source) (source.failed l.fn.source) (source.failed l.source)
-    l.taken.items l._count
+    SoFar (source.remaining l.fn.source) (source.remaining l.source) (source.failed l.fn.source)
+    (source.failed l.source) l.spot l.taken.items l._count

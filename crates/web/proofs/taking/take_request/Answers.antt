@@ -1,24 +1,27 @@
-use Rattle.std.proofs.Common.{◌++◌, ◌∙◌, ℕ, List, ap, inl, subst, sym}
-use Rattle.http_requests.specs.Heads.{IsGood}
-use Rattle.http_requests.specs.Reading.{IsNoMore}
-use Rattle.http_requests.proofs.Reading.{good_with_body, no_more_of_waits}
+use Rattle.std.proofs.Common.{ℕ, List, refl, subst}
+use Rattle.http_requests.specs.declared.plan.Plan.TheVariants.{Refused, Get, Post}
+use Rattle.http_requests.specs.Plans.{Plans}
+use Rattle.web.proofs.Taken.{bodies_taken, front_taken}
 use Rattle.web.proofs.taking.take_request.Goals as goal
 
-pub returns-clause-one : goal.returns-clause-one
-returns-clause-one g c =
-    let front = c.deref.result.now in
-    let same = c.deref.ensures.value in
-    let more = c.in_ok-take_more.ensures.more in
-    let found = c.in-Some.ensures.found in
-    let P : List ℕ → Type 0 = IsNoMore in
-    let Q : List ℕ → Type 0 = λ t. IsGood t found.0 more.bytes in
-    let no_more = subst P (sym same) (no_more_of_waits c.in_ok-taken.taken.items c.in_ok-taken.ensures.front.shortest) in
-    let all = more.added ∙ ap (λ (t : List ℕ). t ++ more.bytes) (sym same) in
-    inl (record {
-      head = found.0;
-      body = more.bytes;
-      good = subst Q (sym all) (good_with_body front more.bytes _ found.0 found.1 no_more);
-      size = c.body_size-size.result;
-      wants = c.body_size-size.ensures found.0 found.1.0.reads.0 found.2;
-      filled = more.filled;
-    })
+pub returns-in-Refused-clause-taken : goal.returns-in-Refused-clause-taken
+returns-in-Refused-clause-taken g c =
+    let front = c.in_ok-head.ensures in
+    let P : List ℕ → Type 0 = λ t. Plans t (Refused c.in-Refused.refusal) in
+    front_taken _ _ c.in_ok-head.head.items (Refused c.in-Refused.refusal) _ front.consumed front.front
+    (subst P c.deref.ensures.value c.in-Refused.ensures) refl refl
+
+pub returns-in-Get-clause-taken : goal.returns-in-Get-clause-taken
+returns-in-Get-clause-taken g c =
+    let front = c.in_ok-head.ensures in
+    let P : List ℕ → Type 0 = λ t. Plans t (Get c.in-Get.resource) in
+    front_taken _ _ c.in_ok-head.head.items (Get c.in-Get.resource) _ front.consumed front.front
+    (subst P c.deref.ensures.value c.in-Get.ensures) refl refl
+
+pub returns-clause-taken : goal.returns-clause-taken
+returns-clause-taken g c =
+    let front = c.in_ok-head.ensures in
+    let plan = Post c.in-Post.caller c.in-Post.key c.in-Post.size in
+    let P : List ℕ → Type 0 = λ t. Plans t plan in
+    bodies_taken c.take_message.result _ _ _ c.in_ok-head.head.items plan front.consumed front.front
+    (subst P c.deref.ensures.value c.in-Post.ensures) (λ e. cc) c.take_message.ensures.body

@@ -1,14 +1,15 @@
-use Rattle.std.proofs.Common.{◌≡◌, [], false, sym, ap, ◌∙◌, arith}
+use Rattle.std.proofs.Common.{◌≡◌, [], false, true, sym, ap, ◌∙◌, arith}
 use Rattle.std.specs.List.{list_any}
 use Rattle.std.proofs.lemmas.Bool.{both_ways}
 use Rattle.sqlite.specs.Schema.{Schema}
-use Rattle.store_sql.specs.Look.{is_office_name}
+use Rattle.store_sql.specs.Look.{is_office_name, whole_has_tables}
 use Rattle.sqlite.specs.Held.{state}
 use Rattle.store.proofs.Before.{same_before}
-use Rattle.store.specs.Creating.{RefusesOpening}
+use Rattle.store.specs.Creating.{LeavesOnBlank, RefusesOpening}
+use Rattle.store.specs.Rows.{office_contents}
 use Rattle.store.proofs.ShortRows.{opening_fits}
 use Rattle.store.proofs.OfficeRows.{excused_unless}
-use Rattle.store.proofs.Telling.{left_committed}
+use Rattle.store.proofs.Telling.{keeps_telling, left_committed}
 use Rattle.store.proofs.register.Store.init.Goals as goal
 
 pub returns-in-Ok-clause-made : goal.returns-in-Ok-clause-made
@@ -38,3 +39,15 @@ returns-in-Err-clause-only g c clean blank =
 
 pub returns-then-has_any_table-clause-before : goal.returns-then-has_any_table-clause-before
 returns-then-has_any_table-clause-before g c clean = same_before (state g.S.Store c.args.conn)
+
+-- an open connection that told a history had the tables of an office
+pub returns-in-Err-clause-told : goal.returns-in-Err-clause-told
+returns-in-Err-clause-told g c clean =
+    let old = state g.S.Store c.args.conn in
+    let new = state g.S.Store c.create.new.conn in
+    keeps_telling old new (LeavesOnBlank (office_contents c.args.opening.now []) old) clean c.in-Err.ensures.survives
+    (λ still. (c.in-Err.ensures.ends clean still).0) (λ trees more. more.0)
+    (λ o l tells still.
+    let there : list_any is_office_name old.now.schema.tables ≡ true =
+    rw ((tells.rows still).now.schema) whole_has_tables in
+    absurd (both_ways _ (sym c.has_any_table.ensures ∙ c.if-has_any_table.false) there))

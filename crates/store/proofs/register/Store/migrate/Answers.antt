@@ -1,9 +1,14 @@
-use Rattle.std.proofs.Common.{◌∙◌}
-use Rattle.sqlite.specs.Held.{state}
-use Rattle.store.specs.Former.{former_contents}
+use Rattle.std.proofs.Common.{◌≡◌, true, drop, sym, subst, ◌∙◌}
+use Rattle.std.specs.List.{list_any}
+use Rattle.sqlite.specs.Held.{Held, state}
+use Rattle.store_sql.specs.Look.{first_is_office, is_ca_name, is_office_table, whole_has_ca}
+use Rattle.store_sql.specs.Schema.{whole}
+use Rattle.store.specs.Former.{Had, former_contents, migrated}
+use Rattle.store.specs.Meaning.{Tells}
+use Rattle.store.specs.Transactions.{Leaves}
 use Rattle.store.proofs.ShortRows.{first_ca_fits}
 use Rattle.store.proofs.OfficeRows.{excused_by_disk}
-use Rattle.store.proofs.Telling.{left_committed}
+use Rattle.store.proofs.Telling.{keeps_telling, left_committed}
 use Rattle.store.proofs.register.Store.migrate.Goals as goal
 
 pub returns-in-Ok-clause-carried : goal.returns-in-Ok-clause-carried
@@ -22,3 +27,18 @@ returns-in-Err-clause-only g c clean is_open o l history before =
     excused_by_disk (state g.S.Store c.args.conn) (state g.S.Store c.migrate.new.conn) (former_contents o l)
     c.in-Err.fault c.requires.unlimited (first_ca_fits o l history)
     ((c.in-Err.ensures.carries clean o l before).1 is_open)
+
+-- an open connection that told a history had the table of CAs, so that nothing was done
+pub returns-in-Err-clause-told : goal.returns-in-Err-clause-told
+returns-in-Err-clause-told g c clean =
+    let old = state g.S.Store c.args.conn in
+    let new = state g.S.Store c.migrate.new.conn in
+    keeps_telling old new (Leaves Had migrated old) clean c.in-Err.ensures.survives
+    (λ still. (c.in-Err.ensures.migrates clean still).0) (λ trees more. more.0)
+    (λ o l tells still.
+    let is = (tells.rows still).now.schema in
+    let first : list_any is_office_table old.now.schema.tables ≡ true =
+    rw (is) (first_is_office (drop 1 whole.tables)) in
+    let cas : list_any is_ca_name old.now.schema.tables ≡ true = rw (is) whole_has_ca in
+    let stays = (c.in-Err.ensures.already first cas).1 in
+    subst (λ (conn : Held _). Tells (state g.S.Store conn) o l) (sym stays) tells)

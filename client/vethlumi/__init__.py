@@ -1,0 +1,3 @@
+"""The client of an SSH certificate office: asks for certificates, revokes them, and looks at what the office has."""
+
+__version__ = "1.0"

@@ -1,0 +1,160 @@
+"""The command line's frame: settings, statuses, waiting, questions and files. The commands are in the other modules."""
+import contextlib
+import os
+import sys
+import tempfile
+import time
+
+import click
+from rich.console import Console
+
+from vethlumi import __version__, formats
+from vethlumi.formats import BadFormat
+from vethlumi.office import NoAnswer, Office, trying
+from vethlumi.outbox import Outbox
+from vethlumi.printing import say
+from vethlumi.refusals import Refused
+from vethlumi.settings import BAD_WORDS, FILES, NO_ANSWER, REFUSED, BadSettings, read_settings, state_folder
+
+
+class Job:
+    """What a command works with: the settings, and the office and the outbox once they are asked for."""
+
+    def __init__(self, settings, wait):
+        self.settings, self.ends, self.made = settings, time.monotonic() + wait, None
+        self.outbox = Outbox(state_folder())
+
+    @property
+    def office(self):
+        self.made = self.made or Office(self.settings)
+        return self.made
+
+    def send(self, message, is_reply):
+        """Sends a message, and the same one again until an answer comes or the wait is over. It stays in the outbox
+        until the reply was put to use. A refusal by the office means that it was never accepted. Returns what is kept,
+        and the reply as words."""
+        kept = self.outbox.keep(message)
+        try:
+            with waiting("waiting for the office's answer") as tell:
+                reply = trying(lambda: self.office.post(kept), self.ends, tell)
+        except Refused as refused:
+            if refused.number:
+                kept.drop()
+            raise
+        except NoAnswer as fault:
+            raise NoAnswer(f"{fault}\n  the message is kept: run this again, or vethlumi outbox --send") from None
+        if not is_reply(reply):
+            raise NoAnswer(f"what came is no answer that an office gives: {' '.join(reply)[:200]}")
+        return kept, reply
+
+    def policy(self):
+        """The departments of the settings' policy; none if no policy is set."""
+        file = self.settings.file("policy")
+        return read_departments(file) if file else {}
+
+
+@contextlib.contextmanager
+def waiting(what):
+    """Shows that something is waited for, and gives a function that tells why."""
+    console = Console(stderr=True, highlight=False, markup=False)
+    if console.is_terminal:
+        with console.status(what) as shown:
+            yield lambda why: shown.update(f"{what}: {why.partition(chr(10))[0][:100]}")
+        return
+    told = set()
+
+    def tell(why):
+        if why not in told:
+            told.add(why)
+            say(f"{what}: {why}")
+    yield tell
+
+
+class Group(click.Group):
+    """Ends with the status that belongs to what went wrong."""
+
+    def invoke(self, context):
+        try:
+            return super().invoke(context)
+        except Refused as refused:
+            say(refused)
+            context.exit(REFUSED)
+        except NoAnswer as fault:
+            say(f"no answer: {fault}")
+            context.exit(NO_ANSWER)
+        except (BadSettings, BadFormat) as fault:
+            say(fault)
+            context.exit(BAD_WORDS)
+        except UnicodeDecodeError:
+            say("a file isn't text")
+            context.exit(BAD_WORDS)
+        except BrokenPipeError:
+            raise
+        except OSError as fault:
+            say(f"{fault.filename or 'output'}: {fault.strerror}")
+            context.exit(BAD_WORDS)
+
+
+@click.group(cls=Group, context_settings={"help_option_names": ["-h", "--help"], "auto_envvar_prefix": "VETHLUMI"})
+@click.version_option(__version__, message="vethlumi %(version)s")
+@click.option("--config", metavar="FILE", help=f"settings, in place of {FILES[0]} or {FILES[1]}")
+@click.option("--office", metavar="URL", help="the front, such as https://office.example.org:8443")
+@click.option("--certificate", metavar="FILE", help="a client's key and certificate in one PEM file")
+@click.option("--cacert", metavar="FILE", help="the authority of the front's certificate, a PEM file")
+@click.option("--policy", metavar="FILE", help="the departments, as the guard beside the CA's key has them")
+@click.option("--caller", metavar="NAME", help="who asks, if URL is an office without a front")
+@click.option("--wait", metavar="TIME", default="10m", show_default=True, help="the longest wait for answers and signatures")
+@click.pass_context
+def main(context, config, wait, **given):
+    """Asks an SSH certificate office for certificates, revokes them, and shows what the office has.
+
+    A message that got no answer is kept on disk: run the same command again, and nothing happens twice. Times are
+    written 90 (seconds), 15m, 8h, 30d or 4w.
+
+    Exit status: 0 done, 1 refused, 2 invalid arguments or files, 3 no answer (the message is kept), 4 not signed yet.
+    """
+    context.obj = Job(read_settings(config, **given), formats.seconds_of(wait))
+
+
+pass_job = click.make_pass_decorator(Job)
+as_json = click.option("--json", "as_json", is_flag=True, help="print JSON")
+without_asking = click.option("--yes", is_flag=True, help="don't ask")
+
+
+def read_text(path):
+    with open(path, encoding="utf-8", newline="") as it:
+        return it.read()
+
+
+def read_departments(path):
+    try:
+        return formats.departments(read_text(path))
+    except BadFormat as fault:
+        raise BadFormat(f"{path}: {fault}") from None
+
+
+def put_file(path, text, mode=0o644):
+    """Puts a text into a file, whole or not at all."""
+    folder, name = os.path.split(os.path.abspath(path))
+    handle, new = tempfile.mkstemp(prefix=f".{name}.", dir=folder)
+    try:
+        with open(handle, "wb") as it:
+            it.write(text if isinstance(text, bytes) else text.encode("latin-1"))
+            it.flush()
+            os.fsync(it.fileno())
+        os.chmod(new, mode)
+        os.rename(new, path)
+    except OSError:
+        os.unlink(new)
+        raise
+
+
+def agreed(question, yes):
+    """Whether the person at the terminal agrees. If there is none, only --yes does."""
+    if not yes and not sys.stdin.isatty():
+        raise BadFormat(f"{question} Nobody can be asked here: give --yes")
+    return yes or click.confirm(question, err=True)
+
+
+def counted(count, word):
+    return f"{count} {word}{'s' * (count != 1)}"

@@ -1,0 +1,145 @@
+"""Commands for departments, and the rollover of the CA: what root may do."""
+import base64
+import difflib
+import sys
+import time
+
+import click
+
+from vethlumi import formats
+from vethlumi.cli import agreed, as_json, counted, main, pass_job, read_departments, read_text, without_asking
+from vethlumi.formats import BadFormat
+from vethlumi.office import trying
+from vethlumi.printing import print_json, print_table, say
+from vethlumi.settings import REFUSED, BadSettings
+
+
+@main.group()
+def department():
+    """Look at departments, compare them, and send them to the office."""
+
+
+policy_option = click.option("--policy", metavar="FILE",
+                             help="the departments to compare with, in place of the settings' policy")
+
+
+def policy_of(job, file):
+    if not file and not job.settings.policy:
+        raise BadSettings("no policy: set `policy` in the settings, or use --policy. An office gives no departments")
+    return read_departments(file) if file else job.policy()
+
+
+@department.command("show")
+@click.argument("names", metavar="[NAME..]", nargs=-1)
+@policy_option
+@as_json
+@pass_job
+def department_show(job, names, policy, as_json):
+    """Show the departments of the policy."""
+    known = policy_of(job, policy)
+    if missing := [it for it in names if it not in known]:
+        raise BadFormat(f"the policy has no department {missing[0]}")
+    chosen = [known[it] for it in names] or [*known.values()]
+    if as_json:
+        for it in chosen:
+            print_json({"name": it.name, "kind": it.kind, "admins": it.admins, "principals": it.principals,
+                        "options": it.options, "extensions": it.extensions, "maxlife": it.longest,
+                        "namespaces": it.namespaces})
+        return
+    click.echo("\n".join(it.text for it in chosen), nl=False)
+
+
+def changes(old, new):
+    """The lines in which two departments differ, as diff -u prints them."""
+    old_lines = old.text.splitlines() if old else []
+    return [*difflib.unified_diff(old_lines, new.text.splitlines(), "now", "then", lineterm="", n=8)]
+
+
+def affected(job, department):
+    """The certificates of a department that haven't ended and that it wouldn't permit, each with the reasons."""
+    rows, _ = job.office.table()
+    now = time.time()
+    found = []
+    for row in rows:
+        if row.department == department.name and row.state != "revoked" and row.before > now:
+            certificate = trying(lambda row=row: job.office.body(row.serial), job.ends, lambda why: None)
+            if objections := department.objections(certificate):
+                found.append((row, objections))
+    return found
+
+
+def tell_changes(job, old, new):
+    """Shows how a department changes, and which certificates it wouldn't permit any more. Whether there is a change."""
+    lines = changes(old, new)
+    for line in lines:
+        click.echo(click.style(line, fg={"+": "green", "-": "red"}.get(line[0])))
+    hit = affected(job, new)
+    if hit:
+        click.echo(f"{counted(len(hit), 'certificate')} that can still be used wouldn't be permitted:")
+        print_table(("serial", "state", "valid until", "key ID", "not permitted"),
+                    [(str(row.serial), row.state, formats.date(row.before), row.key_id, ", ".join(objections))
+                     for row, objections in hit], "")
+    return bool(lines)
+
+
+def chosen_of(file, names):
+    found = read_departments(file)
+    if missing := [it for it in names if it not in found]:
+        raise BadFormat(f"{file} has no department {missing[0]}")
+    if not found:
+        raise BadFormat(f"{file} has no department")
+    return [found[it] for it in names] or [*found.values()]
+
+
+@department.command("diff")
+@click.argument("file", metavar="FILE", type=click.Path(exists=True, dir_okay=False))
+@click.argument("names", metavar="[NAME..]", nargs=-1)
+@policy_option
+@pass_job
+def department_diff(job, file, names, policy):
+    """Compare the departments of FILE with the policy's, and say which certificates they wouldn't permit."""
+    known = policy_of(job, policy)
+    differ = [tell_changes(job, known.get(it.name), it) for it in chosen_of(file, names)]
+    if not any(differ):
+        click.echo("no difference")
+
+
+@department.command("put")
+@click.argument("file", metavar="FILE", type=click.Path(exists=True, dir_okay=False))
+@click.argument("names", metavar="[NAME..]", nargs=-1)
+@policy_option
+@without_asking
+@pass_job
+def department_put(job, file, names, policy, yes):
+    """Send the departments of FILE to the office, or those named, after showing what changes.
+
+    FILE has departments as the policy has them: eight lines each, with empty lines and comments between.
+    """
+    known = read_departments(policy) if policy else job.policy()
+    chosen = chosen_of(file, names)
+    if not yes:
+        for it in chosen:
+            tell_changes(job, known.get(it.name), it)
+        if not agreed(f"Send {counted(len(chosen), 'department')} to the office?", yes):
+            say("nothing was sent")
+            sys.exit(REFUSED)
+    for it in chosen:
+        kept, _ = job.send(it.text, lambda reply, name=it.name: reply == ["department", name])
+        kept.drop()
+        click.echo(f"department {it.name}")
+
+
+@main.command()
+@click.argument("public", metavar="KEY.pub", type=click.Path(exists=True, dir_okay=False))
+@without_asking
+@pass_job
+def rollover(job, public, yes):
+    """Make another key the CA. The older CAs stay valid for what they signed."""
+    key = formats.key_line(read_text(public))
+    print_ = formats.fingerprint(base64.b64decode(key.split()[1]))
+    if not agreed(f"Make {print_} the CA? Servers have to trust it before its first certificate is used.", yes):
+        say("nothing was sent")
+        sys.exit(REFUSED)
+    kept, reply = job.send(f"rollover {key}\n", lambda reply: reply[:1] == ["rollover"] and len(reply) == 4)
+    kept.drop()
+    click.echo(f"CA {reply[1]} is {print_}, from serial {reply[3]} on")

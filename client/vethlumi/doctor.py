@@ -1,0 +1,177 @@
+"""What a machine needs to work with an office, looked at from that machine."""
+import collections
+import email.utils
+import glob
+import os
+import socket
+import ssl
+import subprocess
+import time
+import urllib.parse
+
+import requests
+
+from vethlumi import formats
+from vethlumi.formats import BadFormat, Certificate
+from vethlumi.office import NoAnswer
+from vethlumi.refusals import Refused
+from vethlumi.settings import BadSettings
+
+Finding = collections.namedtuple("Finding", "state what found advice")
+# Seconds by which clocks may differ: certificates begin a minute in the past.
+CLOCKS = 30
+
+
+def ok(what, found):
+    return Finding("ok", what, found, "")
+
+
+def ending(what, moment, within, advice):
+    """What is found of something that ends at a moment."""
+    left = moment - time.time()
+    text = f"valid until {formats.date(min(int(moment), formats.LAST_MOMENT))}"
+    if left <= 0:
+        return Finding("bad", what, text.replace("valid until", "ended at"), advice)
+    return Finding("warn", what, text, advice) if left < within else ok(what, text)
+
+
+def front_findings(job, within):
+    """The front's certificate, by a connection of its own, and the client's certificate."""
+    url = urllib.parse.urlsplit(job.settings.url())
+    cacert, pem = job.settings.file("cacert"), job.settings.file("certificate")
+    if url.scheme != "https":
+        return [Finding("warn", "front", f"{url.geturl()} has no TLS",
+                        "without a front anybody on that machine is any caller, root too: docs/OPERATING.md, A front")]
+    found = []
+    try:
+        context = ssl.create_default_context(cafile=cacert)
+        if pem:
+            context.load_cert_chain(pem)
+        with socket.create_connection((url.hostname, url.port or 443), timeout=10) as plain, \
+                context.wrap_socket(plain, server_hostname=url.hostname) as secured:
+            ends = ssl.cert_time_to_seconds(secured.getpeercert()["notAfter"])
+        found.append(ending("front's certificate", ends, within, "on the front's machine: authority renew"))
+    except OSError as fault:
+        found.append(Finding("bad", "front's certificate", str(fault), "check `office` and `cacert` in the settings"))
+    if pem:
+        found.append(pem_finding(pem, within))
+    return found
+
+
+def pem_finding(pem, within):
+    done = subprocess.run(["openssl", "x509", "-in", pem, "-noout", "-enddate"], capture_output=True, text=True)
+    name, _, end = done.stdout.strip().partition("=")
+    if done.returncode or name != "notAfter":
+        return Finding("bad", "client's certificate", f"{pem} has none", "copy the bundle from the authority again")
+    return ending("client's certificate", ssl.cert_time_to_seconds(end), within,
+                  "ask whoever keeps the front's authority for a new bundle")
+
+
+def clock_finding(job):
+    """This machine's clock beside the front's, as its answer is dated."""
+    try:
+        answer = job.office.session.get(f"{job.office.url}/v1/cas", timeout=10, allow_redirects=False)
+        theirs = email.utils.parsedate_to_datetime(answer.headers["date"]).timestamp()
+    except (requests.RequestException, KeyError, ValueError):
+        return []
+    apart = round(abs(time.time() - theirs))
+    if apart > CLOCKS:
+        return [Finding("bad", "clock", f"{apart} s from the front's", "set both clocks: timedatectl set-ntp true")]
+    return [ok("clock", f"{apart} s from the front's")]
+
+
+def office_findings(job, within):
+    try:
+        cas = job.office.cas()
+        found = [ok("office", f"answers; {len(cas)} of 8 CAs")]
+    except (NoAnswer, Refused, BadFormat, ValueError) as fault:
+        return [Finding("bad", "office", line_of(fault), "see whether the office runs: systemctl status office")]
+    try:
+        rows, version = job.office.table()
+    except (NoAnswer, Refused, BadFormat) as fault:
+        return [*found, Finding("warn", "table", line_of(fault), "only clients with a certificate may read it")]
+    now = time.time()
+    waiting = [it for it in rows if it.state == "pending" and it.after < now - 300]
+    found.append(ok("signing station", "nothing has waited for five minutes") if not waiting else
+                 Finding("warn", "signing station", f"{len(waiting)} unsigned for five minutes", "see whether it runs"))
+    soon = sum(it.state == "signed" and it.after <= now < it.before < now + within for it in rows)
+    return [*found, ok("list", f"version {version} at the office"),
+            ok("certificates", f"{soon} end soon: vethlumi certs --ends-within TIME")]
+
+
+def line_of(fault):
+    return str(fault).partition("\n")[0]
+
+
+def sshd_settings():
+    """What sshd -T prints, as a dictionary; None where sshd isn't here or this user may not ask."""
+    try:
+        done = subprocess.run(["sshd", "-T"], capture_output=True, text=True, timeout=10,
+                              env=os.environ | {"PATH": f"{os.environ.get('PATH', '')}:/usr/sbin:/sbin"})
+    except (OSError, subprocess.TimeoutExpired):
+        return None
+    if done.returncode:
+        return None
+    return {name: value for name, _, value in (line.partition(" ") for line in done.stdout.splitlines())}
+
+
+def sshd_findings(job, krl, fresh):
+    settings = sshd_settings()
+    if settings is None:
+        found = [ok("sshd", "not looked at: it isn't here, or only root may ask it")]
+    else:
+        found = [server_setting(settings, "trustedusercakeys", "TrustedUserCAKeys"),
+                 server_setting(settings, "revokedkeys", "RevokedKeys")]
+        krl = krl or settings.get("revokedkeys", "none")
+    return found + (list_findings(job, krl, fresh) if krl and krl != "none" else [])
+
+
+def server_setting(settings, name, word):
+    value = settings.get(name, "none")
+    if value == "none":
+        return Finding("bad", f"sshd {word}", "isn't set", f"set {word} in sshd_config: docs/OPERATING.md")
+    if not os.path.exists(value):
+        return Finding("bad", f"sshd {word}", f"{value} isn't there", "fetch it: sshd refuses certificates meanwhile")
+    return ok(f"sshd {word}", value)
+
+
+def list_findings(job, krl, fresh):
+    try:
+        with open(krl, "rb") as it:
+            here = formats.RevocationList.of(it.read())
+        age = time.time() - os.stat(krl).st_mtime
+    except (OSError, BadFormat) as fault:
+        return [Finding("bad", "list here", str(fault), "fetch it: fetch-list")]
+    text = f"version {here.version}, fetched {round(age)} s ago"
+    found = [ok("list here", text) if age <= fresh else
+             Finding("bad", "list here", text, "see why office-list.timer doesn't fetch it")]
+    try:
+        theirs = formats.RevocationList.of(job.office.list_bytes())
+    except (NoAnswer, Refused, BadFormat):
+        return found
+    if theirs.version > here.version:
+        found.append(Finding("warn", "list here", f"the office is at version {theirs.version}", "fetch it"))
+    return found
+
+
+def local_findings(within):
+    """The certificates of this user and of this host."""
+    found = []
+    for path in sorted(glob.glob(os.path.expanduser("~/.ssh/*-cert.pub")) + glob.glob("/etc/ssh/*-cert.pub")):
+        try:
+            with open(path, encoding="utf-8") as it:
+                certificate = Certificate.of_line(it.read())
+        except (OSError, BadFormat, UnicodeDecodeError):
+            continue
+        found.append(ending(path, certificate.before, within, f"vethlumi renew {path}"))
+    return found
+
+
+def findings(job, within, krl, fresh):
+    """All that was looked at."""
+    try:
+        job.settings.url()
+    except BadSettings as fault:
+        return [Finding("bad", "settings", str(fault), "")]
+    return [*front_findings(job, within), *clock_finding(job), *office_findings(job, within),
+            *sshd_findings(job, krl, fresh), *local_findings(within)]

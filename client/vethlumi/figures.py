@@ -1,0 +1,38 @@
+"""Metrics of an office, in the text format that Prometheus reads."""
+import time
+
+from vethlumi import formats
+
+
+def figures(office, last):
+    """Name, help and values of each metric; a value has labels and a number."""
+    begun, now = time.monotonic(), time.time()
+    cas, (rows, _) = office.cas(), office.table()
+    found = formats.RevocationList.of(office.list_bytes())
+    counts = {(kind, state): 0 for kind in ("user", "host") for state in ("pending", "signed", "revoked")}
+    valid = {"user": 0, "host": 0}
+    for row in rows:
+        counts[row.kind, row.state] += 1
+        valid[row.kind] += row.state == "signed" and row.after <= now < row.before
+    waiting = [row.after for row in rows if row.state == "pending"]
+    following = max([int(cas[0][1]), *[row.serial + 1 for row in rows]])
+    return [
+        ("certificates", "Certificates by kind and state.",
+         [(f'{{kind="{kind}",state="{state}"}}', count) for (kind, state), count in counts.items()]),
+        ("certificates_valid", "Certificates that are signed, not revoked, and valid now.",
+         [(f'{{kind="{kind}"}}', count) for kind, count in valid.items()]),
+        ("pending_since_seconds", "Seconds since the first validity of those that wait for a signature began.",
+         [("", max(0, round(now - min(waiting))) if waiting else 0)]),
+        ("serials_left", "Serials that are not handed out yet.", [("", max(0, last - following + 1))]),
+        ("list_version", "Version of the key revocation list.", [("", found.version)]),
+        ("list_versions_left", "Changes that the list can still have.", [("", formats.LAST_SERIAL - found.version)]),
+        ("list_changed_timestamp_seconds", "When the list changed last, by the office's clock.", [("", found.moment)]),
+        ("list_bytes", "Length of the list.", [("", found.length)]),
+        ("cas", "CAs of the office, at most 8.", [("", len(cas))]),
+        ("answer_seconds", "Seconds that the three pages took together.", [("", round(time.monotonic() - begun, 6))]),
+    ]
+
+
+def printed(name, text, values):
+    lines = [f"office_{name}{labels} {value}\n" for labels, value in values]
+    return f"# HELP office_{name} {text}\n# TYPE office_{name} gauge\n{''.join(lines)}"

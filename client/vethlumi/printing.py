@@ -1,0 +1,46 @@
+"""What is printed: tables for people, JSON for programs; colours on a terminal alone."""
+import json
+import sys
+
+import click
+from rich.console import Console
+from rich.table import Table
+
+COLOURS = {"signed": "green", "pending": "yellow", "revoked": "red", "ok": "green", "warn": "yellow", "bad": "red"}
+
+
+def console():
+    return Console(highlight=False, markup=False, emoji=False, width=None if sys.stdout.isatty() else 200)
+
+
+def print_json(record):
+    click.echo(json.dumps(record, ensure_ascii=False))
+
+
+def print_table(columns, rows, empty):
+    """Prints rows of texts under columns, or what is said where there is none."""
+    if not rows:
+        click.echo(empty)
+        return
+    made = Table(box=None, pad_edge=False, header_style="bold", show_edge=False)
+    for name in columns:
+        made.add_column(name, justify="right" if name in ("serial", "serials", "since") else "left", overflow="fold")
+    for row in rows:
+        made.add_row(*row, style=next((COLOURS[it] for it in row if it in COLOURS), None))
+    console().print(made)
+
+
+def print_fields(record):
+    """Prints a record, a field on a line."""
+    width = max(map(len, record)) + 2
+    for name, value in record.items():
+        if isinstance(value, dict):
+            value = ", ".join(f"{key} {text}".strip() for key, text in value.items())
+        elif isinstance(value, list):
+            value = ", ".join(map(str, value))
+        click.echo(f"{name:{width}}{value}".rstrip())
+
+
+def say(text):
+    """Tells people something beside the output."""
+    click.echo(f"vethlumi: {text}", err=True)

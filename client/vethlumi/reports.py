@@ -1,0 +1,130 @@
+"""Commands that look: status, list, signers, figures, outbox, doctor."""
+import sys
+import time
+
+import click
+
+from vethlumi import doctor, figures, formats
+from vethlumi.certificates import STATES
+from vethlumi.cli import as_json, main, pass_job, put_file, read_text
+from vethlumi.formats import BadFormat, Certificate
+from vethlumi.office import NoAnswer, trying
+from vethlumi.printing import print_fields, print_json, print_table, say
+from vethlumi.refusals import Refused
+from vethlumi.settings import NO_ANSWER, REFUSED
+
+
+@main.command()
+@as_json
+@pass_job
+def status(job, as_json):
+    """Show the office's CAs, counts and list, and the messages that wait for an answer."""
+    cas, (rows, version) = job.office.cas(), job.office.table()
+    now = time.time()
+    record = {
+        "office": job.office.url,
+        "cas": [{"number": number, "since": str(since), "fingerprint": print_} for number, since, print_ in cas],
+        "certificates": len(rows),
+        **{state: sum(it.state == state for it in rows) for state in STATES},
+        "valid": sum(it.state == "signed" and it.after <= now < it.before for it in rows),
+        "list version": str(version),
+        "outbox": len(job.outbox.all()),
+    }
+    if as_json:
+        print_json(record)
+        return
+    print_fields({name: value for name, value in record.items() if name != "cas"})
+    print_table(("CA", "since", "fingerprint"),
+                [(str(it["number"]), it["since"], it["fingerprint"]) for it in record["cas"]], "")
+
+
+@main.command("list")
+@click.option("--out", metavar="FILE", help="write the list's bytes to a file")
+@click.option("--check", metavar="FILE", help="say whether the list revokes the certificate in a file")
+@as_json
+@pass_job
+def list_(job, out, check, as_json):
+    """Show the revocation list (KRL), or fetch it."""
+    data = job.office.list_bytes()
+    found = formats.RevocationList.of(data)
+    if check:
+        is_revoked = found.revokes(Certificate.of_line(read_text(check)))
+        print_json({"revoked": is_revoked}) if as_json else click.echo("revoked" if is_revoked else "clear")
+        return
+    if out:
+        put_file(out, data)
+        click.echo(f"{out} version {found.version}")
+        return
+    record = found.as_record()
+    if as_json:
+        print_json(record)
+        return
+    print_fields({name: record[name] for name in ("version", "date", "bytes")})
+    for section in record["cas"]:
+        print_fields(section)
+
+
+@main.command()
+@pass_job
+def signers(job):
+    """Print the allowed signers, as ssh-keygen -Y verify reads them."""
+    click.echo(job.office.text("/v1/signers"), nl=False)
+
+
+@main.command("figures")
+@click.option("--last", type=click.IntRange(1, formats.LAST_SERIAL), default=formats.LAST_SERIAL,
+              help="the office's last serial")
+@pass_job
+def figures_(job, last):
+    """Print metrics in Prometheus' text format."""
+    answered = "up", "Whether the office answered."
+    try:
+        found = figures.figures(job.office, last)
+    except (NoAnswer, Refused, BadFormat) as fault:
+        click.echo(figures.printed(*answered, [("", 0)]), nl=False)
+        say(fault)
+        sys.exit(NO_ANSWER if isinstance(fault, NoAnswer) else REFUSED)
+    click.echo("".join(figures.printed(*it) for it in [(*answered, [("", 1)]), *found]), nl=False)
+
+
+@main.command()
+@click.option("--send", is_flag=True, help="send each of them again")
+@click.option("--drop", metavar="ID", help="give one up: it may have been accepted all the same")
+@as_json
+@pass_job
+def outbox(job, send, drop, as_json):
+    """Show the messages whose answer isn't here yet."""
+    kept = job.outbox.all()
+    if drop:
+        found = next((it for it in kept if it.key == drop), None)
+        if not found:
+            raise BadFormat(f"the outbox has no message {drop}")
+        found.drop()
+        return
+    for it in kept:
+        line = it.message.partition("\n")[0]
+        reply = " ".join(trying(lambda it=it: job.office.post(it), job.ends, say)) if send else ""
+        print_json({"id": it.key, "message": it.message, "reply": reply}) if as_json \
+            else click.echo(f"{it.key}  {line}{'  ' * bool(reply)}{reply}")
+        # A certificate is fetched by the command that asked for it, which finds the message here.
+        if reply and not reply.startswith("issued"):
+            it.drop()
+    if not kept and not as_json:
+        click.echo("the outbox is empty")
+
+
+@main.command("doctor")
+@click.option("--within", metavar="TIME", default="14d", show_default=True, help="warn of what ends within this time")
+@click.option("--krl", metavar="FILE", help="the list that sshd reads [what sshd -T says]")
+@click.option("--fresh", metavar="TIME", default="1h", show_default=True, help="the oldest that this file may be")
+@as_json
+@pass_job
+def doctor_(job, within, krl, fresh, as_json):
+    """Look at everything that this machine needs: the front, clocks, certificates, the list, and sshd's settings."""
+    found = doctor.findings(job, formats.seconds_of(within), krl, formats.seconds_of(fresh))
+    if as_json:
+        for it in found:
+            print_json(it._asdict())
+    else:
+        print_table(("", "what", "found", "what to do"), [(it.state, it.what, it.found, it.advice) for it in found], "")
+    sys.exit(any(it.state == "bad" for it in found))

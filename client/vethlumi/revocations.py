@@ -1,0 +1,54 @@
+"""The command that revokes certificates."""
+import os
+import sys
+import time
+
+import click
+
+from vethlumi import formats
+from vethlumi.certificates import print_rows
+from vethlumi.cli import agreed, counted, main, pass_job, read_text, without_asking
+from vethlumi.formats import BadFormat, Certificate
+from vethlumi.printing import say
+from vethlumi.settings import REFUSED
+
+
+def revocation_of(what, keyid, job):
+    """The message that revokes this, and a test of a row that it hits."""
+    low, dash, high = what.partition("-")
+    if keyid:
+        pass
+    elif what.isdecimal():
+        return f"revoke-serial {int(what)}\n", lambda row: row.serial == int(what)
+    elif dash and low.isdecimal() and high.isdecimal():
+        return f"revoke-range {int(low)} {int(high)}\n", lambda row: int(low) <= row.serial <= int(high)
+    elif os.path.exists(what):
+        found = Certificate.of_line(read_text(what))
+        if formats.fingerprint(found.ca) not in [print_ for _, _, print_ in job.office.cas()]:
+            raise BadFormat(f"{what} was issued by a CA that isn't one of this office's")
+        return f"revoke-serial {found.serial}\n", lambda row: row.serial == found.serial
+    if not formats.KEY_ID.fullmatch(what):
+        raise BadFormat(f"{what!r} is no serial, no range LOW-HIGH, no file, and no key ID")
+    return f"revoke-keyid {what}\n", lambda row: row.key_id == what
+
+
+@main.command()
+@click.argument("what", metavar="SERIAL|LOW-HIGH|KEYID|FILE")
+@click.option("--keyid", is_flag=True, help="take the argument for a key ID, even if a file has this name")
+@without_asking
+@pass_job
+def revoke(job, what, keyid, yes):
+    """Revoke certificates, for good: by serial, by a range of serials, by key ID, or by a certificate's file."""
+    message, hits = revocation_of(what, keyid, job)
+    if not yes:
+        rows, _ = job.office.table()
+        hit = [it for it in rows if hits(it)]
+        print_rows(hit)
+        now = time.time()
+        living = sum(it.before > now and it.state != "revoked" for it in hit)
+        if not agreed(f"Revoke {counted(len(hit), 'certificate')}, {living} of which can still be used?", yes):
+            say("nothing was revoked")
+            sys.exit(REFUSED)
+    kept, reply = job.send(message, lambda reply: reply[:2] == ["revoked", "version"] and len(reply) == 3)
+    kept.drop()
+    click.echo(f"revoked; the list has version {reply[2]}")

@@ -1,0 +1,68 @@
+"""Settings: where the office is, and who asks. Options of the command line override those of a TOML file."""
+import os
+import pathlib
+import tomllib
+from dataclasses import dataclass, fields
+
+# The statuses with which a command ends, beside 0.
+REFUSED, BAD_WORDS, NO_ANSWER, NOT_SIGNED = 1, 2, 3, 4
+FILES = ("~/.config/vethlumi.toml", "/etc/vethlumi/client.toml")
+
+
+class BadSettings(Exception):
+    """A file of settings that can't be used, or a setting that is missing. Its text says which."""
+
+
+@dataclass
+class Settings:
+    """office: the URL of the front, such as https://office.example.org:8443, or of the office itself. certificate: a
+    PEM file with a client's key and certificate. cacert: a PEM file with the authority of the front's certificate.
+    policy: a file of departments. caller: who asks, if `office` is an office without a front."""
+    office: str = ""
+    certificate: str = ""
+    cacert: str = ""
+    policy: str = ""
+    caller: str = ""
+
+    def url(self):
+        if not self.office.startswith(("https://", "http://")):
+            raise BadSettings(f"no office: set `office` to its URL in {FILES[0]}, or use --office" if not self.office
+                              else f"{self.office!r} is no URL that begins with https:// or http://")
+        return self.office.rstrip("/")
+
+    def file(self, name):
+        """The path of a setting that names a file, or None where it isn't set."""
+        path = getattr(self, name)
+        if not path:
+            return None
+        path = pathlib.Path(path).expanduser()
+        if not os.access(path, os.R_OK):
+            raise BadSettings(f"can't read {path}, which the setting {name} names")
+        return str(path)
+
+
+def read_settings(path=None, **given):
+    """The settings of a file, or of the first of the usual ones that exists, under what was given."""
+    made = Settings()
+    names = [it.name for it in fields(Settings)]
+    paths = [pathlib.Path(it).expanduser() for it in ([path] if path else FILES)]
+    for file in [it for it in paths if path or it.exists()][:1]:
+        try:
+            with open(file, "rb") as it:
+                found = tomllib.load(it)
+        except (OSError, ValueError) as fault:
+            raise BadSettings(f"{file}: {fault}") from None
+        for name, value in found.items():
+            if name not in names or not isinstance(value, str):
+                raise BadSettings(f"{file}: {name} is no setting with a text; settings are {', '.join(names)}")
+            setattr(made, name, value)
+    for name, value in given.items():
+        if value:
+            setattr(made, name, value)
+    return made
+
+
+def state_folder():
+    """The folder of the outbox."""
+    base = os.environ.get("XDG_STATE_HOME") or os.path.expanduser("~/.local/state")
+    return pathlib.Path(base) / "vethlumi"

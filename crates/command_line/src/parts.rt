@@ -1,0 +1,166 @@
+//! The parts of a command: its options, its words and its jobs.
+
+ghost use Rattle.std.specs.Prelude.{◌≡◌, [], IfOk, map};
+ghost use Rattle.clap.specs.Words.{App, Shape, app_of, with_subcommand};
+ghost use Rattle.command_line.specs.Command.{IsArgument, IsSubcommand, number, number_word, optional, optional_number};
+ghost use Rattle.command_line.specs.Command.{required, subcommand, word, words};
+ghost use Rattle.command_line.specs.Parts.{rule_of_part};
+
+use clap::builder::ValueParser;
+use clap::{Arg, ArgAction, Command};
+use std::alloc::{AllocError, Global};
+
+/// An option or word of a job: its name, what help calls its value, its limits and what help says of it.
+#[derive(Clone, Copy)]
+pub enum Part<'a> {
+    /// `--name VALUE`, which may be left out.
+    Optional(&'a str, &'a str, &'a str),
+    /// `--name VALUE`, which must be given.
+    Required(&'a str, &'a str, &'a str),
+    /// `--name N`, with a number within the limits.
+    Number(&'a str, &'a str, u64, u64, &'a str),
+    /// `--name N`, with a number within the limits, which may be left out.
+    OptionalNumber(&'a str, &'a str, u64, u64, &'a str),
+    /// A word by its place.
+    Word(&'a str, &'a str),
+    /// A number by its place, within the limits.
+    NumberWord(&'a str, u64, u64, &'a str),
+    /// One word or more, at the end.
+    Words(&'a str, &'a str),
+}
+
+// `--name VALUE`, which may be left out.
+fn optional<'a>(alloc: Global, name: &'a str, value: &'a str, help: &'a str) -> Arg<'a>
+    ensures { IsArgument (optional name.entry.now) result }
+{
+    Arg::new(alloc, name)
+        .long(name)
+        .value_name(value)
+        .help(help)
+}
+
+// `--name VALUE`, which must be given.
+fn required<'a>(alloc: Global, name: &'a str, value: &'a str, help: &'a str) -> Arg<'a>
+    ensures { IsArgument (required name.entry.now) result }
+{
+    optional(alloc, name, value, help).required(true)
+}
+
+// `--name N`, with a number from `low` to `high`.
+fn number<'a>(
+    alloc: Global,
+    name: &'a str,
+    value: &'a str,
+    low: u64,
+    high: u64,
+    help: &'a str,
+) -> Arg<'a>
+    ensures { IsArgument (number name.entry.now low high) result }
+{
+    required(alloc, name, value, help).value_parser(ValueParser::Unsigned(low, high))
+}
+
+// `--name N`, with a number from `low` to `high`, which may be left out.
+fn optional_number<'a>(
+    alloc: Global,
+    name: &'a str,
+    value: &'a str,
+    low: u64,
+    high: u64,
+    help: &'a str,
+) -> Arg<'a>
+    ensures { IsArgument (optional_number name.entry.now low high) result }
+{
+    optional(alloc, name, value, help).value_parser(ValueParser::Unsigned(low, high))
+}
+
+// A word by its place.
+fn word<'a>(alloc: Global, name: &'a str, help: &'a str) -> Arg<'a>
+    ensures { IsArgument (word name.entry.now) result }
+{
+    Arg::new(alloc, name).required(true).help(help)
+}
+
+// A number by its place, from `low` to `high`.
+fn number_word<'a>(alloc: Global, name: &'a str, low: u64, high: u64, help: &'a str) -> Arg<'a>
+    ensures { IsArgument (number_word name.entry.now low high) result }
+{
+    word(alloc, name, help).value_parser(ValueParser::Unsigned(low, high))
+}
+
+// One word or more, at the end.
+fn words<'a>(alloc: Global, name: &'a str, help: &'a str) -> Arg<'a>
+    ensures { IsArgument (words name.entry.now) result }
+{
+    word(alloc, name, help).action(ArgAction::Append)
+}
+
+/// A command with no options and words yet: its name, what it does, and what its help says at the end.
+pub fn plain_command<'a>(alloc: Global, name: &'a str, about: &'a str, more: &'a str) -> Command<'a>
+    ensures { IsSubcommand (subcommand name.entry.now []) result }
+{
+    Command::new(alloc, name).about(about).after_help(more)
+}
+
+// What clap takes for a part.
+fn argument<'a>(alloc: Global, part: Part<'a>) -> Arg<'a>
+    ensures { IsArgument (rule_of_part part.entry) result }
+{
+    match part {
+        Part::Optional(name, value, help) => optional(alloc, name, value, help),
+        Part::Required(name, value, help) => required(alloc, name, value, help),
+        Part::Number(name, value, low, high, help) => number(alloc, name, value, low, high, help),
+        Part::OptionalNumber(name, value, low, high, help) => {
+            optional_number(alloc, name, value, low, high, help)
+        }
+        Part::Word(name, help) => word(alloc, name, help),
+        Part::NumberWord(name, low, high, help) => number_word(alloc, name, low, high, help),
+        Part::Words(name, help) => words(alloc, name, help),
+    }
+}
+
+/// A command with these options and words.
+///
+/// # Errors
+///
+/// Memory was refused.
+pub fn job_command<'a>(
+    alloc: Global,
+    name: &'a str,
+    about: &'a str,
+    more: &'a str,
+    parts: &[Part<'a>],
+) -> Result<Command<'a>, AllocError>
+    ensures { IfOk result (IsSubcommand (subcommand name.entry.now (map rule_of_part parts.now))) }
+{
+    let mut command = plain_command(alloc, name, about, more);
+    for part in parts {
+        command = command.arg(argument(alloc, *part))?;
+    }
+    Ok(command)
+}
+
+/// A command with one more job, unless memory was refused for one of them.
+///
+/// # Errors
+///
+/// Memory was refused.
+pub fn with_job<'a>(
+    app: Result<Command<'a>, AllocError>,
+    job: Result<Command<'a>, AllocError>,
+) -> Result<Command<'a>, AllocError>
+    ensures { (of : App) (shape : Shape) → IfOk app.entry (λ c. app_of c ≡ of)
+        → IfOk job.entry (IsSubcommand shape) → IfOk result (λ c. app_of c ≡ with_subcommand of shape) }
+{
+    match (app, job) {
+        (Ok(app), Ok(job)) => app.subcommand(job),
+        (Err(refused), job) => {
+            drop(job);
+            Err(refused)
+        }
+        (Ok(app), Err(refused)) => {
+            drop(app);
+            Err(refused)
+        }
+    }
+}

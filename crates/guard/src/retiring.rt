@@ -1,0 +1,81 @@
+//! A guard's last serial, lowered.
+
+ghost use Rattle.std.specs.Prelude.{◌≡◌, ◌<◌, ◌^◌, IfOk};
+ghost use Rattle.guard.specs.Machine.{State};
+ghost use Rattle.guard.specs.Retirement.{Retires, is_approved_over};
+
+use crate::register::{Register, RegisterFault};
+use std::alloc::Global;
+
+/// Why a last serial is not lowered, in the order in which it is looked at.
+#[derive(Clone, Copy, Debug, PartialEq, Eq)]
+pub enum RetireFault {
+    /// The register did not answer.
+    Register(RegisterFault),
+    /// The serial is below the guard's first one, or over its last.
+    BadSerials,
+    /// A body is approved under a serial over this one.
+    SerialApproved,
+}
+
+impl From<RegisterFault> for RetireFault {
+    ghost use Rattle.guard.specs.declared.retiring.RetireFault.TheVariants.{Register};
+
+    ghost from_gives = { λ fault e. e ≡ Register fault };
+
+    fn from(fault: RegisterFault) -> RetireFault {
+        RetireFault::Register(fault)
+    }
+}
+
+/// Whether a body is approved under a serial over this one.
+#[tactic(auto, using(crate::proofs::Retired::none_over))]
+fn is_approved_over<R: Register>(
+    alloc: Global,
+    register: &mut R,
+    last: u64,
+) -> Result<bool, RegisterFault>
+    ensures honest { R.is_honest register.new → R.is_honest register.old }
+    ensures over { R.is_honest register.new → (s : State) → R.keeps register.old s
+        → IfOk result (λ found. last < u64.MAX → found ≡ is_approved_over s last) }
+    ensures same { R.is_honest register.new → (s : State) → R.keeps register.old s → R.keeps register.new s }
+{
+    if last == u64::MAX {
+        return Ok(false);
+    }
+    match register.row_from(alloc, last + 1) {
+        Ok(Some(row)) => {
+            drop(row);
+            Ok(true)
+        }
+        Ok(None) => Ok(false),
+        Err(fault) => Err(fault),
+    }
+}
+
+/// Makes this the last serial that may be signed, as for a CA that another one follows: the new one's first serial,
+/// less one.
+///
+/// # Errors
+///
+/// `BadSerials` and `SerialApproved`, as they say. Where the register fails or memory is refused, and after every other
+/// fault, the register keeps what it kept.
+pub fn retire<R: Register>(alloc: Global, register: &mut R, last: u64) -> Result<(), RetireFault>
+    ensures honest { R.is_honest register.new → R.is_honest register.old }
+
+    // The register then keeps the retired state, or what it kept.
+    ensures retired { R.is_honest register.new → (s : State) → R.keeps register.old s → s.scope.last < 2 ^ 63
+        → Retires s last (R.keeps register.new) result }
+{
+    let scope = register.scope()?;
+    if last < scope.first || scope.last < last {
+        return Err(RetireFault::BadSerials);
+    }
+    if is_approved_over(alloc, register, last)? {
+        return Err(RetireFault::SerialApproved);
+    }
+    match register.set_last(last) {
+        Ok(()) => Ok(()),
+        Err(fault) => Err(RetireFault::Register(fault)),
+    }
+}

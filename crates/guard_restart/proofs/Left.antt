@@ -1,0 +1,48 @@
+-- What a run leaves in the files.
+use Rattle.std.proofs.Common.{◌⊎◌, inl, inr, IsTrue}
+use Rattle.std.proofs.Math.Logic.{∥∥₁_elim}
+use Rattle.sqlite_disk.specs.declared.Disk.{Ghosts}
+use Rattle.sqlite_disk.specs.declared.Files.{Files}
+use Rattle.sqlite_wal.specs.Recovery.{Image}
+use Rattle.sqlite_trees.specs.Tree.{Trees}
+use Rattle.sqlite_store.specs.declared.store.FileStore.{FileStore}
+use Rattle.sqlite_store.specs.FileStore.{state, view, recovers}
+use Rattle.sqlite.specs.Held.{Held, AreDatabases}
+use Rattle.sqlite.specs.Files.{HoldsDatabase, file_state}
+use Rattle.sqlite.specs.Closing.{IsCopied}
+use Rattle.sqlite.proofs.Theorems.{opens_again}
+use Rattle.guard.specs.State.{State}
+use Rattle.guard_sql.specs.Contents.{Kept}
+use Rattle.guard_sql.specs.Rows.{guard_contents}
+use Rattle.guard_restart.specs.Images.{HoldsOneOf}
+use Rattle.guard_restart.specs.Runs.{LeavesOneOf, LeavesWhatIsKept, RunKeepsGuard}
+
+-- after a good close each outcome of a crash holds the last commit
+pub leaves_what_is_kept : {D : Type 0} {g : Ghosts D} (c : Held (FileStore D g)) (files : Files D) → IsCopied c files
+    → LeavesWhatIsKept g (file_state c) files
+leaves_what_is_kept c files copied s keeps image may = record {
+  trees = (file_state c).committed.trees;
+  holds = (copied.left image may).both;
+  kept = (keeps.rows copied.was_open).committed.kept;
+}
+
+-- files that hold what a crash may leave hold one of the two guards
+holds_left : (s t : State) (image : Image) (db : Trees) → HoldsDatabase image db
+    → Kept db (guard_contents s) ⊎ Kept db (guard_contents t) → HoldsOneOf image s t
+holds_left s t image db holds (inl kept) = ∣ inl (record { trees = db; holds = ∣ holds ∣₁; kept = kept }) ∣₁
+holds_left s t image db holds (inr kept) = ∣ inr (record { trees = db; holds = ∣ holds ∣₁; kept = kept }) ∣₁
+
+-- each outcome of a crash opens to trees that the connection may leave
+pub leaves_one_of : {D : Type 0} {g : Ghosts D} (c : Held (FileStore D g)) (it : FileStore D g)
+    → IsTrue (view it).is_numbered → AreDatabases (recovers it)
+    → ((db : Trees) → recovers it db → recovers c.store db) → LeavesOneOf (file_state c) (state it).may_leave
+leaves_one_of c it numbered sound fewer s t left image may =
+    ∥∥₁_elim (opens_again it numbered sound image may) squash₁
+    (λ db. holds_left s t image db.0 db.2 (left db.0 (fewer db.0 db.1)))
+
+-- what was had at the open is kept at the end, perhaps with more bodies, and the close leaves that
+pub run_keeps_guard : {D : Type 0} {g : Ghosts D} (files : Files D) → RunKeepsGuard g files
+run_keeps_guard files image opened last had did copied s guard held =
+    let honest = did copied.was_clean in
+    let keeps = honest.1 copied.was_open s guard (had honest.0 s held) in
+    (keeps.0, keeps.2.guard, keeps.1, leaves_what_is_kept last files copied keeps.0 keeps.2)

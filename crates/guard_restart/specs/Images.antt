@@ -1,0 +1,18 @@
+-- What the two files of a guard hold: the database and its log.
+use Rattle.std.specs.Prelude.{◌⊎◌}
+use Rattle.sqlite_wal.specs.Recovery.{Image}
+use Rattle.sqlite_trees.specs.Tree.{Trees}
+use Rattle.sqlite.specs.Files.{HoldsDatabase}
+use Rattle.guard.specs.State.{State}
+use Rattle.guard_sql.specs.Contents.{Kept}
+use Rattle.guard_sql.specs.Rows.{guard_contents}
+
+-- a database with the rows of the guard of this state
+pub record HoldsGuard (image : Image) (s : State) : Type 0 where
+  pub trees : Trees
+  pub holds : ∥ HoldsDatabase image trees ∥₁
+  pub kept : Kept trees (guard_contents s)
+
+-- the guard of the one state or that of the other
+abbrev pub HoldsOneOf : Image → State → State → Type 0
+HoldsOneOf image s t = ∥ HoldsGuard image s ⊎ HoldsGuard image t ∥₁

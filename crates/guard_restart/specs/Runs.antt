@@ -1,0 +1,80 @@
+-- One run of a program that keeps a guard, from the two files that it finds to those that it leaves.
+use Rattle.std.specs.Prelude.{IsTrue}
+use Rattle.sqlite_disk.specs.declared.Disk.{Ghosts}
+use Rattle.sqlite_disk.specs.declared.Files.{Files}
+use Rattle.sqlite_wal.specs.Recovery.{Image}
+use Rattle.sqlite_wal.specs.Files.{outcomes}
+use Rattle.sqlite_wal.specs.Reads.{AreClean}
+use Rattle.sqlite_store.specs.declared.store.FileStore.{FileStore}
+use Rattle.sqlite.specs.State.{State as Connection, HasCleanDisk, IsLive, Opens}
+use Rattle.sqlite.specs.Held.{Held}
+use Rattle.sqlite.specs.Files.{file_state}
+use Rattle.sqlite.specs.Closing.{IsCopied}
+use Rattle.guard.specs.History.{IsStill}
+use Rattle.guard.specs.State.{State}
+use Rattle.guard_sql.specs.Contents.{Kept}
+use Rattle.guard_sql.specs.Keeping.{HasGuard, IsBlank, IsGuard, Keeps, Leaves}
+use Rattle.guard_sql.specs.Rows.{guard_contents}
+use Rattle.restart.specs.Images.{HoldsNone}
+use Rattle.guard_restart.specs.Images.{HoldsGuard, HoldsOneOf}
+
+-- ---- the open
+
+-- a connection that was just opened has each guard whose rows its trees hold
+abbrev pub FoundIsHad : Connection → Type 0
+FoundIsHad c = Opens c → IsLive c → (s : State) → Kept c.committed.trees (guard_contents s) → HasGuard s c
+
+-- it has each guard that the files held
+abbrev pub HasWhatIsHeld : Image → Connection → Type 0
+HasWhatIsHeld image c = (s : State) → HoldsGuard image s → HasGuard s c
+
+-- it is blank if the files held no row
+abbrev pub IsBlankIfNone : Image → Connection → Type 0
+IsBlankIfNone image c = HoldsNone image → IsBlank c
+
+-- ---- the end
+
+-- whatever a crash makes of the files, they hold the guard that was kept
+abbrev pub LeavesWhatIsKept : {D : Type 0} → Ghosts D → Connection → Files D → Type 0
+LeavesWhatIsKept g c files =
+    (s : State) → Keeps c s → (image : Image) → outcomes g files.log files.db image → HoldsGuard image s
+
+-- so they do if their disk has returned what was written
+abbrev pub ClosesWell : {D : Type 0} {g : Ghosts D} → Held (FileStore D g) → Files D → Type 0
+ClosesWell {D} {g} conn files = AreClean g files.log files.db → LeavesWhatIsKept g (file_state conn) files
+
+-- whatever a crash leaves, the files hold one of the two guards that a crash left
+abbrev pub LeavesOneOf : Connection → (Image → Type 0) → Type 0
+LeavesOneOf c may_leave =
+    (s t : State) → Leaves c s t → (image : Image) → may_leave image → HoldsOneOf image s t
+
+-- ---- the whole run
+
+-- If the files held a guard, all that may be left holds a guard that still has each body which was approved.
+abbrev pub KeepsGuard : Image → (Image → Type 0) → Type 0
+KeepsGuard image may_leave =
+    (s : State) → IsGuard s → HoldsGuard image s
+    → (t : State) × IsGuard t × IsStill s t × ((after : Image) → may_leave after → HoldsGuard after t)
+
+-- What was done between the open and the close: a disk that is clean was clean, and a connection that is open keeps each
+-- guard that was kept, perhaps with more bodies.
+abbrev pub Extends : {D : Type 0} {g : Ghosts D} → (opened last : Held (FileStore D g)) → Type 0
+Extends opened last =
+    HasCleanDisk (file_state last) → HasCleanDisk (file_state opened)
+    × (IsTrue (file_state last).is_open → (s : State) → IsGuard s → HasGuard s (file_state opened)
+    → (t : State) × IsStill s t × Keeps (file_state last) t)
+
+-- a run that opened, did so and closed well keeps the guard
+abbrev pub RunKeepsGuard : {D : Type 0} (g : Ghosts D) → Files D → Type 0
+RunKeepsGuard {D} g files =
+    (image : Image) (opened last : Held (FileStore D g))
+    → (HasCleanDisk (file_state opened) → HasWhatIsHeld image (file_state opened)) → Extends opened last
+    → IsCopied last files → KeepsGuard image (outcomes g files.log files.db)
+
+-- ---- the next run
+
+-- The files that the next run finds are among those that the last one may have left. It has the guard that all of these
+-- hold.
+abbrev pub HasAfter : (Image → Type 0) → Image → Connection → Type 0
+HasAfter may_leave image c =
+    may_leave image → (s : State) → ((after : Image) → may_leave after → HoldsGuard after s) → HasGuard s c

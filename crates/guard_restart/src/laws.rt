@@ -1,0 +1,21 @@
+//! Laws of a guard from run to run: functions without a body, whose contracts a caller cites.
+
+ghost use Rattle.sqlite.specs.Held.{state};
+ghost use Rattle.guard_restart.specs.Runs.{FoundIsHad, RunKeepsGuard};
+
+use sqlite::{Alter, Connection, Files};
+use sqlite_disk::Disk;
+
+/// A connection that was just opened has each guard whose rows its trees hold.
+pub fn what_is_found_is_had<S: Alter>(conn: &Connection<S>)
+    ensures { FoundIsHad (state S.Store conn.now) }
+{
+    let _ = conn;
+}
+
+/// A run that was closed well leaves files that hold the guard which it found, with the bodies that it approved.
+pub fn a_run_keeps_the_guard<D: Disk + Drop>(files: &Files<D>)
+    ensures { RunKeepsGuard D.Disk files.now }
+{
+    let _ = files;
+}

@@ -1,0 +1,12 @@
+//! A guard's files, from run to run.
+//!
+//! An open has the guard that the files hold, and a close or a crash leaves the guard that was kept.
+#![tactic(auto)]
+
+mod closing;
+mod laws;
+mod opening;
+
+pub use closing::{close_at, close_path, store_of};
+pub use laws::{a_run_keeps_the_guard, what_is_found_is_had};
+pub use opening::{open_again, open_at};

@@ -1,0 +1,64 @@
+//! The files at a path, opened.
+
+ghost use Rattle.std.specs.Prelude.{IfOk};
+ghost use Rattle.sqlite_wal.specs.Files.{image_at, outcomes};
+ghost use Rattle.sqlite.specs.Held.{IsNew};
+ghost use Rattle.sqlite.specs.State.{HasCleanDisk};
+ghost use Rattle.sqlite.specs.Files.{IsOpened, file_state};
+ghost use Rattle.guard_restart.specs.Runs.{HasAfter, HasWhatIsHeld, IsBlankIfNone};
+
+use crate::laws::what_is_found_is_had;
+use sqlite::{Connection, Error, FileFrom, FileStore, Files, Start};
+use sqlite_disk::Disk;
+
+/// Opens the files at a path, or makes them. `start` stands for what they hold.
+///
+/// # Errors
+///
+/// Why they can't be opened.
+pub fn open_at<S: Start>(
+    rt: &HostRuntime,
+    path: &str,
+    start: S,
+) -> Result<Connection<FileStore<FileFrom<S>>>, Error>
+    ensures new { IfOk result IsNew }
+    ensures opened { IfOk result (λ c. HasCleanDisk (file_state c) → IsOpened c) }
+
+    // The connection has each guard that the files held.
+    ensures held { IfOk result (λ c. HasCleanDisk (file_state c)
+        → HasWhatIsHeld (image_at S.Start) (file_state c)) }
+
+    // If they held no row, a guard can be made.
+    ensures blank { IfOk result (λ c. HasCleanDisk (file_state c)
+        → IsBlankIfNone (image_at S.Start) (file_state c)) }
+{
+    match Connection::open_from(rt, path, false, start) {
+        Ok(conn) => {
+            what_is_found_is_had(&conn);
+            Ok(conn)
+        }
+        Err((error, _)) => Err(error),
+    }
+}
+
+/// Opens the files at a path after a run that has closed them, with or without a crash since.
+///
+/// # Errors
+///
+/// Why they can't be opened.
+pub fn open_again<D: Disk + Drop, T: Start>(
+    rt: &HostRuntime,
+    path: &str,
+    last: &Files<D>,
+    start: T,
+) -> Result<Connection<FileStore<FileFrom<T>>>, Error>
+    // If what they hold is what the last run may have left, the connection has the guard that the last run left.
+    ensures { IfOk result (λ c. HasCleanDisk (file_state c)
+        → HasAfter (outcomes D.Disk last.now.log last.now.db) (image_at T.Start) (file_state c)) }
+{
+    let _ = last;
+    match open_at(rt, path, start) {
+        Ok(conn) => Ok(conn),
+        Err(error) => Err(error),
+    }
+}

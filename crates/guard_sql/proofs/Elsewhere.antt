@@ -1,0 +1,48 @@
+-- A statement on one table leaves what the other holds; and structs with the same columns are the same.
+use Rattle.guard_sql.proofs.Words.{AllByRecursion, ApprovalRow, Contents, GuardRow, Holds, List, Lists, Row, Trees}
+use Rattle.guard_sql.proofs.Words.{ap, approval_cells, approval_places, blob_in, column, guard_cells}
+use Rattle.guard_sql.proofs.Words.{guard_places, number_in, subst, sym, whole, ℕ, ◌≡◌, ◌≢◌}
+
+-- the trees of the tables, but for this one, are as they were
+abbrev pub Spares : ℕ → Trees → Trees → Type 0
+Spares tree db after = AllByRecursion (λ t. t.tree ≢ tree → after t.tree ≡ db t.tree) whole.tables
+
+-- what the tables hold where one has changed
+module _ (db after : Trees) (c : Contents) (h : Holds db c) where
+  pub in_guard : (xs : List GuardRow) → Spares 0 db after → Lists guard_cells guard_places (after 0) xs
+      → Holds after (record c { guards = xs })
+  in_guard xs o now = record {
+    guards = now;
+    approved = subst (λ rows. Lists approval_cells approval_places rows c.approved) (sym (o.1.0 (λ e. cc))) h.approved;
+  }
+
+  pub in_approved : (xs : List ApprovalRow) → Spares 1 db after
+      → Lists approval_cells approval_places (after 1) xs → Holds after (record c { approved = xs })
+  in_approved xs o now = record {
+    guards = subst (λ rows. Lists guard_cells guard_places rows c.guards) (sym (o.0 (λ e. cc))) h.guards;
+    approved = now;
+  }
+
+-- ---- structs with the same columns are the same
+
+abbrev guard_in : Row → GuardRow
+guard_in r = record {
+  id = number_in (column r 0);
+  schema = number_in (column r 1);
+  ca = blob_in (column r 2);
+  first = number_in (column r 3);
+  last = number_in (column r 4);
+}
+
+pub guard_apart : (x y : GuardRow) → guard_cells x ≡ guard_cells y → x ≡ y
+guard_apart x y e = ap guard_in e
+
+abbrev approval_in : Row → ApprovalRow
+approval_in r = record {
+  serial = number_in (column r 0);
+  moment = number_in (column r 1);
+  body = blob_in (column r 2);
+}
+
+pub approval_apart : (x y : ApprovalRow) → approval_cells x ≡ approval_cells y → x ≡ y
+approval_apart x y e = ap approval_in e

@@ -1,0 +1,9 @@
+use Rattle.guard_sql.proofs.ApprovalTable.{find}
+use Rattle.guard_sql.proofs.CallLemmas.{found_one}
+use Rattle.guard_sql.proofs.approvals.find_approval.Goals as goal
+
+pub returns : goal.returns
+returns g c =
+    let q = rw c.value_of.ensures.is at c.query_all.ensures in
+    found_one (find c.args.serial) c.query_all.result q.ok q.err q.survives c.found_first.result
+    c.found_first.ensures

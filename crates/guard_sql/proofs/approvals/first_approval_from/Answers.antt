@@ -1,0 +1,12 @@
+use Rattle.guard_sql.proofs.ApprovalTable.{from}
+use Rattle.guard_sql.proofs.CallLemmas.{found_such}
+use Rattle.guard_sql.proofs.FirstFrom.{it_is}
+use Rattle.guard_sql.specs.Contents.{IsFirstFrom}
+use Rattle.guard_sql.proofs.approvals.first_approval_from.Goals as goal
+
+pub returns : goal.returns
+returns g c =
+    let q = rw c.value_of.ensures.is at c.query_all.ensures in
+    found_such (from c.args.serial) c.query_all.result q.ok q.err q.survives
+    (λ d. IsFirstFrom c.args.serial d.approved) (λ d trees h found is. it_is c.args.serial d.approved found is)
+    c.found_first.result c.found_first.ensures

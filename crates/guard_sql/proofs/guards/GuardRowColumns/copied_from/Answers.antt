@@ -1,0 +1,10 @@
+use Rattle.guard_sql.proofs.Words.{Blob, refl, ◌∙◌}
+use Rattle.guard_sql.specs.Cells.{guard_kinds}
+use Rattle.guard_sql.proofs.KindLemmas.{cell, fits, number}
+use Rattle.guard_sql.proofs.guards.GuardRowColumns.copied_from.Goals as goal
+
+pub returns : goal.returns
+returns c granted is =
+    let at2 = c.blob_at.ensures granted in
+    fits guard_kinds c.args.row.now is ∙ cell number c.number_at.ensures (cell number c.number_at-2.ensures
+    (cell Blob at2.1 (cell number c.number_at-3.ensures (cell number c.number_at-4.ensures refl))))

@@ -1,0 +1,53 @@
+-- What the tables hold: the structs of each table's rows, in no order.
+use Rattle.std.specs.Prelude.{◌≡◌, ◌<◌, ◌≤◌, ℕ, List, [], ◌∷◌, Option, Some, None}
+use Rattle.std.specs.List.{AllByRecursion}
+use Rattle.sqlite.specs.Tree.{Trees}
+use Rattle.sqlite.specs.Effect.{Database}
+use Rattle.sqlite_catalog.specs.Listing.{IsSound}
+use Rattle.sqlite_rules.specs.Lists.{Has}
+use Rattle.store_sql.specs.Contents.{Lists}
+use Rattle.guard_sql.specs.declared.guards.GuardRow.{GuardRow}
+use Rattle.guard_sql.specs.declared.approvals.ApprovalRow.{ApprovalRow}
+use Rattle.guard_sql.specs.Cells.{approval_cells, guard_cells}
+use Rattle.guard_sql.specs.Schema.{whole}
+
+-- the structs of all rows
+pub record Contents : Type 0 where
+  pub guards : List GuardRow
+  pub approved : List ApprovalRow
+
+abbrev pub no_contents : Contents
+no_contents = record { guards = []; approved = [] }
+
+-- where the columns of each table are; an INTEGER PRIMARY KEY is the rowid
+abbrev pub guard_places : List ℕ
+guard_places = 0 ∷ 2 ∷ 3 ∷ 4 ∷ 5 ∷ []
+
+abbrev pub approval_places : List ℕ
+approval_places = 0 ∷ 2 ∷ 3 ∷ []
+
+-- the trees of the tables hold these contents
+pub record Holds (trees : Trees) (c : Contents) : Type 0 where
+  pub guards : Lists guard_cells guard_places (trees 0) c.guards
+  pub approved : Lists approval_cells approval_places (trees 1) c.approved
+
+-- what is enough to find the contents again after an open
+pub record Kept (trees : Trees) (c : Contents) : Type 0 where
+  pub sound : IsSound whole trees
+  pub holds : Holds trees c
+
+-- the database has just a guard's tables, and they hold these contents
+pub record Means (db : Database) (c : Contents) : Type 0 where
+  pub schema : db.schema ≡ whole
+  pub kept : Kept db.trees c
+
+-- the row is the one with this serial or the next higher one, or there is none
+abbrev pub IsFirstFrom : ℕ → List ApprovalRow → Option ApprovalRow → Type 0
+IsFirstFrom from rows (Some a) = Has rows a × (from ≤ a.serial)
+    × AllByRecursion (λ b. from ≤ b.serial → a.serial ≤ b.serial) rows
+IsFirstFrom from rows None = AllByRecursion (λ b. b.serial < from) rows
+
+-- the database has just a guard's tables, and that of the guard holds these rows, whatever the other holds
+pub record HasGuards (rows : List GuardRow) (db : Database) : Type 0 where
+  pub schema : db.schema ≡ whole
+  pub holds : Lists guard_cells guard_places (db.trees 0) rows

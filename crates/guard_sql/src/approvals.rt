@@ -1,0 +1,102 @@
+//! The table of approved bodies.
+
+ghost use Rattle.guard_sql.specs.Calls.{FindsOne, FindsSuch};
+ghost use Rattle.guard_sql.specs.Changes.{approved_under, with_approval};
+ghost use Rattle.guard_sql.specs.Contents.{IsFirstFrom};
+ghost use Rattle.guard_sql.specs.Refusals.{RefusesApproval};
+ghost use Rattle.guard_sql.specs.Statements.{Reads, Writes};
+
+use crate::columns::{Columns, found_first};
+use crate::done::done;
+use crate::kind::{Kind, blob_at, is_row_of, number_at, value_of};
+use crate::memory::Memory;
+use crate::sql::{FIND_APPROVED, FROM_APPROVED, INSERT_APPROVED};
+use sqlite::types::ValueRef;
+use sqlite::{Alter, Connection, Row};
+use std::alloc::Global;
+use store_sql::{Fault, Number};
+use text::Text;
+
+/// A body that was approved.
+#[derive(Drop)]
+pub(crate) struct ApprovalRow {
+    pub serial: Number,
+    /// When it was approved, in seconds since 1970-01-01 00:00:00 UTC.
+    pub moment: Number,
+    /// All that is signed.
+    pub body: Text,
+}
+
+impl ApprovalRow {
+    ghost use Rattle.std.specs.Prelude.{◌≡◌, ◌<◌, ◌^◌};
+    ghost use Rattle.sqlite.specs.Values.{bound};
+    ghost use Rattle.guard_sql.specs.Cells.{approval_cells};
+
+    fn values(&self) -> [ValueRef<'_>; 3]
+        ensures is { bound result ≡ approval_cells self.now }
+        ensures low { self.now.serial < 2 ^ 63 }
+    {
+        [
+            value_of(self.serial),
+            value_of(self.moment),
+            ValueRef::Blob(self.body.as_slice()),
+        ]
+    }
+}
+
+impl Columns for ApprovalRow {
+    ghost use Rattle.std.specs.Prelude.{refl};
+    ghost use Rattle.guard_sql.specs.Kinds.{has_kinds};
+    ghost use Rattle.guard_sql.specs.Cells.{approval_cells, approval_kinds};
+
+    ghost cells = { approval_cells };
+
+    ghost is_row = { has_kinds approval_kinds };
+
+    ghost fits = { λ _. refl };
+
+    fn is_row(row: &Row) -> bool {
+        is_row_of(row, &[Kind::Number, Kind::Number, Kind::Blob])
+    }
+
+    fn copied_from(memory: &mut Memory, row: &Row) -> ApprovalRow {
+        ApprovalRow {
+            serial: number_at(row, 0),
+            moment: number_at(row, 1),
+            body: blob_at(memory, row, 2),
+        }
+    }
+}
+
+/// Keeps an approved body. `Device` also where its serial is taken, or the row is too long.
+pub(crate) fn insert_approval<S: Alter>(
+    conn: &mut Connection<S>,
+    approval: &ApprovalRow,
+) -> Result<(), Fault>
+    ensures { Writes S.Store (with_approval approval.now) (RefusesApproval approval.now) conn.old conn.new result }
+{
+    done(conn.execute(INSERT_APPROVED, &approval.values()))
+}
+
+/// The body that was approved under this serial, if there is one. `Damaged` where its row has another form.
+pub(crate) fn find_approval<S: Alter>(
+    alloc: Global,
+    conn: &mut Connection<S>,
+    serial: Number,
+) -> Result<Option<ApprovalRow>, Fault>
+    ensures { Reads S.Store (FindsOne (approved_under serial)) conn.old conn.new result }
+{
+    found_first(alloc, conn.query_all(FIND_APPROVED, &[value_of(serial)]))
+}
+
+/// The body that was approved under this serial, or else under the next higher one that has a body. `Damaged` where its
+/// row has another form.
+pub(crate) fn first_approval_from<S: Alter>(
+    alloc: Global,
+    conn: &mut Connection<S>,
+    serial: Number,
+) -> Result<Option<ApprovalRow>, Fault>
+    ensures { Reads S.Store (FindsSuch (λ c. IsFirstFrom serial c.approved)) conn.old conn.new result }
+{
+    found_first(alloc, conn.query_all(FROM_APPROVED, &[value_of(serial)]))
+}

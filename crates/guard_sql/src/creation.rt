@@ -1,0 +1,46 @@
+//! The tables themselves.
+
+ghost use Rattle.std.specs.Prelude.{◌≡◌};
+ghost use Rattle.store_sql.specs.Schema.{no_schema};
+ghost use Rattle.store_sql.specs.Honest.{On, OutlivesBy};
+ghost use Rattle.guard_sql.specs.Calls.{Completes, Creates, FailsWhere, IsBare, Stays, WaitsAt};
+ghost use Rattle.guard_sql.specs.Schema.{approved, guard, through_guard};
+
+use crate::done::done;
+use crate::sql::{CREATE_APPROVED, CREATE_GUARD};
+use sqlite::{Alter, Connection};
+use store_sql::Fault;
+
+/// Makes the table of the guard in a database that has none.
+fn create_guard<S: Alter>(conn: &mut Connection<S>) -> Result<(), Fault>
+    ensures creates { On S.Store (Creates no_schema guard) conn.old conn.new result }
+    ensures fault { On S.Store (FailsWhere (λ s. s.now.schema ≡ no_schema)) conn.old conn.new result }
+    ensures stays { On S.Store Stays conn.old conn.new result }
+    ensures survives { OutlivesBy S.Store (WaitsAt no_schema) conn.old conn.new }
+{
+    done(conn.execute(CREATE_GUARD, &[]))
+}
+
+/// Makes the table of approved bodies beside that of the guard.
+fn create_approved<S: Alter>(conn: &mut Connection<S>) -> Result<(), Fault>
+    ensures creates { On S.Store (Creates through_guard approved) conn.old conn.new result }
+    ensures fault { On S.Store (FailsWhere (λ s. s.now.schema ≡ through_guard)) conn.old conn.new result }
+    ensures stays { On S.Store Stays conn.old conn.new result }
+    ensures survives { OutlivesBy S.Store (WaitsAt through_guard) conn.old conn.new }
+{
+    done(conn.execute(CREATE_APPROVED, &[]))
+}
+
+/// Makes both tables of a guard in a database that has none. Where that fails in a transaction, nothing of it is
+/// committed.
+pub(crate) fn create_tables<S: Alter>(conn: &mut Connection<S>) -> Result<(), Fault>
+    ensures completes { On S.Store (Completes no_schema) conn.old conn.new result }
+    ensures fault { On S.Store (FailsWhere (λ s. IsBare no_schema s.now)) conn.old conn.new result }
+    ensures stays { On S.Store Stays conn.old conn.new result }
+    ensures survives { OutlivesBy S.Store (WaitsAt no_schema) conn.old conn.new }
+{
+    match create_guard(conn) {
+        Ok(()) => create_approved(conn),
+        Err(fault) => Err(fault),
+    }
+}

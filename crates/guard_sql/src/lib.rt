@@ -1,0 +1,32 @@
+//! A guard's register in the tables of a database.
+//!
+//! A guard is made whole or not at all. Each body that is approved is one row, kept in one transaction: it outlasts a
+//! crash when the call returns, and a crash leaves what was kept, or that with the one body in hand.
+#![tactic(auto)]
+
+mod approvals;
+mod columns;
+mod creating;
+mod creation;
+mod done;
+mod faults;
+mod finding;
+mod guards;
+mod keeping;
+mod kind;
+mod laws;
+mod look;
+mod memory;
+mod opening_fault;
+mod register;
+mod rows;
+mod serving;
+mod sql;
+mod store;
+#[cfg(test)]
+mod tests;
+mod transaction;
+
+pub use laws::a_serial_has_one_body;
+pub use opening_fault::OpeningFault;
+pub use store::GuardStore;

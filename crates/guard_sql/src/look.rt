@@ -1,0 +1,60 @@
+//! A look at the schema, before anything is asked of the tables.
+
+ghost use Rattle.std.specs.Prelude.{◌≡◌, length};
+ghost use Rattle.std.specs.Str.{bytes_eq};
+ghost use Rattle.std.specs.List.{list_any, list_all, zip};
+ghost use Rattle.guard_sql.specs.Look.{has_columns, is_guard_name, is_guard_table};
+ghost use Rattle.store_sql.specs.Honest.{tables_of};
+
+use sqlite::{Alter, Connection};
+use sqlite_schema::names::same_name;
+use sqlite_schema::schema::{Column, Table};
+
+fn has_guard_name(table: &Table) -> bool
+    ensures { result ≡ is_guard_name table.now }
+{
+    let name = table.name.as_slice();
+    same_name(name, b"guard") || same_name(name, b"approved")
+}
+
+/// Whether the database has a table of the name of one of a guard's.
+pub(crate) fn has_any_table<S: Alter>(conn: &Connection<S>) -> bool
+    ensures { result ≡ list_any is_guard_name (tables_of S.Store conn.now) }
+{
+    conn.schema().tables.as_slice().iter().any(has_guard_name)
+}
+
+fn are_named(columns: &[Column], names: &[&str]) -> bool
+    requires { length columns.now ≡ length names.now }
+    ensures { result ≡ list_all (λ p. bytes_eq p.0.name p.1.now) (zip columns.now names.now) }
+{
+    for at in 0..names.len() {
+        if columns[at].name.as_slice() != names[at].as_bytes() {
+            return false;
+        }
+    }
+    true
+}
+
+fn has_guard_columns(table: &Table) -> bool
+    ensures { result ≡ has_columns table.now }
+{
+    table.columns.len() == 5
+        && are_named(
+            table.columns.as_slice(),
+            &["id", "schema", "ca", "first", "last"],
+        )
+}
+
+fn is_guard(table: &Table) -> bool
+    ensures { result ≡ is_guard_table table.now }
+{
+    same_name(table.name.as_slice(), b"guard") && has_guard_columns(table)
+}
+
+/// Whether the database has the table of the guard, with its columns.
+pub(crate) fn has_guard<S: Alter>(conn: &Connection<S>) -> bool
+    ensures { result ≡ list_any is_guard_table (tables_of S.Store conn.now) }
+{
+    conn.schema().tables.as_slice().iter().any(is_guard)
+}

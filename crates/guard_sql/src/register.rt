@@ -1,0 +1,52 @@
+//! The tables are a register.
+
+ghost use Rattle.std.proofs.Common.{inl, inr};
+ghost use Rattle.std.specs.Prelude.{◌≡◌};
+ghost use Rattle.sqlite.specs.Held.{state};
+ghost use Rattle.sqlite.specs.State.{HasCleanDisk};
+ghost use Rattle.guard_sql.specs.Keeping.{HasFailed, Keeps, Leaves};
+
+use crate::serving::{body_of, keep, row_from, set_last};
+use crate::store::GuardStore;
+use guard::{Approved, Register, RegisterFault, Scope};
+use sqlite::Alter;
+use std::alloc::Global;
+use text::Text;
+
+impl<S: Alter> Register for GuardStore<S> {
+    ghost is_honest = { λ g. HasCleanDisk (state S.Store g.conn) };
+
+    ghost keeps = { λ g s. (g.scope ≡ s.scope) × Keeps (state S.Store g.conn) s };
+
+    ghost leaves = { λ g s t. Leaves (state S.Store g.conn) s t };
+
+    ghost has_failed = { λ g. HasFailed (state S.Store g.conn) };
+
+    fn scope(&mut self) -> Result<Scope, RegisterFault> {
+        Ok(self.scope)
+    }
+
+    fn body_of(&mut self, alloc: Global, serial: u64) -> Result<Option<Text>, RegisterFault> {
+        body_of(alloc, &mut self.conn, serial)
+    }
+
+    fn row_from(&mut self, alloc: Global, serial: u64) -> Result<Option<Approved>, RegisterFault> {
+        row_from(alloc, &mut self.conn, serial)
+    }
+
+    fn keep(&mut self, row: Approved) -> Result<(), RegisterFault> {
+        keep(&mut self.conn, row)
+    }
+
+    fn set_last(&mut self, last: u64) -> Result<(), RegisterFault> {
+        match set_last(&mut self.conn, last) {
+            Ok(()) => {
+                self.scope.last = last;
+                Ok(())
+            }
+            Err(fault) => Err(fault),
+        }
+    }
+
+    ghost widens = { λ g s t left trees may. elim (left trees may) [ inl is ↦ inl is | inr is ↦ inl is ] };
+}

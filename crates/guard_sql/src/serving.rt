@@ -1,0 +1,98 @@
+//! The calls of the register, over a connection.
+
+ghost use Rattle.std.specs.Prelude.{◌≡◌, None};
+ghost use Rattle.std.specs.Option.{option_map};
+ghost use Rattle.guard.specs.Judged.{IsKeepable};
+ghost use Rattle.guard.specs.Machine.{body_of, with_approved};
+ghost use Rattle.guard.specs.Retiring.{IsLowered, IsRowFrom, with_last};
+ghost use Rattle.guard_sql.specs.Registering.{LeadsOf, ShowsOf};
+ghost use Rattle.guard_sql.specs.Rows.{approved_in};
+
+use crate::approvals::{ApprovalRow, find_approval, first_approval_from};
+use crate::faults::register_fault;
+use crate::keeping::{end_at, keep_approval};
+use crate::rows::{approval_row, approved};
+use guard::{Approved, RegisterFault};
+use sqlite::{Alter, Connection};
+use std::alloc::Global;
+use store_sql::Number;
+use text::Text;
+
+fn body_in(found: Option<ApprovalRow>) -> Option<Text>
+    ensures { result ≡ option_map (λ row. row.body) found }
+{
+    match found {
+        Some(row) => Some(row.body),
+        None => None,
+    }
+}
+
+fn approved_in(found: Option<ApprovalRow>) -> Option<Approved>
+    ensures { result ≡ option_map approved_in found }
+{
+    match found {
+        Some(row) => Some(approved(row)),
+        None => None,
+    }
+}
+
+/// The body that was approved under a serial.
+pub(crate) fn body_of<S: Alter>(
+    alloc: Global,
+    conn: &mut Connection<S>,
+    serial: u64,
+) -> Result<Option<Text>, RegisterFault>
+    ensures { ShowsOf S.Store (λ s body. body ≡ body_of s serial) conn.old conn.new result }
+{
+    let Some(serial) = Number::new(serial) else {
+        return Ok(None);
+    };
+    match find_approval(alloc, conn, serial) {
+        Ok(found) => Ok(body_in(found)),
+        Err(fault) => Err(register_fault(fault)),
+    }
+}
+
+/// The row with the least serial that is at least this one.
+pub(crate) fn row_from<S: Alter>(
+    alloc: Global,
+    conn: &mut Connection<S>,
+    serial: u64,
+) -> Result<Option<Approved>, RegisterFault>
+    ensures { ShowsOf S.Store (λ s row. IsRowFrom s serial row) conn.old conn.new result }
+{
+    let Some(serial) = Number::new(serial) else {
+        return Ok(None);
+    };
+    match first_approval_from(alloc, conn, serial) {
+        Ok(found) => Ok(approved_in(found)),
+        Err(fault) => Err(register_fault(fault)),
+    }
+}
+
+/// Keeps a body under a serial that has none.
+pub(crate) fn keep<S: Alter>(conn: &mut Connection<S>, row: Approved) -> Result<(), RegisterFault>
+    ensures { LeadsOf S.Store (λ s. body_of s row.serial ≡ None) (IsKeepable row) (λ s. with_approved s row)
+        conn.old conn.new result }
+{
+    let Some(approval) = approval_row(row) else {
+        return Err(RegisterFault::Device);
+    };
+    match keep_approval(conn, &approval) {
+        Ok(()) => Ok(()),
+        Err(fault) => Err(register_fault(fault)),
+    }
+}
+
+/// Makes this the last serial.
+pub(crate) fn set_last<S: Alter>(conn: &mut Connection<S>, last: u64) -> Result<(), RegisterFault>
+    ensures { LeadsOf S.Store (λ s. IsLowered s last) (Unit {0}) (λ s. with_last s last) conn.old conn.new result }
+{
+    let Some(last) = Number::new(last) else {
+        return Err(RegisterFault::Device);
+    };
+    match end_at(conn, last) {
+        Ok(()) => Ok(()),
+        Err(fault) => Err(register_fault(fault)),
+    }
+}

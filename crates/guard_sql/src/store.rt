@@ -1,0 +1,114 @@
+//! A guard's register, from its connection and back.
+
+ghost use Rattle.std.specs.Prelude.{◌≡◌, false, Err, IfErr, IfOk, IsTrue, Ok};
+ghost use Rattle.std.specs.List.{list_any};
+ghost use Rattle.store_sql.specs.Honest.{Between, IsOutside, IsUnlimited, On, OutlivesBy, StaysClean, tables_of};
+ghost use Rattle.guard_sql.specs.Keeping.{IsScope};
+ghost use Rattle.guard_sql.specs.Look.{is_guard_name, is_guard_table};
+ghost use Rattle.guard_sql.specs.Opening.{Finds, Founds, FoundsNone, LeavesNew, Misses, SaysUnless};
+
+use crate::creating::create;
+use crate::faults::opening_fault;
+use crate::finding::find_scope;
+use crate::look::has_any_table;
+use crate::opening_fault::OpeningFault;
+use guard::Scope;
+use sqlite::{Alter, Connection};
+use std::alloc::Global;
+
+/// A guard's register in the tables of a database.
+#[derive(Drop)]
+pub struct GuardStore<S: Alter> {
+    pub(crate) conn: Connection<S>,
+    // what the row of the guard says
+    pub(crate) scope: Scope,
+}
+
+impl<S: Alter> GuardStore<S> {
+    /// A guard of this scope that has approved nothing yet, in a database without tables. Both tables are made or, with
+    /// a fault, which gives the connection back, none. No transaction may be open, and the connection may have no limit
+    /// on the steps of a query, since a call that meets one fails.
+    ///
+    /// # Errors
+    ///
+    /// `AlreadyAGuard` where the database has a table of a name that a guard needs, `Device` where the database fails,
+    /// and `NoMemory` for want of memory.
+    pub fn init(
+        alloc: Global,
+        conn: Connection<S>,
+        scope: &Scope,
+    ) -> Result<GuardStore<S>, (OpeningFault, Connection<S>)>
+        requires outside { IsOutside S.Store conn }
+        requires unlimited { IsUnlimited S.Store conn }
+        requires lawful { IsScope scope.now }
+        ensures made { IfOk result (λ g. Between S.Store (Founds scope.now) conn g.conn) }
+        ensures scope { IfOk result (λ g. g.scope ≡ scope.now) }
+        ensures already { IsTrue (list_any is_guard_name (tables_of S.Store conn)) → result ≡ Err
+            (record { 0 = OpeningFault.AlreadyAGuard; 1 = conn }) }
+
+        // Of an empty database want of memory and a failure of the database are the only faults, and it stays empty.
+        ensures none { IfErr result (λ e. On S.Store FoundsNone conn e.1 e.0) }
+
+        // A crash in its midst leaves the database without tables, or with the whole guard.
+        ensures crash { IfOk result (λ g. OutlivesBy S.Store (LeavesNew scope.now) conn g.conn) }
+        ensures crash_back { IfErr result (λ e. OutlivesBy S.Store (LeavesNew scope.now) conn e.1) }
+    {
+        let mut conn = conn;
+        if has_any_table(&conn) {
+            return Err((OpeningFault::AlreadyAGuard, conn));
+        }
+        match create(alloc, &mut conn, scope) {
+            Ok(()) => Ok(GuardStore {
+                conn,
+                scope: *scope,
+            }),
+            Err(fault) => Err((opening_fault(fault), conn)),
+        }
+    }
+
+    /// The guard that a database has. A fault gives the connection back. No transaction may be open, and the connection
+    /// may have no limit on the steps of a query.
+    ///
+    /// # Errors
+    ///
+    /// `NotAGuard` where the table of the guard is missing or has not just one row, `WrongSchema` where its tables are
+    /// those of another version, `Damaged` where its row says no lawful scope, `Device` where the database failed, and
+    /// `NoMemory` for want of memory.
+    pub fn open(
+        alloc: Global,
+        conn: Connection<S>,
+    ) -> Result<GuardStore<S>, (OpeningFault, Connection<S>)>
+        requires outside { IsOutside S.Store conn }
+        requires unlimited { IsUnlimited S.Store conn }
+
+        // It keeps each guard that the tables hold, and a crash leaves it.
+        ensures opened { IfOk result (λ g. Between S.Store (Finds g.scope) conn g.conn) }
+
+        // It is opened just where the one row of the guard says a scope of this schema; each refusal is what the rows say.
+        ensures said { IfOk result (λ g. On S.Store SaysUnless conn g.conn (Ok g.scope)) }
+        ensures refused { IfErr result (λ e. On S.Store SaysUnless conn e.1 (Err e.0)) }
+
+        // Where they hold one, want of memory and a failure of the database are the only faults.
+        ensures missed { IfErr result (λ e. On S.Store Misses conn e.1 e.0) }
+        ensures none { list_any is_guard_table (tables_of S.Store conn) ≡ false → result ≡ Err
+            (record { 0 = OpeningFault.NotAGuard; 1 = conn }) }
+
+        // A disk that has returned what was written as the call ends had done so when it began.
+        ensures honest { IfOk result (λ g. StaysClean S.Store conn g.conn) }
+        ensures honest_back { IfErr result (λ e. StaysClean S.Store conn e.1) }
+    {
+        let mut conn = conn;
+        match find_scope(alloc, &mut conn) {
+            Ok(scope) => Ok(GuardStore { conn, scope }),
+            Err(fault) => Err((fault, conn)),
+        }
+    }
+
+    /// The connection, with the tables as they are.
+    pub fn into_connection(self) -> Connection<S>
+        ensures { result ≡ self.conn }
+    {
+        let GuardStore { conn, scope: _ } = self;
+        conn
+    }
+}

@@ -1,0 +1,117 @@
+-- What may follow in a head: by the place where the bytes that came end, so many more header lines and these bytes.
+use Rattle.std.specs.Prelude.{◌≡◌, ℕ, ◌+◌, ◌≤◌, Bool, ◌&&◌, nat_lt, List, [], ◌∷◌, ◌++◌, length, drop, codes, All}
+use Rattle.httparse.specs.Ascii.{line_feed, space, digit_zero, colon, del}
+use Rattle.httparse.specs.Grammar.{Field, IsField, LineEnd, RequestHead, ReadsRequest, AllPass}
+use Rattle.httparse.specs.Grammar.{is_token_byte, is_value_byte, print_end, print_section}
+use Rattle.http_requests.specs.declared.growing.Place.{Place}
+use Rattle.http_requests.specs.declared.growing.Spot.{Spot}
+use Rattle.http_requests.specs.declared.growing.Place.TheVariants.{Start, Method, BeforeTarget, Target, Version}
+use Rattle.http_requests.specs.declared.growing.Place.TheVariants.{VersionEnd, Feed, Line, LastFeed, Name, Value}
+use Rattle.http_requests.specs.declared.growing.Place.TheVariants.{Whole, Elsewhere}
+
+-- so many header lines, and the empty line
+pub record IsSection (count : ℕ) (bytes : List ℕ) : Type 0 where
+  pub fields : List Field
+  pub last : LineEnd
+  pub valid : All IsField fields
+  pub size : length fields ≡ count
+  pub text : bytes ≡ print_section fields last
+
+-- the end of a line, and what follows it
+pub record IsEnd (count : ℕ) (bytes : List ℕ) : Type 0 where
+  pub end : LineEnd
+  pub rest : List ℕ
+  pub next : IsSection count rest
+  pub text : bytes ≡ print_end end ++ rest
+
+-- the line feed of an end of two bytes, and what follows it
+pub record IsFeed (count : ℕ) (bytes : List ℕ) : Type 0 where
+  pub rest : List ℕ
+  pub next : IsSection count rest
+  pub text : bytes ≡ line_feed ∷ rest
+
+-- what is left of a value
+pub record IsValue (count : ℕ) (bytes : List ℕ) : Type 0 where
+  pub raw : List ℕ
+  pub rest : List ℕ
+  pub valid : AllPass is_value_byte raw
+  pub next : IsEnd count rest
+  pub text : bytes ≡ raw ++ rest
+
+-- what is left of a name
+pub record IsName (count : ℕ) (bytes : List ℕ) : Type 0 where
+  pub name : List ℕ
+  pub rest : List ℕ
+  pub valid : AllPass is_token_byte name
+  pub next : IsValue count rest
+  pub text : bytes ≡ name ++ colon ∷ rest
+
+-- what is left of a version, of which so many bytes came
+pub record IsVersion (came count : ℕ) (bytes : List ℕ) : Type 0 where
+  pub minor : ℕ
+  pub rest : List ℕ
+  pub valid : minor ≤ 1
+  pub next : IsEnd count rest
+  pub text : bytes ≡ drop came (codes "HTTP/1.") ++ (digit_zero + minor) ∷ rest
+
+-- a visible byte of ASCII
+abbrev pub is_visible : ℕ → Bool
+is_visible b = nat_lt space b && nat_lt b del
+
+-- what is left of a target of such bytes: at least so many
+pub record IsTarget (least count : ℕ) (bytes : List ℕ) : Type 0 where
+  pub target : List ℕ
+  pub rest : List ℕ
+  pub enough : least ≤ length target
+  pub valid : AllPass is_visible target
+  pub next : IsVersion 0 count rest
+  pub text : bytes ≡ target ++ space ∷ rest
+
+-- what is left of a method: at least so many bytes
+pub record IsMethod (least count : ℕ) (bytes : List ℕ) : Type 0 where
+  pub method : List ℕ
+  pub rest : List ℕ
+  pub enough : least ≤ length method
+  pub valid : AllPass is_token_byte method
+  pub next : IsTarget 1 count rest
+  pub text : bytes ≡ method ++ space ∷ rest
+
+-- these are bytes that may follow
+abbrev pub MayFollow : Place → ℕ → List ℕ → Type 0
+MayFollow Start count bytes = IsMethod 1 count bytes
+MayFollow Method count bytes = IsMethod 0 count bytes
+MayFollow BeforeTarget count bytes = IsTarget 1 count bytes
+MayFollow Target count bytes = IsTarget 0 count bytes
+MayFollow (Version came) count bytes = IsVersion came count bytes
+MayFollow VersionEnd count bytes = IsEnd count bytes
+MayFollow Feed count bytes = IsFeed count bytes
+MayFollow Line count bytes = IsSection count bytes
+MayFollow LastFeed count bytes = (count ≡ 0) × (bytes ≡ line_feed ∷ [])
+MayFollow Name count bytes = IsName count bytes
+MayFollow Value count bytes = IsValue count bytes
+MayFollow Whole count bytes = (count ≡ 0) × (bytes ≡ [])
+MayFollow Elsewhere count bytes = ⊥
+
+-- the bytes are a head of so many header lines
+pub record IsHeadOf (lines : ℕ) (bytes : List ℕ) : Type 0 where
+  pub head : RequestHead
+  pub reads : ReadsRequest bytes head []
+  pub size : length head.fields ≡ lines
+
+-- where the bytes end, so many header lines began: with any bytes that may follow there they are a head
+abbrev pub EndsAt : Place → ℕ → List ℕ → Type 0
+EndsAt place lines bytes =
+    (count : ℕ) (rest : List ℕ) → MayFollow place count rest → IsHeadOf (lines + count) (bytes ++ rest)
+
+-- the bytes end at the spot
+abbrev pub IsAt : Spot → List ℕ → Type 0
+IsAt spot bytes = EndsAt spot.place spot.lines bytes
+
+-- this byte leads from one place to another
+abbrev pub Leads : Place → ℕ → Place → Type 0
+Leads place byte next =
+    (count : ℕ) (rest : List ℕ) → MayFollow next count rest → MayFollow place count (byte ∷ rest)
+
+-- this byte begins a header line at the place
+abbrev pub Begins : Place → ℕ → Type 0
+Begins place byte = (count : ℕ) (rest : List ℕ) → IsName count rest → MayFollow place (1 + count) (byte ∷ rest)

@@ -1,0 +1,145 @@
+-- Lists that are approved one after the other.
+use Rattle.std.proofs.Common.{◌≡◌, ℕ, List, [], ◌∷◌, Option, None, Some, refl, sym, ap}
+use Rattle.std.proofs.Common.{subst, ◌∙◌, inl, inr, arith}
+use Rattle.std.specs.List.{AllByRecursion}
+use Rattle.krl.specs.Contents.{Contents, ForgetsNothing, IsPublished, Publishes, are_cas_among, list_of}
+use Rattle.krl.proofs.Booleans.{clash}
+use Rattle.krl.proofs.OneList.{one_list}
+use Rattle.list_guard.specs.declared.refusal.Refusal.{Refusal}
+use Rattle.list_guard.specs.declared.refusal.Refusal.TheVariants.{
+  NotAList,
+  OtherCa,
+  OlderVersion,
+  OtherBytes,
+  Forgets,
+  NotBegun,
+}
+use Rattle.list_guard.specs.Machine.{State, Question, ComesAfter, IsApproved, IsLawful, IsNext, IsNotNext, IsOfCas}
+use Rattle.list_guard.specs.Machine.{IsRefused, with_last}
+use Rattle.list_guard.specs.declared.verdict.Verdict.{Verdict}
+use Rattle.list_guard.specs.declared.verdict.Verdict.TheVariants as verdict
+use Rattle.list_guard.specs.Judged.{Decided, DecidedAfter}
+use Rattle.list_guard.specs.History.{Approves, ComesLater, Grow, IsLater}
+
+-- ---- lists that grow
+
+later_on : (a m b : List ℕ) → IsPublished m → ComesLater a m → ComesLater m b → ComesLater a b
+later_on a m b between x y c d p q =
+    let u = x c between.0 p between.1 in
+    let v = y between.0 d between.1 q in
+    let up = u.version in
+    let on = v.version in
+    record {
+      version = omega arith;
+      same = λ e. u.same (omega arith) ∙ v.same (omega arith);
+      kept_revoked = λ blob serial key_id is. v.kept_revoked blob serial key_id (u.kept_revoked blob serial key_id is);
+    }
+
+all_later : (a m : List ℕ) (lists : List (List ℕ)) → IsPublished m → ComesLater a m
+    → AllByRecursion (ComesLater m) lists → AllByRecursion (ComesLater a) lists
+all_later a m [] between x h = tt
+all_later a m (b ∷ lists) between x h = (later_on a m b between x h.0, all_later a m lists between x h.1)
+
+-- what is approved comes later than what was kept
+next_later : (kept : List ℕ) (q : Question) (c d : Contents) → IsOfCas q c → ComesAfter q.list c kept d
+    → ComesLater kept q.list
+next_later kept q c d of comes x y p r =
+    let base : IsLater kept q.list d c = record {
+      version = comes.version;
+      same = λ e. sym (comes.bytes e);
+      kept_revoked = comes.kept_revoked;
+    } in
+    let old = one_list kept d x comes.published p in
+    let new = one_list q.list c y of.published r in
+    subst (λ z. IsLater kept q.list z y) old (subst (λ z. IsLater kept q.list d z) new base)
+
+pub grow : (qs : List Question) (s : State) (lists : List (List ℕ)) (t : State) → Approves s qs lists t
+    → ((kept : List ℕ) → s.last ≡ Some kept → AllByRecursion (ComesLater kept) lists) × Grow lists
+grow [] s lists t h =
+    (λ kept is. subst (AllByRecursion (ComesLater kept)) (sym h.0) tt, subst Grow (sym h.0) tt)
+grow (q ∷ qs) s lists t (inl taken) =
+    let rest = grow qs (with_last q.list) taken.0 t taken.3 in
+    let approved = taken.1 in
+    let between : IsPublished q.list = (approved.0, approved.1.published) in
+    let others = rest.0 q.list refl in (
+      λ kept is.
+          let next : IsNext (Some kept) q approved.0 = subst (λ o. IsNext o q approved.0) is approved.2 in
+          let first = next_later kept q approved.0 next.0 approved.1 next.1 in
+          subst (AllByRecursion (ComesLater kept)) (sym taken.2) (first, all_later kept q.list taken.0 between first others),
+      subst Grow (sym taken.2) (others, rest.1),
+    )
+grow (q ∷ qs) s lists t (inr left) = grow qs s lists t left.1
+
+pub lawful : (qs : List Question) (s : State) (lists : List (List ℕ)) (t : State) → Approves s qs lists t → IsLawful s
+    → IsLawful t
+lawful [] s lists t h is = subst IsLawful (sym h.1) is
+lawful (q ∷ qs) s lists t (inl taken) is =
+    lawful qs (with_last q.list) taken.0 t taken.3 (taken.1.0, taken.1.1.published)
+lawful (q ∷ qs) s lists t (inr left) is = lawful qs s lists t left.1 is
+
+-- ---- one question
+
+-- a list comes after itself
+pub after_itself : (list : List ℕ) (c : Contents) → Publishes list c → ComesAfter list c list c
+after_itself list c published = record {
+  published = published;
+  version = omega arith;
+  bytes = λ e. refl;
+  kept_revoked = λ blob serial key_id is. is;
+}
+
+pub again : (s : State) (q : Question) → IsApproved s q → IsApproved (with_last q.list) q
+again s q (c, of, next) = (c, of, (c, after_itself q.list c of.published))
+
+-- what comes after a list isn't refused after it
+not_after : (q : Question) (o : Option (List ℕ)) (c : Contents) → IsNext o q c
+    → (IsNotNext OlderVersion o q c → ⊥) × (IsNotNext OtherBytes o q c → ⊥) × (IsNotNext Forgets o q c → ⊥)
+    × (IsNotNext NotBegun o q c → ⊥)
+not_after q None c next = (λ h. h, λ h. h, λ h. h, λ h. clash q.begins next h)
+not_after q (Some kept) c (d, comes) = (
+  λ h.
+      let same = ap (λ (x : Contents). x.head.version) (old h.0 h.1) in
+      let up = comes.version in
+      let down = h.2 in
+      omega arith,
+  λ h.
+      let same = old h.0 h.1 in
+      h.2.1 (comes.bytes (ap (λ (x : Contents). x.head.version) same ∙ sym h.2.0)),
+  λ h. h.2.1 (subst (λ x. ForgetsNothing (list_of x) (list_of c)) (old h.0 h.1) comes.kept_revoked),
+  λ h. h.2,
+)
+  where
+    old : (x : Contents) → Publishes kept x → d ≡ x
+    old x p = one_list kept d x comes.published p
+
+pub not_refused : (s : State) (q : Question) (r : Refusal) → IsApproved s q → IsRefused r s q → ⊥
+not_refused s q NotAList (c, of, next) h = h (c, of.published)
+not_refused s q OtherCa (c, of, next) (x, published, no_ca) =
+    let same = one_list q.list c x of.published published in
+    clash (are_cas_among q.cas c) of.cas (ap (are_cas_among q.cas) same ∙ no_ca)
+not_refused s q OlderVersion (c, of, next) (x, is, h) =
+    (not_after q s.last x (subst (IsNext s.last q) (one_list q.list c x of.published is.published) next)).0 h
+not_refused s q OtherBytes (c, of, next) (x, is, h) =
+    (not_after q s.last x (subst (IsNext s.last q) (one_list q.list c x of.published is.published) next)).1 h
+not_refused s q Forgets (c, of, next) (x, is, h) =
+    (not_after q s.last x (subst (IsNext s.last q) (one_list q.list c x of.published is.published) next)).2 h
+not_refused s q NotBegun (c, of, next) (x, is, h) =
+    (not_after q s.last x (subst (IsNext s.last q) (one_list q.list c x of.published is.published) next)).3 h
+
+-- ---- verdicts
+
+-- what is said after another list is said of the question
+pub decided_after : (v : Verdict) (s : State) (q : Question) (c : Contents) (kept : List ℕ) (d : Contents) → IsOfCas q c
+    → s.last ≡ Some kept → Publishes kept d → DecidedAfter v q.list c kept d → Decided v s q
+decided_after (verdict.Approve version) s q c kept d of is published h =
+    (c, of, subst (λ o. IsNext o q c) (sym is) (d, h.0), h.1)
+decided_after (verdict.Again version) s q c kept d of is published h = absurd h
+decided_after (verdict.Refuse NotAList) s q c kept d of is published h = absurd h
+decided_after (verdict.Refuse OtherCa) s q c kept d of is published h = absurd h
+decided_after (verdict.Refuse OlderVersion) s q c kept d of is published h =
+    (c, of, subst (λ o. IsNotNext OlderVersion o q c) (sym is) (d, published, h))
+decided_after (verdict.Refuse OtherBytes) s q c kept d of is published h =
+    (c, of, subst (λ o. IsNotNext OtherBytes o q c) (sym is) (d, published, h))
+decided_after (verdict.Refuse Forgets) s q c kept d of is published h =
+    (c, of, subst (λ o. IsNotNext Forgets o q c) (sym is) (d, published, h))
+decided_after (verdict.Refuse NotBegun) s q c kept d of is published h = absurd h

@@ -1,0 +1,26 @@
+-- Questions one after the other, and what is known of the lists that were approved.
+use Rattle.std.specs.Prelude.{◌≡◌, ◌≤◌, ◌⊎◌, ℕ, List, [], ◌∷◌}
+use Rattle.std.specs.List.{AllByRecursion}
+use Rattle.krl.specs.Contents.{Contents, ForgetsNothing, Publishes, list_of}
+use Rattle.list_guard.specs.Machine.{State, Question, IsApproved, with_last}
+
+-- The questions approve these lists in this order, and leave this state.
+abbrev pub Approves : State → List Question → List (List ℕ) → State → Type 0
+Approves s [] lists t = (lists ≡ []) × (t ≡ s)
+Approves s (q ∷ qs) lists t =
+    ((others : List (List ℕ)) × IsApproved s q × (lists ≡ q.list ∷ others) × Approves (with_last q.list) qs others t)
+    ⊎ ((IsApproved s q → ⊥) × Approves s qs lists t)
+
+-- what one list is after another: no older, the same bytes where it is no newer, and nothing forgotten
+pub record IsLater (a b : List ℕ) (c d : Contents) : Type 0 where
+  pub version : c.head.version ≤ d.head.version
+  pub same : c.head.version ≡ d.head.version → a ≡ b
+  pub kept_revoked : ForgetsNothing (list_of c) (list_of d)
+
+abbrev pub ComesLater : List ℕ → List ℕ → Type 0
+ComesLater a b = (c d : Contents) → Publishes a c → Publishes b d → IsLater a b c d
+
+-- each list is what it is to be after each of those before it
+abbrev pub Grow : List (List ℕ) → Type 0
+Grow [] = Unit {0}
+Grow (a ∷ lists) = AllByRecursion (ComesLater a) lists × Grow lists

@@ -1,0 +1,6 @@
+pub mod Refusals
+pub mod State
+pub mod Machine
+pub mod History
+pub mod Judged
+pub mod Statements

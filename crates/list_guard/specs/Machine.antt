@@ -1,0 +1,60 @@
+-- The plain list guard: one question at a time.
+use Rattle.std.specs.Prelude.{◌≡◌, ◌≢◌, ◌<◌, ◌≤◌, ℕ, List, true, false, Option, Some, None}
+use Rattle.krl.specs.Contents.{Contents, ForgetsNothing, IsPublished, Publishes, are_cas_among, list_of}
+use Rattle.list_guard.specs.declared.refusal.Refusal.{Refusal}
+use Rattle.list_guard.specs.declared.refusal.Refusal.TheVariants.{
+  NotAList,
+  OtherCa,
+  OlderVersion,
+  OtherBytes,
+  Forgets,
+  NotBegun,
+}
+pub use Rattle.list_guard.specs.State.{State, Question, opened, with_last, IsLawful}
+
+-- the bytes publish this, of the CAs that are permitted alone
+pub record IsOfCas (q : Question) (c : Contents) : Type 0 where
+  pub published : Publishes q.list c
+  pub cas : are_cas_among q.cas c ≡ true
+
+-- ---- what is approved
+
+-- a version that is no lower, the same bytes where it is the same, and nothing forgotten
+pub record ComesAfter (list : List ℕ) (c : Contents) (kept : List ℕ) (d : Contents) : Type 0 where
+  pub published : Publishes kept d
+  pub version : d.head.version ≤ c.head.version
+  pub bytes : d.head.version ≡ c.head.version → list ≡ kept
+  pub kept_revoked : ForgetsNothing (list_of d) (list_of c)
+
+-- a first list is taken only where the question says so; another comes after the one that was approved last
+abbrev pub IsNext : Option (List ℕ) → Question → Contents → Type 0
+IsNext None q c = q.begins ≡ true
+IsNext (Some kept) q c = (d : Contents) × ComesAfter q.list c kept d
+
+abbrev pub IsApproved : State → Question → Type 0
+IsApproved s q = (c : Contents) × IsOfCas q c × IsNext s.last q c
+
+-- ---- what is refused
+
+-- why a list doesn't come after the one that was approved last
+abbrev pub IsRefusedAfter : Refusal → List ℕ → Contents → List ℕ → Contents → Type 0
+IsRefusedAfter OlderVersion list c kept d = c.head.version < d.head.version
+IsRefusedAfter OtherBytes list c kept d = (c.head.version ≡ d.head.version) × (list ≢ kept)
+IsRefusedAfter Forgets list c kept d =
+    (d.head.version < c.head.version) × (ForgetsNothing (list_of d) (list_of c) → ⊥)
+IsRefusedAfter _ list c kept d = ⊥
+
+-- why a list isn't the next one
+abbrev pub IsNotNext : Refusal → Option (List ℕ) → Question → Contents → Type 0
+IsNotNext NotBegun None q c = q.begins ≡ false
+IsNotNext r None q c = ⊥
+IsNotNext r (Some kept) q c = (d : Contents) × Publishes kept d × IsRefusedAfter r q.list c kept d
+
+-- the refusal of a question: the first in the order of the numbers that applies
+abbrev pub IsRefused : Refusal → State → Question → Type 0
+IsRefused NotAList s q = IsPublished q.list → ⊥
+IsRefused OtherCa s q = (c : Contents) × Publishes q.list c × (are_cas_among q.cas c ≡ false)
+IsRefused OlderVersion s q = (c : Contents) × IsOfCas q c × IsNotNext OlderVersion s.last q c
+IsRefused OtherBytes s q = (c : Contents) × IsOfCas q c × IsNotNext OtherBytes s.last q c
+IsRefused Forgets s q = (c : Contents) × IsOfCas q c × IsNotNext Forgets s.last q c
+IsRefused NotBegun s q = (c : Contents) × IsOfCas q c × IsNotNext NotBegun s.last q c

@@ -1,0 +1,27 @@
+-- The state of the plain list guard, and what it is asked.
+use Rattle.std.specs.Prelude.{ℕ, List, Bool, Option, None, Some, MatchOption}
+use Rattle.krl.specs.Contents.{IsPublished}
+
+pub record State : Type 0 where
+  -- the bytes of the last list that was approved, if one was
+  pub last : Option (List ℕ)
+
+-- a guard that has approved nothing yet
+abbrev pub opened : State
+opened = record { last = None }
+
+-- the guard that approved this list last
+abbrev pub with_last : List ℕ → State
+with_last list = record { last = Some list }
+
+-- what is kept is a published list
+abbrev pub IsLawful : State → Type 0
+IsLawful s = MatchOption s.last (Unit {0}) IsPublished
+
+-- whether the list is the office's next one
+pub record Question : Type 0 where
+  -- the keys of the CAs that it may speak of
+  pub cas : List (List ℕ)
+  -- whether a first list is taken
+  pub begins : Bool
+  pub list : List ℕ

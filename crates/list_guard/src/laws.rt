@@ -1,0 +1,27 @@
+//! Laws of every list of questions. The functions do nothing: their clauses are what is proved.
+
+ghost use Rattle.std.specs.Prelude.{◌≡◌, List, ℕ};
+ghost use Rattle.list_guard.specs.declared.refusal.Refusal.{Refusal};
+ghost use Rattle.list_guard.specs.Machine.{IsApproved, IsLawful, IsRefused, Question, State, opened, with_last};
+ghost use Rattle.list_guard.specs.History.{Approves, Grow};
+
+/// Over any list of questions the lists that are approved only grow in what they revoke, no version goes back, and two
+/// lists of one version are equal, byte by byte.
+pub fn approved_lists_only_grow()
+    ensures { (qs : List Question) (lists : List (List ℕ)) (t : State) → Approves opened qs lists t → Grow lists }
+{}
+
+/// What a guard keeps is a published list, whatever it was asked.
+pub fn a_published_list_is_kept()
+    ensures { (qs : List Question) (lists : List (List ℕ)) (t : State) → Approves opened qs lists t → IsLawful t }
+{}
+
+/// A list that was approved is approved when it is asked for again, and nothing changes.
+pub fn an_approved_list_is_stated_again()
+    ensures { (s : State) (q : Question) → IsApproved s q → IsApproved (with_last q.list) q }
+{}
+
+/// What is approved isn't refused.
+pub fn what_is_approved_is_not_refused()
+    ensures { (s : State) (q : Question) (r : Refusal) → IsApproved s q → IsRefused r s q → ⊥ }
+{}

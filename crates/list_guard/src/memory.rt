@@ -1,0 +1,63 @@
+//! A list guard's register in memory.
+
+ghost use Rattle.std.specs.Prelude.{◌≡◌, ◌⊎◌, IfOk, option_copied};
+ghost use Rattle.std.proofs.Common.{inl, inr};
+ghost use Rattle.list_guard.specs.State.{opened};
+
+use crate::register::{ListRegister, RegisterFault};
+use std::alloc::Global;
+use std::marker::Model;
+use text::{NoMemory, Text};
+
+/// A list guard's register in memory. Contracts see it as the plain guard's state.
+#[derive(Drop)]
+pub struct MemoryListGuard {
+    last: Option<Text>,
+}
+
+impl Model for MemoryListGuard {
+    ghost use Rattle.list_guard.specs.State.{State};
+
+    ghost Value = { State };
+
+    ghost view = { λ g. record { last = g.last } };
+}
+
+fn copied(alloc: Global, list: Option<&Text>) -> Result<Option<Text>, NoMemory>
+    ensures { IfOk result (λ copy. copy ≡ option_copied list.entry) }
+{
+    match list {
+        Some(list) => Ok(Some(list.copied(alloc)?)),
+        None => Ok(None),
+    }
+}
+
+impl MemoryListGuard {
+    /// A guard that has approved nothing yet.
+    pub fn new() -> MemoryListGuard
+        ensures { result ≡ opened }
+    {
+        MemoryListGuard { last: None }
+    }
+}
+
+impl ListRegister for MemoryListGuard {
+    ghost is_honest = { λ _. Unit {0} };
+
+    ghost keeps = { λ g s. g ≡ s };
+
+    ghost leaves = { λ g s t. (g ≡ s) ⊎ (g ≡ t) };
+
+    ghost has_failed = { λ _. ⊥ };
+
+    ghost widens = { λ g s t h. elim h [ inl e ↦ inl e | inr e ↦ inl e ] };
+
+    fn last(&mut self, alloc: Global) -> Result<Option<Text>, RegisterFault> {
+        Ok(copied(alloc, self.last.as_ref())?)
+    }
+
+    fn keep(&mut self, list: Text) -> Result<(), RegisterFault> {
+        self.last = Some(list);
+        Ok(())
+    }
+}

@@ -1,0 +1,36 @@
+-- Lives of the files, run after run.
+use Rattle.std.proofs.Common.{List, [], ◌∷◌, ◌++◌, None, inl, refl, sym, subst}
+use Rattle.std.proofs.Math.Logic.{∥∥₁_elim, ∥∥₁_map}
+use Rattle.sqlite_wal.specs.Recovery.{Image}
+use Rattle.restart.specs.Images.{Holds, Standing}
+use Rattle.restart.specs.Lives.{AreDue, Follow, IsRun, Life, LivesAreDue, Run, RunsGoOn}
+
+-- what the runs were due, from where the office stood, and where it stands in the files that are left
+runs_due : (runs : List Run) (first last : Image) → Follow first runs last → (before : Standing) → Holds first before
+    → ∥ ((after : Standing) × AreDue before runs after × Holds last after) ∥₁
+runs_due [] first last same before holds =
+    ∣ (before, refl, subst (λ (image : Image). Holds image before) (sym same) holds) ∣₁
+runs_due (run ∷ runs) first last follow before holds =
+    ∥∥₁_elim (follow.0 before (subst (λ (image : Image). Holds image before) (sym follow.1) holds)) squash₁
+    (λ next. ∥∥₁_map (runs_due runs run.left last follow.2 next.0 next.2) (λ rest.
+    let all : (after : Standing) × AreDue before (run ∷ runs) after × Holds last after =
+    (rest.0, (next.0, next.1, rest.1), rest.2) in all))
+
+pub lives_are_due : LivesAreDue
+lives_are_due runs last life =
+    ∥∥₁_map (runs_due runs life.first last life.follow None (inl (inl (inl life.empty)))) (λ all.
+    let due : (after : Standing) × AreDue None runs after = (all.0, all.1) in due)
+
+-- a run after others
+follow_then : (runs : List Run) (run : Run) (first : Image) → Follow first runs run.found → IsRun run
+    → Follow first (runs ++ run ∷ []) run.left
+follow_then [] run first same is = (is, same, refl)
+follow_then (other ∷ runs) run first follow is = (follow.0, follow.1, follow_then runs run other.left follow.2 is)
+
+pub runs_go_on : RunsGoOn
+runs_go_on run is runs life =
+    let longer : Life (runs ++ run ∷ []) run.left = record {
+      first = life.first;
+      empty = life.empty;
+      follow = follow_then runs run life.first life.follow is;
+    } in (longer, lives_are_due (runs ++ run ∷ []) run.left longer)

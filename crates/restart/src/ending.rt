@@ -1,0 +1,63 @@
+//! A connection to files, ended: closed or, where a failed disk has shut it, given up.
+
+ghost use Rattle.std.specs.Prelude.{◌≡◌, None};
+ghost use Rattle.sqlite_wal.specs.Reads.{AreClean};
+ghost use Rattle.sqlite.specs.State.{HasCleanDisk, IsUnchanged, Survives};
+ghost use Rattle.sqlite.specs.Files.{file_state};
+ghost use Rattle.store_sql.specs.Calls.{Never};
+ghost use Rattle.restart.specs.Ending.{AreEnded, AreGivenUp, EndsRuns};
+
+use sqlite::{Connection, Error, FileStore, Files};
+use sqlite_disk::Disk;
+
+/// Why a connection wasn't closed well.
+#[derive(Clone, Copy, Debug)]
+pub enum EndFault {
+    /// A failed disk had shut it, or memory was refused. Nothing was written to its files.
+    GivenUp(Error),
+    /// Its log couldn't be copied into the database file.
+    Uncopied(Error),
+}
+
+fn close<D: Disk + Drop>(conn: Connection<FileStore<D>>) -> (Result<(), EndFault>, Files<D>)
+    ensures { AreEnded conn result.0 result.1 }
+{
+    match conn.close_files() {
+        Ok(files) => (Ok(()), files),
+        Err((error, store)) => (Err(EndFault::Uncopied(error)), store.close()),
+    }
+}
+
+/// Why the connection can't be used, if it can't: a failed disk has shut it, or memory is refused.
+fn shut<D: Disk + Drop>(conn: &mut Connection<FileStore<D>>) -> Option<Error>
+    ensures same { HasCleanDisk (file_state conn.new) → result ≡ None
+        → IsUnchanged (file_state conn.old) (file_state conn.new) }
+    ensures survives { Survives (file_state conn.old) (file_state conn.new) Never }
+{
+    match conn.prepare("COMMIT") {
+        Ok(_) => None,
+        Err(error) => Some(error),
+    }
+}
+
+fn give_up<D: Disk + Drop>(conn: Connection<FileStore<D>>) -> Files<D>
+    ensures { AreClean D.Disk result.log result.db → AreGivenUp conn result }
+{
+    conn.into_store().close()
+}
+
+/// Ends a connection to files, and gives these back. It is closed if it is open, and otherwise given up, since only of
+/// an open one it is known what a close that fails leaves.
+pub fn end_at<D: Disk + Drop>(conn: Connection<FileStore<D>>) -> (Result<(), EndFault>, Files<D>)
+    ensures ended { AreEnded conn result.0 result.1 }
+
+    // Whatever a crash makes of the files from now on, the run is one of the program: one that closed them, or one that
+    // was cut off.
+    ensures runs { EndsRuns conn result.0 result.1 }
+{
+    let mut conn = conn;
+    match shut(&mut conn) {
+        None => close(conn),
+        Some(error) => (Err(EndFault::GivenUp(error)), give_up(conn)),
+    }
+}

@@ -1,0 +1,120 @@
+-- What comes of a job, whole: which files are opened and in which order, what is done in the database, what is printed,
+-- and the status.
+use Rattle.std.specs.Prelude.{◌≡◌, ◌⊎◌, ℕ, List, codes, Option, Some, None, Result, Ok, Err, string_bytes}
+use Rattle.std.specs.Io.KnownBytes.{Keeps}
+use Rattle.sqlite_trees.specs.declared.store.Store as store
+use Rattle.sqlite.specs.Held.{Held}
+use Rattle.lines.specs.declared.key_line.KeyLine.{KeyLine}
+use Rattle.office.specs.declared.store_fault.StoreFault.{StoreFault}
+use Rattle.office.specs.Openings.{made_opening}
+use Rattle.server.specs.Books.{Book}
+use Rattle.server.specs.declared.connection_fault.SelftestFault.{SelftestFault}
+use Rattle.command_line.specs.declared.job.Job.{Job}
+use Rattle.command_line.specs.declared.job.Job.TheVariants as job
+use Rattle.sshoffice.specs.declared.world.World.{Ghosts}
+use Rattle.sshoffice.specs.declared.job_fault.JobFault.{JobFault}
+use Rattle.sshoffice.specs.declared.job_fault.JobFault.TheVariants.{Write}
+use Rattle.sshoffice.specs.declared.job.OfficeJob.{OfficeJob}
+use Rattle.sshoffice.specs.declared.job.OfficeJob.TheVariants as office
+use Rattle.sshoffice.specs.Checking.{ChecksFile}
+use Rattle.sshoffice.specs.Faults.{of_store, test_result}
+use Rattle.sshoffice.specs.Finding.{OpensThere, WithFile}
+use Rattle.sshoffice.specs.Jobs.{Does, told_text}
+use Rattle.sshoffice.specs.Steps.{Follows}
+use Rattle.sshoffice.specs.Trial.{TriesFile}
+use Rattle.sshoffice.specs.Whole.{AppliesIn, DoesIn, FoundsIn, IsKeyOf, Prints, ServesIn}
+
+-- a server is asked for
+abbrev pub IsServing : Job → Type 0
+IsServing (job.Serve db port connections nonces) = Unit {0}
+IsServing other = ⊥
+
+-- The status of a job that was done is 0. Its output may fail as it is flushed, and a fault stays.
+abbrev pub IsFlushed : Result (Unit {0}) JobFault → Result ℕ JobFault → Type 0
+IsFlushed (Ok done) result = (result ≡ Ok 0) ⊎ (result ≡ Err Write)
+IsFlushed (Err e) result = result ≡ Err e
+
+-- This was done and printed, and then the output was flushed.
+pub record Ends (Did : (between : Option (List ℕ)) → Result (Unit {0}) JobFault → Type 0) (holds : Option (List ℕ))
+    (result : Result ℕ JobFault) : Type 0 where
+  pub between : Option (List ℕ)
+  pub done : Result (Unit {0}) JobFault
+  pub did : Did between done
+  pub kept : Keeps between holds
+  pub flushed : IsFlushed done result
+
+-- the status: 1 where nothing else is told
+abbrev pub status_by : Result ℕ JobFault → ℕ
+status_by (Ok status) = status
+status_by (Err e) = 1
+
+-- A world as it was before is `w`, and as it is afterwards `w'`.
+module _ {W File Conn Incoming Reader Writer : Type 0} (world : Ghosts W File Conn Incoming Reader Writer) (w w' : W)
+  where
+    -- The trial office served itself a request, and whether it passed is told. Or it couldn't be made.
+    abbrev pub TestsItself : (held holds : Option (List ℕ)) → Result (Unit {0}) JobFault → Type 0
+    TestsItself held holds result =
+        ((e : StoreFault) × (result ≡ Err (of_store e)) × (w' ≡ w) × (holds ≡ held))
+        ⊎ ((tested : Result (Unit {0}) SelftestFault) × world.tests w tested w'
+        × Follows (λ _. Prints (codes "selftest ok\n") held holds) (holds ≡ held) (test_result tested) result)
+
+-- The same, where a file is left to read so.
+module _ {W File Conn Incoming Reader Writer : Type 0} (world : Ghosts W File Conn Incoming Reader Writer)
+    (remaining : File → Option (List ℕ)) (w w' : W) where
+  -- With the key of the CA's file, the list at the path was asked about a certificate. Or that file has no key, and
+  -- nothing is opened after it.
+  pub record ChecksIn (list : List ℕ) (serial : ℕ) (key_id : List ℕ) (ca held holds : Option (List ℕ))
+      (result : Result (Unit {0}) JobFault) : Type 0 where
+    pub key : Result KeyLine JobFault
+    pub is_key : IsKeyOf ca key
+    pub checks : Follows
+        (λ k. WithFile world remaining w w' list
+        (λ bytes opened r. (w' ≡ opened) × ChecksFile bytes k.key serial key_id held holds r) (holds ≡ held))
+        ((w' ≡ w) × (holds ≡ held)) key result
+
+-- The same, where a listener tells of its connections so.
+module _ {W File Tables Incoming Reader Writer : Type 0} (store : store.Ghosts Tables)
+    (world : Ghosts W File (Held Tables) Incoming Reader Writer) (remaining : File → Option (List ℕ))
+    (book : Incoming → Option Book) (w w' : W) where
+  -- a job that asks the office in a database, which has to be there
+  abbrev pub Asks : OfficeJob → (db : List ℕ) → (held holds : Option (List ℕ)) → Result (Unit {0}) JobFault → Type 0
+  Asks asked db held holds result =
+      DoesIn store world book w w' (OpensThere world db) (Does asked) (told_text asked) held holds result
+
+  -- What each job does. No server is asked for.
+  abbrev pub DoesJob : Job → (held holds : Option (List ℕ)) → Result (Unit {0}) JobFault → Type 0
+  DoesJob (job.Init db ca root station first last) held holds result =
+      WithFile world remaining w w' (string_bytes ca)
+      (λ text opened. FoundsIn store world book opened w' (string_bytes db)
+      (λ key. made_opening key (string_bytes root) (string_bytes station) first last) text held holds) (holds ≡ held)
+      result
+  DoesJob (job.Apply None file) held holds result =
+      WithFile world remaining w w' (string_bytes file)
+      (λ text opened r. (w' ≡ opened) × TriesFile text held holds r) (holds ≡ held) result
+  DoesJob (job.Apply (Some db) file) held holds result =
+      WithFile world remaining w w' (string_bytes file)
+      (λ text opened. AppliesIn store world book opened w' (string_bytes db) text held holds) (holds ≡ held) result
+  DoesJob (job.Krl db) held holds result = Asks office.Krl (string_bytes db) held holds result
+  DoesJob (job.Signers db) held holds result = Asks office.Signers (string_bytes db) held holds result
+  DoesJob (job.Table db) held holds result = Asks office.Table (string_bytes db) held holds result
+  DoesJob (job.Migrate db) held holds result = Asks office.Migrate (string_bytes db) held holds result
+  DoesJob (job.Check ca list serial key_id) held holds result =
+      WithFile world remaining w w' (string_bytes ca)
+      (λ key opened. ChecksIn world remaining opened w' (string_bytes list) serial (string_bytes key_id) key held holds) (holds ≡ held)
+      result
+  DoesJob job.Selftest held holds result = TestsItself world w w' held holds result
+  DoesJob other held holds result = ⊥
+
+  -- What each job comes to.
+  abbrev pub Runs : Job → (held holds : Option (List ℕ)) → Result ℕ JobFault → Type 0
+  Runs (job.Serve db port connections nonces) held holds result =
+      WithFile world remaining w w' (string_bytes nonces)
+      (λ source opened. ServesIn store world book opened w' (string_bytes db) port connections source held holds)
+      (holds ≡ held) result
+  Runs other held holds result = Ends (DoesJob other held) holds result
+
+  -- the same, by its status
+  pub record RunsJob (job : Job) (held holds : Option (List ℕ)) (status : ℕ) : Type 0 where
+    pub result : Result ℕ JobFault
+    pub runs : Runs job held holds result
+    pub is_its : status ≡ status_by result

@@ -1,0 +1,167 @@
+//! The world of the program: the system's files, clock and sockets, and databases in files.
+//!
+//! Each call is one of the system's or of a crate's. Of what the system answers nothing is proved.
+
+ghost use Rattle.std.specs.Prelude.{◌≡◌, ◌≤◌, IfOk, IsSomeAnd, map, string_bytes};
+ghost use Rattle.sqlite_wal.specs.Files.{image_at};
+ghost use Rattle.command_line.specs.Answers.{AreBad};
+ghost use Rattle.sshoffice.specs.DatabaseFiles.{AreCleanOf, ClosesFiles, MayBecome, OpensFiles};
+
+use crate::command::{BAD_WORDS, do_words};
+use crate::files::make_file;
+use crate::trial::MemoryOffice;
+use crate::world::World;
+use restart::open_at;
+use server::{Loopback, SelftestFault, selftest};
+use sqlite::{Connection, Error, ErrorCode, FileFrom, FileStore, Files, Start};
+use std::alloc::{Alloc, Global};
+use std::cell::OnceCell;
+use std::fs;
+use std::io::{ErrorKind, Write};
+use std::net::{SocketAddr, SocketAddrV4, TcpListener};
+
+/// A connection to the files at a path.
+type FileConnection<S> = Connection<FileStore<FileFrom<S>>>;
+
+/// Opens the database at a path, or makes one without tables. `start` stands for what its files hold.
+fn open_files<S: Start>(rt: &HostRuntime, path: &str, start: S) -> Result<FileConnection<S>, Error>
+    ensures { IfOk result (OpensFiles (image_at S.Start)) }
+{
+    match open_at(rt, path, start) {
+        Ok(conn) => Ok(conn),
+        Err(error) => Err(error),
+    }
+}
+
+/// Whether SQLite takes this for something else than a path, so that opening it refuses it. Then no file is made.
+fn is_no_path(path: &str) -> bool {
+    path == ":memory:" || path.starts_with("file:")
+}
+
+/// The system, of which one database is opened, once.
+#[derive(Drop)]
+pub struct Host<'a, S: Start> {
+    rt: &'a HostRuntime,
+    // What stands for what the database's files hold, until they are opened.
+    start: Option<S>,
+    // The files as the close left them, whether it went well or not.
+    left: Option<Files<FileFrom<S>>>,
+    // The place of the listener, which its connections outlive.
+    listener: &'a OnceCell<TcpListener>,
+}
+
+impl<'a, S: Start> Host<'a, S> {
+    /// The system, before anything is asked of it. `start` stands for what the files of the database hold.
+    pub fn new(rt: &'a HostRuntime, start: S, listener: &'a OnceCell<TcpListener>) -> Host<'a, S> {
+        Host {
+            rt,
+            start: Some(start),
+            left: None,
+            listener,
+        }
+    }
+}
+
+impl<S: Start> Alloc for Host<'_, S> {
+    type A = Global;
+
+    fn alloc(&self) -> Global {
+        self.rt.alloc()
+    }
+}
+
+impl<'a, S: Start> World for Host<'a, S> {
+    type File = fs::File;
+
+    type Conn = FileConnection<S>;
+
+    type Incoming = Loopback<'a, HostRuntime>;
+
+    ghost opens = { λ _ _ found _. IfOk found (OpensFiles (image_at S.Start)) };
+
+    ghost image = { image_at S.Start };
+
+    ghost is_clean = { λ host conn. IsSomeAnd host.left (AreCleanOf conn) };
+
+    ghost leaves = { λ host conn image. IsSomeAnd host.left (λ files. MayBecome conn files image) };
+
+    ghost closes = { λ _ conn closed host. IsSomeAnd host.left (ClosesFiles conn closed) };
+
+    fn open_file(&mut self, path: &str) -> Result<fs::File, ErrorKind> {
+        fs::open(self.rt, path).map_err(|error| error.kind())
+    }
+
+    fn has_database(&mut self, path: &str) -> Result<bool, ErrorKind> {
+        fs::exists(self.rt, path).map_err(|error| error.kind())
+    }
+
+    fn make_database(&mut self, path: &str) -> Result<(), ErrorKind> {
+        if is_no_path(path) {
+            return Ok(());
+        }
+        make_file(self.rt, path).map_err(|error| error.kind())
+    }
+
+    fn open_database(&mut self, path: &str) -> Result<FileConnection<S>, Error> {
+        match self.start.take() {
+            Some(start) => open_files(self.rt, path, start),
+            None => Err(Error::SqliteFailure(ErrorCode::CannotOpen)),
+        }
+    }
+
+    fn close_database(&mut self, conn: FileConnection<S>) -> Result<(), Error> {
+        match conn.close_files() {
+            Ok(files) => {
+                self.left = Some(files);
+                Ok(())
+            }
+            Err((error, store)) => {
+                self.left = Some(store.close());
+                Err(error)
+            }
+        }
+    }
+
+    fn listen(
+        &mut self,
+        address: SocketAddrV4,
+    ) -> Result<(Loopback<'a, HostRuntime>, u16), ErrorKind> {
+        listen_in(self.rt, self.listener, address)
+    }
+
+    fn test_office(&mut self, office: &mut MemoryOffice) -> Result<(), SelftestFault> {
+        selftest(self.rt, office)
+    }
+}
+
+// Listens at an address, with a listener that is kept in the cell.
+fn listen_in<'a>(
+    rt: &'a HostRuntime,
+    cell: &'a OnceCell<TcpListener>,
+    address: SocketAddrV4,
+) -> Result<(Loopback<'a, HostRuntime>, u16), ErrorKind> {
+    let listener = TcpListener::bind(rt, SocketAddr::V4(address)).map_err(|error| error.kind())?;
+    let at = listener.local_addr().map_err(|error| error.kind())?;
+    let _ = cell.set(listener);
+    match cell.get() {
+        Some(listener) => Ok((Loopback::new(listener, rt), at.port())),
+        None => Err(ErrorKind::OutOfMemory),
+    }
+}
+
+/// Does what the words ask for in the world of the system, and answers the status and `out`. `start` stands for what the
+/// files of the job's database hold. Only here is a job done over a file's connection: such a call takes half a minute to prove.
+pub fn run<S: Start, O: Write, E: Write>(
+    rt: &HostRuntime,
+    start: S,
+    words: &[String],
+    out: O,
+    err: &mut E,
+) -> (u8, O)
+    ensures status { result.0 ≤ BAD_WORDS }
+    ensures bad { result.0 ≡ BAD_WORDS → AreBad (map string_bytes words.now) }
+{
+    let listener = OnceCell::new();
+    let mut host = Host::new(rt, start, &listener);
+    do_words(&mut host, words, out, err)
+}

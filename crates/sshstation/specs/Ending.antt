@@ -1,0 +1,15 @@
+-- How the program ends.
+use Rattle.std.specs.Prelude.{ℕ, Result, Ok, Err}
+use Rattle.command_line.specs.declared.words_fault.WordsFault.{WordsFault}
+use Rattle.command_line.specs.declared.words_fault.WordsFault.TheVariants.{BadWords}
+use Rattle.station_jobs.specs.declared.station_fault.StationFault.{StationFault}
+
+-- the status of what was done
+abbrev pub status : Result (Unit {0}) StationFault → ℕ
+status (Ok done) = 0
+status (Err e) = 1
+
+-- the words have a mistake
+abbrev pub IsOfBadWords : WordsFault → Type 0
+IsOfBadWords (BadWords text) = Unit {0}
+IsOfBadWords other = ⊥

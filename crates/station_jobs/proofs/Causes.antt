@@ -1,0 +1,20 @@
+-- Which faults are met.
+use Rattle.station_jobs.specs.declared.station_fault.StationFault.{StationFault}
+use Rattle.station_jobs.specs.declared.station_fault.StationFault.TheVariants.{File, NoMemory}
+use Rattle.lines.specs.declared.key_line.LineFault.{LineFault}
+use Rattle.lines.specs.declared.key_line.LineFault.TheVariants as line
+use Rattle.station_jobs.specs.Faults.{IsOfAFile, IsOfAKey, IsOfAPolicy, of_line}
+
+pub of_a_file : (e : StationFault) → IsOfAFile e → IsOfAPolicy e
+of_a_file File h = tt
+of_a_file NoMemory h = tt
+of_a_file other h = absurd h
+
+pub key_file : (e : StationFault) → IsOfAFile e → IsOfAKey e
+key_file File h = tt
+key_file NoMemory h = tt
+key_file other h = absurd h
+
+pub key_line : (e : LineFault) → IsOfAKey (of_line e)
+key_line line.NoMemory = tt
+key_line other = tt

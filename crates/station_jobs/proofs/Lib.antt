@@ -1,0 +1,4 @@
+mod Causes
+mod Judgements
+mod Lines
+mod Rows

@@ -1,0 +1,146 @@
+-- Paths that an input gives, and the bodies at them judged.
+use Rattle.std.proofs.Common.{◌≡◌, ◌≢◌, ◌++◌, ◌∷◌, [], ◌⊎◌, ℕ, List, Bool, true, false, cond, Option, Some, None, Result, Ok, Err}
+use Rattle.std.proofs.Common.{IfSome, arith, length, refl, sym, ap, subst, ◌∙◌, inl, inr, ◌==◌}
+use Rattle.std.specs.Io.BufRead.{drop_through, first_piece, strip_last, take_through}
+use Rattle.std.specs.Io.KnownBytes.{IsAtEnd}
+use Rattle.std.proofs.lemmas.List.{append-nil}
+use Rattle.guard.specs.Machine.{State, Question}
+use Rattle.station_jobs.specs.declared.station_fault.StationFault.{StationFault}
+use Rattle.station_jobs.specs.Input.{AreLines, Begins, JudgesInput, JudgesNext, TakesLine, TakesPath}
+use Rattle.station_jobs.specs.Judging.{Judges, left_by}
+use Rattle.station_jobs.proofs.Judgements.{fault_first, judged_on, none_judged}
+
+-- ---- lines
+
+begins_with_more : (lines : List (List ℕ)) (line text left : List ℕ) → Begins lines text left → left ≢ [] → line ≡ first_piece 10 left
+    → Begins (lines ++ line ∷ []) text (drop_through 10 left)
+begins_with_more [] line text left is more first =
+    subst (λ (t : List ℕ). (t ≢ []) × (line ≡ first_piece 10 t) × (drop_through 10 t ≡ drop_through 10 left)) (sym is)
+    (more, first, refl)
+begins_with_more (l ∷ lines) line text left is more first =
+    (is.0, is.1, begins_with_more lines line (drop_through 10 text) left is.2 more first)
+
+-- a text with a first line isn't empty
+has_line : (text : List ℕ) → take_through 10 text ≡ [] → text ≡ []
+has_line [] e = refl
+has_line (b ∷ text) e = by_test (b == 10) e
+  where
+    by_test : (t : Bool) → cond t (b ∷ []) (b ∷ take_through 10 text) ≡ [] → (b ∷ text) ≡ []
+    by_test true e = absurd cc
+    by_test false e = absurd cc
+
+-- a line that isn't empty is a path's
+pub takes_path : (old new : Option (List ℕ)) (line : List ℕ) → TakesLine old new line → (length line ≡ 0 → ⊥)
+    → TakesPath old new (strip_last 10 line)
+takes_path None new line is some = tt
+takes_path (Some text) new line is some = (
+  λ none. some (ap length is.0 ∙ ap (λ t. length (take_through 10 t)) none),
+  ap (strip_last 10) is.0,
+  is.1,
+)
+
+-- an empty one is the end
+pub takes_none : (old new : Option (List ℕ)) (line : List ℕ) → TakesLine old new line → length line ≡ 0 → IsAtEnd old
+takes_none None new line is none = tt
+takes_none (Some text) new [] is none = has_line text (sym is.0)
+takes_none (Some text) new (b ∷ line) is none = absurd (omega (arith, none))
+
+-- ---- bodies judged in turn
+
+-- these lines were taken, and no more
+abbrev Taken : (input now : Option (List ℕ)) → List (List ℕ) → Type 0
+Taken input now paths = IfSome input (λ text. (left : List ℕ) × (now ≡ Some left) × Begins paths text left)
+
+-- the bodies at the first paths of an input were judged
+pub record Underway (s : State) (keeps : State → Type 0) (Asked : List ℕ → Question → Type 0)
+    (input now held holds : Option (List ℕ)) : Type 0 where
+  pub paths : List (List ℕ)
+  pub taken : Taken input now paths
+  pub judges : Judges s keeps Asked paths held holds (Ok tt)
+
+none_taken : (input : Option (List ℕ)) → Taken input input []
+none_taken None = tt
+none_taken (Some text) = (text, refl, refl)
+
+pub starts : (keeps : State → Type 0) (Asked : List ℕ → Question → Type 0) (s : State) (input held : Option (List ℕ))
+    → keeps s → Underway s keeps Asked input input held held
+starts keeps Asked s input held left = record {
+  paths = [];
+  taken = none_taken input;
+  judges = none_judged keeps Asked s held left;
+}
+
+one_taken : (input mid now : Option (List ℕ)) (paths : List (List ℕ)) (path : List ℕ) → Taken input mid paths → TakesPath mid now path
+    → Taken input now (paths ++ path ∷ [])
+one_taken None mid now paths path taken takes = tt
+one_taken (Some text) None now paths path taken takes = absurd cc
+one_taken (Some text) (Some rest) now paths path (left, same, begins) takes =
+    let is : rest ≡ left = cc in (
+      drop_through 10 rest,
+      takes.2,
+      begins_with_more paths path text rest (subst (Begins paths text) (sym is) begins) takes.0 takes.1,
+    )
+
+pub goes_on : {A : Type 0} (between keeps : State → Type 0) (Asked : List ℕ → Question → Type 0) (s : State)
+    (input mid now held so_far holds : Option (List ℕ)) (x : A) (first : Underway s between Asked input mid held so_far)
+    → JudgesNext (left_by s first.judges.judged) keeps Asked mid now so_far holds (Ok (Some x))
+    → Underway s keeps Asked input now held holds
+goes_on between keeps Asked s input mid now held so_far holds x first (path, takes, judges) = record {
+  paths = first.paths ++ path ∷ [];
+  taken = one_taken input mid now first.paths path first.taken takes;
+  judges = judged_on between keeps Asked s first.paths (path ∷ []) held so_far holds (Ok tt) first.judges judges;
+}
+
+all_taken : (input now : Option (List ℕ)) (paths : List (List ℕ)) → Taken input now paths → IsAtEnd now
+    → IfSome input (λ text. AreLines paths text (Ok tt))
+all_taken None now paths taken end = tt
+all_taken (Some text) None paths taken end = absurd cc
+all_taken (Some text) (Some rest) paths (left, same, begins) end =
+    let is : left ≡ [] = cc in subst (Begins paths text) is begins
+
+some_taken : (input now : Option (List ℕ)) (paths : List (List ℕ)) (e : StationFault) → Taken input now paths
+    → IfSome input (λ text. AreLines paths text (Err e))
+some_taken None now paths e taken = tt
+some_taken (Some text) now paths e (left, same, begins) = (left, begins)
+
+pub ends : (A : Type 0) (between keeps : State → Type 0) (Asked : List ℕ → Question → Type 0) (s : State)
+    (input mid now held so_far holds : Option (List ℕ)) (first : Underway s between Asked input mid held so_far)
+    → JudgesNext {A = A} (left_by s first.judges.judged) keeps Asked mid now so_far holds (Ok None)
+    → JudgesInput s keeps Asked input held holds (Ok tt)
+ends A between keeps Asked s input mid now held so_far holds first (end, kept, same) = record {
+  paths = first.paths ++ [];
+  lines = subst (λ (ps : List (List ℕ)). IfSome input (λ text. AreLines ps text (Ok tt))) (sym (nil_behind first.paths))
+      (all_taken input mid first.paths first.taken end);
+  judges = judged_on between keeps Asked s first.paths [] held so_far holds (Ok tt) first.judges
+      (subst (λ (h : Option (List ℕ)). Judges (left_by s first.judges.judged) keeps Asked [] so_far h (Ok tt)) (sym same)
+      (none_judged keeps Asked (left_by s first.judges.judged) so_far kept));
+}
+  where
+    nil_behind : (ps : List (List ℕ)) → ps ++ [] ≡ ps
+    nil_behind ps = append-nil ps
+
+pub fails : (A : Type 0) (between keeps : State → Type 0) (Asked : List ℕ → Question → Type 0) (s : State)
+    (input mid now held so_far holds : Option (List ℕ)) (e : StationFault)
+    (first : Underway s between Asked input mid held so_far)
+    → JudgesNext {A = A} (left_by s first.judges.judged) keeps Asked mid now so_far holds (Err e)
+    → JudgesInput s keeps Asked input held holds (Err e)
+fails A between keeps Asked s input mid now held so_far holds e first (inl (path, takes, judges)) = record {
+  paths = first.paths ++ path ∷ [];
+  lines = some_taken input now (first.paths ++ path ∷ []) e
+      (one_taken input mid now first.paths path first.taken takes);
+  judges = judged_on between keeps Asked s first.paths (path ∷ []) held so_far holds (Err e) first.judges judges;
+}
+fails A between keeps Asked s input mid now held so_far holds e first (inr (kept, same)) = record {
+  paths = first.paths ++ [];
+  lines = some_taken input mid (first.paths ++ []) e
+      (subst (Taken input mid) (sym (append-nil first.paths)) first.taken);
+  judges = judged_on between keeps Asked s first.paths [] held so_far holds (Err e) first.judges
+      (subst (λ (h : Option (List ℕ)). Judges (left_by s first.judges.judged) keeps Asked [] so_far h (Err e)) (sym same)
+      (fault_first keeps Asked (left_by s first.judges.judged) [] so_far e kept));
+}
+
+-- the input was never at its end
+pub stops : (keeps : State → Type 0) (Asked : List ℕ → Question → Type 0) (s : State) (input now held holds : Option (List ℕ))
+    (e : StationFault) (first : Underway s keeps Asked input now held holds) → JudgesInput s keeps Asked input held holds (Err e)
+stops keeps Asked s input now held holds e first =
+    fails (Unit {0}) keeps keeps Asked s input now now held holds holds e first (inr (first.judges.left, refl))

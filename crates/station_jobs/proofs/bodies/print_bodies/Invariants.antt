@@ -1,0 +1,13 @@
+use Rattle.guard.specs.Machine.{State}
+use Rattle.station_jobs.proofs.Rows.{Listed}
+use Rattle.station_jobs.proofs.bodies.print_bodies.Given as goal
+
+-- the rows before this serial are printed
+abbrev pub invariant-loop-row : goal.invariant-loop-row
+invariant-loop-row g l = record {
+  honest : g.G.Register.is_honest l.register → g.G.Register.is_honest l.fn.register;
+  same : g.G.Register.is_honest l.register → (s : State) → g.G.Register.keeps l.fn.register s
+      → g.G.Register.keeps l.register s;
+  listed : g.G.Register.is_honest l.register → (s : State) → g.G.Register.keeps l.fn.register s
+      → Listed s (g.W.Write.contents l.fn.out) (g.W.Write.contents l.out) l.from;
+}

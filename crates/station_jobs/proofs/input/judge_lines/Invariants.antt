@@ -1,0 +1,17 @@
+use Rattle.std.proofs.Common.{◌≡◌, Ok}
+use Rattle.guard.specs.Machine.{State}
+use Rattle.guard.specs.Policies.{policy_at}
+use Rattle.station_jobs.specs.Judging.{AsksNow}
+use Rattle.station_jobs.proofs.Lines.{Underway}
+use Rattle.station_jobs.proofs.input.judge_lines.Given as goal
+
+-- the bodies at the first paths were judged
+abbrev pub invariant-loop-turn : goal.invariant-loop-turn
+invariant-loop-turn g l = record {
+  honest : g.G.Register.is_honest l.register → g.G.Register.is_honest l.fn.register;
+  known : policy_at l.known.text.items ≡ Ok l.known.policy;
+  underway : g.G.Register.is_honest l.register → (s : State) → g.G.Register.keeps l.fn.register s
+      → Underway s (g.G.Register.keeps l.register)
+      (AsksNow g.P.Surroundings l.around g.F.Read.remaining l.policy l.ahead) (g.I.Read.remaining l.fn.input)
+      (g.I.Read.remaining l.input) (g.W.Write.contents l.fn.out) (g.W.Write.contents l.out);
+}

@@ -1,0 +1,130 @@
+//! The bodies that are approved, printed.
+
+ghost use Rattle.std.specs.Prelude.{◌≡◌, ◌++◌, ◌∷◌, [], decimal, IfOk, OnOk};
+ghost use Rattle.std.specs.Io.KnownBytes.{Appends};
+ghost use Rattle.guard.specs.Machine.{State};
+ghost use Rattle.station_jobs.specs.Bodies.{ListsBodies, PrintsBody, PrintsFrom, named_line, row_line};
+
+use crate::output::print;
+use crate::station_fault::StationFault;
+use guard::{Approved, BodyFault, Register, fields_of};
+use lines::body_digest;
+use std::alloc::Global;
+use std::io::Write;
+use text::NoMemory;
+use values::put_decimal;
+
+/// Puts a number and a space.
+fn put_number(line: &mut Vec<u8>, number: u64) -> Result<(), NoMemory>
+    ensures { OnOk result (line.new.items ≡ line.old.items ++ (decimal number ++ 32 ∷ [])) }
+{
+    put_decimal(line, number)?;
+    line.push(b' ')?;
+    Ok(())
+}
+
+/// Puts the line of a row with this key id.
+fn put_row(line: &mut Vec<u8>, row: &Approved, key_id: &[u8]) -> Result<(), NoMemory>
+    ensures { OnOk result (line.new.items ≡ line.old.items ++ named_line row.now key_id.now) }
+{
+    put_number(line, row.serial)?;
+    line.extend_from_slice(&body_digest(row.body.as_slice()))?;
+    line.push(b' ')?;
+    put_number(line, row.moment)?;
+    line.extend_from_slice(key_id)?;
+    line.push(b'\n')?;
+    Ok(())
+}
+
+/// The line of a row.
+fn line_of(alloc: Global, row: &Approved) -> Result<Vec<u8>, StationFault>
+    ensures { IfOk result (λ line. line.items ≡ row_line row.now) }
+{
+    let mut line = Vec::new(alloc);
+    match fields_of(alloc, row.body.as_slice()) {
+        Ok(fields) => {
+            let put = put_row(&mut line, row, fields.key_id.as_slice());
+            drop(fields);
+            put?;
+            Ok(line)
+        }
+        Err(BodyFault::NoMemory) => Err(StationFault::NoMemory),
+        Err(_) => Err(StationFault::Damaged),
+    }
+}
+
+/// Prints the line of a row.
+fn print_row<W: Write>(alloc: Global, row: &Approved, out: &mut W) -> Result<(), StationFault>
+    ensures { OnOk result (Appends (W.contents out.old) (W.contents out.new) (row_line row.now)) }
+{
+    let line = line_of(alloc, row)?;
+    print(out, line.as_slice())
+}
+
+/// Prints the line of the first row from a serial on, and answers the serial that follows; none if there is no row.
+fn print_from<G: Register, W: Write>(
+    alloc: Global,
+    register: &mut G,
+    from: u64,
+    out: &mut W,
+) -> Result<Option<u64>, StationFault>
+    ensures honest { G.is_honest register.new → G.is_honest register.old }
+    ensures prints { G.is_honest register.new → (s : State) → G.keeps register.old s
+        → IfOk result (PrintsFrom s from (W.contents out.old) (W.contents out.new)) }
+    ensures same { G.is_honest register.new → (s : State) → G.keeps register.old s → G.keeps register.new s }
+{
+    match register.row_from(alloc, from) {
+        Ok(Some(row)) => {
+            let printed = print_row(alloc, &row, out);
+            let serial = row.serial;
+            drop(row);
+            match printed {
+                Ok(()) if serial < u64::MAX => Ok(Some(serial + 1)),
+                Ok(()) => Err(StationFault::Damaged),
+                Err(fault) => Err(fault),
+            }
+        }
+        Ok(None) => Ok(None),
+        Err(fault) => Err(StationFault::from(fault)),
+    }
+}
+
+/// Prints a line for each body that is approved, by its serial.
+pub fn print_bodies<G: Register, W: Write>(
+    alloc: Global,
+    register: &mut G,
+    out: &mut W,
+) -> Result<(), StationFault>
+    ensures honest { G.is_honest register.new → G.is_honest register.old }
+    ensures lists { G.is_honest register.new → (s : State) → G.keeps register.old s
+        → OnOk result (ListsBodies s (W.contents out.old) (W.contents out.new)) }
+    ensures same { G.is_honest register.new → (s : State) → G.keeps register.old s → G.keeps register.new s }
+{
+    let mut from = 0;
+    for _row in 0..u64::MAX {
+        match print_from(alloc, register, from, out) {
+            Ok(Some(next)) => from = next,
+            Ok(None) => return Ok(()),
+            Err(fault) => return Err(fault),
+        }
+    }
+    Err(StationFault::Damaged)
+}
+
+/// Prints the body that is approved under a serial.
+pub fn print_body<G: Register, W: Write>(
+    alloc: Global,
+    register: &mut G,
+    serial: u64,
+    out: &mut W,
+) -> Result<(), StationFault>
+    ensures honest { G.is_honest register.new → G.is_honest register.old }
+    ensures prints { G.is_honest register.new → (s : State) → G.keeps register.old s
+        → PrintsBody s serial (W.contents out.old) (W.contents out.new) result }
+    ensures same { G.is_honest register.new → (s : State) → G.keeps register.old s → G.keeps register.new s }
+{
+    match register.body_of(alloc, serial)? {
+        Some(body) => print(out, body.as_slice()),
+        None => Err(StationFault::UnknownSerial),
+    }
+}

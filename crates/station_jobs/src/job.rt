@@ -1,0 +1,106 @@
+//! What is asked of the guard of a file, whole.
+
+ghost use Rattle.std.specs.Prelude.{◌≡◌, ℕ, List, IfOk, IsTrue};
+ghost use Rattle.office.specs.Openings.{are_serials};
+ghost use Rattle.station_jobs.specs.Jobs.{InitsIn, IsLawful, LowersIn, Prints, RunsJob};
+
+use crate::guard_file::GuardFile;
+use crate::output::print;
+use crate::station_fault::StationFault;
+use crate::surroundings::Surroundings;
+use crate::telling::{ready_text, retired_text};
+use crate::whole::{Judging, bodies_in, body_in, judge_in, make_in, retire_in};
+use guard::{Register, Scope};
+use std::alloc::Global;
+use std::io::{BufRead, Read, Write};
+use text::NoMemory;
+
+/// What is asked of the guard of a file.
+#[derive(Clone, Copy)]
+pub enum GuardJob<'a> {
+    /// Makes a guard of this scope.
+    Init(Scope),
+    /// Judges bodies, and prints the line of each.
+    Judge(Judging<'a>),
+    /// Prints a line for each body that is approved.
+    Bodies,
+    /// Prints the body that is approved under a serial.
+    Body(u64),
+    /// Lowers the last serial.
+    Retire(u64),
+}
+
+/// Prints what is told of a job that was done.
+fn tell<W: Write>(text: Result<Vec<u8>, NoMemory>, out: &mut W) -> Result<(), StationFault>
+    ensures { (told : List ℕ) → IfOk text (λ v. v.items ≡ told)
+        → Prints told (W.contents out.old) (W.contents out.new) result }
+{
+    match text {
+        Ok(text) => print(out, text.as_slice()),
+        Err(_) => Err(StationFault::NoMemory),
+    }
+}
+
+/// Makes a guard in a file, and tells of it.
+fn init_in<G, D: GuardFile<Guard = G>, W: Write>(
+    alloc: Global,
+    db: &mut D,
+    scope: &Scope,
+    out: &mut W,
+) -> Result<(), StationFault>
+    requires { IsTrue (are_serials scope.now.first scope.now.last) }
+    ensures { InitsIn D.GuardFile db.old db.new scope.now (W.contents out.old) (W.contents out.new) result }
+{
+    match make_in(alloc, db, scope) {
+        Ok(()) => tell(ready_text(alloc, scope), out),
+        Err(fault) => Err(fault),
+    }
+}
+
+/// Lowers the last serial of the guard of a file, and tells of it.
+fn lower_in<G: Register, D: GuardFile<Guard = G>, W: Write>(
+    alloc: Global,
+    db: &mut D,
+    last: u64,
+    out: &mut W,
+) -> Result<(), StationFault>
+    ensures { LowersIn G.Register D.GuardFile db.old db.new last (W.contents out.old) (W.contents out.new) result }
+{
+    match retire_in(alloc, db, last) {
+        Ok(first) => tell(retired_text(alloc, first, last), out),
+        Err(fault) => Err(fault),
+    }
+}
+
+/// Does what is asked of the guard of a file, from its opening to its closing.
+///
+/// # Errors
+///
+/// Why it wasn't done, or, where it was done, why the file couldn't be closed well or what is told couldn't be printed.
+pub fn run_in<
+    F: Read + Drop,
+    P: Surroundings<File = F>,
+    G: Register,
+    D: GuardFile<Guard = G>,
+    I: BufRead,
+    W: Write,
+>(
+    alloc: Global,
+    around: &P,
+    db: &mut D,
+    job: &GuardJob<'_>,
+    input: &mut I,
+    out: &mut W,
+) -> Result<(), StationFault>
+    requires { IsLawful job.now }
+    ensures { RunsJob P.Surroundings around.now F.remaining G.Register D.GuardFile db.old db.new job.now
+        (I.remaining input.old) (W.contents out.old) (W.contents out.new) result }
+{
+    match job {
+        GuardJob::Init(scope) => init_in(alloc, db, scope, out),
+        GuardJob::Judge(judging) => judge_in(alloc, around, db, judging, input, out),
+        GuardJob::Bodies => bodies_in(alloc, db, out),
+        GuardJob::Body(serial) => body_in(alloc, db, *serial, out),
+        GuardJob::Retire(last) => lower_in(alloc, db, *last, out),
+    }
+}

@@ -1,0 +1,116 @@
+//! Bodies judged one after the other, and the line of each printed.
+
+ghost use Rattle.std.specs.Prelude.{◌≡◌, ◌≤◌, ◌∷◌, [], take, map, string_bytes, IfErr, IfOk, IfSome, OnErr, OnOk};
+ghost use Rattle.std.specs.Io.KnownBytes.{Appends};
+ghost use Rattle.wire.specs.Streams.{AppendsBeginning};
+ghost use Rattle.guard.specs.AnswerLines.{answer_line};
+ghost use Rattle.guard.specs.Decided.{question};
+ghost use Rattle.guard.specs.Machine.{State};
+ghost use Rattle.station_jobs.specs.Judging.{Asks, Judges};
+ghost use Rattle.station_jobs.specs.Steps.{Answered, AnswersOne, Weighs};
+
+use crate::file_reader::read_body;
+use crate::output::print;
+use crate::station_fault::StationFault;
+use crate::surroundings::Surroundings;
+use guard::{Answer, Policy, Register, Window, judge, put_answer};
+use std::alloc::Global;
+use std::io::{Read, Write};
+
+/// Prints the line of an answer. After a fault a beginning of it may be printed.
+fn print_answer<W: Write>(alloc: Global, answer: Answer, out: &mut W) -> Result<(), StationFault>
+    ensures ok { OnOk result (Appends (W.contents out.old) (W.contents out.new) (answer_line answer)) }
+    ensures err { OnErr result (AppendsBeginning (W.contents out.old) (W.contents out.new) (answer_line answer)) }
+{
+    let mut line = Vec::new(alloc);
+    put_answer(&mut line, answer)?;
+    print(out, line.as_slice())
+}
+
+/// Judges a body, and prints the line of the answer once the register keeps what is signed.
+fn answer_body<G: Register, W: Write>(
+    alloc: Global,
+    register: &mut G,
+    policy: &Policy,
+    window: Window,
+    body: &[u8],
+    out: &mut W,
+) -> Result<(), StationFault>
+    ensures honest { G.is_honest register.new → G.is_honest register.old }
+    ensures answers { G.is_honest register.new → (s : State) → G.keeps register.old s
+        → AnswersOne s (G.keeps register.new) (question policy.now window body.now) (W.contents out.old)
+        (W.contents out.new) result }
+{
+    let answer = judge(alloc, register, policy, window, body)?;
+    print_answer(alloc, answer, out)
+}
+
+/// The body of a file, and the moment at which it is judged.
+fn weighed<F: Read + Drop, P: Surroundings<File = F>>(
+    alloc: Global,
+    around: &P,
+    path: &str,
+) -> Result<(Vec<u8>, u64), StationFault>
+    ensures { IfOk result (λ r. Weighs P.Surroundings around.now F.remaining path.now r.0.items r.1) }
+{
+    let file = around.open(path)?;
+    let body = read_body(alloc, file)?;
+    match around.moment() {
+        Some(moment) => Ok((body, moment)),
+        None => Err(StationFault::Clock),
+    }
+}
+
+/// Judges the body of a file, and prints the line of the answer.
+pub fn judge_file<F: Read + Drop, P: Surroundings<File = F>, G: Register, W: Write>(
+    alloc: Global,
+    around: &P,
+    register: &mut G,
+    policy: &Policy,
+    ahead: u64,
+    path: &str,
+    out: &mut W,
+) -> Result<(), StationFault>
+    ensures honest { G.is_honest register.new → G.is_honest register.old }
+    ensures judges { G.is_honest register.new → (s : State) → G.keeps register.old s → Judges s (G.keeps register.new)
+        (Asks P.Surroundings around.now F.remaining (λ p. p ≡ policy.now) ahead) (path.now ∷ []) (W.contents out.old)
+        (W.contents out.new) result }
+{
+    match weighed(alloc, around, path) {
+        Ok((body, moment)) => {
+            let window = Window { moment, ahead };
+            answer_body(alloc, register, policy, window, body.as_slice(), out)
+        }
+        Err(fault) => Err(fault),
+    }
+}
+
+/// Judges the bodies of files, one after the other, and prints the line of each.
+///
+/// # Errors
+///
+/// The first fault that is met ends it: `File`, `Clock`, `Write`, `NoMemory`, or that of the register. What was printed
+/// before stands.
+pub fn judge_files<F: Read + Drop, P: Surroundings<File = F>, G: Register, W: Write>(
+    alloc: Global,
+    around: &P,
+    register: &mut G,
+    policy: &Policy,
+    ahead: u64,
+    paths: &[String],
+    out: &mut W,
+) -> Result<(), StationFault>
+    ensures honest { G.is_honest register.new → G.is_honest register.old }
+    ensures judges { G.is_honest register.new → (s : State) → G.keeps register.old s → Judges s (G.keeps register.new)
+        (Asks P.Surroundings around.now F.remaining (λ p. p ≡ policy.now) ahead) (map string_bytes paths.now)
+        (W.contents out.old) (W.contents out.new) result }
+{
+    for path in paths {
+        let path = path.as_str();
+        match judge_file(alloc, around, register, policy, ahead, path, out) {
+            Ok(()) => {}
+            Err(fault) => return Err(fault),
+        }
+    }
+    Ok(())
+}

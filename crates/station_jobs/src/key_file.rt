@@ -1,0 +1,59 @@
+//! The CA's key, from a file.
+
+ghost use Rattle.std.specs.Prelude.{IfErr, IfOk, IfSome, IsTrue};
+ghost use Rattle.office.specs.Openings.{are_serials};
+ghost use Rattle.station_jobs.specs.Faults.{IsOfAKey};
+ghost use Rattle.station_jobs.specs.KeyFiles.{IsKeyText};
+ghost use Rattle.station_jobs.specs.Whole.{Begins};
+
+use crate::file_reader::read_whole;
+use crate::station_fault::StationFault;
+use guard::Scope;
+use lines::{KeyLine, read_key_line};
+use std::alloc::Global;
+use std::io::Read;
+
+/// The most bytes of a file with a key line: some KiB more than any has.
+const MAX_KEY_FILE: u64 = 8192;
+
+// The key that a text holds: a key line, and then a line feed or nothing.
+#[tactic(auto, using(crate::proofs::Causes::key_line))]
+fn key_in(alloc: Global, text: &[u8]) -> Result<KeyLine, StationFault>
+    ensures key { IfOk result (IsKeyText text.now) }
+    ensures only { IfErr result IsOfAKey }
+{
+    let line = text.strip_suffix(b"\n".as_slice()).unwrap_or(text);
+    match read_key_line(alloc, line) {
+        Ok(key) => Ok(key),
+        Err(fault) => Err(StationFault::from(fault)),
+    }
+}
+
+/// The key of a file with a key line, whose last line feed may be left out.
+#[tactic(auto, using(crate::proofs::Causes::key_file))]
+fn read_key<R: Read + Drop>(alloc: Global, reader: R) -> Result<KeyLine, StationFault>
+    ensures key { IfOk result (λ k. IfSome (R.remaining reader) (λ text. IsKeyText text k)) }
+    ensures only { IfErr result IsOfAKey }
+{
+    let bytes = read_whole(alloc, reader, MAX_KEY_FILE)?;
+    key_in(alloc, bytes.as_slice())
+}
+
+/// The scope of a guard with the key of a file and with these serials.
+pub fn scope_from<R: Read + Drop>(
+    alloc: Global,
+    ca: R,
+    first: u64,
+    last: u64,
+) -> Result<Scope, StationFault>
+    ensures begins { Begins (R.remaining ca) first last result }
+    ensures lawful { IfOk result (λ s. IsTrue (are_serials s.first s.last)) }
+{
+    match read_key(alloc, ca) {
+        Ok(key) => match Scope::new(key.key, first, last) {
+            Some(scope) => Ok(scope),
+            None => Err(StationFault::BadSerials),
+        },
+        Err(fault) => Err(fault),
+    }
+}

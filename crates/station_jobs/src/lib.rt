@@ -1,0 +1,30 @@
+//! What `sshstation` does, over any register of a guard, any files, any input and any output.
+//!
+//! `judge_files` judges the bodies of files, one after the other, and prints the line of each. `judge_lines` does so for
+//! paths that an input gives, one a line, and reads the policy again before each body. What is printed are the plain
+//! guard's answers in order, and the register keeps each body of a `sign` line, also where the call ends with a fault.
+#![tactic(auto)]
+
+mod bodies;
+mod file_reader;
+mod guard_file;
+mod input;
+mod job;
+mod judging;
+mod key_file;
+mod output;
+mod policy_file;
+mod station_fault;
+mod surroundings;
+mod telling;
+mod whole;
+
+pub use file_reader::file_fault;
+pub use guard_file::GuardFile;
+pub use job::{GuardJob, run_in};
+pub use key_file::scope_from;
+pub use output::print;
+pub use policy_file::print_policy;
+pub use station_fault::StationFault;
+pub use surroundings::Surroundings;
+pub use whole::Judging;

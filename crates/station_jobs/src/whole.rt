@@ -1,0 +1,254 @@
+//! Whole jobs, from the opening of a guard's file to its closing.
+//!
+//! A guard is opened once, or not at all where a file can't be read. What is left of it is closed.
+
+ghost use Rattle.std.specs.Prelude.{◌≡◌, Err, IfOk, IsTrue, Ok, OnOk, map, string_bytes};
+ghost use Rattle.office.specs.Openings.{are_serials};
+ghost use Rattle.guard.specs.Machine.{State};
+ghost use Rattle.guard.specs.Policies.{policy_at};
+ghost use Rattle.station_jobs.specs.Bodies.{ListsBodies, PrintsBody};
+ghost use Rattle.station_jobs.specs.Judging.{AsksNow, IsPolicyAt, Judges};
+ghost use Rattle.station_jobs.specs.Whole.{Does, IsReadAs, JudgesGiven, JudgesIn, MakesIn, Retires};
+ghost use Rattle.station_jobs.specs.Whole.{RunsIn, departments_of, is_input};
+
+use crate::bodies::{print_bodies, print_body};
+use crate::guard_file::GuardFile;
+use crate::input::judge_lines;
+use crate::judging::judge_files;
+use crate::policy_file::{PolicyText, read_policy};
+use crate::station_fault::StationFault;
+use crate::surroundings::Surroundings;
+use crate::telling::closed;
+use guard::{Register, Scope, retire};
+use std::alloc::Global;
+use std::io::{BufRead, Read, Write};
+
+/// What is to be judged: the path of the policy, the seconds ahead, and the paths of the bodies.
+#[derive(Clone, Copy)]
+pub struct Judging<'a> {
+    /// Path of the policy.
+    pub policy: &'a str,
+    /// How many seconds after the moment a validity may begin.
+    pub ahead: u64,
+    /// Paths of the bodies, or one `-` for the paths of the input.
+    pub bodies: &'a [String],
+}
+
+/// Whether these bodies stand for the paths of the input.
+fn is_input(bodies: &[String]) -> bool
+    ensures { result ≡ is_input (map string_bytes bodies.now) }
+{
+    match bodies {
+        [body] => body.as_str() == "-",
+        _ => false,
+    }
+}
+
+/// Judges the bodies of files by one policy, which is given up then.
+fn judge_named<F: Read + Drop, P: Surroundings<File = F>, G: Register, W: Write>(
+    alloc: Global,
+    around: &P,
+    register: &mut G,
+    judging: &Judging<'_>,
+    known: PolicyText,
+    out: &mut W,
+) -> Result<(), StationFault>
+    requires { IsPolicyAt P.Surroundings around.now F.remaining judging.now.policy.now known.policy }
+    ensures honest { G.is_honest register.new → G.is_honest register.old }
+    ensures judges { G.is_honest register.new → (s : State) → G.keeps register.old s → Judges s (G.keeps register.new)
+        (AsksNow P.Surroundings around.now F.remaining judging.now.policy.now judging.now.ahead)
+        (map string_bytes judging.now.bodies.now) (W.contents out.old) (W.contents out.new) result }
+{
+    let (ahead, bodies) = (judging.ahead, judging.bodies);
+    let done = judge_files(alloc, around, register, &known.policy, ahead, bodies, out);
+    drop(known);
+    done
+}
+
+/// Judges the bodies that are named, or those at the paths of the input.
+fn judge_given<F: Read + Drop, P: Surroundings<File = F>, G: Register, I: BufRead, W: Write>(
+    alloc: Global,
+    around: &P,
+    register: &mut G,
+    judging: &Judging<'_>,
+    known: PolicyText,
+    input: &mut I,
+    out: &mut W,
+) -> Result<(), StationFault>
+    requires read { policy_at known.text.items ≡ Ok known.policy }
+    requires at { IsPolicyAt P.Surroundings around.now F.remaining judging.now.policy.now known.policy }
+    ensures honest { G.is_honest register.new → G.is_honest register.old }
+    ensures judges { G.is_honest register.new → (s : State) → G.keeps register.old s
+        → JudgesGiven (is_input (map string_bytes judging.now.bodies.now)) s (G.keeps register.new)
+        (AsksNow P.Surroundings around.now F.remaining judging.now.policy.now judging.now.ahead)
+        (map string_bytes judging.now.bodies.now) (I.remaining input.old) (W.contents out.old) (W.contents out.new)
+        result }
+{
+    let (policy, ahead) = (judging.policy, judging.ahead);
+    if is_input(judging.bodies) {
+        return judge_lines(alloc, around, register, policy, ahead, known, input, out);
+    }
+    judge_named(alloc, around, register, judging, known, out)
+}
+
+/// The policy of the file at a path.
+fn policy_at<F: Read + Drop, P: Surroundings<File = F>>(
+    alloc: Global,
+    around: &P,
+    path: &str,
+) -> Result<PolicyText, StationFault>
+    ensures text { IfOk result (λ p. policy_at p.text.items ≡ Ok p.policy) }
+    ensures read { IsReadAs P.Surroundings around.now F.remaining path.now (departments_of result) }
+{
+    match around.open(path) {
+        Ok(file) => read_policy(alloc, file),
+        Err(fault) => Err(fault),
+    }
+}
+
+/// Judges bodies by a policy over the guard of a file, and prints the line of each. The policy is read before the guard's
+/// file is looked for.
+///
+/// # Errors
+///
+/// The first fault that is met, in this order: of the policy, of the guard's file, of the bodies. What was printed before
+/// stands. A fault of the closing is answered where all else went well.
+pub fn judge_in<
+    F: Read + Drop,
+    P: Surroundings<File = F>,
+    G: Register,
+    D: GuardFile<Guard = G>,
+    I: BufRead,
+    W: Write,
+>(
+    alloc: Global,
+    around: &P,
+    db: &mut D,
+    judging: &Judging<'_>,
+    input: &mut I,
+    out: &mut W,
+) -> Result<(), StationFault>
+    ensures { JudgesIn P.Surroundings around.now F.remaining G.Register D.GuardFile db.old db.new judging.now.policy.now
+        judging.now.ahead (map string_bytes judging.now.bodies.now) (I.remaining input.old) (W.contents out.old)
+        (W.contents out.new) result }
+{
+    match policy_at(alloc, around, judging.policy) {
+        Ok(known) => match db.open(alloc) {
+            Ok(guard) => {
+                let mut guard = guard;
+                let done = judge_given(alloc, around, &mut guard, judging, known, input, out);
+                closed(done, db.close(guard))
+            }
+            Err(fault) => {
+                drop(known);
+                Err(fault)
+            }
+        },
+        Err(fault) => Err(fault),
+    }
+}
+
+/// Prints a line for each body that the guard of a file has approved.
+///
+/// # Errors
+///
+/// Why the guard wasn't opened, or why not all could be printed.
+pub fn bodies_in<G: Register, D: GuardFile<Guard = G>, W: Write>(
+    alloc: Global,
+    db: &mut D,
+    out: &mut W,
+) -> Result<(), StationFault>
+    ensures { RunsIn D.GuardFile db.old db.new
+        (Does G.Register (λ s keeps r. OnOk r (ListsBodies s (W.contents out.old) (W.contents out.new)) × keeps s))
+        (W.contents out.new ≡ W.contents out.old) result }
+{
+    match db.open(alloc) {
+        Ok(guard) => {
+            let mut guard = guard;
+            let done = print_bodies(alloc, &mut guard, out);
+            closed(done, db.close(guard))
+        }
+        Err(fault) => Err(fault),
+    }
+}
+
+/// Prints the body that the guard of a file has approved under a serial.
+///
+/// # Errors
+///
+/// `UnknownSerial` if there is none; why the guard wasn't opened; or why the body couldn't be printed.
+pub fn body_in<G: Register, D: GuardFile<Guard = G>, W: Write>(
+    alloc: Global,
+    db: &mut D,
+    serial: u64,
+    out: &mut W,
+) -> Result<(), StationFault>
+    ensures { RunsIn D.GuardFile db.old db.new
+        (Does G.Register (λ s keeps r. PrintsBody s serial (W.contents out.old) (W.contents out.new) r × keeps s))
+        (W.contents out.new ≡ W.contents out.old) result }
+{
+    match db.open(alloc) {
+        Ok(guard) => {
+            let mut guard = guard;
+            let done = print_body(alloc, &mut guard, serial, out);
+            closed(done, db.close(guard))
+        }
+        Err(fault) => Err(fault),
+    }
+}
+
+/// Lowers the last serial of a guard, and answers its first one.
+fn retire_over<G: Register>(alloc: Global, register: &mut G, last: u64) -> Result<u64, StationFault>
+    ensures honest { G.is_honest register.new → G.is_honest register.old }
+    ensures retires { G.is_honest register.new → (s : State) → G.keeps register.old s
+        → Retires last s (G.keeps register.new) result }
+{
+    match register.scope() {
+        Ok(scope) => match retire(alloc, register, last) {
+            Ok(()) => Ok(scope.first),
+            Err(fault) => Err(StationFault::from(fault)),
+        },
+        Err(fault) => Err(StationFault::from(fault)),
+    }
+}
+
+/// Lowers the last serial of the guard of a file, and answers its first one.
+///
+/// # Errors
+///
+/// `BadSerials` and `SerialApproved`, as they say, or why the guard wasn't opened or didn't answer.
+pub fn retire_in<G: Register, D: GuardFile<Guard = G>>(
+    alloc: Global,
+    db: &mut D,
+    last: u64,
+) -> Result<u64, StationFault>
+    ensures { RunsIn D.GuardFile db.old db.new (Does G.Register (Retires last)) (Unit {0}) result }
+{
+    match db.open(alloc) {
+        Ok(guard) => {
+            let mut guard = guard;
+            let done = retire_over(alloc, &mut guard, last);
+            closed(done, db.close(guard))
+        }
+        Err(fault) => Err(fault),
+    }
+}
+
+/// Makes a guard of this scope in a file.
+///
+/// # Errors
+///
+/// Why none was made, or why its file can't be closed well.
+pub fn make_in<G, D: GuardFile<Guard = G>>(
+    alloc: Global,
+    db: &mut D,
+    scope: &Scope,
+) -> Result<(), StationFault>
+    requires { IsTrue (are_serials scope.now.first scope.now.last) }
+    ensures { MakesIn D.GuardFile db.old db.new scope.now result }
+{
+    match db.make(alloc, scope) {
+        Ok(guard) => db.close(guard),
+        Err(fault) => Err(fault),
+    }
+}

@@ -1,0 +1,107 @@
+"""The signing station of examples/station, with the guard beside its key."""
+import os
+import pathlib
+import signal
+import subprocess
+
+from asking import LAST_SERIAL, LATEST, department
+from running import EXAMPLES, end, run
+
+EVERY_OPTION = ("force-command", "source-address", "verify-required")
+EVERY_EXTENSION = ("no-touch-required", "permit-X11-forwarding", "permit-agent-forwarding", "permit-port-forwarding",
+                   "permit-pty", "permit-user-rc")
+# A policy that permits what most tests ask for.
+WIDE = department(principals="alice,bob,lost,*@example.org", options=EVERY_OPTION, extensions=EVERY_EXTENSION,
+                  maxlife=LATEST)
+
+
+class Guard:
+    """A guard's file, made by `init`. `ca` is the file with the CA's public line, `policy` the file of its policy."""
+
+    def __init__(self, program, db, ca, policy=WIDE, *, first=1, last=LAST_SERIAL):
+        self.program, self.db, self.ca = program, pathlib.Path(db).absolute(), ca
+        self.policy = self.db.with_suffix(".policy")
+        self.permit(policy)
+        self.opened = self.must("init", "--db", self.db, "--ca", ca, "--first", first, "--last", last)
+
+    def permit(self, policy):
+        """Puts another policy in the place of the file's."""
+        new = self.policy.with_suffix(".new")
+        new.write_text(policy)
+        new.rename(self.policy)
+
+    def run(self, *words, **how):
+        """Status, output and errors of the program."""
+        done = run([self.program, *words], **how)
+        return done.returncode, done.stdout, done.stderr
+
+    def must(self, *words):
+        """What the program prints, which has to end well."""
+        status, out, err = self.run(*words)
+        assert (status, err) == (0, b""), f"{words}: status {status}, {err.decode()}"
+        return out
+
+    def judge(self, *files, ahead=LATEST):
+        """The lines that answer the bodies in files."""
+        return self.must("judge", "--db", self.db, "--policy", self.policy, "--ahead", ahead,
+                         *files).decode().splitlines()
+
+    def bodies(self):
+        """The serial, the digest, the moment and the key id of each body that was approved."""
+        return [line.split(" ") for line in self.must("bodies", "--db", self.db).decode().splitlines()]
+
+    def body(self, serial):
+        return self.must("body", "--db", self.db, serial)
+
+
+class Station:
+    """A station beside a guard. `key` are the words that say where the CA's private key is, for an office at a URL."""
+
+    def __init__(self, guard, url, key, *, certificate=None, trusted=None, other_cas=(), ahead=LATEST):
+        self.guard, self.url = guard, url
+        self.words = [EXAMPLES / "station", "--db", guard.db, "--policy", guard.policy, "--ahead", ahead, *key]
+        if certificate:
+            self.words += ["--cert", certificate, "--cacert", trusted]
+        for it in other_cas:
+            self.words += ["--other-ca", it]
+        # The station finds its guard on the PATH.
+        self.folder = guard.db.parent / f"{guard.db.stem}.programs"
+        self.folder.mkdir(exist_ok=True)
+        program = self.folder / "sshstation"
+        if not program.exists():
+            program.symlink_to(guard.program)
+        self.environment = os.environ | {"PATH": f"{self.folder}:{os.environ['PATH']}"}
+
+    def once(self, *more, **environment):
+        """Status, lines of output, and lines of errors of a station that looks once."""
+        done = run([*self.words, *more, "--once", self.url], env=self.environment | environment)
+        return done.returncode, done.stdout.decode().splitlines(), done.stderr.decode(errors="replace").splitlines()
+
+    def sign(self, **environment):
+        """Signs pending certificates, and returns the serials of those that were signed."""
+        status, out, errors = self.once(**environment)
+        assert (0, []) == (status, errors), f"the station: status {status}, {errors}"
+        return [int(line.removeprefix("signed ")) for line in out]
+
+    def begin(self, programs, *more, **how):
+        """A station that goes on."""
+        how = {"stdout": subprocess.PIPE, "stderr": subprocess.PIPE, "env": self.environment} | how
+        return programs.begin([*self.words, *more, self.url], **how)
+
+
+def stopped(process):
+    """Stops a station, and returns its status, and the lines of its output and of its errors."""
+    process.send_signal(signal.SIGTERM)
+    out, errors = process.communicate(timeout=20)
+    end(process)
+    return process.returncode, out.decode().splitlines(), errors.decode().splitlines()
+
+
+def new_guard(sshstation, office, db="guard.db", policy=WIDE, **serials):
+    """A guard for the CA of an office."""
+    return Guard(sshstation, db, office.ca, policy, **serials)
+
+
+def new_station(sshstation, office, url, db="guard.db", policy=WIDE, **how):
+    """A station for an office whose private key is in a file, with a guard of its own."""
+    return Station(new_guard(sshstation, office, db, policy), url, ["--key", office.ca_key], **how)

@@ -1,0 +1,472 @@
+"""The program sshstation: commands with their status and output, faults by their names and in their order, help.
+
+What a guard answers of a body is compared in test_guard, and what the station around the program does in test_station.
+Digests are those of hashlib, the fingerprint is that of FORMATS, and the texts of help are those that clap 4 writes.
+"""
+import hashlib
+import os
+import stat
+import subprocess
+import time
+
+import pytest
+
+from asking import CA, CERTIFICATE_NAME, LAST_SERIAL, LATEST, department, key_blob, string
+from running import preloaded, run
+
+pytestmark = pytest.mark.rows
+
+FINGERPRINT = "SHA256:SQfC+vTbLURn9cTkVxIS8fGQ3FKNAJWeB0o139+gV4M"
+MOST = 2 ** 64 - 1
+
+HELP = """\
+Says which SSH certificates a CA's key may sign
+
+Usage: sshstation <COMMAND>
+
+Commands:
+  init    Makes a guard in a new database
+  judge   Says of each body whether it may be signed, and keeps it if it may
+  bodies  Prints a line for each body that is approved
+  body    Prints the bytes of the body that is approved under a serial
+  policy  Prints the names of a policy's departments, or where it can't be read
+  retire  Lowers the last serial
+  help    Print this message or the help of the given subcommand(s)
+
+Options:
+  -h, --help     Print help
+  -V, --version  Print version
+
+In this order:
+  1. init makes a guard in a new database, beside the CA's key.
+  2. policy says whether a policy can be read.
+  3. judge says of each certificate body whether it may be signed, and keeps it first.
+
+Status:
+  0  it is done
+  1  there was a fault, and its name stands on the standard error
+  2  the words are no command
+
+Example:
+  sshstation judge --db guard.db --policy policy body
+
+Each command has its own help, as sshstation init --help.
+A value that begins with '-' is written --name=-value, and a word that begins with '-' comes after --.
+"""
+
+HELP_OF_JUDGE = """\
+Says of each body whether it may be signed, and keeps it if it may
+
+Usage: sshstation judge [OPTIONS] --db <PATH> --policy <PATH> <BODY>...
+
+Arguments:
+  <BODY>...  The files of the bodies, or - for paths from the standard input
+
+Options:
+      --db <PATH>        The guard's database, which init has made
+      --policy <PATH>    The file of the departments that may be signed for
+      --ahead <SECONDS>  How many seconds from now a certificate may begin; 3600 if left out
+  -h, --help             Print help
+
+Example:
+  sshstation judge --db guard.db --policy policy body
+
+It prints a line for each body, in order: sign SERIAL DIGEST or refuse NAME.
+With - as its only BODY it reads paths from the standard input, one a line, and answers each
+before it reads the next. It then reads the policy's file again before each body.
+"""
+
+
+def number(value, size=8):
+    return value.to_bytes(size, "big")
+
+
+def body(serial=1, *, keyid="web/alice", principals=("alice",), after=None, before=None, nonce=0x33, ca=0x11, kind=1):
+    """The body of PROTOCOL.certkeys, for the key of bytes 0x22; from a minute ago for an hour, if nothing is said."""
+    now = int(time.time())
+    after = now - 60 if after is None else after
+    before = now + 3600 if before is None else before
+    return b"".join([
+        string(CERTIFICATE_NAME), string(bytes([nonce]) * 32), string(b"\x22" * 32), number(serial), number(kind, 4),
+        string(keyid.encode()), string(b"".join(string(it.encode()) for it in principals)), number(after),
+        number(before), string(b""), string(b""), string(b""), string(key_blob(ca))])
+
+
+def digest(data):
+    return hashlib.sha256(data).hexdigest()
+
+
+def sign(serial, data):
+    return f"sign {serial} {digest(data)}\n"
+
+
+class Guard:
+    """A guard in the folder of the test, with a policy."""
+
+    def __init__(self, program):
+        self.program = program
+
+    def run(self, *words, **how):
+        done = run([self.program, *words], **how)
+        return done.returncode, done.stdout.decode(), done.stderr.decode()
+
+    def judge(self, *words, policy="policy", **how):
+        return self.run("judge", "--db", "guard.db", "--policy", policy, *words, **how)
+
+    def bodies(self):
+        status, out, err = self.run("bodies", "--db", "guard.db")
+        assert (0, "") == (status, err)
+        return [line.split(" ") for line in out.splitlines()]
+
+
+@pytest.fixture
+def guard(sshstation, room):
+    (room / "ca.pub").write_text(f"{CA}\n")
+    (room / "policy").write_text(department())
+    made = Guard(sshstation)
+    wanted = (0, f"guard ready 1 100\nca {FINGERPRINT}\n", "")
+    assert wanted == made.run("init", "--db", "guard.db", "--ca", "ca.pub", "--first", 1, "--last", 100)
+    return made
+
+
+def put(room, **files):
+    for name, data in files.items():
+        (room / name).write_bytes(data)
+
+
+# ---- words
+
+@pytest.mark.parametrize("words, wanted", [
+    (["--help"], HELP),
+    (["help"], HELP),
+    (["judge", "--help"], HELP_OF_JUDGE),
+    (["--version"], "sshstation 1.0.0 (rattle-kit-13b)\n"),
+])
+def test_a_wish_for_a_text_is_answered(sshstation, room, words, wanted):
+    assert (0, wanted, "") == Guard(sshstation).run(*words)
+
+
+@pytest.mark.parametrize("words", [
+    [],
+    ["sign"],
+    ["init", "--db", "a", "--ca", "b", "--first", "1"],
+    ["init", "--db", "a", "--ca", "b", "--first", "1", "--last", "x"],
+    ["init", "--db", "a", "--ca", "b", "--first", "-1", "--last", "2"],
+    ["judge", "--db", "a", "--policy", "b"],
+    ["judge", "--db", "a", "body"],
+    ["judge", "--policy", "b", "body"],
+    ["judge", "--db", "a", "--policy", "b", "--ahead", "18446744073709551616", "body"],
+    ["judge", "--db", "a", "--policy", "b", "--ahead", "1", "--ahead", "2", "body"],
+    ["bodies"],
+    ["bodies", "--db", "a", "more"],
+    ["body", "--db", "a"],
+    ["body", "--db", "a", "0"],
+    ["body", "--db", "a", "18446744073709551616"],
+    ["policy"],
+    ["policy", "a", "b"],
+    ["retire", "--db", "a"],
+    ["retire", "--db", "a", "--last", ""],
+])
+def test_bad_words_have_status_2_and_open_nothing(sshstation, room, words):
+    status, out, err = Guard(sshstation).run(*words)
+    assert (2, "", True) == (status, out, err != "")
+    assert [] == os.listdir(room)
+
+
+def test_a_word_that_is_no_text_is_bad(sshstation, room):
+    done = subprocess.run([os.fsencode(sshstation), b"policy", b"\xff"], capture_output=True)
+    assert (2, b"", b"error: a word is not UTF-8\n") == (done.returncode, done.stdout, done.stderr)
+
+
+def test_a_file_may_begin_with_a_dash(guard, room):
+    data = body()
+    put(room, **{"-body": data})
+    assert (0, sign(1, data), "") == guard.judge("--", "-body")
+
+
+# ---- init
+
+def test_init_makes_a_file_for_its_owner_alone(guard, room):
+    assert 0o600 == stat.S_IMODE((room / "guard.db").stat().st_mode)
+
+
+def test_a_second_init_changes_nothing(guard, room):
+    before = (room / "guard.db").read_bytes()
+    again = guard.run("init", "--db", "guard.db", "--ca", "ca.pub", "--first", 1, "--last", 100)
+    assert (1, "", "sshstation: AlreadyAGuard\n") == again
+    assert before == (room / "guard.db").read_bytes()
+
+
+@pytest.mark.parametrize("first, last", [(0, 1), (2, 1), (1, LAST_SERIAL + 1), (0, 0), (MOST, MOST), (1, MOST)])
+def test_init_wants_serials_in_order(sshstation, room, first, last):
+    (room / "ca.pub").write_text(CA)
+    words = ["init", "--db", "guard.db", "--ca", "ca.pub", "--first", first, "--last", last]
+    assert (1, "", "sshstation: BadSerials\n") == Guard(sshstation).run(*words)
+    assert ["ca.pub"] == os.listdir(room)
+
+
+@pytest.mark.parametrize("first, last", [(1, 1), (1, LAST_SERIAL), (LAST_SERIAL, LAST_SERIAL)])
+def test_init_takes_all_serials_of_an_office(sshstation, room, first, last):
+    (room / "ca.pub").write_text(CA)
+    words = ["init", "--db", "guard.db", "--ca", "ca.pub", "--first", first, "--last", last]
+    assert (0, f"guard ready {first} {last}\nca {FINGERPRINT}\n", "") == Guard(sshstation).run(*words)
+
+
+@pytest.mark.parametrize("text, fault", [
+    ("ssh-rsa AAAA", "WrongType"), ("ssh-ed25519 AAAA", "BadBase64"), ("", "WrongType"),
+    (f"{CA} \x01", "BadComment"), (f"{CA} ".ljust(8193, "a"), "File"), (None, "File"),
+], ids=["other-type", "no-key", "empty", "bad-comment", "too-long", "missing"])
+def test_init_wants_a_key_line_before_all_else(sshstation, room, text, fault):
+    if text is not None:
+        (room / "ca.pub").write_text(text)
+    words = ["init", "--db", "guard.db", "--ca", "ca.pub", "--first", 2, "--last", 1]
+    assert (1, "", f"sshstation: {fault}\n") == Guard(sshstation).run(*words)
+    assert not (room / "guard.db").exists()
+
+
+@pytest.mark.parametrize("path", [":memory:", "file:guard.db", "no/such/folder/guard.db"])
+def test_init_makes_files_at_paths_alone(sshstation, room, path):
+    (room / "ca.pub").write_text(CA)
+    words = ["init", "--db", path, "--ca", "ca.pub", "--first", 1, "--last", 1]
+    assert (1, "", "sshstation: Device\n") == Guard(sshstation).run(*words)
+    assert ["ca.pub"] == os.listdir(room)
+
+
+# ---- judge
+
+def test_bodies_are_answered_in_their_order(guard, room):
+    late, cut, other = body(4, after=1, before=2), body()[:-1], body(5, ca=0x12)
+    put(room, a=body(1), b=late, c=cut, d=body(3), e=b"\0" * 16385, f=body(3, nonce=0x34), g=other, h=body(101))
+    lines = [sign(1, body(1)), "refuse AlreadyEnded\n", "refuse NotABody BadCa\n", sign(3, body(3)),
+             "refuse NotABody TooLong\n", "refuse SerialTaken\n", "refuse OtherCa\n", "refuse OtherSerial\n"]
+    status, out, err = guard.judge(*"abcdefgh")
+    wanted = [line.split()[:2] for line in lines]
+    assert (0, wanted, "") == (status, [line.split()[:2] for line in out.splitlines()], err)
+    assert [["1", digest((room / "a").read_bytes())], ["3", digest((room / "d").read_bytes())]] == [
+        row[:2] for row in guard.bodies()]
+
+
+def test_each_line_has_the_digest_of_its_body(guard, room):
+    files = {f"body{serial}": body(serial, nonce=serial) for serial in range(1, 30)}
+    put(room, **files)
+    wanted = "".join(sign(serial, files[f"body{serial}"]) for serial in range(1, 30))
+    assert (0, wanted, "") == guard.judge(*files)
+    assert (0, wanted, "") == guard.judge(*files), "they are signed again"
+
+
+def test_an_hour_ahead_is_permitted_if_nothing_is_said(guard, room):
+    now = int(time.time())
+    put(room, soon=body(1, after=now + 3500, before=now + 3600), late=body(2, after=now + 3700, before=now + 3800))
+    assert "refuse TooFarAhead\n" == guard.judge("late")[1]
+    assert "refuse TooFarAhead\n" == guard.judge("--ahead", "0", "soon")[1]
+    assert "sign" == guard.judge("soon")[1].split()[0]
+    assert "sign" == guard.judge("--ahead", MOST, "late")[1].split()[0]
+
+
+def test_a_body_that_is_not_there_ends_the_call_and_what_was_printed_stands(guard, room):
+    put(room, a=body(1), b=body(2))
+    kept = (room / "a").read_bytes()
+    assert (1, sign(1, kept), "sshstation: File\n") == guard.judge("a", "none", "b")
+    assert [["1", digest(kept)]] == [row[:2] for row in guard.bodies()]
+
+
+@pytest.mark.parametrize("policy, fault", [
+    (None, "File"), (b"\n" * 1048577, "File"), (b"department web\n", "BadPolicy 2"),
+    (b"# one\n no comment\n", "BadPolicy 2"), (department().encode() * 2, "BadPolicy 9"),
+    (b"#\nrevoke-serial 1\n", "BadPolicy 2"),
+], ids=["missing", "too-long", "cut", "other-line", "two-of-a-name", "other-message"])
+def test_the_policy_is_read_before_the_database_is_looked_for(sshstation, room, policy, fault):
+    if policy is not None:
+        put(room, policy=policy)
+    words = ["judge", "--db", "guard.db", "--policy", "policy", "none"]
+    assert (1, "", f"sshstation: {fault}\n") == Guard(sshstation).run(*words)
+    assert not (room / "guard.db").exists()
+    assert (1, "", f"sshstation: {fault}\n") == Guard(sshstation).run("policy", "policy")
+
+
+def test_the_database_is_looked_for_before_the_bodies(sshstation, room):
+    put(room, policy=b"# none\n")
+    words = ["judge", "--db", "guard.db", "--policy", "policy", "none"]
+    assert (1, "", "sshstation: NotAGuard\n") == Guard(sshstation).run(*words)
+    assert ["policy"] == os.listdir(room)
+
+
+def test_a_guard_that_is_open_is_not_opened_again(guard, room, programs):
+    first = programs.begin([guard.program, "judge", "--db", "guard.db", "--policy", "policy", "-"],
+                           stdin=subprocess.PIPE, stdout=subprocess.PIPE)
+    put(room, a=body(1))
+    first.stdin.write(b"a\n")
+    first.stdin.flush()
+    assert b"sign" == first.stdout.readline().split()[0]
+    assert (1, "", "sshstation: Device\n") == guard.judge("a")
+
+
+# ---- judge with paths from the input
+
+class Open:
+    """A `judge` that reads paths, and answers each."""
+
+    def __init__(self, guard, programs, *words):
+        self.process = programs.begin([guard.program, "judge", "--db", "guard.db", "--policy", "policy", *words, "-"],
+                                      stdin=subprocess.PIPE, stdout=subprocess.PIPE, stderr=subprocess.PIPE)
+
+    def ask(self, path):
+        self.process.stdin.write(os.fsencode(f"{path}\n"))
+        self.process.stdin.flush()
+        return self.process.stdout.readline().decode()
+
+    def end(self):
+        out, err = self.process.communicate(timeout=60)
+        return self.process.returncode, out.decode(), err.decode()
+
+
+def test_each_path_is_answered_before_the_next_is_read(guard, room, programs):
+    opened = Open(guard, programs)
+    for serial in range(1, 20):
+        data = body(serial)
+        put(room, body=data)
+        assert sign(serial, data) == opened.ask("body")
+    assert (0, "", "") == opened.end()
+    assert 19 == len(guard.bodies())
+
+
+def test_the_policy_is_what_its_file_has_before_each_body(guard, room, programs):
+    opened = Open(guard, programs)
+    data = {name: body(serial) for serial, name in enumerate("abcdef", 1)}
+    put(room, **data)
+    assert sign(1, data["a"]) == opened.ask("a")
+    put(room, policy=department(principals="bob").encode())
+    assert "refuse NotPermitted\n" == opened.ask("b")
+    put(room, policy=b"# nobody\n")
+    assert "refuse NoDepartment\n" == opened.ask("b")
+    (room / "new").write_text(department())
+    (room / "new").rename(room / "policy")
+    assert sign(2, data["b"]) == opened.ask("b")
+    put(room, policy=department(principals="bob").encode())
+    assert sign(1, data["a"]) == opened.ask("a"), "what was approved is signed again"
+    put(room, policy=b"department web\n")
+    assert "" == opened.ask("c")
+    assert (1, "", "sshstation: BadPolicy 2\n") == opened.end()
+    assert 2 == len(guard.bodies())
+
+
+@pytest.mark.parametrize("input, answers", [
+    (b"", ""), (b"a\nb\n", "ab"), (b"a\nb", "ab"), (b"a", "a"),
+])
+def test_the_last_line_may_lack_its_line_feed(guard, room, input, answers):
+    data = {name: body(serial) for serial, name in enumerate("ab", 1)}
+    put(room, **data)
+    wanted = "".join(sign("ab".index(name) + 1, data[name]) for name in answers)
+    assert (0, wanted, "") == guard.judge("-", stdin=None, input=input)
+
+
+@pytest.mark.parametrize("line", [b"none", b"", b"\xff", b"a\r", b".", b"a\0b"])
+def test_a_line_that_is_no_files_path_ends_the_call(guard, room, line):
+    data = body(1)
+    put(room, a=data, b=body(2))
+    wanted = (1, sign(1, data), "sshstation: File\n")
+    assert wanted == guard.judge("-", stdin=None, input=b"a\n" + line + b"\nb\n")
+    assert 1 == len(guard.bodies())
+
+
+def test_a_dash_beside_other_files_is_a_file(guard, room):
+    data = body(1)
+    put(room, **{"-": data})
+    assert (0, sign(1, data) * 2, "") == guard.judge("--", "-", "-", stdin=None, input=b"none\n")
+
+
+def test_a_body_is_kept_before_its_line_is_printed(guard, room):
+    put(room, a=body(1))
+    words = [guard.program, "judge", "--db", "guard.db", "--policy", "policy", "a"]
+    with open("/dev/full", "wb") as full:
+        done = subprocess.run(words, stdout=full, stderr=subprocess.PIPE)
+    assert (1, b"sshstation: Write\n") == (done.returncode, done.stderr)
+    assert 1 == len(guard.bodies())
+
+
+# ---- what is approved
+
+def test_bodies_are_listed_by_their_serials(guard, room):
+    since = int(time.time())
+    data = {serial: body(serial) for serial in (7, 2, 100, 1)}
+    for serial, it in data.items():
+        put(room, body=it)
+        assert sign(serial, it) == guard.judge("body")[1]
+    rows = guard.bodies()
+    assert [[str(serial), digest(data[serial]), "web/alice"] for serial in sorted(data)] == [
+        [serial, its, keyid] for serial, its, _, keyid in rows]
+    assert all(since <= int(moment) <= time.time() for _, _, moment, _ in rows)
+
+
+def test_a_body_is_printed_byte_by_byte(guard, room):
+    data = body(7)
+    put(room, body=data)
+    guard.judge("body")
+    done = run([guard.program, "body", "--db", "guard.db", 7])
+    assert (0, data, b"") == (done.returncode, done.stdout, done.stderr)
+    assert (1, "", "sshstation: UnknownSerial\n") == guard.run("body", "--db", "guard.db", 8)
+    assert (1, "", "sshstation: UnknownSerial\n") == guard.run("body", "--db", "guard.db", MOST)
+
+
+@pytest.mark.parametrize("words", [["bodies"], ["body", "1"], ["retire", "--last", "1"]])
+def test_what_reads_a_guard_makes_no_file(sshstation, room, words):
+    assert (1, "", "sshstation: NotAGuard\n") == Guard(sshstation).run(words[0], "--db", "guard.db", *words[1:])
+    assert [] == os.listdir(room)
+
+
+def test_an_office_is_no_guard(guard, program, room):
+    made = run([program, "init", "--db", "office.db", "--ca", "ca.pub", "--root", "root", "--station", "station",
+                "--first", 1, "--last", 9])
+    assert 0 == made.returncode
+    assert (1, "", "sshstation: NotAGuard\n") == guard.run("bodies", "--db", "office.db")
+
+
+# ---- policies
+
+def test_the_names_of_a_policy_are_printed_in_its_order(sshstation, room):
+    (room / "policy").write_text("# two\n\n" + department("web") + "\n# and\n" + department("dba", kind="host"))
+    assert (0, "web\ndba\n", "") == Guard(sshstation).run("policy", "policy")
+    put(room, policy=b"")
+    assert (0, "", "") == Guard(sshstation).run("policy", "policy")
+    put(room, policy=b"\n" * 1048576)
+    assert (0, "", "") == Guard(sshstation).run("policy", "policy")
+
+
+# ---- the last serial
+
+def test_the_last_serial_is_lowered_to_what_is_approved_and_no_further(guard, room):
+    data = {serial: body(serial) for serial in (5, 50, 51, 60)}
+    put(room, **{f"body{serial}": it for serial, it in data.items()})
+    assert sign(50, data[50]) == guard.judge("body50")[1]
+    for last, fault in [(101, "BadSerials"), (0, "BadSerials"), (MOST, "BadSerials"), (49, "SerialApproved"),
+                        (1, "SerialApproved")]:
+        assert (1, "", f"sshstation: {fault}\n") == guard.run("retire", "--db", "guard.db", "--last", last)
+    assert (0, "retired 1 60\n", "") == guard.run("retire", "--db", "guard.db", "--last", 60)
+    assert (1, "", "sshstation: BadSerials\n") == guard.run("retire", "--db", "guard.db", "--last", 61)
+    assert sign(60, data[60]) == guard.judge("body60")[1]
+    assert (0, "retired 1 60\n", "") == guard.run("retire", "--db", "guard.db", "--last", 60)
+    assert (1, "", "sshstation: SerialApproved\n") == guard.run("retire", "--db", "guard.db", "--last", 51)
+    assert sign(5, data[5]) == guard.judge("body5")[1]
+    put(room, over=body(61))
+    assert "refuse OtherSerial\n" == guard.judge("over")[1]
+
+
+def test_a_retired_guard_signs_again_what_it_approved(guard, room):
+    data = body(50)
+    put(room, a=data, policy=department().encode())
+    assert sign(50, data) == guard.judge("a")[1]
+    assert 0 == guard.run("retire", "--db", "guard.db", "--last", 50)[0]
+    put(room, policy=b"")
+    assert (0, sign(50, data), "") == guard.judge("a")
+
+
+# ---- the clock
+
+@pytest.mark.parametrize("moment, wanted", [
+    (LATEST, (0, "refuse AlreadyEnded\n", "")), (LATEST + 1, (1, "", "sshstation: Clock\n")),
+])
+def test_a_clock_past_the_latest_moment_is_a_fault(guard, room, moment, wanted):
+    put(room, a=body(1, before=LATEST), policy=department(maxlife=LATEST).encode())
+    strange = preloaded("strange_system.c", room)
+    assert wanted == guard.judge("a", env=os.environ | {"LD_PRELOAD": str(strange), "MOMENT": str(moment)})
+    assert [] == guard.bodies()

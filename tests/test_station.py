@@ -1,0 +1,769 @@
+"""examples/station and the guard beside the CA's key: a false office, an old backup, keys in a token and in an agent, a
+rollover, and a guard that is killed. What is signed is tried with ssh-keygen and sshd."""
+import base64
+import contextlib
+import getpass
+import os
+import pathlib
+import random
+import re
+import shutil
+import signal
+import subprocess
+import time
+
+import pytest
+
+from asking import (LATEST, blob_of, body, department, digest_of, issue, key_blob, lasting, revoke_keyid, revoke_range,
+                    rollover, string)
+from fetching import Web, response
+from recording import whole_request
+from running import EXAMPLES, free_port, is_listening, run, until
+from stations import Guard, Station, new_guard, new_station, stopped
+
+WEB = department("web", principals="alice", extensions="permit-pty")
+
+
+def new_key(name):
+    """A key of OpenSSH, and its 32 bytes."""
+    run(["ssh-keygen", "-q", "-t", "ed25519", "-N", "", "-C", name, "-f", name], check=True)
+    return blob_of(pathlib.Path(f"{name}.pub").read_text())[-32:]
+
+
+@pytest.fixture
+def asked(served, sshstation):
+    """An office that serves, with the department web, and its signing station. Both have the same text of it."""
+    assert 200 == served.post("root", "web", WEB).status
+    served.station = new_station(sshstation, served.office, served.url, policy=WEB, ahead=3600)
+    served.guard = served.station.guard
+    served.blob = blob_of(served.office.ca.read_text())
+    return served
+
+
+def issued(served, name, *, key=None, **fields):
+    """Asks for a certificate for an hour, and returns its serial."""
+    line = pathlib.Path(f"{name}.pub").read_text().strip() if key is None else key
+    message = issue(f"web/{name}", key=line, **lasting(3600) | fields)
+    return int(served.post("ana", f"issue-{name}-{random.randrange(1 << 32)}", message).text.split()[1])
+
+
+def certificate_of(served, serial, name):
+    pathlib.Path(f"{name}-cert.pub").write_bytes(served.get(f"/v1/certs/{serial}").body)
+
+
+# ---- logins
+
+class Sshd:
+    """An sshd that trusts CAs, by a file of their lines, and lets in whoever has a certificate for the principal alice
+    or root."""
+
+    def __init__(self, programs, room, cas):
+        self.port = free_port()
+        self.log = room / "sshd.log"
+        run(["ssh-keygen", "-q", "-t", "ed25519", "-N", "", "-f", room / "host"], check=True)
+        (room / "principals").write_text("alice\nroot\n")
+        (room / "trusted").write_text("".join(cas))
+        (room / "sshd_config").write_text(
+            f"ListenAddress 127.0.0.1\nPort {self.port}\nHostKey {room}/host\nTrustedUserCAKeys {room}/trusted\n"
+            f"AuthorizedPrincipalsFile {room}/principals\nAuthorizedKeysFile none\nPasswordAuthentication no\n"
+            f"KbdInteractiveAuthentication no\nPidFile none\nStrictModes no\nUsePAM no\nLogLevel VERBOSE\n")
+        if not os.getuid():
+            pathlib.Path("/run/sshd").mkdir(exist_ok=True)
+        programs.begin(["/usr/sbin/sshd", "-D", "-f", room / "sshd_config", "-E", self.log])
+        until(lambda: is_listening(self.port))
+
+    def grants(self, name):
+        """Whether it lets in whoever has this key and the certificate beside it."""
+        words = ["ssh", "-F", "none", "-i", name, "-o", f"CertificateFile={name}-cert.pub", "-o", "BatchMode=yes",
+                 "-o", "IdentitiesOnly=yes", "-o", "StrictHostKeyChecking=no", "-o", "UserKnownHostsFile=/dev/null",
+                 "-p", self.port, f"{getpass.getuser()}@127.0.0.1", "echo", "granted"]
+        return run(words, env=os.environ | {"SSH_AUTH_SOCK": ""}).stdout == b"granted\n"
+
+
+@pytest.fixture
+def sshd(programs, room):
+    return lambda *cas: Sshd(programs, room, [it.read_text() for it in cas])
+
+
+def write_certificate(name, text, signature):
+    """A certificate of a body and of the 64 bytes of a signature."""
+    whole = text + string(string(b"ssh-ed25519") + string(signature))
+    line = f"ssh-ed25519-cert-v01@openssh.com {base64.b64encode(whole).decode()} {name}\n"
+    pathlib.Path(f"{name}-cert.pub").write_text(line)
+
+
+def signature_of(key, text):
+    """A signature by a private key in a file."""
+    pathlib.Path("text").write_bytes(text)
+    return run(["openssl", "pkeyutl", "-sign", "-rawin", "-inkey", key, "-in", "text"], check=True).stdout
+
+
+# ---- false offices
+
+class FalseOffice(Web):
+    """A server that gives these bodies by their serials, and says of them what is pending: without rows, the serial of
+    each and its digest. It keeps what is delivered."""
+
+    def __init__(self, bodies, rows=None):
+        super().__init__()
+        self.bodies, self.delivered = bodies, []
+        rows = [(serial, digest_of(it)) for serial, it in bodies.items()] if rows is None else rows
+        self.rows = "".join(f"{serial} {digest}\n" for serial, digest in rows)
+
+    def finish_request(self, peer, address):
+        came = whole_request(peer)
+        self.requests.append(came)
+        target = came.split(b" ")[1].decode()
+        found = re.fullmatch(r"/v1/certs/(\d+)/body", target)
+        if came.startswith(b"POST "):
+            self.delivered.append(came.partition(b"\r\n\r\n")[2].decode())
+            peer.sendall(response(self.delivered[-1].splitlines()[0].replace("deliver", "signed").encode() + b"\n"))
+        elif target == "/v1/pending":
+            peer.sendall(response(self.rows.encode()))
+        elif found and int(found[1]) in self.bodies:
+            peer.sendall(response(self.bodies[int(found[1])]))
+        else:
+            peer.sendall(response(b"refused 17 UnknownSerial\n", "404 Not Found"))
+
+
+@pytest.fixture
+def alone(sshstation, make_office):
+    """A guard and the words of its key, for the CA of an office that nobody asks."""
+    office = make_office()
+    guard = new_guard(sshstation, office, policy=WEB)
+    guard.key, guard.blob, guard.key_file = ["--key", office.ca_key], blob_of(office.ca.read_text()), office.ca_key
+    return guard
+
+
+def shown(guard, bodies, rows=None, **how):
+    """What a station signs of the bodies of a false office, and what it says."""
+    with FalseOffice(bodies, rows) as false:
+        how = {"ahead": 3600} | how
+        status, out, errors = Station(guard, false.url, guard.key, **how).once()
+        return status, out, errors, false.delivered
+
+
+def auth_blob(key, ca):
+    """What a client of SSH signs to log in as root with the CA's own key (RFC 4252 section 7)."""
+    return (string(bytes(32)) + bytes([50]) + string(b"root") + string(b"ssh-connection") + string(b"publickey")
+            + b"\1" + string(b"ssh-ed25519") + string(ca))
+
+
+ROOT = {"principals": ["root"], "before": LATEST}
+NOBODY = "0" * 64
+# What a false office gives, with the digest of what is pending if it isn't that of the bytes, and why it isn't signed.
+ATTACKS = [
+    ("root until 9999, with another digest", lambda ca: body(ca=ca, **ROOT), NOBODY,
+     "its body has another digest than the one that is pending"),
+    ("root until 9999", lambda ca: body(ca=ca, **ROOT), None, "refused as NotPermitted"),
+    ("alice until 9999", lambda ca: body(ca=ca, before=LATEST), None, "refused as NotPermitted"),
+    ("alice and root", lambda ca: body(ca=ca, principals=["alice", "root"]), None, "refused as NotPermitted"),
+    ("alice with a command", lambda ca: body(ca=ca, options=[("force-command", "/bin/sh")]), None,
+     "refused as NotPermitted"),
+    ("alice with a forwarded port", lambda ca: body(ca=ca, extensions=["permit-port-forwarding"]), None,
+     "refused as NotPermitted"),
+    ("a host", lambda ca: body(ca=ca, kind=2), None, "refused as OtherKind"),
+    ("another department", lambda ca: body(ca=ca, key_id="other/alice"), None, "refused as NoDepartment"),
+    ("alice in two hours", lambda ca: body(ca=ca, after=int(time.time()) + 7200, before=int(time.time()) + 7300), None,
+     "refused as TooFarAhead"),
+    ("alice yesterday", lambda ca: body(ca=ca, after=1000, before=2000), None, "refused as AlreadyEnded"),
+    ("a login with the CA's own key", lambda ca: auth_blob(0, ca), None, "refused as NotABody WrongType"),
+    ("a text", lambda ca: b"I owe you 1000 euros\n" + ca[-32:], None, "refused as NotABody Truncated"),
+    ("a body with more behind it", lambda ca: body(ca=ca) + b"\0", None, "refused as NotABody TrailingBytes"),
+    ("a long body", lambda ca: body(ca=ca) + bytes(20000), None, "refused as NotABody TooLong"),
+    ("nothing", lambda ca: b"", None, "refused as NotABody Truncated"),
+    ("another serial", lambda ca: body(2, ca=ca), None, "its body has another serial"),
+]
+
+
+@pytest.mark.parametrize("made, digest, why", [it[1:] for it in ATTACKS], ids=[it[0] for it in ATTACKS])
+def test_what_a_false_office_composes_is_not_signed(alone, made, digest, why):
+    text = made(alone.blob)
+    rows = [(1, digest or digest_of(text))]
+    assert (1, [], [f"station: not signed: 1, {why}: 1"], []) == shown(alone, {1: text}, rows)
+
+
+def test_what_is_permitted_is_signed_beside_all_that_is_not(alone):
+    """One row of a false office starves no other."""
+    bodies = {serial: made(alone.blob) for serial, (_, made, _, _) in enumerate(ATTACKS, 1)}
+    bodies[100] = body(100, ca=alone.blob)
+    status, out, errors, delivered = shown(alone, bodies)
+    assert (1, ["signed 100"], 1) == (status, out, len(delivered))
+    assert ["station: not signed: 6, refused as NotPermitted: 1-6"] == [it for it in errors if "NotPermitted" in it]
+
+
+def test_a_signature_of_sshd_is_wanted(alone, sshd, room):
+    """The certificate for root that the guard refuses would open the door: sshd lets in whoever has it signed, and
+    nobody who has it with any other signature."""
+    key = new_key("eve")
+    text = body(ca=alone.blob, key=key, **ROOT)
+    assert [] == shown(alone, {1: text})[3]
+    server = sshd(alone.ca)
+    write_certificate("eve", text, signature_of(alone.key_file, text))
+    assert server.grants("eve"), "signed, it opens the door"
+    run(["openssl", "genpkey", "-algorithm", "ed25519", "-out", "own.pem"], check=True)
+    for other in (bytes(64), signature_of("own.pem", text), signature_of(alone.key_file, text)[::-1]):
+        write_certificate("eve", text, other)
+        assert not server.grants("eve")
+    own = blob_of(run([EXAMPLES / "ca-line", "own.pem"]).stdout.decode())
+    text = body(ca=own, key=key, **ROOT)
+    write_certificate("eve", text, signature_of("own.pem", text))
+    assert not server.grants("eve"), "another CA's is none of this server's"
+
+
+def test_a_permitted_body_that_the_office_never_made_is_found_and_revoked(asked, sshd):
+    """Nothing keeps a false office from a body that the policy permits. The guard's file has it, and the office
+    revokes its key id."""
+    text = body(1000, ca=asked.blob, key=new_key("mallory"), key_id="web/mallory")
+    asked.guard.key = ["--key", asked.office.ca_key]
+    status, out, errors, delivered = shown(asked.guard, {1000: text})
+    assert (0, ["signed 1000"], []) == (status, out, errors)
+    write_certificate("mallory", text, base64.b64decode(delivered[0].split()[-1])[-64:])
+    assert sshd(asked.office.ca).grants("mallory")
+    found = [it for it in asked.guard.bodies() if digest_of(asked.get(f"/v1/certs/{it[0]}/body").body) != it[1]]
+    assert [("1000", "web/mallory")] == [(it[0], it[3]) for it in found]
+    assert 200 == asked.post("ana", "gone", revoke_keyid("web/mallory")).status
+    pathlib.Path("krl").write_bytes(asked.get("/v1/krl").body)
+    assert 1 == run(["ssh-keygen", "-Q", "-f", "krl", "mallory-cert.pub"]).returncode
+
+
+def test_a_serial_has_one_body_whatever_the_office_says(alone):
+    """Each of several bodies of one serial comes from an office that has forgotten the others."""
+    texts = [body(ca=alone.blob, nonce=bytes([place]) * 32) for place in range(5)]
+    delivered = [shown(alone, {1: text})[3] for text in texts + texts]
+    assert 2 == sum(map(len, delivered)) and delivered[0] == delivered[5] != []
+    assert ["1"] == [it[0] for it in alone.bodies()]
+    assert texts[0] == alone.body(1)
+
+
+# ---- what is said, and how often
+
+PENDING = [
+    ("a serial with a path", b"1/../2 " + 64 * b"a" + b"\n"),
+    ("a serial that is an option", b"--output " + 64 * b"a" + b"\n"),
+    ("no digest", b"1\n"),
+    ("half a line", b"1 " + 64 * b"a"),
+    ("another page", b"<html>sign in to the network</html>\n"),
+]
+
+
+@pytest.mark.parametrize("rows", [it[1] for it in PENDING], ids=[it[0] for it in PENDING])
+def test_what_is_no_list_of_pending_certificates_is_not_followed(alone, rows):
+    with Web(response(rows)) as web:
+        said = f"station: {web.url} doesn't answer: what came isn't a list of pending certificates"
+        assert (1, [], [said]) == Station(alone, web.url, alone.key).once()
+        assert 1 == len(web.requests)
+
+
+@pytest.mark.parametrize("answer, why", [
+    (response(b"", "302 Found\r\nlocation: http://127.0.0.1:1/"), "302"),
+    (response(b"1 " + 64 * b"a" + b"\n", length=500), "half an answer"),
+    (response(b"\x1b[2Jrefused\n", "502 Bad Gateway"), "502 ?[2Jrefused"),
+    (b"no answer of HTTP\r\n\r\n", None),
+    (b"HTTP/1.1 200 OK\r\ntransfer-encoding: chunked\r\n\r\nfff\r\n1 ", None),
+    (b"HTTP/1.1 200 OK\r\ntransfer-encoding: chunked\r\n\r\nx\r\n", None),
+    (b"", None),
+], ids=["a redirect", "half an answer", "letters that move the cursor", "another protocol", "half a chunk",
+        "no chunk", "nothing"])
+def test_an_answer_that_is_none_is_said(alone, answer, why):
+    with Web(answer) as web:
+        status, out, errors = Station(alone, web.url, alone.key).once()
+        assert (1, [], 1) == (status, out, len(errors))
+        start = f"station: {web.url} doesn't answer: "
+        assert errors[0] == start + why if why else errors[0].startswith(start)
+        assert 1 == len(web.requests)
+
+
+def test_an_endless_answer_is_cut_off(alone):
+    class Endless(FalseOffice):
+        def finish_request(self, peer, address):
+            if b"/body " not in (came := whole_request(peer)):
+                return peer.sendall(response(self.rows.encode()) if b"pending" in came else b"")
+            with contextlib.suppress(OSError):
+                peer.sendall(response(b"", length=""))
+                while True:
+                    peer.sendall(bytes(1 << 16))
+
+    with Endless({1: b""}) as web:
+        said = ["station: not signed: 1, an answer of more than 65536 bytes: 1"]
+        assert (1, [], said) == Station(alone, web.url, alone.key).once()
+
+
+@pytest.mark.slow
+@pytest.mark.parametrize("at_once", [0, 200], ids=["from its head on", "from its body on"])
+def test_an_answer_that_drips_is_given_up(alone, at_once):
+    """A letter a second, so that no single wait is long."""
+    class Dripping(Web):
+        def finish_request(self, peer, address):
+            whole_request(peer)
+            answer = response(64 * (b"1 " + 64 * b"a" + b"\n"))
+            with contextlib.suppress(OSError):
+                peer.sendall(answer[:at_once])
+                for it in answer[at_once:]:
+                    peer.sendall(bytes([it]))
+                    time.sleep(1)
+
+    with Dripping() as web:
+        begun = time.monotonic()
+        status, out, errors = Station(alone, web.url, alone.key).once()
+        assert (1, [], 1) == (status, out, len(errors)) and "not within 20 seconds" in errors[0]
+        assert 19 < time.monotonic() - begun < 30
+
+
+def test_the_url_is_taken_as_it_is(alone):
+    with Web(response(b"no", "404 Not Found")) as web:
+        Station(alone, f"{web.url}/{{a,b}}[1-3]", alone.key).once()
+        assert [b"GET /%7Ba,b%7D%5B1-3%5D/v1/pending HTTP/1.1"] == [it.split(b"\r\n")[0] for it in web.requests]
+
+
+def test_a_proxy_of_the_environment_is_not_asked(alone):
+    with Web(response(b"")) as web, Web(response(b"")) as proxy:
+        assert (0, [], []) == Station(alone, web.url, alone.key).once(http_proxy=proxy.url, HTTP_PROXY=proxy.url)
+        assert ([], 1) == (proxy.requests, len(web.requests))
+
+
+def test_a_body_that_cannot_be_had_starves_no_other(alone):
+    bodies = {serial: body(serial, ca=alone.blob) for serial in (1, 3)}
+    rows = [(1, digest_of(bodies[1])), (2, NOBODY), (3, digest_of(bodies[3]))]
+    said = "station: not signed: 1, 404 refused 17 UnknownSerial: 2"
+    status, out, errors, _ = shown(alone, bodies, rows)
+    assert (1, ["signed 1", "signed 3"], [said]) == (status, out, errors)
+
+
+def test_a_body_of_another_ca_is_left_alone(alone, room):
+    other = key_blob(0x12)
+    (room / "others.pub").write_text(
+        f"# of other stations\nssh-ed25519 {base64.b64encode(other).decode()} the other CA\n")
+    bodies = {1: body(ca=other), 2: body(2, ca=alone.blob)}
+    found = run(["ssh-keygen", "-l", "-f", "others.pub"], check=True).stdout.split()[1].decode()
+    status, out, errors, _ = shown(alone, bodies)
+    said = f"station: not signed: 1, refused as OtherCa, {found}: 1"
+    assert (1, ["signed 2"], [said]) == (status, out, errors)
+    status, out, errors, _ = shown(alone, bodies, other_cas=["others.pub"])
+    assert (0, ["signed 2"], []) == (status, out, errors)
+
+
+def test_many_are_counted_in_a_line(alone):
+    bodies = {serial: body(serial, ca=alone.blob, **ROOT) for serial in (2, 3, 4, 7, 9, 10)}
+    said = "station: not signed: 6, refused as NotPermitted: 2-4, 7, 9-10"
+    assert [said] == shown(alone, bodies)[2]
+
+
+def test_the_office_says_why_a_delivery_is_refused(alone):
+    class Refusing(FalseOffice):
+        def finish_request(self, peer, address):
+            super().finish_request(peer if b"POST" not in peer.recv(4, 2) else Refused(peer), address)
+
+    class Refused:
+        def __init__(self, peer):
+            self.recv, self.settimeout = peer.recv, peer.settimeout
+            self.sendall = lambda _: peer.sendall(response(b"refused 19 Revoked\n", "409 Conflict"))
+
+    with Refusing({1: body(ca=alone.blob)}) as web:
+        said = "station: not signed: 1, 409 refused 19 Revoked: 1"
+        assert (1, [], [said]) == Station(alone, web.url, alone.key).once()
+
+
+def test_another_key_than_the_cas_delivers_nothing(alone):
+    run(["openssl", "genpkey", "-algorithm", "ed25519", "-out", "other.pem"], check=True)
+    alone.key = ["--key", "other.pem"]
+    said = "station: not signed: 1, the key isn't the CA's: its signature doesn't verify: 1"
+    assert (1, [], [said], []) == shown(alone, {1: body(ca=alone.blob)})
+
+
+# ---- words
+
+BAD_WORDS = [
+    ([], "--db is missing"), (["--db", "d"], "--policy is missing"),
+    (["--db", "d", "--policy", "p"], "OFFICE is missing"),
+    (["--db", "d", "--policy", "p", "http://a"], "one of --key, --agent and --pkcs11 is wanted"),
+    (["--db", "d", "--policy", "p", "--key", "k", "--agent", "a", "http://a"],
+     "one of --key, --agent and --pkcs11 is wanted"),
+    (["--db", "d", "--policy", "p", "--pkcs11", "m", "http://a"], "--pkcs11 wants --id and --pin-file"),
+    (["--db", "d", "--policy", "p", "--key", "k", "file:///etc/passwd"], "no URL: file:///etc/passwd"),
+    (["--db", "d", "--policy", "p", "--key", "k", "--caller", "a/../b", "http://a"], "no caller's name: a/../b"),
+    (["--db", "d", "--policy", "p", "--key", "k", "--interval", "0", "http://a"],
+     "--interval is at least 1, and --ahead at least 0"),
+    (["--no-such-word", "http://a"], "unrecognized arguments: --no-such-word"),
+]
+
+
+@pytest.mark.parametrize("words, why", BAD_WORDS, ids=[it[1] for it in BAD_WORDS])
+def test_bad_words(room, words, why):
+    done = run([EXAMPLES / "station", *words])
+    assert (2, b"", f"station: error: {why}") == (done.returncode, done.stdout, done.stderr.decode().splitlines()[-1])
+
+
+def test_help(room):
+    done = run([EXAMPLES / "station", "--help"])
+    assert (0, b"") == (done.returncode, done.stderr)
+    assert "station [OPTION..] --db FILE --policy FILE --key PEM OFFICE" in done.stdout.decode().splitlines()
+
+
+@pytest.mark.parametrize("key, why", [
+    (["--key", "none"], "can't read none"),
+    (["--agent", "none"], "can't read none: No such file or directory"),
+    (["--agent", "no-key"], "no-key has another line than those of Ed25519 public keys"),
+    (["--pkcs11", "m", "--id", "01", "--pin-file", "none"], "can't read none: No such file or directory"),
+    (["--key", "no-key", "--cacert", "none"], "can't read none"),
+    (["--key", "no-key", "--other-ca", "no-key"], "no-key has another line than those of Ed25519 public keys"),
+], ids=lambda it: " ".join(it) if isinstance(it, list) else "")
+def test_a_file_that_cannot_be_read_is_named(alone, room, key, why):
+    (room / "no-key").write_text("no key\n")
+    environment = {"SSH_AUTH_SOCK": "nobody"}
+    assert (1, [], [f"station: {why}"]) == Station(alone, "http://127.0.0.1:1", key).once(**environment)
+
+
+@pytest.mark.parametrize("missing", ["sshstation", "openssl", "pkcs11-tool"])
+def test_a_program_that_is_missing_is_named(alone, room, missing):
+    (room / "pin").write_text("1234\n")
+    for program in {"sshstation", "openssl", "pkcs11-tool"} - {missing}:
+        (room / "bin").mkdir(exist_ok=True)
+        (room / "bin" / program).symlink_to("/bin/true")
+    made = Station(alone, "http://127.0.0.1:1", ["--pkcs11", "m", "--id", "01", "--pin-file", "pin"])
+    assert (1, [], [f"station: {missing} is missing"]) == made.once(PATH=str(room / "bin"))
+
+
+@pytest.mark.parametrize("spoil, why", [
+    (lambda guard: guard.permit("department web\n"), "BadPolicy 2"),
+    (lambda guard: guard.policy.unlink(), "File"),
+    (lambda guard: guard.db.rename("elsewhere"), "NotAGuard"),
+], ids=["a bad policy", "no policy", "no guard"])
+def test_a_guard_that_cannot_judge_ends_the_station(alone, spoil, why):
+    spoil(alone)
+    with Web(response(b"")) as web:
+        status, out, errors = Station(alone, web.url, alone.key).once()
+    assert (1, [], f"sshstation: {why}") == (status, out, errors[0])
+
+
+# ---- a station that goes on
+
+def test_a_station_goes_on(asked, programs, room):
+    """It signs what comes, takes a policy that was changed, says what it doesn't sign once, and ends when it is told
+    to."""
+    new_key("alice")
+    process = asked.station.begin(programs)
+    assert 1 == issued(asked, "alice")
+    until(lambda: asked.get("/v1/certs/1").status == 200, seconds=20)
+    # The office permits bob, and the guard doesn't yet.
+    asked.post("root", "web-2", department("web", principals="alice,bob", extensions="permit-pty"))
+    assert 2 == issued(asked, "alice", principals="bob")
+    assert 3 == issued(asked, "alice")
+    until(lambda: asked.get("/v1/certs/3").status == 200, seconds=20)
+    time.sleep(2.5)
+    assert 409 == asked.get("/v1/certs/2").status
+    asked.guard.permit(department("web", principals="alice,bob", extensions="permit-pty"))
+    assert [b"signed 1\n", b"signed 3\n", b"signed 2\n"] == [process.stdout.readline() for _ in range(3)]
+    assert 200 == asked.get("/v1/certs/2").status
+    said = ["station: not signed: 1, refused as NotPermitted: 2"]
+    assert (0, [], said) == stopped(process)
+    assert [] == [it for it in os.listdir("/tmp") if it.startswith("station-") and
+                  pathlib.Path("/tmp", it).stat().st_mtime > time.time() - 1]
+
+
+def test_a_station_waits_for_an_office_that_is_away(sshstation, office, programs):
+    port = free_port()
+    made = new_station(sshstation, office, f"http://127.0.0.1:{port}", policy=WEB)
+    process = made.begin(programs)
+    time.sleep(2)
+    with office.serving(port=port) as served:
+        served.post("root", "web", WEB)
+        new_key("alice")
+        issued(served, "alice")
+        until(lambda: served.get("/v1/certs/1").status == 200, seconds=20)
+    status, out, errors = stopped(process)
+    assert (0, ["signed 1"]) == (status, out)
+    assert all(it.startswith(f"station: http://127.0.0.1:{port} doesn't answer: ") for it in errors)
+    assert 1 <= len(errors) <= 4
+
+
+def test_a_station_ends_with_its_guard(asked, programs):
+    process = asked.station.begin(programs)
+    until(lambda: b"judge" in b"".join(pathlib.Path(f"/proc/{it}/cmdline").read_bytes()
+                                       for it in children(process.pid)))
+    for it in children(process.pid):
+        os.kill(it, signal.SIGKILL)
+    assert 1 == process.wait(20)
+    assert b"station: the guard has ended with status -9\n" == process.stderr.read()
+
+
+def children(pid):
+    return [int(it) for it in pathlib.Path(f"/proc/{pid}/task/{pid}/children").read_text().split()]
+
+
+@pytest.mark.slow
+def test_a_station_that_is_killed_signs_all_the_same(asked, programs):
+    """Station and guard are killed together, at any moment of a round. A certificate that was approved and not
+    delivered is signed in a later round."""
+    new_key("alice")
+    digests = {}
+    for number in range(20):
+        serial = issued(asked, "alice")
+        digests[str(serial)] = digest_of(asked.get(f"/v1/certs/{serial}/body").body)
+        process = asked.station.begin(programs, stdout=subprocess.DEVNULL, stderr=subprocess.DEVNULL)
+        time.sleep(random.uniform(0, 1))
+        os.killpg(process.pid, signal.SIGKILL)
+        process.wait()
+    asked.station.sign()
+    assert b"" == asked.get("/v1/pending").body
+    assert digests == {serial: digest for serial, digest, *_ in asked.guard.bodies()}
+
+
+def test_two_stations_of_one_guard_are_one_too_many(asked, programs):
+    """While a station runs, nothing else opens the guard's file: neither another station nor `bodies`."""
+    process = asked.station.begin(programs)
+    new_key("alice")
+    issued(asked, "alice")
+    until(lambda: asked.get("/v1/certs/1").status == 200, seconds=20)
+    status, out, errors = asked.station.once()
+    assert (1, [], "sshstation: Device") == (status, out, errors[0])
+    assert (1, b"", b"sshstation: Device\n") == asked.guard.run("bodies", "--db", asked.guard.db)
+    assert 0 == stopped(process)[0]
+    assert ["1"] == [it[0] for it in asked.guard.bodies()]
+
+
+# ---- offices that are restored or lost
+
+def test_an_old_backup_gets_no_second_body_signed(asked, sshd, room, program, sshstation):
+    """Serials that are out are refused until an administrator revokes them, and with them their first certificates."""
+    office = asked.office
+    for name in ("first", "second", "third"):
+        new_key(name)
+    issued(asked, "first")
+    assert [1] == asked.station.sign()
+    # A copy as it may be taken while the office serves.
+    asked.process.send_signal(signal.SIGSTOP)
+    for end in ("", "-wal"):
+        shutil.copy(f"{office.db}{end}", room / f"old.db{end}")
+    asked.process.send_signal(signal.SIGCONT)
+    assert [2, 3] == [issued(asked, "second"), issued(asked, "third")]
+    assert [2, 3] == asked.station.sign()
+    certificate_of(asked, 2, "second")
+    server = sshd(office.ca)
+    assert server.grants("second")
+    office.db = room / "old.db"
+    with office.serving() as served:
+        station = Station(asked.guard, served.url, ["--key", office.ca_key], ahead=3600)
+        new_key("eve")
+        assert [2, 3, 4] == [issued(served, "eve"), issued(served, "third"), issued(served, "eve")]
+        said = ["station: not signed: 2, refused as SerialTaken: 2-3"]
+        assert (1, ["signed 4"], said) == station.once()
+        assert [409, 409] == [served.get(f"/v1/certs/{it}").status for it in (2, 3)]
+        # The way past them.
+        assert 200 == served.post("root", "past", revoke_range(2, 3)).status
+        assert (0, [], []) == station.once()
+        (room / "krl").write_bytes(served.get("/v1/krl").body)
+    assert 1 == run(["ssh-keygen", "-Q", "-f", "krl", "second-cert.pub"]).returncode
+    assert ["1", "2", "3", "4"] == [it[0] for it in asked.guard.bodies()]
+
+
+def test_the_guard_knows_what_is_out_when_the_office_is_lost(asked):
+    new_key("alice")
+    for _ in range(3):
+        issued(asked, "alice")
+    before = int(time.time())
+    assert [1, 2, 3] == asked.station.sign()
+    texts = [asked.get(f"/v1/certs/{it}/body").body for it in (1, 2, 3)]
+    certificate_of(asked, 2, "alice")
+    asked.process.kill()
+    asked.office.db.unlink()
+    rows = asked.guard.bodies()
+    assert [(str(it), digest_of(text), "web/alice") for it, text in enumerate(texts, 1)] \
+        == [(serial, digest, key_id) for serial, digest, _, key_id in rows]
+    assert all(before <= int(moment) <= time.time() for _, _, moment, _ in rows)
+    assert texts == [asked.guard.body(it) for it in (1, 2, 3)]
+    # A body and its signature are the certificate that was given out.
+    text = asked.guard.body(2)
+    given = pathlib.Path("alice-cert.pub").read_text()
+    write_certificate("alice", text, signature_of(asked.office.ca_key, text))
+    assert given.split()[1] == pathlib.Path("alice-cert.pub").read_text().split()[1]
+    assert (1, b"", b"sshstation: UnknownSerial\n") == asked.guard.run("body", "--db", asked.guard.db, 4)
+
+
+def test_a_guard_from_an_old_copy_may_approve_a_second_body(alone, room, sshstation):
+    """So its file is never put back to go on with: the page says what to do in its place."""
+    texts = [body(ca=alone.blob, nonce=bytes([place]) * 32) for place in (1, 2)]
+    for place, text in enumerate(texts):
+        (room / str(place)).write_bytes(text)
+    shutil.copy(alone.db, room / "old.db")
+    assert [f"sign 1 {digest_of(texts[0])}", "refuse SerialTaken"] == alone.judge("0", "1")
+    alone.db = room / "old.db"
+    assert [f"sign 1 {digest_of(texts[1])}", "refuse SerialTaken"] == alone.judge("1", "0")
+    # A new file above the highest serial that is known approves neither.
+    new = Guard(sshstation, "new.db", alone.ca, WEB, first=2)
+    assert ["refuse OtherSerial"] * 2 == new.judge("0", "1")
+
+
+# ---- where the key may lie
+
+def served_with(make_office, sshstation, line, key, room, **environment):
+    """An office of a CA, whose station signs a certificate for alice with this key."""
+    office = make_office(ca=line)
+    with office.serving() as served:
+        served.post("root", "web", WEB)
+        new_key("alice")
+        issued(served, "alice")
+        made = Station(new_guard(sshstation, office, policy=WEB), served.url, key, ahead=3600)
+        assert [1] == made.sign(**environment)
+        certificate_of(served, 1, "alice")
+    return office
+
+
+def test_a_key_in_an_agent_signs(make_office, sshstation, sshd, programs, room):
+    new_key("ca")
+    programs.begin(["ssh-agent", "-D", "-a", room / "agent"])
+    until((room / "agent").exists)
+    agent = {"SSH_AUTH_SOCK": str(room / "agent")}
+    run(["ssh-add", "-q", "ca"], env=os.environ | agent, check=True)
+    # The agent has the key, and no file has it any more.
+    (room / "ca").unlink()
+    line = (room / "ca.pub").read_text()
+    office = served_with(make_office, sshstation, line, ["--agent", "ca.pub"], room, **agent)
+    assert sshd(office.ca).grants("alice")
+
+
+def test_an_agent_without_the_key_signs_nothing(alone, programs, room):
+    programs.begin(["ssh-agent", "-D", "-a", room / "agent"])
+    until((room / "agent").exists)
+    alone.key = ["--agent", alone.ca]
+    with FalseOffice({1: body(ca=alone.blob)}) as false:
+        said = ["station: not signed: 1, the agent doesn't sign with this key: 1"]
+        made = Station(alone, false.url, alone.key)
+        assert (1, [], said) == made.once(SSH_AUTH_SOCK=str(room / "agent"))
+        status, _, errors = made.once(SSH_AUTH_SOCK=str(room / "nobody"))
+        assert (1, True) == (status, "No such file" in errors[0])
+
+
+MODULE = "/usr/lib/softhsm/libsofthsm2.so"
+
+
+@pytest.fixture
+def token(room):
+    """A token of softhsm2 in which an Ed25519 key was made, the CA's line, and the environment."""
+    (room / "tokens").mkdir()
+    (room / "softhsm2.conf").write_text(f"directories.tokendir = {room}/tokens\nobjectstore.backend = file\n")
+    environment = {"SOFTHSM2_CONF": str(room / "softhsm2.conf")}
+    how = {"env": os.environ | environment, "check": True}
+    pins = ["--so-pin", "87654321", "--pin", "12345678"]
+    run(["softhsm2-util", "--init-token", "--free", "--label", "ca", *pins], **how)
+    pkcs11 = ["pkcs11-tool", "--module", MODULE, "--login", "--pin", "12345678"]
+    run([*pkcs11, "--keypairgen", "--key-type", "EC:edwards25519", "--label", "ca", "--id", "01"], **how)
+    shown_key = run([*pkcs11, "--list-objects", "--type", "pubkey"], **how).stdout.decode()
+    # The point is the 32 bytes of the key, as a string of ASN.1.
+    point = re.search(r"EC_POINT:\s+0420([0-9a-f]{64})", shown_key)[1]
+    blob = string(b"ssh-ed25519") + string(bytes.fromhex(point))
+    (room / "pin").write_text("12345678\n")
+    return f"ssh-ed25519 {base64.b64encode(blob).decode()} in a token\n", environment
+
+
+def test_a_key_in_a_token_signs(make_office, sshstation, sshd, token, room):
+    line, environment = token
+    key = ["--pkcs11", MODULE, "--id", "01", "--pin-file", "pin"]
+    office = served_with(make_office, sshstation, line, key, room, **environment)
+    assert sshd(office.ca).grants("alice")
+
+
+@pytest.mark.parametrize("key_id, pin, why", [
+    ("02", "12345678", "error: Private key not found"),
+    ("01", "11111111", "CKR_PIN_INCORRECT")], ids=["no such key", "another PIN"])
+def test_a_token_that_does_not_sign_is_said(sshstation, make_office, token, room, key_id, pin, why):
+    line, environment = token
+    (room / "pin").write_text(f"{pin}\n")
+    guard = new_guard(sshstation, make_office(ca=line), policy=WEB)
+    with FalseOffice({1: body(ca=blob_of(line))}) as false:
+        made = Station(guard, false.url, ["--pkcs11", MODULE, "--id", key_id, "--pin-file", "pin"])
+        status, out, errors = made.once(**environment)
+    assert (1, [], 1, True) == (status, out, len(errors), why in errors[0]), errors
+
+
+def test_no_secret_is_an_argument(sshstation, make_office, token, room):
+    """Other users of the machine see each program's arguments."""
+    line, environment = token
+    (room / "seen").mkdir()
+    for program in ("pkcs11-tool", "openssl"):
+        file = room / "seen" / program
+        file.write_text(f'#!/bin/sh\nprintf "%s\\n" "$0 $*" >>{room}/calls\nexec {shutil.which(program)} "$@"\n')
+        file.chmod(0o755)
+    guard = new_guard(sshstation, make_office(ca=line), policy=WEB)
+    with FalseOffice({1: body(ca=blob_of(line))}) as false:
+        made = Station(guard, false.url, ["--pkcs11", MODULE, "--id", "01", "--pin-file", "pin"])
+        path = f"{room}/seen:{made.environment['PATH']}"
+        assert [1] == made.sign(PATH=path, **environment)
+    calls = (room / "calls").read_text()
+    assert 2 == len(calls.splitlines()) and "12345678" not in calls
+
+
+# ---- a rollover
+
+def test_a_rollover_with_two_stations(asked, make_office, sshstation, programs, room, sshd):
+    """Each station signs for its CA and leaves the other's alone. The ranges of their guards are disjoint, so no serial
+    has two signed certificates."""
+    new = make_office("new.db")
+    for name in ("old", "later"):
+        new_key(name)
+    cas = room / "cas.pub"
+    cas.write_text(asked.office.ca.read_text())
+    issued(asked, "old")
+    assert [1] == asked.station.sign()
+    certificate_of(asked, 1, "old")
+    since = int(asked.post("root", "roll", rollover(new.ca.read_text().strip())).text.split()[-1])
+    assert 2 == since
+    guard = asked.guard
+    assert f"retired 1 {since - 1}\n".encode() == guard.must("retire", "--db", guard.db, "--last", since - 1)
+    guards = [guard, Guard(sshstation, "new-guard.db", new.ca, WEB, first=since)]
+    cas.write_text(asked.office.ca.read_text() + new.ca.read_text())
+    keys = [asked.office.ca_key, new.ca_key]
+    stations = [Station(it, asked.url, ["--key", key], other_cas=[cas], ahead=3600) for it, key in zip(guards, keys)]
+    running = [it.begin(programs) for it in stations]
+    assert [2, 3] == [issued(asked, "later"), issued(asked, "later")]
+    until(lambda: asked.get("/v1/pending").body == b"", seconds=20)
+    certificate_of(asked, 3, "later")
+    assert [(0, [], []), (0, ["signed 2", "signed 3"], [])] == [stopped(it) for it in running]
+    assert [["1"], ["2", "3"]] == [[row[0] for row in it.bodies()] for it in guards]
+    # The old CA can't be had for a serial of the new one, nor the new one for an old serial.
+    for it, office, serial in ((guards[0], asked.office, 2), (guards[1], new, 1)):
+        (room / "text").write_bytes(body(serial, ca=blob_of(office.ca.read_text()), nonce=bytes(32)))
+        assert ["refuse OtherSerial"] == it.judge("text")
+    assert (1, b"", b"sshstation: SerialApproved\n") == guards[1].run("retire", "--db", guards[1].db, "--last", 2)
+    server = sshd(asked.office.ca, new.ca)
+    assert server.grants("old") and server.grants("later")
+
+
+# ---- a guard that is killed
+
+ROUNDS = 200
+
+
+@pytest.mark.slow
+def test_a_guard_that_is_killed_approves_one_body_for_a_serial(alone, room):
+    """Each of these commands judges two bodies of one serial, and is killed at some moment of its run, every other one
+    after its first line. A line that was printed holds for ever."""
+    def files(serial):
+        texts = [body(serial, ca=alone.blob, nonce=bytes([place]) * 32) for place in (1, 2)]
+        for place, text in enumerate(texts):
+            (room / f"body-{place}").write_bytes(text)
+        return [f"sign {serial} {digest_of(text)}" for text in texts]
+
+    begun = time.monotonic()
+    for serial in (ROUNDS + 1, ROUNDS + 2):
+        signs = files(serial)
+        assert [signs[0], "refuse SerialTaken"] == alone.judge("body-0", "body-1")
+    usual = (time.monotonic() - begun) / 2
+    printed = []
+    for serial in range(1, ROUNDS + 1):
+        signs = files(serial)
+        words = [alone.program, "judge", "--db", alone.db, "--policy", alone.policy, "--ahead", str(LATEST)]
+        process = subprocess.Popen([*words, "body-0", "body-1"], stdout=subprocess.PIPE, stderr=subprocess.DEVNULL)
+        first = process.stdout.readline() if serial % 2 else b""
+        time.sleep(random.uniform(0, usual / 10 if first else 1.2 * usual))
+        process.send_signal(signal.SIGKILL)
+        lines = (first + process.communicate()[0]).decode().splitlines()
+        printed.append(len(lines))
+        # The second body comes first now. It is approved only if the first one wasn't.
+        again = alone.judge("body-1", "body-0")
+        assert sorted(again) in (["refuse SerialTaken", signs[0]], ["refuse SerialTaken", signs[1]])
+        assert not lines or lines[0] in again, f"{serial}: {lines} was printed before the kill, and then {again}"
+    assert min(printed) == 0 < max(printed), "some were killed before their first line, and some after it"
+    rows = alone.bodies()
+    assert [str(it) for it in range(1, ROUNDS + 3)] == [it[0] for it in rows]
+    assert b"ok\n" == run(["sqlite3", alone.db, "PRAGMA integrity_check"], check=True).stdout

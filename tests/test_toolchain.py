@@ -1,0 +1,82 @@
+"""What tools/toolchain.py takes from the toolchain's command `rt` is there. A toolchain that lacks some of it, or wants
+other arguments, is named at once, and nothing is tried with it."""
+import json
+import os
+import re
+import shutil
+import sys
+
+import pytest
+
+from running import TOP, left_out, run
+
+TOOLCHAIN = (TOP / "tools/toolchain.py").read_text()
+CALLED, VALUES = (re.search(rf'^{name} = "+(.*?)"', TOOLCHAIN, re.M | re.S)[1] for name in ("CALLED", "VALUES"))
+NAMES = re.findall(r"([\w.]+)\(", CALLED)
+TAKES_NONE = re.findall(r"([\w.]+)\(\)", CALLED)
+
+# Says of a toolchain with something else under each name what it lacks, and which files the stamp of a crate reads.
+PROGRAM = """
+import json, sys
+sys.path.insert(0, "tools")
+import toolchain
+
+rt = toolchain.load()
+opened = []
+sys.addaudithook(lambda what, given: what == "open" and opened.append(str(given[0])))
+crates = toolchain.crates_of(rt)
+opened.clear()
+crates["sshoffice"].stamp()
+files = [it for it in opened if "/crates/" in it]
+
+
+def lacking(name, another):
+    *path, last = name.split(".")
+    holder = toolchain.named(rt, ".".join(path)) if path else rt
+    kept = holder.__dict__[last]
+    setattr(holder, last, another)
+    found = [*toolchain.lacking(rt)]
+    setattr(holder, last, kept)
+    return found
+
+
+names = json.load(sys.stdin)
+print(json.dumps([{it: lacking(it, another) for it in names} for another in (None, lambda: None)] + [files]))
+"""
+
+
+def needs_rt():
+    return os.path.realpath(shutil.which("rt") or left_out("the toolchain's command rt isn't on the PATH"))
+
+
+@pytest.fixture(scope="module")
+def told():
+    """What lacks where a name is gone, and where it is a function without arguments, and the files of the stamp."""
+    needs_rt()
+    words = {"input": json.dumps([*NAMES, *VALUES.split()]).encode(), "stdin": None, "cwd": TOP, "check": True}
+    return json.loads(run([sys.executable, "-B", "-c", PROGRAM], **words).stdout)
+
+
+@pytest.mark.parametrize("name", [*NAMES, *VALUES.split()])
+def test_another_toolchain_is_found(told, name):
+    gone, without_arguments, _ = told
+    assert [name] == [it.partition("(")[0] for it in gone[name]]
+    due = [name] if name in NAMES and name not in TAKES_NONE else []
+    assert due == [it.partition("(")[0] for it in without_arguments[name]]
+
+
+def test_the_stamp_of_a_crate_reads_each_file_once(told):
+    """There are thousands of ways from the program down to the lowest crates."""
+    files = told[2]
+    assert len({*files}) == len(files) > 500
+
+
+@pytest.mark.parametrize(("change", "complaint"), [
+    ("", "crates.txt has no crate none"), ("del need", "this toolchain's rt has no need(crate): ")])
+def test_nothing_is_tried_with_another_toolchain(room, change, complaint):
+    real = needs_rt()
+    (room / "rt").write_text(f"__file__ = {real!r}\nexec(compile(open(__file__).read(), __file__, 'exec'))\n{change}\n")
+    (room / "rt").chmod(0o755)
+    path = f"{room}{os.pathsep}{os.environ['PATH']}"
+    done = run([TOP / "tools/wrong-bodies", "none"], env=os.environ | {"PATH": path})
+    assert (2, True) == (done.returncode, done.stderr.decode().startswith(f"wrong-bodies: {complaint}"))

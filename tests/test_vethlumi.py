@@ -1,0 +1,429 @@
+"""vethlumi, the client: each of its commands, by an office behind the front, and what an answer that is lost leaves."""
+import base64
+import json
+import os
+import pathlib
+import pty
+import re
+import signal
+import subprocess
+import time
+
+import pytest
+
+from asking import department
+from fetching import Web, response
+from running import TOP, run, until
+
+CLIENT = TOP / "client"
+POLICY = """# people
+department web
+kind user
+admins ana
+principals alice,*@example.org
+options force-command
+extensions permit-X11-forwarding,permit-agent-forwarding,permit-pty
+maxlife 86400
+namespaces file,git
+
+# servers
+department web-hosts
+kind host
+admins ana
+principals *.example.org
+options
+extensions
+maxlife 604800
+namespaces
+"""
+
+
+class Client:
+    """The client of one caller, with its settings and its outbox in a folder."""
+
+    def __init__(self, folder, url, certificate=None, cacert=None, **more):
+        self.home = pathlib.Path(folder)
+        self.home.mkdir(exist_ok=True)
+        settings = {"office": url, "certificate": certificate, "cacert": cacert} | more
+        (self.home / ".config").mkdir()
+        (self.home / ".config/vethlumi.toml").write_text(
+            "".join(f'{name} = "{value}"\n' for name, value in settings.items() if value))
+        self.outbox = self.home / ".local/state/vethlumi"
+
+    def words(self, *words):
+        return ["/usr/bin/python3", "-B", "-m", "vethlumi", *map(str, words)]
+
+    def environment(self):
+        kept = {name: value for name, value in os.environ.items() if not name.startswith(("VETHLUMI", "XDG"))}
+        return kept | {"HOME": str(self.home), "PYTHONPATH": str(CLIENT), "COLUMNS": "100"}
+
+    def __call__(self, *words, given=b""):
+        """The status, the output and what was told."""
+        done = run(self.words(*words), env=self.environment(), stdin=None, input=given)
+        return done.returncode, done.stdout.decode(), done.stderr.decode()
+
+    def json(self, *words):
+        status, out, told = self(*words, "--json")
+        assert (0, "") == (status, told)
+        return [json.loads(line) for line in out.splitlines()]
+
+    def begin(self, *words):
+        return subprocess.Popen(self.words(*words), env=self.environment(), stdin=subprocess.DEVNULL,
+                                stdout=subprocess.PIPE, stderr=subprocess.PIPE, text=True)
+
+    def kept(self):
+        """The files of the messages that are kept."""
+        return sorted(it for it in self.outbox.iterdir() if not it.suffix) if self.outbox.exists() else []
+
+
+@pytest.fixture
+def policy(room):
+    file = room / "policy"
+    file.write_text(POLICY)
+    return file
+
+
+@pytest.fixture
+def clients(front, room, policy):
+    """Clients of the front by their names, of an office with the departments of the policy."""
+    made = {name: Client(room / f"home-{name}", front.url, front.certificate(name), front.authority / "ca.crt",
+                         policy=policy) for name in ("root", "ana", "watch")}
+    assert (0, "department web\ndepartment web-hosts\n", "") == made["root"]("department", "put", policy, "--yes")
+    return made
+
+
+@pytest.fixture
+def alice(room):
+    run(["ssh-keygen", "-q", "-t", "ed25519", "-N", "", "-C", "alice", "-f", "alice"], check=True)
+    return room / "alice.pub"
+
+
+@pytest.fixture
+def signed(clients, station, alice):
+    """alice's certificate, which is signed: its file."""
+    asking = clients["ana"].begin("request", "web/alice", alice, "--life", "1h")
+    until(lambda: [1] == station.sign())
+    assert ("alice-cert.pub serial 1\n", 0) == (pathlib.Path(asking.communicate()[0]).name, asking.returncode)
+    return alice.with_name("alice-cert.pub")
+
+
+def shown(certificate):
+    """What ssh-keygen says of a certificate, by its headings."""
+    text = run(["ssh-keygen", "-L", "-f", certificate], check=True).stdout.decode()
+    found = re.findall(r"^ {8}([A-Z][\w ]*):(.*(?:\n {16}.*)*)", text, re.M)
+    return {name: value.split("\n")[0].strip() or [it.strip() for it in value.split("\n")[1:]] for name, value in found}
+
+
+# ---- from a request to a revocation
+
+def test_a_certificate_is_asked_for_shown_renewed_and_revoked(clients, station, signed, room):
+    ana = clients["ana"]
+    said = shown(signed)
+    assert ["alice"] == said["Principals"] and '"web/alice"' == said["Key ID"] and "1" == said["Serial"]
+    assert ["permit-X11-forwarding", "permit-agent-forwarding", "permit-pty"] == said["Extensions"]
+    assert [] == ana.kept()
+    [record] = ana.json("show", 1)
+    assert ("1", "user", "web/alice", ["alice"], "signed") == tuple(
+        record[it] for it in ("serial", "kind", "keyid", "principals", "state"))
+    assert record["ca"] in said["Signing CA"]
+    assert record == ana.json("show", signed)[0]
+    assert (0, signed.read_text(), "") == ana("get", 1)
+    assert "REVOKED" not in run(["ssh-keygen", "-Q", "-f", "list", signed]).stdout.decode()
+
+    renewing = ana.begin("renew", signed, "--life", "30m")
+    until(lambda: [2] == station.sign())
+    assert (f"{signed} serial 2\n", 0) == (renewing.communicate()[0], renewing.returncode)
+    assert "2" == shown(signed)["Serial"]
+
+    assert 0 == ana("list", "--out", "list")[0]
+    assert (0, "clear\n", "") == ana("list", "--check", signed)
+    assert (0, "revoked; the list has version 1\n", "") == ana("revoke", signed, "--yes")
+    # The front gives a page that it has kept for two seconds.
+    until(lambda: (0, "revoked\n", "") == ana("list", "--check", signed))
+    assert (0, "list version 1\n", "") == ana("list", "--out", "list")
+    assert b"REVOKED" in run(["ssh-keygen", "-Q", "-f", "list", signed]).stdout
+    states = {it["serial"]: it["state"] for it in ana.json("certs")}
+    assert {"1": "signed", "2": "revoked"} == states
+
+
+@pytest.mark.parametrize("what, hit", [("1", ["1"]), ("1-2", ["1", "2"]), ("web/alice", ["1"])])
+def test_what_is_revoked(clients, alice, what, hit):
+    for key_id in ("web/alice", "web/ally"):
+        assert 4 == clients["ana"]("--wait", "1", "request", key_id, alice, "--principals", "alice")[0]
+    assert 0 == clients["root"]("revoke", what, "--yes")[0]
+    assert hit == [it["serial"] for it in clients["ana"].json("certs", "--state", "revoked")]
+
+
+def test_it_asks_before_it_revokes(clients, alice):
+    assert 4 == clients["ana"]("--wait", "1", "request", "web/alice", alice)[0]
+    root = clients["root"]
+    status, out, told = root("revoke", "1")
+    assert 2 == status and "give --yes" in told and "web/alice" in out
+    for answer, due in ((b"n\n", 1), (b"y\n", 0)):
+        main, of_client = pty.openpty()
+        asking = subprocess.Popen(root.words("revoke", "1"), env=root.environment(), stdin=of_client,
+                                  stdout=subprocess.PIPE, stderr=subprocess.PIPE)
+        os.write(main, answer)
+        out, told = asking.communicate(timeout=60)
+        os.close(of_client)
+        os.close(main)
+        assert due == asking.returncode
+        assert b"Revoke 1 certificate, 1 of which can still be used?" in told
+    until(lambda: "revoked" == root.json("certs")[0]["state"])
+
+
+def test_a_certificate_of_another_ca_is_not_revoked(clients, alice, room):
+    run(["ssh-keygen", "-q", "-t", "ed25519", "-N", "", "-f", "other"], check=True)
+    run(["ssh-keygen", "-q", "-s", "other", "-I", "web/alice", "-z", "1", alice], check=True)
+    status, _, told = clients["root"]("revoke", "alice-cert.pub", "--yes")
+    assert 2 == status and "isn't one of this office's" in told
+
+
+# ---- answers that are lost
+
+def test_the_same_command_sends_what_got_no_answer(clients, front, served, station, alice):
+    ana = clients["ana"]
+    os.kill(served.process.pid, signal.SIGSTOP)
+    asking = ana.begin("request", "web/alice", alice, "--life", "1h")
+    [kept] = until(ana.kept)
+    time.sleep(1)
+    asking.kill()
+    asking.communicate()
+    os.kill(served.process.pid, signal.SIGCONT)
+    key, message = kept.read_text().split("\n", 1)
+    assert kept.name == key and message.startswith("issue web\nkeyid web/alice\nkey ssh-ed25519 ")
+    # A second later: the message would have other moments, and is that of before.
+    asking = ana.begin("request", "web/alice", alice, "--life", "1h")
+    until(lambda: [1] == station.sign())
+    asking.communicate()
+    assert 0 == asking.returncode and [] == ana.kept()
+    assert ["1"] == [it["serial"] for it in ana.json("certs")]
+    assert f"after {int(re.search(r'^after ([0-9]+)$', message, re.M)[1])}" in message
+
+
+def test_no_answer_keeps_the_message(clients, front, alice):
+    ana = clients["ana"]
+    front.end()
+    status, out, told = ana("--wait", "1", "revoke", "web/alice", "--yes")
+    assert (3, "") == (status, out) and "the message is kept" in told
+    [kept] = ana.kept()
+    assert f"{kept.name}\nrevoke-keyid web/alice\n" == kept.read_text()
+    assert 0o600 == kept.stat().st_mode & 0o777
+    front.begin()
+    assert [{"id": kept.name, "message": "revoke-keyid web/alice\n", "reply": ""}] == ana.json("outbox")
+    assert (0, f"{kept.name}  revoke-keyid web/alice  revoked version 1\n", "") == ana("outbox", "--send")
+    assert [] == ana.kept() and (0, "the outbox is empty\n", "") == ana("outbox")
+
+
+def test_a_message_can_be_given_up(clients, front, alice):
+    ana = clients["ana"]
+    front.end()
+    assert 3 == ana("--wait", "1", "revoke", "1", "--yes")[0]
+    [kept] = ana.kept()
+    assert 2 == ana("outbox", "--drop", "none")[0]
+    assert 0 == ana("outbox", "--drop", kept.name)[0]
+    assert [] == ana.kept()
+
+
+def test_what_is_not_signed_yet_is_asked_for_again(clients, station, alice):
+    ana = clients["ana"]
+    status, _, told = ana("--wait", "1", "request", "web/alice", alice)
+    assert 4 == status and "no signature yet" in told and 1 == len(ana.kept())
+    assert 4 == ana("get", 1)[0]
+    assert [1] == station.sign()
+    status, out, _ = ana("request", "web/alice", alice)
+    assert (0, f"{alice.with_name('alice-cert.pub')} serial 1\n") == (status, out)
+
+
+def test_a_refusal_is_said_in_words_and_forgotten(clients, alice):
+    status, out, told = clients["ana"]("request", "web/bob", alice, "--principals", "bob")
+    assert (1, "") == (status, out)
+    assert "refused 14 NotPermitted: the department's rules don't permit this certificate" in told
+    assert [] == clients["ana"].kept()
+
+
+def test_a_refusal_of_the_front_is_said(clients, alice):
+    status, _, told = clients["watch"]("revoke", "1", "--yes")
+    assert 1 == status and "front: the certificate names no caller, or there is none" in told
+
+
+@pytest.mark.parametrize("answer", [
+    response(b"issued one\ndigest x\n"), response(b""), response(b"refused 99 Nothing\n", "409 Conflict"),
+    response(b"issued 1\n")[:-3], b"HTTP/1.1 200 OK\r\ncontent-length: 70000\r\n\r\n" + 70000 * b"x", b"nothing",
+], ids=["no number", "empty", "another refusal", "cut off", "too long", "no HTTP"])
+def test_what_no_office_answers_is_no_answer(room, alice, answer):
+    with Web(answer) as web:
+        status, out, told = Client(room / "home", web.url, caller="ana")(
+            "--wait", "1", "request", "web/alice", alice)
+    assert status in (1, 3) and "" == out
+    assert 1 == len(list((room / "home/.local/state/vethlumi").iterdir())), told
+
+
+def test_a_certificate_for_another_key_is_not_taken(clients, station, signed, room):
+    """A front that was taken gives a certificate of somebody else."""
+    line = signed.read_bytes()
+    run(["ssh-keygen", "-q", "-t", "ed25519", "-N", "", "-f", "bob"], check=True)
+
+    class Other(Web):
+        def finish_request(self, peer, address):
+            came = peer.recv(65536)
+            peer.sendall(response(b"issued 1\ndigest " + 64 * b"0" + b"\n") if came.startswith(b"POST") else response(line))
+    with Other(None) as web:
+        status, out, told = Client(room / "home", web.url, caller="ana")("request", "web/alice", "bob.pub")
+    assert 2 == status and "another key" in told and not pathlib.Path("bob-cert.pub").exists()
+
+
+# ---- reports
+
+def test_certificates_are_listed_with_filters(clients, station, signed, alice):
+    ana = clients["ana"]
+    assert 4 == ana("--wait", "1", "request", "web-hosts/db.example.org", alice, "--life", "2h", "--out", "db")[0]
+    for words, due in {
+        (): ["1", "2"], ("--state", "signed"): ["1"], ("--kind", "host"): ["2"], ("--department", "web"): ["1"],
+        ("--keyid", "*/db*"): ["2"], ("--valid",): ["1"], ("--ends-within", "2h"): ["1"], ("--ends-within", "1m"): [],
+    }.items():
+        assert due == [it["serial"] for it in ana.json("certs", *words)], words
+    out = ana("certs")[1]
+    assert re.search(r"^ *1  user  signed   \S+Z  \S+Z  web/alice *$", out, re.M), out
+    assert "\x1b" not in out
+
+
+def test_status_list_signers_and_figures(clients, station, signed, front):
+    root = clients["root"]
+    assert 0 == root("revoke", "web/zoe", "--yes")[0]
+    [status] = root.json("status")
+    assert (1, 1, 0, 1) == tuple(status[it] for it in ("certificates", "signed", "outbox", "valid"))
+    assert [shown(signed)["Signing CA"].split()[1]] == [it["fingerprint"] for it in status["cas"]]
+    [listed] = root.json("list")
+    assert ("1", ["web/zoe"]) == (listed["version"], listed["cas"][0]["keyids"])
+    assert "web/zoe" in root("list")[1] and status["office"] in root("status")[1]
+    assert front.session().get(f"{front.url}/v1/signers").text == root("signers")[1]
+    figures = root("figures", "--last", "10")[1]
+    assert 'office_certificates{kind="user",state="signed"} 1\n' in figures and "office_serials_left 9\n" in figures
+
+
+def test_figures_without_an_office(clients, front):
+    front.end()
+    status, out, _ = clients["root"]("figures")
+    assert (3, "office_up 0") == (status, out.splitlines()[-1])
+
+
+# ---- departments
+
+def test_a_department_is_compared_and_sent(clients, station, signed, room):
+    root = clients["root"]
+    narrower = POLICY.replace("principals alice,", "principals zoe,").replace("maxlife 86400", "maxlife 60")
+    pathlib.Path("narrower").write_text(narrower)
+    status, out, _ = root("department", "diff", "narrower", "web")
+    assert 0 == status
+    assert {"-principals alice,*@example.org", "+principals zoe,*@example.org", "+maxlife 60"} <= {*out.splitlines()}
+    assert "1 certificate that can still be used wouldn't be permitted:" in out
+    assert "principal alice, lifetime of 3600 s" in out
+    assert (0, "no difference\n", "") == root("department", "diff", room / "policy")
+    assert 2 == root("department", "put", "narrower", "web")[0]
+    assert (0, "department web\n", "") == root("department", "put", "narrower", "web", "--yes")
+    assert (0, POLICY.split("# servers\n")[1], "") == root("department", "show", "web-hosts")
+    assert ["web", "web-hosts"] == [it["name"] for it in root.json("department", "show")]
+
+
+@pytest.mark.parametrize("text, fault", [
+    ("department web\n", "line 1: a department has eight lines"), (POLICY + POLICY, "a second department of the name web"),
+    (POLICY.replace("kind user", "kin user"), "'kin user' is no line `kind ..`"), (POLICY[:-1], "no line feed"),
+    ("# nothing\n", "has no department"),
+], ids=["short", "twice", "word", "cut", "empty"])
+def test_a_file_that_has_no_departments(clients, text, fault):
+    pathlib.Path("bad").write_text(text)
+    status, _, told = clients["root"]("department", "put", "bad", "--yes")
+    assert 2 == status and fault in told
+
+
+def test_a_department_that_the_office_refuses(clients):
+    pathlib.Path("host").write_text(department(kind="host", options="", extensions="", namespaces=""))
+    status, _, told = clients["root"]("department", "put", "host", "--yes")
+    assert 1 == status and "refused 12 KindFixed" in told
+
+
+# ---- rollover
+
+def test_a_rollover(clients, room):
+    run(["ssh-keygen", "-q", "-t", "ed25519", "-N", "", "-f", "next"], check=True)
+    fingerprint = run(["ssh-keygen", "-l", "-f", "next.pub"], check=True).stdout.decode().split()[1]
+    assert 2 == clients["root"]("rollover", "next.pub")[0]
+    assert (0, f"CA 2 is {fingerprint}, from serial 1 on\n", "") == clients["root"]("rollover", "next.pub", "--yes")
+    status, _, told = clients["root"]("rollover", "next.pub", "--yes")
+    # The same message again would be the same rollover; a new one is refused.
+    assert 1 == status and "refused 23 CaInUse" in told
+
+
+# ---- doctor
+
+def test_doctor_finds_what_is_well_and_what_is_not(clients, signed, front, served):
+    root = clients["root"]
+    assert 0 == root("list", "--out", "list")[0]
+    found = {it["what"]: it for it in root.json("doctor", "--krl", "list")}
+    for what in ("front's certificate", "client's certificate", "clock", "office", "list here", "signing station"):
+        assert "ok" == found[what]["state"], found[what]
+    os.utime("list", (0, 0))
+    front.end()
+    status, out, _ = root("doctor", "--krl", "list", "--json")
+    found = {it["what"]: it["state"] for it in map(json.loads, out.splitlines())}
+    assert 1 == status
+    assert {"front's certificate": "bad", "office": "bad", "list here": "bad", "client's certificate": "ok"} == {
+        name: found[name] for name in ("front's certificate", "office", "list here", "client's certificate")}
+
+
+# ---- words and settings
+
+@pytest.mark.parametrize("words, told", [
+    (["nothing"], "No such command"), (["request", "alice", "alice.pub"], "no key ID of the form DEPARTMENT/NAME"),
+    (["request", "web/alice", "none.pub"], "does not exist"), (["request", "web/alice", "alice"], "has to end with .pub"),
+    (["request", "web/alice", "policy", "--out", "cert"], "no Ed25519 public key"),
+    (["request", "web/alice", "alice.pub", "--life", "1y"], "no length of time"), (["get", "0"], "not in the range"),
+    (["revoke", "alice", "--yes"], "has no line of an Ed25519 certificate"), (["revoke", "zoe", "--yes"], "no serial"),
+    (["--wait", "soon", "status"], "no length of time"), (["show", "none"], "No such file"),
+])
+def test_bad_words_end_with_2(clients, alice, words, told):
+    status, out, said = clients["ana"](*words)
+    assert (2, "") == (status, out) and told in said
+    assert [] == clients["ana"].kept()
+
+
+@pytest.mark.parametrize("settings, told", [
+    ("", "no office: set `office`"), ('office = "office.example.org"\n', "is no URL"), ("office = 1\n", "is no setting"),
+    ('port = "1"\n', "is no setting"), ("office\n", "vethlumi.toml"),
+    ('office = "http://127.0.0.1:1"\ncertificate = "/none"\n', "can't read /none"),
+])
+def test_bad_settings_end_with_2(room, settings, told):
+    client = Client(room / "home", "")
+    (room / "home/.config/vethlumi.toml").write_text(settings)
+    status, out, said = client("status")
+    assert (2, "") == (status, out) and told in said
+
+
+def test_options_override_settings(clients, front):
+    ana = clients["ana"]
+    assert 3 == ana("--wait", "1", "--office", "https://localhost:1", "status")[0]
+    assert 0 == ana("--certificate", front.certificate("watch"), "status")[0]
+
+
+def test_a_caller_without_a_front(served, room, alice):
+    root, ana = (Client(room / name, served.url, caller=name) for name in ("root", "ana"))
+    pathlib.Path("policy").write_text(POLICY)
+    assert 0 == root("department", "put", "policy", "--yes")[0]
+    assert 4 == ana("--wait", "1", "request", "web/alice", alice)[0]
+    assert ["web/alice"] == [it["keyid"] for it in ana.json("certs")]
+
+
+def test_what_ssh_keygen_makes_is_read_as_ssh_keygen_shows_it(room, alice):
+    run(["ssh-keygen", "-q", "-t", "ed25519", "-N", "", "-f", "ca"], check=True)
+    run(["ssh-keygen", "-q", "-s", "ca", "-I", "web/alice", "-n", "alice,bob", "-z", "7", "-V", "20300101:20310101",
+         "-O", "clear", "-O", "force-command=/bin/true", "-O", "permit-pty", alice], check=True)
+    script = ("import sys; sys.path.insert(0, sys.argv[1]); from vethlumi.formats import Certificate; import json; "
+              "print(json.dumps(Certificate.of_line(open(sys.argv[2]).read()).as_record()))")
+    record = json.loads(run(["/usr/bin/python3", "-B", "-c", script, CLIENT, "alice-cert.pub"], check=True).stdout)
+    said = shown("alice-cert.pub")
+    assert said["Principals"] == record["principals"] and said["Extensions"] == record["extensions"]
+    assert {"force-command": "/bin/true"} == record["options"] and said["Serial"] == record["serial"]
+    assert said["Signing CA"].split()[1] == record["ca"]
+    assert "2030-01-01T00:00:00Z" == record["after"] and "2031-01-01T00:00:00Z" == record["before"]
+    assert base64.b64decode(pathlib.Path("ca.pub").read_text().split()[1])
