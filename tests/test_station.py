@@ -718,6 +718,7 @@ def test_a_rollover_with_two_stations(asked, make_office, sshstation, programs, 
     assert [2, 3] == [issued(asked, "later"), issued(asked, "later")]
     until(lambda: asked.get("/v1/pending").body == b"", seconds=20)
     certificate_of(asked, 3, "later")
+    until(lambda: all(children(it.pid) for it in running), seconds=60)
     assert [(0, [], []), (0, ["signed 2", "signed 3"], [])] == [stopped(it) for it in running]
     assert [["1"], ["2", "3"]] == [[row[0] for row in it.bodies()] for it in guards]
     # The old CA can't be had for a serial of the new one, nor the new one for an old serial.
