@@ -60,43 +60,43 @@ def why_none():
 
 # ---- the folder that every box starts from
 
-def stamp():
-    return hashlib.sha256(" ".join([RELEASE, *PACKAGES]).encode()).hexdigest()
+def stamp(packages):
+    return hashlib.sha256(" ".join([RELEASE, *packages]).encode()).hexdigest()
 
 
-def is_prepared(folder):
+def is_prepared(folder, packages):
     with contextlib.suppress(OSError):
-        return (folder / "stamp").read_text() == stamp()
+        return (folder / "stamp").read_text() == stamp(packages)
     return False
 
 
-def prepare(folder=FOLDER):
+def prepare(folder=FOLDER, packages=PACKAGES):
     """Makes the folder of a Debian with its packages, unless it is there. Several processes may call this at once."""
-    if is_prepared(folder):
+    if is_prepared(folder, packages):
         return folder / "root"
     if reason := why_none():
         raise CannotBoot(reason)
     folder.mkdir(parents=True, exist_ok=True)
     with open(folder / "lock", "w") as lock:
         fcntl.flock(lock, fcntl.LOCK_EX)
-        if not is_prepared(folder):
-            make_root(folder)
+        if not is_prepared(folder, packages):
+            make_root(folder, packages)
     return folder / "root"
 
 
-def make_root(folder):
+def make_root(folder, packages):
     new, root = folder / "new", folder / "root"
     for it in (folder / "stamp", new, root):
         shutil.rmtree(it) if it.is_dir() else it.unlink(missing_ok=True)
     # What it mounts ends with it, also if it is killed.
-    words = ["unshare", "--mount", "debootstrap", "--variant=minbase", f"--include={','.join(PACKAGES)}", RELEASE, new]
+    words = ["unshare", "--mount", "debootstrap", "--variant=minbase", f"--include={','.join(packages)}", RELEASE, new]
     environment = ENVIRONMENT | {"DEBIAN_FRONTEND": "noninteractive"}
     made = subprocess.run(words, capture_output=True, text=True, env=environment)
     if made.returncode:
         raise CannotBoot(f"debootstrap failed: {(made.stdout + made.stderr)[-800:]}")
     shutil.rmtree(new / "var/cache/apt/archives", ignore_errors=True)
     new.rename(root)
-    (folder / "stamp").write_text(stamp())
+    (folder / "stamp").write_text(stamp(packages))
 
 
 # ---- control groups
@@ -185,7 +185,7 @@ class Rack:
     def enter(self, *words, **how):
         """Starts a command in the rack's namespaces."""
         into = ["nsenter", "-t", str(self.first), "-m", "-n", "-p", "--"]
-        return subprocess.Popen([*into, *words], stdin=subprocess.DEVNULL, **({"env": ENVIRONMENT} | how))
+        return subprocess.Popen([*into, *words], **({"env": ENVIRONMENT, "stdin": subprocess.DEVNULL} | how))
 
     def add(self, *names):
         """Makes boxes and boots them side by side."""
@@ -194,10 +194,14 @@ class Rack:
         for it in self.boxes.values():
             it.write("etc/hosts", self.hosts())
         for it in made:
+            self.furnish(it)
             it.start()
         for it in made:
             it.wait_until_up()
         return made
+
+    def furnish(self, box):
+        """What a box of this rack gets before it starts for the first time."""
 
     def hosts(self):
         lines = ["127.0.0.1 localhost", "::1 localhost"]
@@ -231,7 +235,18 @@ class Box:
         group = f"sshoffice-box-{os.getpid()}-{name}-{uuid.uuid4().hex[:8]}"
         self.groups = [it / group for it in group_folders()]
         self.running = self.init = None
+        # Words for systemd-nspawn: disks of its own, and devices.
+        self.disks = []
         self.make_files()
+
+    def add_disk(self, place, size):
+        """Gives the box a disk of its own at a folder, before it starts. What is on it stays while the box is off."""
+        disk = self.rack.room / self.name / f"disk{len(self.disks)}"
+        (self.rack.files / self.name / disk.name).mkdir()
+        (self.files / place.lstrip("/")).mkdir(parents=True, exist_ok=True)
+        if self.rack.enter("mount", "-t", "tmpfs", "-o", f"size={size},mode=755", "disk", disk).wait():
+            raise CannotBoot("this machine mounts no tmpfs")
+        self.disks.append(f"--bind={disk}:{place}")
 
     def make_files(self):
         here = self.rack.room / self.name
@@ -276,7 +291,7 @@ class Box:
         words = ["systemd-nspawn", "-D", root, "-M", self.name, "--boot", "--register=no", "--keep-unit",
                  "--network-bridge=rack", "-q", "--console=pipe",
                  # Without these systemd can't filter addresses in the box.
-                 "--capability=CAP_BPF", "--system-call-filter=bpf"]
+                 "--capability=CAP_BPF", "--system-call-filter=bpf", *self.disks]
         self.init = None
         with open(self.rack.files / self.name / "log", "wb") as log:
             self.running = self.rack.enter("sh", "-c", ENTER, "sh", *words, stdout=log, stderr=subprocess.STDOUT,

@@ -30,8 +30,9 @@ PLACES = ("*.md", "docs/*.md", "examples/**/*.md", "crates/*/README.md", "tests/
 PAGES = sorted(str(page.relative_to(TOP)) for place in PLACES for page in TOP.glob(place))
 TEXTS = {page: (TOP / page).read_text() for page in PAGES}
 CRATES = re.findall(r"^(\w+):", (TOP / "crates.txt").read_text(), re.M)
-# What stands behind `sh` where a block is for one of several machines, on which tests/test_boxes.py types it.
-MACHINES = ("admin", "office", "station", "server", "spare")
+# What stands behind `sh` where a block is for one of several machines, or for some of them: tests/test_boxes.py and
+# tests/test_three_machines.py type it there.
+MACHINES = ("admin", "office", "station", "server", "spare", "one", "two", "three", "one two", "one two three")
 KINDS = ("sh", "console", "text", *(f"sh {it}" for it in MACHINES))
 
 # What isn't run here: a line, or the first line of a block that is left out whole. With why, what else shows it, and a
