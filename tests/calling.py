@@ -68,7 +68,8 @@ class Fronts:
                 instead.append([address, type(fault).__name__])
             at += 1
             if len(instead) % 100 == 0:
-                print(f"calling: {method} {path} waits since {time.time() - begun:.0f} s: {instead[-4:]}", file=sys.stderr)
+                waited = f"{time.time() - begun:.0f} s"
+                print(f"calling: {method} {path} has no answer after {waited}: {instead[-4:]}", file=sys.stderr)
             time.sleep(0.2)
         return None, None, instead
 

@@ -77,9 +77,9 @@ class Site(boxes.Rack):
             self.shells[block.machine].run(block.commands)
         for it in self.pair():
             # The callers of these tests are more than a front lets through, and the answers are written down.
-            it.run("sed -i 's/rate=20r/rate=2000r/' /etc/vethlumi/front/nginx.conf; sed -i 's#access_log off;#access_log "
-                   f"{LOG} way; log_subrequest on;#' /etc/vethlumi/way/way.conf; systemctl restart office-way; "
-                   "systemctl reload office-front")
+            it.run("sed -i 's/rate=20r/rate=2000r/' /etc/vethlumi/front/nginx.conf; systemctl reload office-front")
+            it.run(f"sed -i 's#access_log off;#access_log {LOG} way; log_subrequest on;#' /etc/vethlumi/way/way.conf; "
+                   "systemctl restart office-way")
         until(self.serving, seconds=30)
 
     def pair(self):
@@ -172,9 +172,10 @@ class Site(boxes.Rack):
         return ["0"] * 3 == re.findall(r"^Number of entries: (\d+)$", text, re.M)
 
     def ills(self):
-        """What isn't as before the fault: one office serves, each machine has its mount, and three copies are written."""
+        """What isn't as before the fault: one office serves, each machine has its mount, and all copies are written."""
         said = [it.run("office-volume check", check=False) for it in self.pair()]
-        return [*["nobody serves"] * (not self.serving()), *["two listen"] * (len(self.listening()) > 1), *["a brick is away"] * (self.brick_count() != 3),
+        return [*["nobody serves"] * (not self.serving()), *["two listen"] * (len(self.listening()) > 1),
+                *["a brick is away"] * (self.brick_count() != 3),
                 *[it.stdout for it in said if it.returncode]]
 
     def is_well(self):
@@ -185,8 +186,8 @@ class Site(boxes.Rack):
         """The rows of the office's certificates, from a copy of both files at one moment, which has to be sound."""
         box = until(self.serving, seconds=60)
         pid = box.says("pgrep -u office -x sshoffice | head -n 1")
-        said = box.says(f"kill -STOP {pid}; rm -rf /tmp/copy; mkdir /tmp/copy; cp /var/lib/office/office.db* /tmp/copy || true; "
-                        f"kill -CONT {pid}; cd /tmp/copy; sqlite3 office.db 'PRAGMA integrity_check'; "
+        said = box.says(f"kill -STOP {pid}; rm -rf /tmp/copy; mkdir /tmp/copy; "
+                        f"cp /var/lib/office/office.db* /tmp/copy || true; kill -CONT {pid}; cd /tmp/copy; sqlite3 office.db 'PRAGMA integrity_check'; "
                         "sqlite3 office.db 'SELECT serial, hex(body) FROM cert'")
         first, *rows = said.splitlines()
         assert "ok" == first, said[:500]
@@ -282,8 +283,8 @@ FAULTS = {
     "rebooted": (Site.reboot, True, 0),
 }
 # How many of a hundred rounds: those that take longer come less often.
-WEIGHTS = {"server killed": 22, "mount killed": 18, "mount frozen": 6, "brick killed": 18, "disk full": 12, "link cut": 8,
-           "rebooted": 10, "link cut, brick killed": 6}
+WEIGHTS = {"server killed": 22, "mount killed": 18, "mount frozen": 6, "brick killed": 18, "disk full": 12,
+           "link cut": 8, "rebooted": 10, "link cut, brick killed": 6}
 # The longest takeover, in seconds, after a fault of the machine that serves.
 LONGEST = {"server killed": 10, "mount killed": 10, "mount frozen": 40, "link cut": 40, "rebooted": 40}
 
@@ -346,9 +347,9 @@ def one_round(site, calling, name, times):
 def wait_for(site, is_so, why):
     with contextlib.suppress(AssertionError):
         return until(is_so, seconds=180, pause=1)
-    said = [it.run("journalctl --no-pager -u office -u office-volume -u office-watch -u office-way | tail -20; ps aux | "
-                   "grep -E 'gluster|sshoffice|waiting' | cut -c1-150; cat /var/log/glusterfs/office-volume.log | tail -5",
-                   check=False).stdout for it in site.pair() if it.init]
+    look = ("journalctl --no-pager -u office -u office-volume -u office-watch -u office-way | tail -20; "
+            "ps aux | grep -E 'gluster|sshoffice|waiting' | cut -c1-150; tail -n 5 /var/log/glusterfs/office-volume.log")
+    said = [it.run(look, check=False).stdout for it in site.pair() if it.init]
     raise AssertionError(f"{why()}\n" + "\n\n".join(said))
 
 
