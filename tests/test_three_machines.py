@@ -187,7 +187,8 @@ class Site(boxes.Rack):
         box = until(self.serving, seconds=60)
         pid = box.says("pgrep -u office -x sshoffice | head -n 1")
         said = box.says(f"kill -STOP {pid}; rm -rf /tmp/copy; mkdir /tmp/copy; "
-                        f"cp /var/lib/office/office.db* /tmp/copy || true; kill -CONT {pid}; cd /tmp/copy; sqlite3 office.db 'PRAGMA integrity_check'; "
+                        f"cp /var/lib/office/office.db* /tmp/copy || true; kill -CONT {pid}; cd /tmp/copy; "
+                        "sqlite3 office.db 'PRAGMA integrity_check'; "
                         "sqlite3 office.db 'SELECT serial, hex(body) FROM cert'")
         first, *rows = said.splitlines()
         assert "ok" == first, said[:500]
@@ -348,7 +349,7 @@ def wait_for(site, is_so, why):
     with contextlib.suppress(AssertionError):
         return until(is_so, seconds=180, pause=1)
     look = ("journalctl --no-pager -u office -u office-volume -u office-watch -u office-way | tail -20; "
-            "ps aux | grep -E 'gluster|sshoffice|waiting' | cut -c1-150; tail -n 5 /var/log/glusterfs/office-volume.log")
+            "ps aux | grep -E 'gluster|sshoffice|waiting' | cut -c1-150; tail -5 /var/log/glusterfs/office-volume.log")
     said = [it.run(look, check=False).stdout for it in site.pair() if it.init]
     raise AssertionError(f"{why()}\n" + "\n\n".join(said))
 
@@ -375,7 +376,8 @@ def test_faults_at_random(site, calling, request):
     print(f"seed {seed}")
     draw, times = random.Random(seed), collections.defaultdict(list)
     # Each fault at least once, and then by their weights.
-    names = draw.sample([*WEIGHTS], min(rounds, len(WEIGHTS))) + draw.choices([*WEIGHTS], [*WEIGHTS.values()], k=max(0, rounds - len(WEIGHTS)))
+    first, more = min(rounds, len(WEIGHTS)), max(0, rounds - len(WEIGHTS))
+    names = draw.sample([*WEIGHTS], first) + draw.choices([*WEIGHTS], [*WEIGHTS.values()], k=more)
     until(lambda: calling.since(0), seconds=60)
     for name in names:
         records = one_round(site, calling, name, times)
@@ -385,7 +387,8 @@ def test_faults_at_random(site, calling, request):
     assert calling.tell("again 0")["asked"] >= rounds
     look(site, calling, "all rounds")
     for name, took in times.items():
-        print(f"takeover, {name}: {statistics.median(took):.1f} s by the median of {len(took)}, {max(took):.1f} at most")
+        median = statistics.median(took)
+        print(f"takeover, {name}: {median:.1f} s by the median of {len(took)}, {max(took):.1f} at most")
         assert max(took) <= LONGEST[name], f"takeover after {name}: {took}"
     print(f"{len(calling.since(0))} answers in {rounds} rounds")
 

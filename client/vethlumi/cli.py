@@ -103,7 +103,7 @@ class Group(click.Group):
 @click.option("--cacert", metavar="FILE", help="the authority of the front's certificate, a PEM file")
 @click.option("--policy", metavar="FILE", help="the departments, as the guard beside the CA's key has them")
 @click.option("--caller", metavar="NAME", help="who asks, if URL is an office without a front")
-@click.option("--wait", metavar="TIME", default="10m", show_default=True, help="the longest wait for answer and signature")
+@click.option("--wait", metavar="TIME", default="10m", show_default=True, help="the longest wait for an answer")
 @click.pass_context
 def main(context, config, wait, **given):
     """Asks an SSH certificate office for certificates, revokes them, and shows what the office has.
