@@ -100,8 +100,8 @@ module _ {W File Tables Incoming Reader Writer : Type 0} (store : store.Ghosts T
   DoesJob (job.Migrate db) held holds result = Asks office.Migrate (string_bytes db) held holds result
   DoesJob (job.Check ca list serial key_id) held holds result =
       WithFile world remaining w w' (string_bytes ca)
-      (λ key opened. ChecksIn world remaining opened w' (string_bytes list) serial (string_bytes key_id) key held holds) (holds ≡ held)
-      result
+      (λ key opened. ChecksIn world remaining opened w' (string_bytes list) serial (string_bytes key_id) key held holds)
+      (holds ≡ held) result
   DoesJob job.Selftest held holds result = TestsItself world w w' held holds result
   DoesJob other held holds result = ⊥
 

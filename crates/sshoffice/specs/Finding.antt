@@ -43,7 +43,8 @@ found_open (Err error) = Err (of_database error)
 
 -- ---- in a world
 
-module _ {W File Conn Incoming Reader Writer : Type 0} (world : Ghosts W File Conn Incoming Reader Writer) (path : List ℕ) where
+module _ {W File Conn Incoming Reader Writer : Type 0} (world : Ghosts W File Conn Incoming Reader Writer)
+    (path : List ℕ) where
   -- the file at the path was opened, and that is what came of it
   pub record Reads (w : W) (file : Result File JobFault) (w' : W) : Type 0 where
     pub got : Result File ErrorKind

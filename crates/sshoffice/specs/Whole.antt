@@ -47,8 +47,8 @@ Adds store opened last =
     HasCleanDisk (state store last) → HasCleanDisk (state store opened)
     × (IsTrue (state store last).is_open → AddsArrivals (state store opened) (state store last))
 
--- What a world's databases keep. What is opened is ready. If arrivals were added to it and it closed well, then all that
--- a crash may leave of the files holds the office that they held, with arrivals after it.
+-- What a world's databases keep. What is opened is ready. If arrivals were added to it and it closed well, then all
+-- that a crash may leave of the files holds the office that they held, with arrivals after it.
 pub record KeepsDatabases {W File Tables Incoming Reader Writer : Type 0} (store : store.Ghosts Tables)
     (world : Ghosts W File (Held Tables) Incoming Reader Writer) : Type 0 where
   pub ready : (w : W) (path : List ℕ) (found : Result (Held Tables) Error) (w' : W) → world.opens w path found w'
@@ -111,15 +111,16 @@ module _ {W File Tables Incoming Reader Writer : Type 0} (store : store.Ghosts T
       (conn last : Held Tables) (result : Result ℕ JobFault) : Type 0 where
     pub heard : Result (Incoming × ℕ) ErrorKind
     pub listened : Listens world port before heard after
-    pub serves : On store (λ old new. Serves connections nonces (heard_of book (Some heard)) old new held holds) conn last
-        result
+    pub serves : On store (λ old new. Serves connections nonces (heard_of book (Some heard)) old new held holds) conn
+        last result
 
   -- The office was opened, and then served so. Nobody listened before it was open.
   pub record ServesAt (port connections : ℕ) (nonces held holds : Option (List ℕ)) (before after : W)
       (conn last : Held Tables) (result : Result ℕ JobFault) : Type 0 where
     pub heard : Option (Result (Incoming × ℕ) ErrorKind)
     pub listened : MayListen world port before heard after
-    pub serves : On store (λ old new. Serves connections nonces (heard_of book heard) old new held holds) conn last result
+    pub serves : On store (λ old new. Serves connections nonces (heard_of book heard) old new held holds) conn last
+        result
 
 -- ---- jobs
 

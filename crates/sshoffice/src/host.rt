@@ -149,8 +149,9 @@ fn listen_in<'a>(
     }
 }
 
-/// Does what the words ask for in the world of the system, and answers the status and `out`. `start` stands for what the
-/// files of the job's database hold. Only here is a job done over a file's connection: such a call takes half a minute to prove.
+/// Does what the words ask for in the world of the system, and answers the status and `out`. `start` stands for what
+/// the files of the job's database hold. Only here is a job done over a file's connection: such a call takes half a
+/// minute to prove.
 pub fn run<S: Start, O: Write, E: Write>(
     rt: &HostRuntime,
     start: S,

@@ -104,8 +104,8 @@ pub(crate) fn found_in<S: Alter, W: World<Conn = Connection<S>> + AllocGlobal, O
 /// # Errors
 ///
 /// Why nobody could be served: the database isn't there or can't be opened, it isn't that of an office, or nobody
-/// listens at the port. `NoMemory` or `Device` is also answered where all were served and the database couldn't be closed
-/// well.
+/// listens at the port. `NoMemory` or `Device` is also answered where all were served and the database couldn't be
+/// closed well.
 pub(crate) fn serve_in<S: Alter, W: World<Conn = Connection<S>> + AllocGlobal, O: Write, E: Write>(
     world: &mut W,
     db: &str,

@@ -27,8 +27,8 @@ returns-in-Ok g c = record {
           (opened_for g.S.Store g.W.World c.requires.keeps c.args.db.now c.args.job.now c.args.world.now c.in-Ok.conn
           c.open_for.new.world c.in-Ok.ensures)
           c.do_on-outcome.ensures.honest
-          (λ was rest still clean. added (state g.S.Store c.in-Ok.conn) (state g.S.Store c.do_on-outcome.result.conn) was
-          rest still (λ trees may. g.met.S.Store.settled c.do_on-outcome.result.conn.store trees still may)
+          (λ was rest still clean. added (state g.S.Store c.in-Ok.conn) (state g.S.Store c.do_on-outcome.result.conn)
+          was rest still (λ trees may. g.met.S.Store.settled c.do_on-outcome.result.conn.store trees still may)
           c.args.job.now _ _ c.do_on-outcome.result.outcome (c.do_on-outcome.ensures.does clean))
           c.close_database.ensures;
       came = c.closed.ensures;
