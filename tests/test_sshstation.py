@@ -3,8 +3,10 @@
 What a guard answers of a body is compared in test_guard, and what the station around the program does in test_station.
 Digests are those of hashlib, the fingerprint is that of FORMATS, and the texts of help are those that clap 4 writes.
 """
+import contextlib
 import hashlib
 import os
+import sqlite3
 import stat
 import subprocess
 import time
@@ -412,6 +414,18 @@ def test_a_body_is_printed_byte_by_byte(guard, room):
 def test_what_reads_a_guard_makes_no_file(sshstation, room, words):
     assert (1, "", "sshstation: NotAGuard\n") == Guard(sshstation).run(words[0], "--db", "guard.db", *words[1:])
     assert [] == os.listdir(room)
+
+
+@pytest.mark.parametrize("change, fault", [
+    ("UPDATE guard SET schema = 2", "WrongSchema"), ("UPDATE guard SET ca = x'00'", "Damaged"),
+    ("UPDATE guard SET first = 0", "Damaged"), ("DELETE FROM guard", "NotAGuard"), ("DROP TABLE guard", "NotAGuard"),
+    ("INSERT INTO approved VALUES (3, -1, x'00')", "Damaged"),
+], ids=["schema", "ca", "first", "no-row", "no-table", "moment"])
+def test_tables_that_somebody_changed_are_named(guard, change, fault):
+    connection = sqlite3.connect("guard.db")
+    with contextlib.closing(connection), connection:
+        connection.execute(change)
+    assert (1, "", f"sshstation: {fault}\n") == guard.run("body", "--db", "guard.db", 3)
 
 
 def test_an_office_is_no_guard(guard, program, room):
