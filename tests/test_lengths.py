@@ -1,8 +1,8 @@
-"""With ample memory nothing that the formats allow is too long: each length of every field, each length of a body and of
-a head, and lists of each length are answered, and meet no fault.
+"""With ample memory nothing that the formats allow is too long: each length of every field, each length of a body and
+of a head, and lists of each length are answered, and meet no fault.
 
-The answers that are due are those of the office in Python, and the lists are written here by PROTOCOL.krl. What is asked
-is put into few files, so that each test takes seconds.
+The answers that are due are those of the office in Python, and the lists are written here by PROTOCOL.krl. What is
+asked is put into few files, so that each test takes seconds.
 """
 import contextlib
 import itertools
@@ -96,7 +96,8 @@ def test_networks_of_each_count_are_answered(program, room, count):
     """Each with numbers of one to three digits, and a size of one or two."""
     networks = ",".join(f"{10 ** (place % 3)}.0.0.0/{8 + place}" for place in range(count))
     message = issue("n/x", after=1000, before=2000, options=[f"source-address {networks}"])
-    given = in_memory(program, [post("root", "n", department("n", options=["source-address"])), post("ana", "x", message)])
+    given = in_memory(program, [
+        post("root", "n", department("n", options=["source-address"])), post("ana", "x", message)])
     assert [200, 200] == [it.status for it in given]
 
 
@@ -123,7 +124,8 @@ def test_each_length_of_a_head_is_answered(program, room):
 def key_ids(count):
     """The list of so many key ids, which were revoked one after the other, as a response has it."""
     texts = sorted(f"web/{place}".encode() for place in range(count))
-    return header(count, 1000) + section(0x11, b"\x23" + string(b"".join(map(string, texts)))) if count else header(0, 0)
+    part = b"\x23" + string(b"".join(map(string, texts)))
+    return header(count, 1000) + section(0x11, part) if count else header(0, 0)
 
 
 def test_lists_of_up_to_two_thousand_key_ids_are_served(program, room):
@@ -190,7 +192,7 @@ def test_long_lists_are_printed(make_office):
 
 @pytest.mark.slow
 def test_lists_of_each_length_are_read(program, room):
-    """Of up to two thousand runs, of about 64 KiB and of about a megabyte: the last serial is revoked, and none behind."""
+    """Of up to two thousand runs, of about 64 KiB and of about a megabyte: the last serial is revoked."""
     (room / "ca.pub").write_text(CA)
     for count in [*range(1, 2001), *AROUND]:
         (room / "list.krl").write_bytes(of_runs(count))

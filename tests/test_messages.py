@@ -229,8 +229,8 @@ PRINTED = [
 
 @pytest.fixture(scope="module")
 def bad_lines(tmp_path_factory):
-    """The number of the first bad line of each text, as the crate `message` of this repository says it: of those that are
-    posted above, and of those that docs/FORMATS.md shows."""
+    """The number of the first bad line of each text, as the crate `message` of this repository says it: of those that
+    are posted above, and of those that docs/FORMATS.md shows."""
     if not shutil.which("rt"):
         left_out("the toolchain's command rt isn't on the PATH")
     folder = tmp_path_factory.mktemp("bad-lines")
@@ -312,5 +312,6 @@ def test_python_the_office_and_ssh_keygen_agree_on_other_networks(program, keys,
     assert dict(zip(networks, map(by_python, networks))) == dict(zip(networks, given))
     assert 40 < sum(given) < 160, "some are networks, and some are none"
     for network, is_taken in zip(networks, given):
-        made = run(["ssh-keygen", "-q", "-s", keys / "ca", "-I", "x", "-O", f"source-address={network}", keys / "user.pub"])
+        words = ["-I", "x", "-O", f"source-address={network}", keys / "user.pub"]
+        made = run(["ssh-keygen", "-q", "-s", keys / "ca", *words])
         assert made.returncode == 0 or not is_taken, network

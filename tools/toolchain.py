@@ -1,9 +1,9 @@
 """What the scripts of this folder take from the toolchain: the crates, the words of a check, and its order of tasks.
 
 The command `rt` is a Python program. Its own code decides how a crate is proved and how an edit is applied, so these
-scripts load that code and call it. They add only what is tried, and what counts as an answer. Nothing of it is replaced.
-TAKEN names all that they take: where a toolchain lacks one of these or wants other arguments, they say so at once, and
-do nothing.
+scripts load that code and call it. They add only what is tried, and what counts as an answer, and they replace nothing
+of it. CALLED and VALUES are all that they take: if a toolchain lacks one of these, or wants other arguments, the
+scripts say so at once, and do nothing.
 """
 
 import importlib.machinery
