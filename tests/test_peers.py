@@ -17,8 +17,8 @@ from cryptography.exceptions import InvalidSignature
 from cryptography.hazmat.primitives import serialization
 
 from asking import LATEST, department, issue, post, revoke_keyid, revoke_serial
-from fronts import Station
 from running import TOP, Office, run
+from stations import Guard, Station
 
 pytestmark = pytest.mark.xdist_group("peers")
 
@@ -59,20 +59,22 @@ class Made:
 
 
 @pytest.fixture(scope="module")
-def made(program, tmp_path_factory):
+def made(program, sshstation, tmp_path_factory):
     folder = tmp_path_factory.mktemp("peers")
     office, other = (Office(program, folder / f"{it}.db") for it in ("office", "other"))
     lines = {}
+    web = department("web", principals="alice,bob,*@example.org", options=OPTIONS, extensions=EXTENSIONS,
+                     maxlife=LATEST)
+    db = department("db", kind="host", principals="localhost,*.example.org")
+    guard = Guard(sshstation, folder / "guard.db", office.ca, web + db)
     with office.serving() as served:
-        for name, message in (("web", department("web", principals="alice,bob,*@example.org", options=OPTIONS,
-                                                 extensions=EXTENSIONS, maxlife=LATEST)),
-                              ("db", department("db", kind="host", principals="localhost,*.example.org"))):
+        for name, message in (("web", web), ("db", db)):
             assert 200 == served.post("root", name, message).status
         for name, words in ASKED.items():
             run(["ssh-keygen", "-q", "-t", "ed25519", "-N", "", "-C", name, "-f", folder / name], check=True)
             key = (folder / f"{name}.pub").read_text().strip()
             assert f"issued {SERIALS[name]}" == served.post("root", name, issue(key=key, **words)).text.split("\n")[0]
-        assert [*SERIALS.values()] == Station(folder / "station", served.url, office.ca_key).sign()
+        assert [*SERIALS.values()] == Station(guard, served.url, ["--key", office.ca_key]).sign()
         for name, serial in SERIALS.items():
             lines[name] = served.get(f"/v1/certs/{serial}").text.strip()
     return Made(office, folder, lines, *(it.ca.read_text().strip() for it in (office, other)))

@@ -8,8 +8,8 @@ import pytest
 
 from asking import (CA, LATEST, OTHER_CA, deliver, department, exchange, issue, lasting, post, renew, revoke_keyid,
                     revoke_range, revoke_serial, rollover)
-from fronts import Station
 from running import Office, refusals
+from stations import new_station
 
 pytestmark = pytest.mark.rows
 
@@ -123,14 +123,14 @@ def test_a_key_is_reused_or_a_moment_is_too_late(office, table, caller, key, mom
     assert f"refused {number} {table[number][0]}\n" == answer.text
 
 
-def test_a_renewal_is_refused_where_it_is_served(make_office, table, room):
+def test_a_renewal_is_refused_where_it_is_served(sshstation, make_office, table):
     """A validity has ended by the clock of the system. Of two refusals that apply the least number is answered."""
     due = [f"refused {number} {table[number][0]}\n" for number in (15, 16)]
     office = make_office()
     with office.serving() as served:
         served.post("root", "web", department("web"))
         assert served.post("ana", "i", issue("web/alice", **lasting(3600))).text.startswith("issued 1\n")
-        assert [1] == Station(room / "station", served.url, office.ca_key).sign()
+        assert [1] == new_station(sshstation, office, served.url).sign()
         assert served.post("ana", "r", renew(1, **lasting(3000))).text.startswith("issued 2\n")
         assert due[0] == served.post("ana", "ended", renew(1, **lasting(-1))).text
         assert served.post("root", "k", revoke_keyid("web/alice")).text.startswith("revoked\n")
