@@ -55,10 +55,11 @@ class Client:
 
     def environment(self):
         kept = {name: value for name, value in os.environ.items() if not name.startswith(("VETHLUMI", "XDG"))}
-        return kept | {"HOME": str(self.home), "PYTHONPATH": str(CLIENT), "COLUMNS": "100"}
+        return kept | {"HOME": str(self.home), "PYTHONPATH": str(CLIENT), "COLUMNS": "100",
+                       "PATH": f"{self.home}/bin:{os.environ['PATH']}"}
 
     def __call__(self, *words, given=b""):
-        """The status, the output and what was told."""
+        """The status, the output and what was told. Programs in the folder `bin` come before the system's."""
         done = run(self.words(*words), env=self.environment(), stdin=None, input=given)
         return done.returncode, done.stdout.decode(), done.stderr.decode()
 
@@ -360,8 +361,10 @@ def test_a_rollover(clients, room):
 def test_doctor_finds_what_is_well_and_what_is_not(clients, signed, front, served):
     root = clients["root"]
     assert 0 == root("list", "--out", "list")[0]
-    found = {it["what"]: it for it in root.json("doctor", "--krl", "list")}
-    for what in ("front's certificate", "client's certificate", "clock", "office", "list here", "signing station"):
+    settle_sshd(root, TrustedUserCAKeys=signed, RevokedKeys=pathlib.Path("list").absolute())
+    found = {it["what"]: it for it in root.json("doctor")}
+    for what in ("front's certificate", "client's certificate", "clock", "office", "list here", "signing station",
+                 "sshd TrustedUserCAKeys", "sshd RevokedKeys"):
         assert "ok" == found[what]["state"], found[what]
     os.utime("list", (0, 0))
     front.end()
@@ -370,6 +373,28 @@ def test_doctor_finds_what_is_well_and_what_is_not(clients, signed, front, serve
     assert 1 == status
     assert {"front's certificate": "bad", "office": "bad", "list here": "bad", "client's certificate": "ok"} == {
         name: found[name] for name in ("front's certificate", "office", "list here", "client's certificate")}
+
+
+def settle_sshd(client, **settings):
+    """Has `sshd -T` print these settings."""
+    file = client.home / "bin/sshd"
+    file.parent.mkdir(exist_ok=True)
+    lines = "".join(f"echo {name.lower()} {value}\n" for name, value in settings.items())
+    file.write_text(f"#!/bin/sh\n{lines}")
+    file.chmod(0o755)
+
+
+@pytest.mark.parametrize("settings, due", [
+    ({}, {"sshd": "ok"}),
+    ({"TrustedUserCAKeys": "none", "RevokedKeys": "none"}, {"sshd": "ok"}),
+    ({"TrustedUserCAKeys": "/none/cas.pub", "RevokedKeys": "none"},
+     {"sshd TrustedUserCAKeys": "bad", "sshd RevokedKeys": "bad"}),
+])
+def test_doctor_looks_at_the_settings_of_sshd(clients, settings, due):
+    settle_sshd(clients["root"], **settings)
+    _, out, _ = clients["root"]("doctor", "--json")
+    found = {it["what"]: it["state"] for it in map(json.loads, out.splitlines())}
+    assert due == {name: state for name, state in found.items() if name.startswith("sshd")}
 
 
 # ---- words and settings

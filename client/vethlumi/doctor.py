@@ -119,6 +119,8 @@ def sshd_findings(job, krl, fresh):
     settings = sshd_settings()
     if settings is None:
         found = [ok("sshd", "not looked at: it isn't here, or only root may ask it")]
+    elif settings.get("trustedusercakeys", "none") == "none" and not krl:
+        found = [ok("sshd", "trusts no CA for users")]
     else:
         found = [server_setting(settings, "trustedusercakeys", "TrustedUserCAKeys"),
                  server_setting(settings, "revokedkeys", "RevokedKeys")]
