@@ -267,8 +267,8 @@ def test_a_certificate_for_another_key_is_not_taken(clients, station, signed, ro
 
     class Other(Web):
         def finish_request(self, peer, address):
-            came = peer.recv(65536)
-            peer.sendall(response(b"issued 1\ndigest " + 64 * b"0" + b"\n") if came.startswith(b"POST") else response(line))
+            is_post = peer.recv(65536).startswith(b"POST")
+            peer.sendall(response(b"issued 1\ndigest " + 64 * b"0" + b"\n" if is_post else line))
     with Other(None) as web:
         status, out, told = Client(room / "home", web.url, caller="ana")("request", "web/alice", "bob.pub")
     assert 2 == status and "another key" in told and not pathlib.Path("bob-cert.pub").exists()
@@ -328,7 +328,8 @@ def test_a_department_is_compared_and_sent(clients, station, signed, room):
 
 
 @pytest.mark.parametrize("text, fault", [
-    ("department web\n", "line 1: a department has eight lines"), (POLICY + POLICY, "a second department of the name web"),
+    ("department web\n", "line 1: a department has eight lines"),
+    (POLICY + POLICY, "a second department of the name web"),
     (POLICY.replace("kind user", "kin user"), "'kin user' is no line `kind ..`"), (POLICY[:-1], "no line feed"),
     ("# nothing\n", "has no department"),
 ], ids=["short", "twice", "word", "cut", "empty"])
@@ -401,7 +402,8 @@ def test_doctor_looks_at_the_settings_of_sshd(clients, settings, due):
 
 @pytest.mark.parametrize("words, told", [
     (["nothing"], "No such command"), (["request", "alice", "alice.pub"], "no key ID of the form DEPARTMENT/NAME"),
-    (["request", "web/alice", "none.pub"], "does not exist"), (["request", "web/alice", "alice"], "has to end with .pub"),
+    (["request", "web/alice", "none.pub"], "does not exist"),
+    (["request", "web/alice", "alice"], "has to end with .pub"),
     (["request", "web/alice", "policy", "--out", "cert"], "no Ed25519 public key"),
     (["request", "web/alice", "alice.pub", "--life", "1y"], "no length of time"), (["get", "0"], "not in the range"),
     (["revoke", "alice", "--yes"], "has no line of an Ed25519 certificate"), (["revoke", "zoe", "--yes"], "no serial"),
@@ -414,7 +416,8 @@ def test_bad_words_end_with_2(clients, alice, words, told):
 
 
 @pytest.mark.parametrize("settings, told", [
-    ("", "no office: set `office`"), ('office = "office.example.org"\n', "is no URL"), ("office = 1\n", "is no setting"),
+    ("", "no office: set `office`"), ('office = "office.example.org"\n', "is no URL"),
+    ("office = 1\n", "is no setting"),
     ('port = "1"\n', "is no setting"), ("office\n", "vethlumi.toml"),
     ('office = "http://127.0.0.1:1"\ncertificate = "/none"\n', "can't read /none"),
 ])
