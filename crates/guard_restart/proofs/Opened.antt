@@ -1,13 +1,13 @@
 -- What a connection that was just opened has.
-use Rattle.std.proofs.Common.{◌≡◌, length, arith, inl, inr, refl, sym, subst}
+use Rattle.std.proofs.Common.{◌≡◌, inl, inr, refl, sym, subst}
 use Rattle.std.proofs.Math.Logic.{∥∥₁_elim}
 use Rattle.sqlite_wal.specs.Recovery.{Image}
 use Rattle.sqlite_trees.specs.Tree.{Trees}
 use Rattle.sqlite_trees.specs.Props.{Trees-set}
+use Rattle.sqlite_catalog.specs.Listing.{IsSound}
 use Rattle.sqlite.specs.Effect.{Database}
 use Rattle.sqlite.specs.State.{State as Connection, IsLive, Opens}
 use Rattle.sqlite.specs.Start.{FindsIn}
-use Rattle.sqlite.specs.Files.{AreFoundIn, IsEmpty}
 use Rattle.sqlite.proofs.ListingLemmas.{empty_is_sound}
 use Rattle.store_sql.specs.Calls.{IsBare}
 use Rattle.store_sql.specs.Schema.{no_schema}
@@ -16,6 +16,7 @@ use Rattle.guard_sql.specs.Contents.{Kept, Means}
 use Rattle.guard_sql.specs.Rows.{guard_contents}
 use Rattle.guard_sql.specs.Schema.{whole}
 use Rattle.restart.specs.Images.{HoldsNone}
+use Rattle.restart.proofs.HalfMade.{found_nothing}
 use Rattle.restart.proofs.OneSchema.{one_schema}
 use Rattle.guard_restart.specs.Runs.{FoundIsHad, HasWhatIsHeld, IsBlankIfNone}
 
@@ -37,23 +38,18 @@ has_what_is_held image c opens live found had s held =
     let same : c.committed.trees ≡ held.trees = ∥∥₁_elim held.holds (Trees-set _ _) (found.holds held.trees) in
     had opens live s (subst (λ (t : Trees). Kept t (guard_contents s)) (sym same) held.kept)
 
--- an empty file is read as a database without a row
-found_empty : (image : Image) (db : Trees) → length image.db ≡ 0 → AreFoundIn image db → IsEmpty db
-found_empty image db none (inl there) = absurd (let some = there.3.found.present in omega (arith, none, some))
-found_empty image db none (inr empty) = empty.1
-
--- of files that hold no row none is read
-empty_trees : (image : Image) (c : Connection) → FindsIn image c → HoldsNone image → IsEmpty c.committed.trees
-empty_trees image c found (inl none) = found_empty image c.committed.trees none found.reads
-empty_trees image c found (inr held) =
+-- of files that hold no row no table is read
+no_tables : (image : Image) (c : Connection) → FindsIn image c → HoldsNone image → IsSound no_schema c.committed.trees
+no_tables image c found (inl nothing) =
+    empty_is_sound c.committed.trees (found_nothing image c.committed.trees nothing found.reads).1
+no_tables image c found (inr held) =
     let same : c.committed.trees ≡ held.0 = ∥∥₁_elim held.1 (Trees-set _ _) (found.holds held.0) in
-    subst IsEmpty (sym same) held.2
+    subst (IsSound no_schema) (sym same) held.2
 
--- without a row there is no table, so the connection is blank
+-- without a table the connection is blank
 pub blank_if_none : (image : Image) (c : Connection) → Opens c → IsLive c → FindsIn image c → IsBlankIfNone image c
 blank_if_none image c opens live found none =
-    let empty = empty_trees image c found none in
-    let sound = empty_is_sound _ empty.1 in
+    let sound = no_tables image c found none in
     let schema = one_schema no_schema c.committed.schema c.committed.trees refl sound (live opens.is_open).1 in
     let bare : IsBare no_schema c.committed = (schema, tt) in
     record {
