@@ -12,7 +12,7 @@ import socket
 from asking import CA, department, exchange, get, issue, post, renew, revoke_keyid, revoke_range, revoke_serial
 from running import preloaded, run
 
-# The moment of all requests, and how many of them an office gets.
+# The moment of all requests, and how many of them an office gets: as many as `apply` takes from a file.
 MOMENT = 1500
 MOST = 10_000
 # What is put into requests: what ends names, values and lines, and what may stand nowhere or in few places.
@@ -99,7 +99,7 @@ def test_pieces_are_answered_as_the_whole(make_office, request, room):
     chance = random.Random(f"pieces {seed}")
     environment = os.environ | {"LD_PRELOAD": str(preloaded("strange_system.c", room)), "MOMENT": str(MOMENT)}
     while count:
-        some = [post("root", "web", department(maxlife=86400)), *requests(min(count, MOST), chance)]
+        some = [post("root", "web", department(maxlife=86400)), *requests(min(count, MOST - 1), chance)]
         count -= len(some) - 1
         for name in ("served", "applied"):
             (room / f"{name}.db").unlink(missing_ok=True)
