@@ -300,7 +300,7 @@ class Box:
     def wait_until_up(self):
         try:
             self.init = wait_until(self.find_init, f"{self.name} begins")
-            wait_until(self.is_up, f"{self.name} is up")
+            wait_until(self.is_up, f"{self.name} is up", seconds=180)
         except AssertionError as fault:
             said = (self.rack.files / self.name / "log").read_text(errors="replace")
             raise CannotBoot(f"{fault}: {said[-800:]}") from None
@@ -318,7 +318,10 @@ class Box:
         return None
 
     def is_up(self):
-        return self.run("systemctl is-system-running --wait", False).stdout.strip() in ("running", "degraded")
+        # On a machine that does other work a box may need minutes.
+        with contextlib.suppress(subprocess.TimeoutExpired):
+            return self.run("systemctl is-system-running --wait", False).stdout.strip() in ("running", "degraded")
+        return False
 
     def words(self, *words):
         return ["nsenter", "-t", str(self.init), "-a", "--", *words]
