@@ -457,8 +457,6 @@ def test_a_station_goes_on(asked, programs, room):
     assert 200 == asked.get("/v1/certs/2").status
     said = ["station: not signed: 1, refused as NotPermitted: 2"]
     assert (0, [], said) == stopped(process)
-    assert [] == [it for it in os.listdir("/tmp") if it.startswith("station-") and
-                  pathlib.Path("/tmp", it).stat().st_mtime > time.time() - 1]
 
 
 def test_a_station_waits_for_an_office_that_is_away(sshstation, office, programs):
