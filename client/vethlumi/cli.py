@@ -77,22 +77,19 @@ class Group(click.Group):
         try:
             return super().invoke(context)
         except Refused as refused:
-            say(refused)
-            context.exit(REFUSED)
+            status, why = REFUSED, refused
         except NoAnswer as fault:
-            say(f"no answer: {fault}")
-            context.exit(NO_ANSWER)
+            status, why = NO_ANSWER, f"no answer: {fault}"
         except (BadSettings, BadFormat) as fault:
-            say(fault)
-            context.exit(BAD_WORDS)
+            status, why = BAD_WORDS, fault
         except UnicodeDecodeError:
-            say("a file isn't text")
-            context.exit(BAD_WORDS)
+            status, why = BAD_WORDS, "a file isn't text"
         except BrokenPipeError:
             raise
         except OSError as fault:
-            say(f"{fault.filename or 'output'}: {fault.strerror}")
-            context.exit(BAD_WORDS)
+            status, why = BAD_WORDS, f"{fault.filename or 'output'}: {fault.strerror}"
+        say(why)
+        context.exit(status)
 
 
 @click.group(cls=Group, context_settings={"help_option_names": ["-h", "--help"], "auto_envvar_prefix": "VETHLUMI"})
@@ -149,11 +146,13 @@ def put_file(path, text, mode=0o644):
         raise
 
 
-def agreed(question, yes):
-    """Whether the person at the terminal agrees. If there is none, only --yes does."""
+def ask(question, yes):
+    """Ends the command unless the person at the terminal agrees. If there is none, only --yes does."""
     if not yes and not sys.stdin.isatty():
         raise BadFormat(f"{question} Nobody can be asked here: give --yes")
-    return yes or click.confirm(question, err=True)
+    if not yes and not click.confirm(question, err=True):
+        say("nothing was sent")
+        sys.exit(REFUSED)
 
 
 def counted(count, word):

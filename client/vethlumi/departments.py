@@ -1,17 +1,16 @@
 """Commands for departments, and the rollover of the CA: what root may do."""
 import base64
 import difflib
-import sys
 import time
 
 import click
 
 from vethlumi import formats
-from vethlumi.cli import agreed, as_json, counted, main, pass_job, read_departments, read_text, without_asking
+from vethlumi.cli import as_json, ask, counted, main, pass_job, read_departments, read_text, without_asking
 from vethlumi.formats import BadFormat
 from vethlumi.office import trying
-from vethlumi.printing import print_json, print_table, say
-from vethlumi.settings import REFUSED, BadSettings
+from vethlumi.printing import print_json, print_table
+from vethlumi.settings import BadSettings
 
 
 @main.group()
@@ -42,9 +41,8 @@ def department_show(job, names, policy, as_json):
     chosen = [known[it] for it in names] or [*known.values()]
     if as_json:
         for it in chosen:
-            print_json({"name": it.name, "kind": it.kind, "admins": it.admins, "principals": it.principals,
-                        "options": it.options, "extensions": it.extensions, "maxlife": it.longest,
-                        "namespaces": it.namespaces})
+            print_json({"maxlife": it.longest, **{name: getattr(it, name) for name in (
+                "name", "kind", "admins", "principals", "options", "extensions", "namespaces")}})
         return
     click.echo("\n".join(it.text for it in chosen), nl=False)
 
@@ -120,9 +118,7 @@ def department_put(job, file, names, policy, yes):
     if not yes:
         for it in chosen:
             tell_changes(job, known.get(it.name), it)
-        if not agreed(f"Send {counted(len(chosen), 'department')} to the office?", yes):
-            say("nothing was sent")
-            sys.exit(REFUSED)
+        ask(f"Send {counted(len(chosen), 'department')} to the office?", yes)
     for it in chosen:
         kept, _ = job.send(it.text, lambda reply, name=it.name: reply == ["department", name])
         kept.drop()
@@ -137,9 +133,7 @@ def rollover(job, public, yes):
     """Make another key the CA. The older CAs stay valid for what they signed."""
     key = formats.key_line(read_text(public))
     print_ = formats.fingerprint(base64.b64decode(key.split()[1]))
-    if not agreed(f"Make {print_} the CA? Servers have to trust it before its first certificate is used.", yes):
-        say("nothing was sent")
-        sys.exit(REFUSED)
+    ask(f"Make {print_} the CA? Servers have to trust it before its first certificate is used.", yes)
     kept, reply = job.send(f"rollover {key}\n", lambda reply: reply[:1] == ["rollover"] and len(reply) == 4)
     kept.drop()
     click.echo(f"CA {reply[1]} is {print_}, from serial {reply[3]} on")

@@ -2,7 +2,9 @@
 import collections
 import email.utils
 import glob
+import hashlib
 import os
+import re
 import socket
 import ssl
 import subprocess
@@ -18,6 +20,12 @@ from vethlumi.refusals import Refused
 from vethlumi.settings import BadSettings
 
 Finding = collections.namedtuple("Finding", "state what found advice")
+AMISS = NoAnswer, Refused, BadFormat, ValueError
+STATEMENT = re.compile(rb"list ([0-9a-f]{64}) \d+ (\d+)\n")
+
+
+def first_line(fault):
+    return str(fault).partition("\n")[0]
 # Seconds by which clocks may differ: certificates begin a minute in the past.
 CLOCKS = 30
 
@@ -84,12 +92,12 @@ def office_findings(job, within):
     try:
         cas = job.office.cas()
         found = [ok("office", f"answers; {len(cas)} of 8 CAs")]
-    except (NoAnswer, Refused, BadFormat, ValueError) as fault:
-        return [Finding("bad", "office", line_of(fault), "see whether the office runs: systemctl status office")]
+    except AMISS as fault:
+        return [Finding("bad", "office", first_line(fault), "see whether it runs: systemctl status office")]
     try:
         rows, version = job.office.table()
-    except (NoAnswer, Refused, BadFormat) as fault:
-        return [*found, Finding("warn", "table", line_of(fault), "only clients with a certificate may read it")]
+    except AMISS as fault:
+        return [*found, Finding("warn", "table", first_line(fault), "only clients with a certificate may read it")]
     now = time.time()
     waiting = [it for it in rows if it.state == "pending" and it.after < now - 300]
     found.append(ok("signing station", "nothing has waited for five minutes") if not waiting else
@@ -99,10 +107,6 @@ def office_findings(job, within):
             ok("certificates", f"{soon} end soon: vethlumi certs --ends-within TIME")]
 
 
-def line_of(fault):
-    return str(fault).partition("\n")[0]
-
-
 def sshd_settings():
     """What sshd -T prints, as a dictionary; None where sshd isn't here or this user may not ask."""
     try:
@@ -110,9 +114,8 @@ def sshd_settings():
                               env=os.environ | {"PATH": f"{os.environ.get('PATH', '')}:/usr/sbin:/sbin"})
     except (OSError, subprocess.TimeoutExpired):
         return None
-    if done.returncode:
-        return None
-    return {name: value for name, _, value in (line.partition(" ") for line in done.stdout.splitlines())}
+    found = {name: value for name, _, value in (line.partition(" ") for line in done.stdout.splitlines())}
+    return None if done.returncode else found
 
 
 def sshd_findings(job, krl, fresh):
@@ -140,20 +143,35 @@ def server_setting(settings, name, word):
 def list_findings(job, krl, fresh):
     try:
         with open(krl, "rb") as it:
-            here = formats.RevocationList.of(it.read())
-        age = time.time() - os.stat(krl).st_mtime
+            data = it.read()
+        here, age = formats.RevocationList.of(data), time.time() - os.stat(krl).st_mtime
     except (OSError, BadFormat) as fault:
         return [Finding("bad", "list here", str(fault), "fetch it: fetch-list")]
     text = f"version {here.version}, fetched {round(age)} s ago"
     found = [ok("list here", text) if age <= fresh else
              Finding("bad", "list here", text, "see why office-list.timer doesn't fetch it")]
+    found.append(statement_finding(f"{krl}.statement", data, fresh))
     try:
         theirs = formats.RevocationList.of(job.office.list_bytes())
-    except (NoAnswer, Refused, BadFormat):
+    except AMISS:
         return found
     if theirs.version > here.version:
         found.append(Finding("warn", "list here", f"the office is at version {theirs.version}", "fetch it"))
     return found
+
+
+def statement_finding(path, data, fresh):
+    """The station's statement of the list, which fetch-list keeps beside it once its signature was verified."""
+    try:
+        with open(path, "rb") as it:
+            stated = STATEMENT.match(it.read())
+    except OSError:
+        return Finding("warn", "list's statement", "there is none", "have the station publish lists")
+    if not stated or stated[1].decode() != hashlib.sha256(data).hexdigest():
+        return Finding("bad", "list's statement", "is of another list", "fetch it: fetch-list")
+    age = round(time.time() - int(stated[2]))
+    state, advice = ("ok", "") if age <= fresh else ("bad", "see whether the station publishes lists")
+    return Finding(state, "list's statement", f"made {age} s ago", advice)
 
 
 def local_findings(within):

@@ -4,7 +4,7 @@ import time
 import requests
 
 from vethlumi import formats
-from vethlumi.refusals import front_refusal, refusal_of
+from vethlumi.refusals import Refused, refusal_of
 
 # The most bytes of a page that are read: over three million certificates.
 LONGEST_PAGE, LONGEST_ANSWER = 1 << 29, 1 << 16
@@ -47,7 +47,7 @@ class Office:
         text = came.decode("utf-8", "replace")
         if status == 429 or status >= 500:
             raise NoAnswer(text.strip()[:200] or f"HTTP status {status}")
-        raise refusal_of(text) or front_refusal(status, text)
+        raise refusal_of(status, text)
 
     def post(self, kept):
         """The reply to a message of the outbox, as words: `issued 1` is ["issued", "1"]."""
@@ -76,16 +76,12 @@ class Office:
 
     def line(self, serial):
         """The line of a certificate, or None while it has no signature."""
-        status, came = self.ask("GET", f"/v1/certs/{serial}")
-        text = came.decode("latin-1")
-        if status == 200:
-            return text
-        if status == 429 or status >= 500:
-            raise NoAnswer(text.strip()[:200] or f"HTTP status {status}")
-        refused = refusal_of(text) or front_refusal(status, text)
-        if refused.name == "NotSigned":
+        try:
+            return self.answer("GET", f"/v1/certs/{serial}").decode("latin-1")
+        except Refused as refused:
+            if refused.name != "NotSigned":
+                raise
             return None
-        raise refused
 
 
 def root_of(fault):

@@ -9,10 +9,6 @@ from rich.table import Table
 COLOURS = {"signed": "green", "pending": "yellow", "revoked": "red", "ok": "green", "warn": "yellow", "bad": "red"}
 
 
-def console():
-    return Console(highlight=False, markup=False, emoji=False, width=None if sys.stdout.isatty() else 200)
-
-
 def print_json(record):
     click.echo(json.dumps(record, ensure_ascii=False))
 
@@ -27,7 +23,7 @@ def print_table(columns, rows, empty):
         made.add_column(name, justify="right" if name in ("serial", "serials", "since") else "left", overflow="fold")
     for row in rows:
         made.add_row(*row, style=next((COLOURS[it] for it in row if it in COLOURS), None))
-    console().print(made)
+    Console(highlight=False, markup=False, emoji=False, width=None if sys.stdout.isatty() else 200).print(made)
 
 
 def print_fields(record):

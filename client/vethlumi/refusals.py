@@ -4,7 +4,7 @@ import re
 import tomllib
 
 # By number: the name, what it means, and what helps.
-REFUSALS = {int(number): (it["name"], it["meaning"], it["advice"]) for number, it in tomllib.loads(
+REFUSALS = {int(number): it for number, it in tomllib.loads(
     importlib.resources.files("vethlumi").joinpath("refusals.toml").read_text(encoding="utf-8")).items()}
 LINE = re.compile(r"refused (\d+) ([A-Za-z]+)\n", re.ASCII)
 
@@ -14,21 +14,13 @@ class Refused(Exception):
 
     def __init__(self, number, name, meaning, advice):
         super().__init__(f"refused {number} {name}: {meaning}\n  {advice}" if number else f"refused: {meaning}")
-        self.number, self.name, self.meaning, self.advice = number, name, meaning, advice
-
-    def as_record(self):
-        return {"refused": self.number, "name": self.name, "meaning": self.meaning, "advice": self.advice}
+        self.number, self.name = number, name
 
 
-def refusal_of(text):
-    """The refusal of this response, or None if it is none of the office's."""
+def refusal_of(status, text):
+    """The refusal of a response: the office's, or else the front's, which is said as it came."""
     found = LINE.fullmatch(text)
-    if not found or int(found[1]) not in REFUSALS or REFUSALS[int(found[1])][0] != found[2]:
-        return None
-    return Refused(int(found[1]), *REFUSALS[int(found[1])])
-
-
-def front_refusal(status, text):
-    """The refusal of a front's response."""
+    if found and REFUSALS.get(int(found[1]), [""])[0] == found[2]:
+        return Refused(int(found[1]), *REFUSALS[int(found[1])])
     said = text.strip().splitlines()[0][:200] if text.strip() else f"HTTP status {status}"
     return Refused(0, "", said, "")

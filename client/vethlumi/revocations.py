@@ -1,16 +1,13 @@
 """The command that revokes certificates."""
 import os
-import sys
 import time
 
 import click
 
 from vethlumi import formats
 from vethlumi.certificates import print_rows
-from vethlumi.cli import agreed, counted, main, pass_job, read_text, without_asking
+from vethlumi.cli import ask, counted, main, pass_job, read_text, without_asking
 from vethlumi.formats import BadFormat, Certificate
-from vethlumi.printing import say
-from vethlumi.settings import REFUSED
 
 
 def revocation_of(what, keyid, job):
@@ -46,9 +43,7 @@ def revoke(job, what, keyid, yes):
         print_rows(hit)
         now = time.time()
         living = sum(it.before > now and it.state != "revoked" for it in hit)
-        if not agreed(f"Revoke {counted(len(hit), 'certificate')}, {living} of which can still be used?", yes):
-            say("nothing was revoked")
-            sys.exit(REFUSED)
+        ask(f"Revoke {counted(len(hit), 'certificate')}, {living} of which can still be used?", yes)
     kept, reply = job.send(message, lambda reply: reply[:2] == ["revoked", "version"] and len(reply) == 3)
     kept.drop()
     click.echo(f"revoked; the list has version {reply[2]}")

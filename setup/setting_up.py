@@ -1,0 +1,267 @@
+"""What the set-up commands share: bundles, questions, and steps that are shown before they are done.
+
+A bundle is a text that one set-up command makes for another. Its parts begin with lines such as `[office]`. Lines with
+public keys before the first part are CAs', so `cat ca.pub server.bundle` is a bundle too.
+"""
+import argparse
+import grp
+import os
+import pathlib
+import pwd
+import re
+import subprocess
+import sys
+import tempfile
+import time
+
+LAST_SERIAL = "9223372036854775806"
+ETC = pathlib.Path("/etc/vethlumi")
+PARTS = ("office", "caller", "host", "authority", "certificate", "ca", "policy")
+CA_LINE = re.compile(r"ssh-ed25519 AAAAC3NzaC1lZDI1NTE5AAAAI[A-P][A-Za-z0-9+/]{42}( .*)?", re.ASCII)
+NAME = re.compile(r"[a-z0-9-]{1,32}", re.ASCII)
+# Parts of one line. Root writes them into settings, and names files by them, so nothing else may stand there.
+FORMS = {"office": ("URL of a front", re.compile(r"https://[A-Za-z0-9.:\[\]/~_-]{1,300}")),
+         "caller": ("name of a caller", NAME), "host": ("name of a host", re.compile(r"[A-Za-z0-9.:-]{1,253}"))}
+# Where the list of revoked certificates is, and how long the first one is waited for, in seconds.
+LIST, LONGEST_WAIT = pathlib.Path("/var/lib/office-list"), 60
+
+
+class Fault(Exception):
+    """Why a set-up can't go on."""
+
+
+# ---- bundles
+
+def bundle(**parts):
+    """The text of a bundle."""
+    return "".join(f"[{name}]\n{text.strip()}\n" for name, text in parts.items() if text)
+
+
+def read_bundle(path):
+    """The parts of a bundle in a file, or of standard input for `-`; none for None."""
+    if path is None:
+        return {}
+    try:
+        text = sys.stdin.read() if path == "-" else pathlib.Path(path).read_text()
+    except (OSError, UnicodeDecodeError) as fault:
+        raise Fault(f"can't read {path}: {fault}") from None
+    found, part, headings = {}, "ca", set()
+    for line in text.splitlines():
+        heading = re.fullmatch(r"\[([a-z]+)\]", line)
+        if heading and heading[1] not in PARTS:
+            raise Fault(f"{path} is no bundle: it has a part {line}")
+        if heading:
+            part = heading[1]
+            headings.add(part)
+        elif line.strip() or part == "policy":
+            found[part] = f"{found.get(part, '')}{line}\n"
+    for line in found.get("ca", "").splitlines():
+        if not CA_LINE.fullmatch(line):
+            raise Fault(f"{path} is no bundle, and has a line that is no CA's public key: {line[:60]}")
+    if not found:
+        raise Fault(f"{path} is empty")
+    if "ca" in headings and headings - {"ca", "policy"}:
+        raise Fault(f"{path} is no bundle: it has a part [ca], which only a station makes")
+    for name in FORMS:
+        if name in found:
+            check_line(name, found[name].strip())
+    return found
+
+
+def check_line(name, text):
+    what, form = FORMS[name]
+    if not form.fullmatch(text):
+        raise Fault(f"no {what}: {text[:60]!r}")
+
+
+def name_of_host(host):
+    """The name by which a host asks the office, and that of its department: its own name with - for each dot."""
+    name = host.lower().replace(".", "-")
+    if not NAME.fullmatch(name):
+        raise Fault(f"{host} gives no name of 1 to 32 of a-z, 0-9 and -")
+    return name
+
+
+def part_of(parts, name, what):
+    if not parts.get(name, "").strip():
+        raise Fault(f"the bundle has no part [{name}]: {what}")
+    return parts[name]
+
+
+def cas_of(parts, named, known=()):
+    """The fingerprints of the CAs whose keys stand before a bundle. Whoever makes bundles could put another key there,
+    so each is named by an option or known, unless there is one key and nothing to compare it with."""
+    if not parts.get("ca"):
+        return []
+    told = run(["ssh-keygen", "-l", "-f", "-"], input=parts["ca"], stdin=None)
+    found = [*dict.fromkeys(it.split()[1] for it in told.splitlines())]
+    others = [it for it in found if it not in {*named, *known}]
+    if others and (named or known or len(found) > 1):
+        raise Fault(f"before the bundle there is the key of a CA that isn't known: {', '.join(others)}. If it is "
+                    "one of yours, name each CA by --ca SHA256:..")
+    return found
+
+
+# ---- questions and steps
+
+def answer(question, given, default=None):
+    """What was given, or what the person at the terminal answers. Without a terminal the default counts."""
+    if given:
+        return given
+    if sys.stdin.isatty():
+        shown = f" [{default}]" if default else ""
+        told = input(f"{question}{shown}: ").strip()
+        if told or default:
+            return told or default
+    elif default:
+        return default
+    raise Fault(f"{question}? Nobody answered; --help shows the option for it")
+
+
+def run(words, **how):
+    """Runs a program; what it prints is part of the fault if it fails."""
+    done = subprocess.run([str(it) for it in words], capture_output=True, text=True, errors="replace",
+                          **({"stdin": subprocess.DEVNULL} | how))
+    if done.returncode:
+        said = (done.stdout + done.stderr).strip()[-600:]
+        raise Fault(f"{' '.join(map(str, words))} failed: {said or done.returncode}")
+    return done.stdout
+
+
+def as_user(user, *words):
+    return run(["runuser", "-u", user, "--", *words])
+
+
+def put(path, text, mode, user="root", group=None):
+    """Puts a text into a file, whole or not at all. The folder may be that of a user who isn't root."""
+    path = pathlib.Path(path)
+    handle, new = tempfile.mkstemp(prefix=f".{path.name}.", dir=path.parent)
+    with open(handle, "w") as it:
+        it.write(text)
+        it.flush()
+        if not os.getuid():
+            os.fchown(handle, pwd.getpwnam(user).pw_uid, grp.getgrnam(group or user).gr_gid)
+        os.fchmod(handle, mode)
+        os.fsync(handle)
+    os.rename(new, path)
+
+
+def text_of(path):
+    """The text of a file; none if it isn't there, or is a link. Nobody is waited for at the other end of a pipe."""
+    try:
+        with open(os.open(path, os.O_RDONLY | os.O_NOFOLLOW | os.O_NONBLOCK)) as it:
+            return it.read()
+    except OSError:
+        return ""
+
+
+class Steps:
+    """What a set-up will do. A step that is done already isn't shown, so a second run shows nothing but changes."""
+
+    def __init__(self, given, program):
+        self.given, self.program, self.steps, self.changed = given, program, [], set()
+
+    def add(self, what, do):
+        self.steps.append((what, do))
+
+    def file(self, path, text, mode=0o644, user="root", group=None, what=""):
+        """A step that writes a file, unless it has this text."""
+        if text_of(path) != text:
+            self.changed.add(str(path))
+            self.add(f"write {path}{f' ({what})' if what else ''}", lambda: put(path, text, mode, user, group))
+
+    def lines(self, path, lines, mode=0o644, user="root", group=None, what=""):
+        """A step that adds those of the lines to a file that it lacks."""
+        old = text_of(path)
+        new = [it for it in lines if it not in old.splitlines()]
+        self.file(path, old + "".join(f"{it}\n" for it in new), mode, user, group, what)
+
+    def units(self, *names):
+        """A step that enables units and starts them, and has those that run read what changed."""
+        states = subprocess.run(["systemctl", "is-active", *names], capture_output=True, text=True).stdout.split()
+        enabled = subprocess.run(["systemctl", "is-enabled", *names], capture_output=True, text=True).stdout.split()
+        if {*states} != {"active"} or {*enabled} != {"enabled"}:
+            self.add(f"start {' and '.join(names)}, now and at each boot",
+                     lambda: run(["systemctl", "enable", "--now", *names]))
+        elif self.changed:
+            self.add(f"have {' and '.join(names)} read what changed",
+                     lambda: run(["systemctl", "reload-or-restart", *names]))
+
+    def carry_out(self):
+        """Shows the steps, asks, and does them."""
+        if not self.steps:
+            tell("everything is as it should be")
+            return
+        tell(f"{self.program} will do this:")
+        for what, _ in self.steps:
+            tell(f"  {what}")
+        if not self.given.yes:
+            if not sys.stdin.isatty():
+                raise Fault("nobody can be asked here: give --yes")
+            if input("Go on? [y/N] ").strip().lower() not in ("y", "yes"):
+                raise Fault("nothing was done")
+        for what, do in self.steps:
+            try:
+                do()
+            except OSError as fault:
+                raise Fault(f"{what}: {fault.filename or ''} {fault.strerror}") from None
+            except Fault as fault:
+                raise Fault(f"{what}: {fault}") from None
+
+
+# ---- the list of revoked certificates, on servers and clients
+
+def list_settings(steps, office, authority, is_unsigned):
+    """What the units that fetch the list and the CAs' keys read."""
+    check_line("office", office)
+    old = [it for it in text_of(ETC / "server.env").splitlines() if not it.startswith("OFFICE=")]
+    if is_unsigned and not any(it.startswith("LIST_FROM=") for it in old):
+        old.append(f"LIST_FROM=--unsigned --ca {ETC}/list-cas")
+    steps.file(ETC / "server.env", "".join(f"{it}\n" for it in [f"OFFICE={office}", *old]))
+    steps.file(ETC / "ca.crt", authority)
+
+
+def signers(keys):
+    """The files that say whose lists count, with their lines. Whoever has a CA's key may state which list is the
+    office's."""
+    bare = [" ".join(it.split()[:2]) for it in keys]
+    return {ETC / "list-signers": [f'krl namespaces="krl@vethlumi" {it}' for it in bare], ETC / "list-cas": bare}
+
+
+def fetch_list():
+    end = time.monotonic() + LONGEST_WAIT
+    while True:
+        try:
+            return run(["systemctl", "start", "office-list.service"])
+        except Fault:
+            # The station publishes the first list within seconds.
+            if time.monotonic() > end:
+                raise
+        time.sleep(2)
+
+
+def tell(text):
+    """Tells people something beside the output."""
+    print(text, file=sys.stderr, flush=True)
+
+
+def main(program, doc, options, do, is_for_root=True):
+    """Reads the words of a set-up command, and does it. It ends with 0 if all is done, with 1 if not, and with 2 for
+    bad arguments."""
+    usage, _, description = doc.strip().partition("\n\n")
+    parser = argparse.ArgumentParser(prog=program, usage=usage.removeprefix("usage: "), description=description,
+                                     formatter_class=argparse.RawDescriptionHelpFormatter)
+    options(parser)
+    parser.add_argument("--yes", action="store_true", help="don't ask before the steps are done")
+    given = parser.parse_args()
+    try:
+        if is_for_root and os.getuid():
+            raise Fault("only root may do this")
+        do(given, Steps(given, program))
+    except (Fault, EOFError, KeyboardInterrupt) as fault:
+        tell(f"{program}: {fault or 'given up'}")
+        return 1
+    except (OSError, UnicodeError) as fault:
+        tell(f"{program}: {fault}")
+        return 1
+    return 0
