@@ -1,8 +1,9 @@
 #!/usr/bin/python3
 """Boxes: machines of Debian 12, each with a systemd of its own, for tests of units and of pages.
 
-    tests/boxes.py prepare    makes the folder that every box starts from, if it isn't there. This takes some minutes
-    tests/boxes.py folder     prints where this folder is: $OFFICE_BOXES, or /var/cache/sshoffice-boxes
+    tests/boxes.py prepare    makes the folder that every box starts from, and that of boxes with GlusterFS, if they
+                              aren't there. This takes some minutes
+    tests/boxes.py folder     prints where the first is: $OFFICE_BOXES, or /var/cache/sshoffice-boxes
 
 The boxes of a `Rack` have a network of their own. They run in namespaces that end with the process that made the rack,
 however it ends: then the kernel ends every box, and their files, which are in memory, are gone.
@@ -25,6 +26,9 @@ RELEASE = "bookworm"
 PACKAGES = """systemd systemd-sysv dbus libpam-systemd iproute2 procps logrotate cron nginx-light openssh-client
 python3-requests
 openssh-server openssl curl sqlite3 python3 ca-certificates""".split()
+# The same for boxes of an office on a volume: their folder, and what is in it.
+OF_VOLUME = (FOLDER.with_name(f"{FOLDER.name}-volume"),
+             [*PACKAGES, "glusterfs-server", "glusterfs-client", "libnginx-mod-http-js"])
 TOOLS = "debootstrap systemd-nspawn unshare nsenter ip mount".split()
 ENVIRONMENT = {"PATH": "/usr/local/sbin:/usr/local/bin:/usr/sbin:/usr/bin:/sbin:/bin", "HOME": "/root", "USER": "root",
                "LANG": "C.UTF-8", "TZ": "UTC"}
@@ -32,10 +36,13 @@ DOMAIN = "example.org"
 # With this status systemd-nspawn says that the box wants to be started again.
 REBOOT = 133
 NETWORK = "[Match]\nName=host0\n[Network]\nAddress={}/24\nLinkLocalAddressing=no\nIPv6AcceptRA=no\n"
-# The first process of a rack. It ends when nobody holds the other end of its standard input any more.
+# The first process of a rack. It ends when nobody holds the other end of its standard input any more. systemd-nspawn
+# has a folder for each name of a box, so a rack has such folders of its own: boxes of other racks may have these names.
 KEEPER = """set -e
 mount --make-rprivate /
 mount -t tmpfs -o mode=755 rack "$1"
+mkdir -p /run/systemd/nspawn
+mount -t tmpfs -o mode=755 nspawn /run/systemd/nspawn
 ip link set lo up
 ip link add rack type bridge
 ip link set rack up
@@ -415,7 +422,7 @@ def main():
     match sys.argv[1:]:
         case ["prepare"]:
             try:
-                print(prepare())
+                print(prepare(), prepare(*OF_VOLUME))
             except CannotBoot as reason:
                 print(f"boxes: {reason}", file=sys.stderr)
                 return 1

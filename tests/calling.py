@@ -7,8 +7,8 @@ FOLDER has the clients' certificates and ca.crt, as `authority` makes them. Each
 output: when the message was sent first and when it was answered, the caller, the request key, the message, the reply,
 and what came instead before. A message that got no answer is sent again, to the next address, with the same bytes. It
 goes on until its standard input ends. Lines on it: `rest` and `go` have the callers rest and go on, and in between
-`again N` has the last N messages, or all of them if N is 0, sent once more: a reply that differs is a line with `was`.
-Each of these lines is answered by one that has its word.
+`again N M` has M of the last N messages and M of those before them, drawn by lot, sent once more: a reply that differs
+is a line with `was`. Each of these lines is answered by one that has its word, once it is done.
 """
 import http.client
 import itertools
@@ -21,13 +21,16 @@ import sys
 import threading
 import time
 import traceback
+from concurrent.futures import ThreadPoolExecutor
 
 from asking import deliver, issue, lasting, renew, revoke_serial
 
 HOST, PORT = "office.example.org", 8443
 # Seconds until a connection is made, and until an answer comes: longer than a front waits.
-CONNECTING, ANSWERING = 3, 70
-PAUSE = 0.03
+CONNECTING, ANSWERING = 3, 100
+# How many ask at once, the seconds between an answer and the next message, and those after which one says what it
+# waits for.
+CALLERS, PAUSE, LONG = 4, 0.1, 30
 
 
 class Fronts:
@@ -45,7 +48,14 @@ class Fronts:
             # A handshake waits as long as a connection does.
             peer = self.context.wrap_socket(plain, server_hostname=HOST)
             peer.settimeout(ANSWERING)
-            asking = http.client.HTTPSConnection(HOST, PORT)
+            # It ends some seconds after the other machine is gone, as that of a careful client.
+            for option, seconds in ((socket.TCP_KEEPIDLE, 3), (socket.TCP_KEEPINTVL, 1), (socket.TCP_KEEPCNT, 5)):
+                peer.setsockopt(socket.IPPROTO_TCP, option, seconds)
+            peer.setsockopt(socket.SOL_SOCKET, socket.SO_KEEPALIVE, 1)
+            peer.setsockopt(socket.IPPROTO_TCP, socket.TCP_USER_TIMEOUT, 8000)
+            # An HTTPSConnection would read all CAs of the machine here, which takes seconds on a busy one; and a front
+            # waits ten for a request.
+            asking = http.client.HTTPConnection(HOST, PORT)
             asking.sock = peer
             asking.request(method, path, body)
             answer = asking.getresponse()
@@ -55,21 +65,21 @@ class Fronts:
 
     def until_answered(self, method, path, body=None, is_over=lambda: False):
         """The status and the text of the first answer of an office, and what came instead before."""
-        instead, begun = [], time.time()
+        instead, said = [], time.time()
         at = random.randrange(len(self.addresses))
         while not is_over():
-            address = self.addresses[at % len(self.addresses)]
+            address, begun = self.addresses[at % len(self.addresses)], time.time()
             try:
                 status, came = self.ask(method, path, body, address)
                 if status < 500:
                     return status, came.decode(), instead
-                instead.append([address, status])
             except (OSError, http.client.HTTPException) as fault:
-                instead.append([address, type(fault).__name__])
+                status = type(fault).__name__
+            instead.append([address, status, round(time.time() - begun, 1)])
             at += 1
-            if len(instead) % 100 == 0:
-                waited = f"{time.time() - begun:.0f} s"
-                print(f"calling: {method} {path} has no answer after {waited}: {instead[-4:]}", file=sys.stderr)
+            if time.time() - said > LONG:
+                said = time.time()
+                print(f"calling: {method} {path} has no answer: {instead[-4:]}", file=sys.stderr)
             time.sleep(0.2)
         return None, None, instead
 
@@ -77,8 +87,10 @@ class Fronts:
 class Callers:
     def __init__(self, folder, addresses):
         self.fronts = {name: Fronts(folder, name, addresses) for name in ("ana", "root", "station")}
-        self.lock, self.answered, self.over, self.paused = threading.Lock(), [], threading.Event(), threading.Event()
-        self.serials, self.count, self.resting = [], itertools.count(), threading.Semaphore(0)
+        self.lock, self.answered, self.over = threading.Lock(), [], threading.Event()
+        self.serials, self.count = [], itertools.count()
+        # Whether the callers are to rest, and how many do.
+        self.turn, self.is_rest, self.resting = threading.Condition(), False, 0
 
     def say(self, record):
         with self.lock:
@@ -127,54 +139,67 @@ class Callers:
 
     def until_over(self, number):
         while not self.over.is_set():
-            if self.paused.is_set():
-                self.resting.release()
-                while self.paused.is_set() and not self.over.is_set():
-                    time.sleep(0.05)
-                continue
+            self.wait_for_turn()
             self.one(number)
             time.sleep(PAUSE)
 
-    def rest(self, threads):
+    def wait_for_turn(self):
+        """Waits while the callers rest."""
+        with self.turn:
+            self.resting += 1
+            self.turn.notify_all()
+            self.turn.wait_for(lambda: not self.is_rest)
+            self.resting -= 1
+
+    def rest(self):
         """Waits until nobody asks any more."""
-        self.paused.set()
-        for _ in range(threads):
-            self.resting.acquire()
+        with self.turn:
+            self.is_rest = True
+            self.turn.wait_for(lambda: self.resting == CALLERS)
         self.say({"done": "rest"})
 
     def go(self):
-        self.paused.clear()
+        with self.turn:
+            self.is_rest = False
+            self.turn.notify_all()
         self.say({"done": "go"})
 
-    def again(self, count):
-        """Sends what was answered once more, and says where the reply differs."""
-        asked = self.answered[-count:] if count else self.answered
-        differ = 0
-        for it in asked:
-            status, reply, _ = self.fronts[it["caller"]].until_answered(
-                "POST", f"/v1/requests/{it['key']}", it["message"].encode(), self.over.is_set)
-            # What was refused wasn't accepted, so a later answer may be another.
-            if it["status"] == 200 and (status, reply) != (200, it["reply"]):
-                differ += 1
-                self.say({"was": it, "status": status, "reply": reply})
+    def again(self, last, some):
+        """Sends some of what was answered once more, and says where the reply differs."""
+        at = len(self.answered) - last
+        asked = [message for part in (self.answered[at:], self.answered[:at])
+                 for message in random.sample(part, min(some, len(part)))]
+        with ThreadPoolExecutor(CALLERS) as pool:
+            differ = sum(pool.map(self.differs, asked))
         self.say({"done": "again", "asked": len(asked), "differ": differ})
+
+    def differs(self, it):
+        """Whether the reply to a message isn't what it was. What was refused wasn't accepted, so a later answer may be
+        another."""
+        status, reply, _ = self.fronts[it["caller"]].until_answered(
+            "POST", f"/v1/requests/{it['key']}", it["message"].encode(), self.over.is_set)
+        if it["status"] != 200 or (status, reply) == (200, it["reply"]):
+            return False
+        self.say({"was": it, "status": status, "reply": reply})
+        return True
 
 
 def main():
     folder, *addresses = sys.argv[1:]
-    callers, threads = Callers(folder, addresses), 4
-    made = [threading.Thread(target=callers.go_on, args=(it,), daemon=True) for it in range(threads)]
+    callers = Callers(folder, addresses)
+    made = [threading.Thread(target=callers.go_on, args=(it,), daemon=True) for it in range(CALLERS)]
     for it in made:
         it.start()
     for line in sys.stdin:
         match line.split():
             case ["rest"]:
-                callers.rest(threads)
+                callers.rest()
             case ["go"]:
                 callers.go()
-            case ["again", count]:
-                callers.again(int(count))
+            case ["again", last, some]:
+                callers.again(int(last), int(some))
     callers.over.set()
+    callers.go()
     for it in made:
         it.join(5)
 

@@ -54,16 +54,39 @@ class Guard:
         return self.must("body", "--db", self.db, serial)
 
 
+class Lists:
+    """The file of a lists' guard, for lists of the CAs whose lines are in these files."""
+
+    def __init__(self, program, db, *cas):
+        self.program, self.db, self.cas = program, pathlib.Path(db).absolute(), cas
+        done = run([program, "lists", "--init", "--db", self.db])
+        assert (0, b"lists ready\n", b"") == (done.returncode, done.stdout, done.stderr)
+
+    def state(self, file, *more):
+        """The line that answers a list in a file."""
+        cas = [word for it in self.cas for word in ("--ca", it)]
+        done = run([self.program, "list", "--db", self.db, *cas, *more, file])
+        assert (0, b"") == (done.returncode, done.stderr)
+        return done.stdout.decode().rstrip("\n")
+
+    @property
+    def words(self):
+        """The words by which a station publishes lists."""
+        return ["--lists", self.db, *(word for it in self.cas for word in ("--list-ca", it))]
+
+
 class Station:
     """A station beside a guard. `key` are the words that say where the CA's private key is, for an office at a URL."""
 
-    def __init__(self, guard, url, key, *, certificate=None, trusted=None, other_cas=(), ahead=LATEST):
+    def __init__(self, guard, url, key, *, certificate=None, trusted=None, other_cas=(), ahead=LATEST,
+                 lists=None):
         self.guard, self.url = guard, url
         self.words = [EXAMPLES / "station", "--db", guard.db, "--policy", guard.policy, "--ahead", ahead, *key]
         if certificate:
             self.words += ["--cert", certificate, "--cacert", trusted]
         for it in other_cas:
             self.words += ["--other-ca", it]
+        self.words += lists.words if lists else []
         # The station finds its guard on the PATH.
         self.folder = guard.db.parent / f"{guard.db.stem}.programs"
         self.folder.mkdir(exist_ok=True)

@@ -92,6 +92,37 @@ def test_serials_are_gathered(refuse, krl_tool):
     assert 2 <= sum(errors == b"Error: NoMemory\n" for _, _, errors in ends), "the gathering itself grows twice"
 
 
+# ---- what a message reads
+
+def test_a_message_reads_one_run_alone(program, room):
+    """What is revoked is kept as runs. A delivery, and a revocation beside a run, look for the last run at a serial:
+    they allocate no more over nine hundred runs than over three, but for the opening of the file."""
+    office = Office(program, ca=CA, last=10_000)
+    serials = range(1, 2001)
+    office.apply([post("root", "web", department()), *(post("ana", f"i{it}", issue(f"web/{it}")) for it in serials)])
+    issued = office.db.read_bytes()
+    counted = {"LD_PRELOAD": str(preloaded("refuse_allocation.c", room)), "COUNTED": str(room / "counted")}
+
+    def allocations(exchanges):
+        """How many an `apply` of these makes over the office as it is."""
+        file, kept = write_exchanges("some.exchange", exchanges), office.db.read_bytes()
+        assert run([program, "apply", "--db", office.db, file], env=counted).returncode == 0
+        office.db.write_bytes(kept)
+        return int((room / "counted").read_text())
+
+    def more(message, runs):
+        """How many more a message makes, where so many runs of one serial each are revoked."""
+        office.db.write_bytes(issued)
+        revoked = [post("ana", f"r{it}", revoke_serial(it)) for it in serials[:2 * runs:2]]
+        assert all(it.status == 200 for it in office.apply(revoked))
+        return allocations([post("root", "new", message)]) - allocations([])
+
+    for message in (revoke_serial(2000), revoke_serial(2)):
+        few, many = more(message, 3), more(message, 900)
+        # A higher tree has more pages to look through.
+        assert many < few + 300, f"{message!r}: {few} allocations over 3 runs, {many} over 900"
+
+
 # ---- a server
 
 SERVED = post("ana", "i1", issue()), post("ana", "i1", issue()), get("/v1/table")

@@ -457,7 +457,8 @@ def drill(site, heading):
 
 def test_drill_backup_and_restore(site):
     printed = drill(site, "Backup and restore")
-    assert ["revoked", "failed", "revoked", "refused"] == of(printed, "revoked", "failed", "granted", "refused")
+    assert ["revoked", "failed", "revoked", "revoked", "refused"] \
+        == of(printed, "revoked", "failed", "granted", "refused")
     assert any("office.service has failed and stays down" in it for it in printed)
 
 

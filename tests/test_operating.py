@@ -34,18 +34,23 @@ LINES = [
     ("sshd grants a login", "granted"),
     ("a serial is revoked", "revoked"),
     ("sshd refuses the login then", "refused"),
+    ("the list's next version", "version 2"),
     ("another CA serves", "rollover 2"),
     ("it serves from the next serial on", "since 3"),
     ("the guard of the old CA signs up to the serial before", "retired 1 2"),
     ("the guard of the new one from there", "guard ready 3 9223372036854775806"),
     ("the copy is sound", "ok"),
     ("it has both certificates", "2"),
-    ("its table ends with the version", "total 2 version 1"),
+    ("its table ends with the version", "total 2 version 2"),
     ("a request through the front waits for its signature", "not signed yet"),
     ("the station signs it through the front", "signed 3"),
     ("the same command then writes the certificate", "laptop-cert.pub serial 3"),
     ("ssh-keygen reads it", '        Key ID: "web/laptop"'),
+    ("the lists' guard has a file", "lists ready"),
+    ("the station publishes the list", "published 2"),
     ("it is clear under the list that the server fetched", "laptop-cert.pub (web/laptop): ok"),
+    ("and the metrics say which version that is", "office_list_version 2"),
+    ("and that its statement is new", "office_list_fresh 1"),
     ("a certificate of the front that was taken back is refused",
      "front: the certificate is another authority's, has ended or was taken back"),
     ("the front gives the page for browsers", "<title>SSH certificate office</title>"),
@@ -118,6 +123,7 @@ def test_the_fingerprint_of_the_ca_is_ssh_keygens(commands):
 def test_one_login_is_granted_and_the_refusal_is_the_lists(commands):
     assert 1 == commands.lines().count("granted")
     assert "revoked" in (commands.folder / "sshd.log").read_text()
+    assert 1 == sum("revoked by file" in line for line in commands.lines()), "the client refuses the host"
     assert 1 == sum("REVOKED" in line for line in commands.lines()), "ssh-keygen finds the certificate revoked"
 
 

@@ -14,6 +14,8 @@ in brackets clauses of it; the file has to hold them. Each crate has a page, to 
 crate's wrong bodies, and what the crate gives to others.
 """
 import collections
+import importlib.machinery
+import importlib.util
 import os
 import re
 import shutil
@@ -26,13 +28,13 @@ import pytest
 from blocks import blocks, lines_of, outside, steps
 from running import TOP
 
-PLACES = ("*.md", "docs/*.md", "examples/**/*.md", "crates/*/README.md", "tests/README.md")
+PLACES = ("*.md", "docs/*.md", "examples/**/*.md", "crates/*/README.md", "tests/README.md", "client/README.md")
 PAGES = sorted(str(page.relative_to(TOP)) for place in PLACES for page in TOP.glob(place))
 TEXTS = {page: (TOP / page).read_text() for page in PAGES}
 CRATES = re.findall(r"^(\w+):", (TOP / "crates.txt").read_text(), re.M)
 # What stands behind `sh` where a block is for one of several machines, or for some of them: tests/test_boxes.py and
 # tests/test_three_machines.py type it there.
-MACHINES = ("admin", "office", "station", "server", "spare", "one", "two", "three", "one two", "one two three")
+MACHINES = ("admin", "office", "station", "server", "client", "spare", "server client", "one", "two", "three", "one two", "one two three")
 KINDS = ("sh", "console", "text", *(f"sh {it}" for it in MACHINES))
 
 # What isn't run here: a line, or the first line of a block that is left out whole. With why, what else shows it, and a
@@ -49,8 +51,8 @@ ELSEWHERE = {
         Elsewhere("it makes a token", "tests/test_station.py", '"softhsm2-util", "--init-token"'),
     "examples/request --cert ana.pem --cacert ca.crt https://office.example.org:8443 web web/alice alice.pub alice 8h":
         Elsewhere(A_FRONT, "tests/test_scripts.py", 'script("request"'),
-    "examples/fetch-list --cacert ca.crt https://office.example.org:8443 revoked.krl":
-        Elsewhere(A_FRONT, "tests/test_scripts.py", '"fetch-list", "--cacert"'),
+    "examples/fetch-list --signers list-signers --cacert ca.crt https://office.example.org:8443 revoked.krl":
+        Elsewhere(A_FRONT, "tests/test_published.py", '"--signers", self.allowed'),
     "examples/fetch-ca-keys --cacert ca.crt --named trusted https://office.example.org:8443 cas.pub":
         Elsewhere(A_FRONT, "tests/test_ca_keys.py", "fetch-ca-keys"),
     "curl -sSf --cacert ca.crt --cert watch.pem https://office.example.org:8443/v1/table | examples/list-of-table":
@@ -62,7 +64,7 @@ ELSEWHERE = {
         Elsewhere("it wants a file system of its own, and root", "tests/test_growing.py", '"fsfreeze", "-f"'),
     "sqlite3 office.db 'PRAGMA integrity_check'":
         Elsewhere("it looks at a copy of an office", "tests/test_growing.py", "PRAGMA integrity_check"),
-    "fetch-list --cacert ca.crt https://a.example.org:8443 a.krl":
+    "fetch-list --signers a.signers --cacert ca.crt https://a.example.org:8443 a.krl":
         Elsewhere("it asks two fronts", "tests/test_growing.py", "tail -c +45"),
     "office-restore /var/backups/office/office.db":
         Elsewhere("it wants the units in service", "tests/test_boxes.py", "office-restore"),
@@ -252,7 +254,7 @@ def page_of(crate):
 def test_each_crate_has_a_page_to_which_promises_leads(crate):
     assert page_of(crate)
     assert f"(../crates/{crate}/README.md)" in TEXTS["docs/PROMISES.md"]
-    assert f"| `{crate}` | " in TEXTS["README.md"], "README says what it does"
+    assert f"| `{crate}` | " in TEXTS["docs/ARCHITECTURE.md"], "it says what the crate does"
 
 
 @pytest.mark.parametrize("crate", CRATES)
@@ -280,7 +282,43 @@ def test_readme_says_how_many_wrong_bodies_there_are():
     assert f"`./check` tries {count} of them" in " ".join(TEXTS["README.md"].split())
 
 
-def test_readme_names_the_packages_that_the_check_installs():
+def test_contributing_names_the_packages_that_the_check_installs():
     wanted = re.search(r'PACKAGES = """(.*?)"""', (TOP / "check").read_text(), re.S)[1].split()
-    readme = " ".join(TEXTS["README.md"].split())
-    assert [] == [it for it in wanted if not re.search(rf"[` ]{re.escape(it)}[` ]", readme)]
+    page = " ".join(TEXTS["CONTRIBUTING.md"].split())
+    assert [] == [it for it in wanted if not re.search(rf"[` ]{re.escape(it)}[` ]", page)]
+
+
+# ---- how the pages are written
+
+def script(path):
+    """A script of the repository, as a module."""
+    loader = importlib.machinery.SourceFileLoader(os.path.basename(path), str(TOP / path))
+    made = importlib.util.module_from_spec(importlib.util.spec_from_loader(loader.name, loader))
+    loader.exec_module(made)
+    return made
+
+
+def test_few_patterns_read_foreign():
+    """At most a tenth of those that there were; `tools/prose PAGE` shows the lines."""
+    prose = script("tools/prose")
+    today = prose.counts()
+    assert sum(prose.BEFORE.values()) >= 10 * sum(today.values()), today
+
+
+# ---- pages that a script makes
+
+def test_the_statement_is_that_of_the_sources():
+    """`tools/statement --write` makes the page again, and README's count of its lines."""
+    page, readme = script("tools/statement").written()
+    assert page == TEXTS["docs/STATEMENT.md"]
+    assert readme == TEXTS["README.md"]
+
+
+def test_the_pictures_are_those_of_their_texts():
+    """`docs/pictures/make` makes them again. How a text is drawn depends on versions, so what it says is compared."""
+    pictures = script("docs/pictures/make")
+    made = {name: pictures.said(it) for name, it in pictures.made().items()}
+    kept = {it.stem: pictures.said(it.read_text()) for it in (TOP / "docs/pictures").glob("*.svg")}
+    assert made == kept
+    shown = [name for name in kept if not any(f"pictures/{name}.svg)" in text for text in TEXTS.values())]
+    assert [] == shown, "a page shows each of them"

@@ -151,7 +151,8 @@ def listed(asking, station):
     asking.ask_for("--wait", 1, asking.url, *ALICE)
     station.sign()
     assert 0 == asking.ask_for(asking.url, *ALICE)[0]
-    asking.fetch = functools.partial(script, "fetch-list", "--cacert", asking.authority / "ca.crt", asking.url)
+    words = ["--unsigned", "--ca", asking.office.ca, "--cacert", asking.authority / "ca.crt", asking.url]
+    asking.fetch = functools.partial(script, "fetch-list", *words)
     return asking
 
 
@@ -190,13 +191,14 @@ def folder_server(room):
     made.end()
 
 
+UNREADABLE = "refused as NotAList: ssh-keygen can't read what came"
 # What comes in the place of a list, of which the office's newest and its first are given, and the complaint.
 OTHERS = [
     ("an error", None, "no list came from {url}"),
-    ("another page", lambda krl, first: b"<html>sign in to the network</html>\n", "ssh-keygen can't read what came"),
-    ("half a list", lambda krl, first: krl[:60], "ssh-keygen can't read what came"),
-    ("an empty file", lambda krl, first: b"", "ssh-keygen can't read what came"),
-    ("an older list", lambda krl, first: first, "version 0 came, and 1 is in place"),
+    ("another page", lambda krl, first: b"<html>sign in to the network</html>\n", UNREADABLE),
+    ("half a list", lambda krl, first: krl[:60], UNREADABLE),
+    ("an empty file", lambda krl, first: b"", UNREADABLE),
+    ("an older list", lambda krl, first: first, "refused as OlderVersion: version 0 came, and 1 is in place"),
 ]
 
 
@@ -210,7 +212,8 @@ def test_what_is_no_newer_list_does_not_take_the_place_of_the_list(office, folde
     if come:
         (room / "web/v1/krl").write_bytes(come(krl, first))
     complaint = f"fetch-list: {why.format(url=folder_server.url)}; revoked.krl is as it was"
-    assert (1, "", complaint) == script("fetch-list", folder_server.url, "revoked.krl")
+    words = ["--unsigned", "--ca", office.ca, folder_server.url, "revoked.krl"]
+    assert (1, "", complaint) == script("fetch-list", *words)
     assert krl == (room / "revoked.krl").read_bytes()
     assert ["revoked.krl"] == [it for it in os.listdir() if it.startswith("revoked.krl")]
 

@@ -33,6 +33,8 @@ Commands:
   body    Prints the bytes of the body that is approved under a serial
   policy  Prints the names of a policy's departments, or where it can't be read
   retire  Lowers the last serial
+  lists   Makes a file for lists, which has approved none yet
+  list    Says whether a list is the office's next one, and keeps it if it is
   help    Print this message or the help of the given subcommand(s)
 
 Options:
@@ -43,6 +45,7 @@ In this order:
   1. init makes a guard in a new database, beside the CA's key.
   2. policy says whether a policy can be read.
   3. judge says of each certificate body whether it may be signed, and keeps it first.
+  4. lists makes a file for lists of what is revoked, and list says which is the next one.
 
 Status:
   0  it is done
@@ -76,6 +79,29 @@ Example:
 It prints a line for each body, in order: sign SERIAL DIGEST or refuse NAME.
 With - as its only BODY it reads paths from the standard input, one a line, and answers each
 before it reads the next. It then reads the policy's file again before each body.
+"""
+
+
+HELP_OF_LIST = """\
+Says whether a list is the office's next one, and keeps it if it is
+
+Usage: sshstation list [OPTIONS] --db <PATH> --ca <PATH> <LIST>
+
+Arguments:
+  <LIST>  The file of the list
+
+Options:
+      --db <PATH>  The file for lists, which lists --init has made
+      --ca <PATH>  The file with the public key line of a CA that the list may speak of; again for each
+      --begin      Takes a first list, where none was approved yet
+  -h, --help       Print help
+
+Example:
+  sshstation list --db lists.db --ca ca.pub krl
+
+It prints one line: list SHA256 VERSION MOMENT or refuse NAME.
+A list that is older than the one approved last, that has other bytes under the same version, or
+that doesn't revoke all that this one revokes, is refused. The first list wants --begin.
 """
 
 
@@ -142,6 +168,7 @@ def put(room, **files):
     (["--help"], HELP),
     (["help"], HELP),
     (["judge", "--help"], HELP_OF_JUDGE),
+    (["list", "--help"], HELP_OF_LIST),
     (["--version"], "sshstation 1.0.0 (rattle-kit-13b)\n"),
 ])
 def test_a_wish_for_a_text_is_answered(sshstation, room, words, wanted):

@@ -307,7 +307,7 @@ def test_an_answer_that_drips_is_given_up(alone, at_once):
         begun = time.monotonic()
         status, out, errors = Station(alone, web.url, alone.key).once()
         assert (1, [], 1) == (status, out, len(errors)) and "not within 20 seconds" in errors[0]
-        assert 19 < time.monotonic() - begun < 30
+        assert 19 < time.monotonic() - begun < 60
 
 
 def test_the_url_is_taken_as_it_is(alone):
@@ -384,11 +384,17 @@ BAD_WORDS = [
     (["--db", "d", "--policy", "p", "--key", "k", "--caller", "a/../b", "http://a"], "no caller's name: a/../b"),
     (["--db", "d", "--policy", "p", "--key", "k", "--interval", "0", "http://a"],
      "--interval is at least 1, and --ahead at least 0"),
+    (["--db", "d", "--policy", "p", "--key", "k", "--lists", "l", "http://a"],
+     "--lists wants --list-ca, and --list-ca wants --lists"),
+    (["--db", "d", "--policy", "p", "--key", "k", "--list-ca", "c", "http://a"],
+     "--lists wants --list-ca, and --list-ca wants --lists"),
+    (["--db", "d", "--policy", "p", "--key", "k", "--publish-every", "0", "http://a"],
+     "--publish-every is at least 1"),
     (["--no-such-word", "http://a"], "unrecognized arguments: --no-such-word"),
 ]
 
 
-@pytest.mark.parametrize("words, why", BAD_WORDS, ids=[it[1] for it in BAD_WORDS])
+@pytest.mark.parametrize("words, why", BAD_WORDS, ids=[" ".join(it[0]) or "nothing" for it in BAD_WORDS])
 def test_bad_words(room, words, why):
     done = run([EXAMPLES / "station", *words])
     assert (2, b"", f"station: error: {why}") == (done.returncode, done.stdout, done.stderr.decode().splitlines()[-1])
@@ -407,6 +413,8 @@ def test_help(room):
     (["--pkcs11", "m", "--id", "01", "--pin-file", "none"], "can't read none: No such file or directory"),
     (["--key", "no-key", "--cacert", "none"], "can't read none"),
     (["--key", "no-key", "--other-ca", "no-key"], "no-key has another line than those of Ed25519 public keys"),
+    (["--key", "no-key", "--lists", "lists.db", "--list-ca", "no-key"],
+     "no-key has another line than those of Ed25519 public keys"),
 ], ids=lambda it: " ".join(it) if isinstance(it, list) else "")
 def test_a_file_that_cannot_be_read_is_named(alone, room, key, why):
     (room / "no-key").write_text("no key\n")

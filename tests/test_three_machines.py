@@ -1,17 +1,25 @@
 """An office on a volume of three machines, as docs/GROWING.md sets it up: callers ask without pause while programs,
 mounts, disks, links and machines fail, and every answer is written down."""
+import bisect
 import collections
 import contextlib
 import hashlib
 import json
+import os
+import pathlib
+import queue
 import random
 import re
 import shutil
+import signal
+import sqlite3
 import statistics
+import subprocess
 import sys
+import tempfile
 import threading
 import time
-from xml.etree import ElementTree
+from concurrent.futures import ThreadPoolExecutor
 
 import pytest
 
@@ -20,35 +28,45 @@ import pages
 from asking import department
 from running import TOP, left_out, until
 
-pytestmark = [pytest.mark.boxes, pytest.mark.root, pytest.mark.slow, pytest.mark.timeout(5400)]
-# The folder that these boxes start from, and what is in it beside the packages of others.
-FOLDER = boxes.FOLDER.with_name(f"{boxes.FOLDER.name}-volume")
-PACKAGES = ["glusterfs-server", "glusterfs-client", "libnginx-mod-http-js"]
+pytestmark = [pytest.mark.boxes, pytest.mark.root, pytest.mark.slow, pytest.mark.alone, pytest.mark.timeout(5400)]
 MACHINES = ["one", "two", "three", "admin", "station"]
+# Sets of machines that have their faults side by side, since a round mostly waits. Linux gives root 128 instances of
+# inotify, of which a box takes seven: so at most two sets are made at once, with five boxes each. Later each has three.
+SITES, AT_ONCE = 3, 2
 DOOR = "unix:/run/office-door.sock"
 LOG = "/run/office-way/way.log"
-# For how many seconds after the other machine began to serve a message may be answered by an old server, and a page. An
-# answer stands in the log a moment after it was given. A page comes from memory, until the old server is ended.
-SLACK = {"POST": 0.5, "GET": 20}
+# A line of it: the moment of the answer, its status, the request, the doors that were asked, and the seconds of each.
+LINE = re.compile(r'(\d+\.\d+) 200 "(\w+) [^"]*" "(?:[^"]*, )?' + DOOR + r'" "(?:[^"]*, )?(\d+\.\d+)"')
 LISTENING = re.compile(r"^(\d+\.\d+) \S+ office-waiting\[\d+\]: listening 8022$", re.M)
-Answer = collections.namedtuple("Answer", "moment machine method")
+# For how many seconds an office may still answer what it is asked, after the other one began to serve, or after it came
+# back from where it couldn't be reached. A page comes from memory, until the old office is ended.
+OVERLAP = {"POST": 0, "GET": 25}
+# The journal has the line of a server that began to listen a moment later, on a busy machine some seconds.
+LAG = 10
+Answer = collections.namedtuple("Answer", "asked answered machine method")
+Reign = collections.namedtuple("Reign", "begun machine")
 
 
 class Site(boxes.Rack):
-    """The machines of the page, with what was seen of them."""
+    """The machines of the page, with what was seen of them. `disk` is a folder for the bricks; without it they are in
+    memory."""
 
-    def __init__(self, room, base, program):
+    def __init__(self, room, base, program, disk=None):
         super().__init__(room, base)
-        self.program, self.shells = program, {}
-        self.answers, self.reigns = [], []
+        self.program, self.disk, self.shells = program, disk, {}
+        self.answers, self.reigns, self.read, self.backs = set(), [], {}, []
         # The callers are on the same network.
         assert not self.enter("ip", "address", "add", "10.80.0.1/24", "dev", "rack").wait()
 
     def furnish(self, box):
-        if box.name in ("one", "two", "three"):
-            box.add_disk("/srv/office-brick", "64m")
-            box.disks.append("--bind=/dev/fuse")
-
+        if box.name not in ("one", "two", "three"):
+            return
+        box.disks.append("--bind=/dev/fuse")
+        if self.disk:
+            os.mkdir(f"{self.disk}/{box.name}")
+            box.disks.append(f"--bind={self.disk}/{box.name}:/srv/office-brick")
+        else:
+            box.add_disk("/srv/office-brick", "256m")
     def hosts(self):
         """`office` has two addresses."""
         pair = [self.boxes[it].address for it in ("one", "two") if it in self.boxes]
@@ -67,7 +85,7 @@ class Site(boxes.Rack):
             shutil.copy2(self.program, out / "sshoffice")
 
     def set_up(self):
-        """Types the page's commands."""
+        """Types the page's commands, and has root put a department."""
         self.add(*MACHINES)
         for box in self.boxes.values():
             self.prepare_box(box)
@@ -75,15 +93,25 @@ class Site(boxes.Rack):
             if block.machine not in self.shells:
                 self.shells[block.machine] = boxes.Shell(self.boxes[block.machine])
             self.shells[block.machine].run(block.commands)
+        root = ("curl -sSf --retry 20 --retry-all-errors --cacert authority/ca.crt --cert authority/root.pem "
+                "--data-binary @- https://office.example.org:8443/v1/requests/web-1")
+        assert "department web" == self.boxes["admin"].says(f"{root} <<'END'\n{department()}END")
+        for it in self.shells.values():
+            it.end()
+        for it in ("admin", "station"):
+            self.boxes[it].pull_the_plug()
         for it in self.pair():
             # The callers of these tests are more than a front lets through, and the answers are written down.
             it.run("sed -i 's/rate=20r/rate=2000r/' /etc/vethlumi/front/nginx.conf; systemctl reload office-front")
             it.run(f"sed -i 's#access_log off;#access_log {LOG} way; log_subrequest on;#' /etc/vethlumi/way/way.conf; "
                    "systemctl restart office-way")
-        until(self.serving, seconds=30)
+        until(self.serving, seconds=60)
 
     def pair(self):
         return [self.boxes[it] for it in ("one", "two")]
+
+    def other(self, box):
+        return next(it for it in self.pair() if it is not box)
 
     # ---- what is seen
 
@@ -96,32 +124,39 @@ class Site(boxes.Rack):
         """The machine whose office serves, or None. One that has lost its file listens until it is ended."""
         found = self.listening()
         self.collect()
-        return found[0] if len(found) == 1 else next((it for it in found if it.name == self.reigns[-1].machine), None)
-
-    def other(self, box):
-        return next(it for it in self.pair() if it is not box)
+        if len(found) < 2:
+            return found[0] if found else None
+        return next((it for it in found if it.name == self.reigns[-1].machine), None)
 
     def collect(self):
         """Writes down which machine's office answered when, and when each began to serve."""
         for box in self.pair():
             if not box.init:
                 continue
-            text = box.run(f"cat {LOG} 2>/dev/null; true", check=False).stdout
-            log = [it.split() for it in text.splitlines() if it.count('"') == 2]
-            new = {Answer(float(it[0]), box.name, it[1].strip('"')) for it in log if it[-2] == "200" and it[-1] == DOOR}
-            # A request that the door refused and the other machine answered has both in its line.
-            self.answers = sorted({*self.answers, *new})
+            self.answers |= {Answer(float(moment) - float(took), float(moment), box.name, method)
+                             for moment, method, took in LINE.findall(self.new_text(box))}
             text = box.run("journalctl -u office -o short-unix --no-pager", check=False).stdout
-            self.reigns = sorted({*self.reigns, *[Answer(float(it), box.name, "") for it in LISTENING.findall(text)]})
+            self.reigns = sorted({*self.reigns, *[Reign(float(it), box.name) for it in LISTENING.findall(text)]})
+
+    def new_text(self, box):
+        """The whole lines that came to a box's log since the last call. The log begins again with its machine."""
+        with contextlib.suppress(OSError), open(f"/proc/{box.init}/root{LOG}", "rb") as it:
+            it.seek(self.read.get((box.name, box.init), 0))
+            text = it.read()
+            text = text[:text.rfind(b"\n") + 1]
+            self.read[box.name, box.init] = self.read.get((box.name, box.init), 0) + len(text)
+            return text.decode(errors="replace")
+        return ""
 
     def intruders(self):
-        """Answers of a machine after the other one had begun to serve."""
-        found = []
+        """Answers of a machine to what it was asked after the other one had begun to serve."""
+        found, begun = [], [it.begun for it in self.reigns]
         for it in self.answers:
-            slack = SLACK[it.method]
-            begun = [reign for reign in self.reigns if reign.moment < it.moment - slack]
-            ruling = {reign.machine for reign in self.reigns if it.moment - slack <= reign.moment <= it.moment + 0.5}
-            if it.machine not in ruling | ({begun[-1].machine} if begun else set()):
+            if it.method == "GET" and any(0 < it.answered - back < OVERLAP["GET"] for back in self.backs):
+                continue
+            first = bisect.bisect_left(begun, it.asked - OVERLAP[it.method])
+            last = bisect.bisect_right(begun, it.answered + LAG)
+            if it.machine not in {reign.machine for reign in self.reigns[max(0, first - 1):last]}:
                 found.append(it)
         return found
 
@@ -139,7 +174,22 @@ class Site(boxes.Rack):
     def freeze_mount(self, box):
         pid = self.mount_of(box)
         box.run(f"kill -STOP {pid}")
-        return lambda: box.run(f"kill -CONT {pid}", check=False)
+        # It may have been ended meanwhile, and another one begun.
+        return lambda: box.run("pkill -CONT -f -- '--process-name fuse' || true")
+
+    def freeze_machine(self, box):
+        """Has a machine stand still, as a virtual one does that its host doesn't let run: its kernel doesn't answer."""
+        stopped = set()
+        while more := {box.init, *boxes.descendants(box.init)} - stopped:
+            self.signal(signal.SIGSTOP, more)
+            stopped |= more
+        back = self.cut_link(box)
+        return lambda: (back(), self.signal(signal.SIGCONT, stopped))
+
+    def signal(self, number, pids):
+        for pid in pids:
+            with contextlib.suppress(ProcessLookupError):
+                os.kill(pid, number)
 
     def kill_brick(self, box):
         box.run("pkill -KILL -x glusterfsd")
@@ -161,38 +211,45 @@ class Site(boxes.Rack):
 
     # ---- after a fault
 
-    def brick_count(self):
-        text = self.boxes["three"].run("gluster --mode=script --xml volume status office", check=False).stdout
-        nodes = ElementTree.fromstring(text).iter("node") if text.startswith("<?xml") else []
-        return sum(it.findtext("path", "").startswith("/srv") and it.findtext("status") == "1" for it in nodes)
-
     def is_healed(self):
-        text = self.boxes["three"].run("gluster --mode=script volume heal office >/dev/null; "
-                                       "gluster --mode=script volume heal office info", check=False).stdout
-        return ["0"] * 3 == re.findall(r"^Number of entries: (\d+)$", text, re.M)
-
-    def ills(self):
-        """What isn't as before the fault: one office serves, each machine has its mount, and all copies are written."""
-        said = [it.run("office-volume check", check=False) for it in self.pair()]
-        return [*["nobody serves"] * (not self.serving()), *["two listen"] * (len(self.listening()) > 1),
-                *["a brick is away"] * (self.brick_count() != 3),
-                *[it.stdout for it in said if it.returncode]]
+        """Whether all copies are there, and whole."""
+        command = "gluster --mode=script volume heal office"
+        text = self.boxes["three"].run(f"{command} info", check=False).stdout
+        self.ill = text
+        if 3 == text.count("Status: Connected") and ["0"] * 3 == re.findall(r"^Number of entries: (\d+)$", text, re.M):
+            return True
+        self.boxes["three"].run(command, check=False)
+        return False
 
     def is_well(self):
-        self.ill = self.ills()
-        return not self.ill
+        """Whether one office serves, and each machine has its mount."""
+        self.ill = "nobody serves, or two do"
+        if not self.serving() or len(self.listening()) > 1:
+            return False
+        with ThreadPoolExecutor(2) as pool:
+            said = [*pool.map(lambda it: it.run("office-volume check", check=False), self.pair())]
+        self.ill = "\n".join(it.stdout for it in said)
+        return not any(it.returncode for it in said)
 
-    def tables(self):
-        """The rows of the office's certificates, from a copy of both files at one moment, which has to be sound."""
-        box = until(self.serving, seconds=60)
-        pid = box.says("pgrep -u office -x sshoffice | head -n 1")
-        said = box.says(f"kill -STOP {pid}; rm -rf /tmp/copy; mkdir /tmp/copy; "
-                        f"cp /var/lib/office/office.db* /tmp/copy || true; kill -CONT {pid}; cd /tmp/copy; "
-                        "sqlite3 office.db 'PRAGMA integrity_check'; "
-                        "sqlite3 office.db 'SELECT serial, hex(body) FROM cert'")
-        first, *rows = said.splitlines()
-        assert "ok" == first, said[:500]
-        return {int(it.split("|")[0]): bytes.fromhex(it.split("|")[1]) for it in rows}
+    def copied(self):
+        """Copies the office's file and its log, as both are at one moment, and returns where they are."""
+        box = self.serving()
+        return self.copied_from(box) if box else None
+
+    def copied_from(self, box):
+        said = box.run("rm -rf copy; mkdir copy; server=$(pgrep -u office -x sshoffice | head -n 1) || true; "
+                       "kill -STOP $server || true; cp /var/lib/office/office.db* copy || true; "
+                       "kill -CONT $server || true; ls copy/office.db", check=False)
+        return None if said.returncode else box.files / "root/copy"
+
+
+@contextlib.contextmanager
+def opened(copy):
+    """A connection to the tables of such a copy."""
+    with tempfile.TemporaryDirectory() as room:
+        shutil.copytree(copy, room, dirs_exist_ok=True)
+        with contextlib.closing(sqlite3.connect(f"{room}/office.db")) as connection:
+            yield connection
 
 
 class Calling:
@@ -201,9 +258,10 @@ class Calling:
     def __init__(self, site):
         folder = site.room / "admin/root/root/authority"
         self.site, self.records, self.faults, self.lock = site, [], [], threading.Lock()
-        self.done = []
+        self.done, self.looked_at, self.digests = [], 0, {}
+        self.said = open(site.room / "callers", "wb")
         self.process = site.enter(sys.executable, "-B", TOP / "tests/calling.py", folder,
-                                  *[it.address for it in site.pair()], stdin=-1, stdout=-1)
+                                  *[it.address for it in site.pair()], stdin=-1, stdout=-1, stderr=self.said)
         threading.Thread(target=self.read, daemon=True).start()
 
     def read(self):
@@ -226,51 +284,74 @@ class Calling:
         before = len(self.done)
         self.process.stdin.write(f"{line}\n".encode())
         self.process.stdin.flush()
-        until(lambda: len(self.done) > before, seconds=900)
-        return self.done[-1]
+        with contextlib.suppress(AssertionError):
+            return until(lambda: self.done[before:], seconds=300)[0]
+        said = pathlib.Path(self.said.name).read_text()[-3000:]
+        raise AssertionError(f"the callers don't {line} after 300 seconds: {self.process.poll()}\n{said}")
 
-    def digests(self):
-        """The digests of each serial, in all answers that were ever given."""
-        found = collections.defaultdict(set)
-        for it in self.since(0):
+    def look(self, some):
+        """Sends some of what was answered since the last look once more, and of what was answered before. Returns where
+        the answer is another one."""
+        with self.lock:
+            last, self.looked_at = len(self.records) - self.looked_at, len(self.records)
+        done = self.tell(f"again {last} {some}")
+        assert done["asked"] == min(some, last) + min(some, self.looked_at - last)
+        return [f"{it['was']} is answered now by {it['status']} {it['reply']}" for it in self.faults]
+
+    def accepted(self):
+        """What was accepted, and the digests of each serial, in all answers that were ever given."""
+        found, accepted = collections.defaultdict(set), [it for it in self.since(0) if it["status"] == 200]
+        for it in accepted:
             if it["reply"].startswith("issued "):
-                words = it["reply"].split()
-                found[int(words[1])].add(words[3])
-        return found
+                _, serial, _, digest = it["reply"].split()
+                found[int(serial)].add(digest)
+        return accepted, found
 
     def end(self):
-        self.process.stdin.close()
-        with contextlib.suppress(Exception):
-            self.process.wait(20)
+        with contextlib.suppress(OSError):
+            self.process.stdin.close()
+        with contextlib.suppress(subprocess.TimeoutExpired):
+            self.process.wait(5)
         self.process.kill()
+        self.process.wait(30)
+        self.said.close()
 
 
-@pytest.fixture
-def site(program, tmp_path, request):
+@pytest.fixture(scope="module")
+def base(tmp_path_factory, request):
+    """The folder that these boxes start from. A machine that boots no box at all is left out; if it boots one, every
+    box has to boot."""
     if not request.config.getoption("--rounds"):
-        left_out("--rounds N says how many faults there are to be; sixty take an hour")
+        left_out("--rounds N says how many faults there are to be")
     try:
-        made = Site(tmp_path, boxes.prepare(FOLDER, [*boxes.PACKAGES, *PACKAGES]), program)
+        folder = boxes.prepare(*boxes.OF_VOLUME)
+        rack = boxes.Rack(tmp_path_factory.mktemp("probe"), folder)
+        try:
+            rack.add("probe")
+        finally:
+            rack.end()
     except boxes.CannotBoot as reason:
         left_out(reason)
+    return folder
+
+
+@pytest.fixture(scope="module")
+def sites(base, program, tmp_path_factory, request):
+    made = []
     try:
-        made.set_up()
-        root = ("curl -sSf --cacert authority/ca.crt --cert authority/root.pem --data-binary @- "
-                "https://office.example.org:8443/v1/requests/web-1")
-        said = made.boxes["admin"].says(f"{root} <<'END'\n{department()}END")
-        assert "department web" == said
+        for _ in range(min(SITES, request.config.getoption("--rounds"))):
+            made.append(Site(tmp_path_factory.mktemp("site"), base, program))
+        with ThreadPoolExecutor(AT_ONCE) as pool:
+            [*pool.map(Site.set_up, made)]
         yield made
     finally:
-        for it in made.shells.values():
+        for it in made:
             it.end()
-        made.end()
 
 
 @pytest.fixture
-def calling(site):
-    made = Calling(site)
-    yield made
-    made.end()
+def site(sites):
+    return sites[0]
 
 
 # By name: what fails, of the machine that serves (None: of any machine), and the seconds until it is brought back.
@@ -278,90 +359,109 @@ FAULTS = {
     "server killed": (Site.kill_server, True, 0),
     "mount killed": (Site.kill_mount, True, 0),
     "mount frozen": (Site.freeze_mount, True, 60),
-    "brick killed": (Site.kill_brick, False, 8),
-    "disk full": (Site.fill_disk, False, 8),
-    "link cut": (Site.cut_link, True, 45),
+    "machine frozen": (Site.freeze_machine, True, 60),
+    "brick killed": (Site.kill_brick, False, 4),
+    "disk full": (Site.fill_disk, False, 4),
+    "link cut": (Site.cut_link, True, 0),
     "rebooted": (Site.reboot, True, 0),
 }
-# How many of a hundred rounds: those that take longer come less often.
-WEIGHTS = {"server killed": 22, "mount killed": 18, "mount frozen": 6, "brick killed": 18, "disk full": 12,
-           "link cut": 8, "rebooted": 10, "link cut, brick killed": 6}
+# How many of sixty rounds: those that take longer come less often. "Link cut, brick killed" leaves one copy alone.
+WEIGHTS = {"server killed": 15, "mount killed": 12, "mount frozen": 1, "machine frozen": 2, "brick killed": 10,
+           "disk full": 6, "link cut": 5, "rebooted": 6, "link cut, brick killed": 3}
 # The longest takeover, in seconds, after a fault of the machine that serves.
-LONGEST = {"server killed": 10, "mount killed": 10, "mount frozen": 40, "link cut": 40, "rebooted": 40}
+LONGEST = {"server killed": 10, "mount killed": 10, "mount frozen": 40, "machine frozen": 40, "link cut": 40,
+           "rebooted": 40}
+# What fails stays so for these seconds after the other machine took over, or after it failed.
+STAYS = 3
 
 
-def begin_fault(site, name, calling):
+def drawn(draw, rounds):
+    """The names of so many faults, those that take longest first."""
+    every = [name for name, count in WEIGHTS.items() for _ in range(count)]
+    names = draw.sample(every * (1 + rounds // len(every)), rounds)
+    return sorted(names, key=lambda name: "frozen" not in name)
+
+
+def begin_fault(site, name):
     """Has something fail, and returns what brings it back, after how many seconds, and when it failed."""
     serving = until(site.serving, seconds=60)
-    site.collect()
-    parts = name.split(", ")
     backs, wait, moment = [], 0, time.time()
-    for it in parts:
+    for it in name.split(", "):
         act, of_server, seconds = FAULTS[it]
-        box = serving if of_server else site.boxes[random.choice(("one", "two", "three"))]
         # Two faults at once are of two machines.
-        if len(parts) == 2 and not of_server:
-            box = site.other(serving)
-        backs.append(act(site, box))
+        any_box = site.other(serving) if ", " in name else site.boxes[random.choice(("one", "two", "three"))]
+        backs.append(act(site, serving if of_server else any_box))
         wait = max(wait, seconds)
-    return [it for it in backs if callable(it)], wait, moment, serving
+    return [it for it in backs if callable(it)], 30 if ", " in name else wait, moment
 
 
-def takeover(site, moment, seconds):
-    """The seconds from a fault to the first answer of an office that began to serve after it."""
-    end = time.monotonic() + seconds
+def takeover(site, moment):
+    """The seconds from a fault to the first answer of an office that began to serve after it, and its machine."""
+    end = time.monotonic() + 90
     while time.monotonic() < end:
         site.collect()
-        begun = [it for it in site.reigns if it.moment > moment]
-        if begun:
-            first = [it for it in site.answers if it.moment >= begun[0].moment]
-            if first:
-                return first[0].moment - moment, begun[0].machine
+        begun = [it for it in site.reigns if it.begun > moment]
+        first = min((it.answered for it in site.answers if begun and it.answered >= begun[0].begun), default=None)
+        if first:
+            return first - moment, begun[0].machine
         time.sleep(0.3)
-    return None, None
+    raise AssertionError("nobody took over")
 
 
-def one_round(site, calling, name, times):
-    """Has something fail, waits until all is well again, and looks at every answer."""
-    backs, wait, moment, serving = begin_fault(site, name, calling)
-    if name in LONGEST:
-        took, machine = takeover(site, moment, 90)
-        assert took is not None, f"{name}: nobody took over"
-        times[name].append(took)
-        print(f"{name}: {machine} answered after {took:.1f} s")
-    time.sleep(max(0.0, wait - (time.time() - moment)))
+def one_round(site, calling, name):
+    """Has something fail, waits until all is well again, looks at every answer, and returns the seconds of a
+    takeover."""
+    backs, wait, moment = begin_fault(site, name)
+    took, machine = takeover(site, moment) if name in LONGEST else (None, None)
+    time.sleep(max(STAYS if backs else 0, wait - (time.time() - moment)))
     for it in backs:
         it()
-    wait_for(site, site.is_well, lambda: site.ill)
-    time.sleep(1)
+        site.backs.append(time.time())
+    until_well(site, site.is_well)
+    time.sleep(0.5)
     calling.tell("rest")
-    asked = len(calling.since(moment))
-    assert asked, f"{name}: nobody got an answer"
-    calling.tell(f"again {min(asked, 300)}")
-    wait_for(site, site.is_healed, lambda: "copies differ")
+    seen = calling.since(moment)
+    assert seen, "nobody got an answer"
+    differ = calling.look(60)
+    until_well(site, site.is_healed)
     site.collect()
-    look(site, calling, name)
+    found = wrong(site, calling, differ)
+    assert not found, f"{found}; {site.reigns[-6:]}"
+    if "," not in name:
+        found = errors(seen)
+        assert not found, f"callers saw errors: {found[:5]}"
     calling.tell("go")
-    return calling.since(moment)
+    waited = max(it["ended"] - it["begun"] for it in seen)
+    how = f"{machine} answered after {took:.1f} s" if machine else "nobody had to take over"
+    print(f"{name}: {how}; {len(seen)} answers, the longest took {waited:.1f} s; {time.time() - moment:.0f} s in all")
+    return took
 
 
-def wait_for(site, is_so, why):
+def until_well(site, is_so):
     with contextlib.suppress(AssertionError):
-        return until(is_so, seconds=180, pause=1)
-    look = ("journalctl --no-pager -u office -u office-volume -u office-watch -u office-way | tail -20; "
-            "ps aux | grep -E 'gluster|sshoffice|waiting' | cut -c1-150; tail -5 /var/log/glusterfs/office-volume.log")
-    said = [it.run(look, check=False).stdout for it in site.pair() if it.init]
-    raise AssertionError(f"{why()}\n" + "\n\n".join(said))
+        return until(is_so, seconds=180, pause=0.5)
+    commands = ("journalctl --no-pager -u 'office*' | tail -40; "
+                "ps aux | grep -E 'gluster|sshoffice|waiting' | cut -c1-150; tail -5 /var/log/glusterfs/office*.log")
+    said = [it.run(commands, check=False).stdout for it in site.pair() if it.init]
+    raise AssertionError("\n\n".join([site.ill, *said]))
 
 
-def look(site, calling, name):
-    assert [] == calling.faults, f"after {name} an answer isn't given again"
-    two = {serial: digests for serial, digests in calling.digests().items() if len(digests) > 1}
-    assert {} == two, f"after {name} a serial has two digests"
-    assert [] == site.intruders(), f"after {name} an old server answered: {site.reigns}"
-    bodies = site.tables()
-    for serial, digests in calling.digests().items():
-        assert serial in bodies and {hashlib.sha256(bodies[serial]).hexdigest()} == digests, f"after {name}: {serial}"
+def wrong(site, calling, differ, copy=None):
+    """What is wrong with the answers that were ever given, with the tables, and with who gave the answers."""
+    accepted, digests = calling.accepted()
+    found = {"an answer isn't given again": differ,
+             "a serial has two digests": [serial for serial, it in digests.items() if len(it) > 1],
+             "an old server answered": site.intruders()}
+    with opened(copy or until(site.copied, seconds=60, pause=0.5)) as tables:
+        found["the tables aren't sound"] = [it for it in tables.execute("PRAGMA integrity_check") if it != ("ok",)]
+        bodies = dict(tables.execute("SELECT serial, body FROM cert"))
+        kept = {(caller, key): (bytes(message), reply)
+                for caller, key, message, reply in tables.execute("SELECT caller, key, message, reply FROM request")}
+    found["an answer isn't in the tables"] = [
+        it for it in accepted if kept.get((it["caller"], it["key"])) != (it["message"].encode(), it["reply"])]
+    found["a certificate isn't in the tables"] = [
+        it for it in digests if digests[it] != {hashlib.sha256(bodies.get(it, b"")).hexdigest()}]
+    return {what: some[:5] for what, some in found.items() if some}
 
 
 def errors(records):
@@ -370,58 +470,51 @@ def errors(records):
     return [instead for it in records for instead in it["instead"] if isinstance(instead[1], int)]
 
 
-def test_faults_at_random(site, calling, request):
-    rounds = request.config.getoption("--rounds")
-    seed = random.randrange(2 ** 32)
+class Rounds:
+    """Faults that happen to several sites side by side, until there are no more or one has found something."""
+
+    def __init__(self, names):
+        self.waiting, self.times, self.answers = queue.SimpleQueue(), collections.defaultdict(list), []
+        self.failed = threading.Event()
+        for it in names:
+            self.waiting.put(it)
+
+    def on(self, site):
+        calling, name = Calling(site), "before the first fault"
+        try:
+            until(lambda: calling.since(0), seconds=60)
+            while not self.failed.is_set():
+                try:
+                    name = self.waiting.get_nowait()
+                except queue.Empty:
+                    break
+                took = one_round(site, calling, name)
+                if took is not None:
+                    self.times[name].append(took)
+            calling.tell("rest")
+            found = wrong(site, calling, calling.look(300))
+            assert not found, f"{found}; {site.reigns[-6:]}"
+            self.answers.append(len(calling.since(0)))
+        except Exception as fault:
+            self.failed.set()
+            raise AssertionError(f"{name}: {fault!r}") from fault
+        finally:
+            calling.end()
+
+
+def test_faults_at_random(sites, request):
+    rounds, seed = request.config.getoption("--rounds"), random.randrange(2 ** 32)
     print(f"seed {seed}")
-    draw, times = random.Random(seed), collections.defaultdict(list)
-    # Each fault at least once, and then by their weights.
-    first, more = min(rounds, len(WEIGHTS)), max(0, rounds - len(WEIGHTS))
-    names = draw.sample([*WEIGHTS], first) + draw.choices([*WEIGHTS], [*WEIGHTS.values()], k=more)
-    until(lambda: calling.since(0), seconds=60)
-    for name in names:
-        records = one_round(site, calling, name, times)
-        if "," not in name:
-            assert [] == errors(records), f"{name}: callers saw errors"
-    calling.tell("rest")
-    assert calling.tell("again 0")["asked"] >= rounds
-    look(site, calling, "all rounds")
-    for name, took in times.items():
+    names = drawn(random.Random(seed), rounds)
+    done = Rounds(names)
+    with ThreadPoolExecutor(len(sites)) as pool:
+        for it in [pool.submit(done.on, site) for site in sites]:
+            it.result()
+    for name, took in done.times.items():
         median = statistics.median(took)
         print(f"takeover, {name}: {median:.1f} s by the median of {len(took)}, {max(took):.1f} at most")
         assert max(took) <= LONGEST[name], f"takeover after {name}: {took}"
-    print(f"{len(calling.since(0))} answers in {rounds} rounds")
-
-
-def test_the_volume_s_default_is_refused_and_would_lose_certificates(site, request):
-    one, two = site.pair()
-    one.run("gluster --mode=script volume set office client.strict-locks off")
-    said = one.run("office-volume check", check=False)
-    assert 1 == said.returncode and "client.strict-locks is off, and has to be on" in said.stdout
-    one.run("systemctl stop office")
-    assert one.run("systemctl start office", check=False).returncode
-    # Without that look the offices start. If nobody ends the one that was cut off, two of them answer over one file.
-    for box in (one, two):
-        box.run("sed -i '/^client.strict-locks on$/d' /usr/local/bin/office-volume; systemctl stop office-watch.timer; "
-                "sed -i 's/ office-watch.timer$//' /etc/systemd/system/office.service.d/volume.conf; "
-                "systemctl daemon-reload; systemctl restart office-volume office || true")
-    until(site.serving, seconds=60)
-    calling = Calling(site)
-    try:
-        until(lambda: len(calling.since(0)) > 20, seconds=60)
-        serving = site.serving()
-        back = site.cut_link(serving)
-        until(lambda: site.reigns and site.reigns[-1].machine != serving.name or site.collect(), seconds=90, pause=0.5)
-        moment = time.time()
-        time.sleep(5)
-        back()
-        time.sleep(15)
-        site.collect()
-        two_digests = [serial for serial, digests in calling.digests().items() if len(digests) > 1]
-        assert two_digests or site.intruders(), "the default was harmless this time"
-        assert calling.since(moment)
-    finally:
-        calling.end()
+    print(f"{sum(done.answers)} answers in {rounds} rounds")
 
 
 @pytest.mark.parametrize("setting, said", [
@@ -432,6 +525,53 @@ def test_the_volume_s_default_is_refused_and_would_lose_certificates(site, reque
 def test_each_setting_is_looked_at(site, setting, said):
     one = site.boxes["one"]
     assert 0 == one.run("office-volume check").returncode
-    one.run(f"gluster --mode=script volume set office {setting}")
+    name, value = setting.split()
+    before = one.says(f"gluster --mode=script volume get office {name}").split()[-1]
+    one.run(f"gluster --mode=script volume set office {name} {value}")
     found = one.run("office-volume check", check=False)
     assert 1 == found.returncode and said in found.stdout
+    one.run(f"gluster --mode=script volume set office {name} {before}")
+    assert 0 == one.run("office-volume check").returncode
+
+
+def test_the_volume_s_default_is_refused_and_would_lose_certificates(site):
+    one, two = site.pair()
+    one.run("gluster --mode=script volume set office client.strict-locks off")
+    said = one.run("office-volume check", check=False)
+    assert 1 == said.returncode and "client.strict-locks is off, and has to be on" in said.stdout
+    # The one that serves is ended, and none starts.
+    until(lambda: not site.listening(), seconds=90)
+    assert one.run("systemctl restart office", check=False).returncode
+    # Without that look the offices start. If nobody ends the one that was cut off, two of them answer over one file.
+    for box in (one, two):
+        box.run("sed -i '/^client.strict-locks on$/d' /usr/local/bin/office-volume; systemctl stop office-watch.timer; "
+                "sed -i 's/ office-watch.timer$//' /etc/systemd/system/office.service.d/volume.conf; "
+                "systemctl daemon-reload; systemctl restart office-volume office || true")
+    calling = Calling(site)
+    try:
+        until(lambda: lost_by_a_cut(site, calling), seconds=400)
+    finally:
+        calling.end()
+
+
+def lost_by_a_cut(site, calling):
+    """Cuts the machine that serves off until the other has taken over, and returns what was lost. As nobody ends it, it
+    goes on when its link is back. On a busy machine the two may answer at once before that."""
+    until(lambda: site.listening(), seconds=120)
+    until(lambda: len(calling.since(0)) > 20, seconds=60)
+    moment = time.time()
+    back = site.cut_link(site.serving() or site.boxes["one"])
+    with contextlib.suppress(AssertionError):
+        takeover(site, moment)
+    time.sleep(3)
+    back()
+    time.sleep(15)
+    for it in site.pair():
+        it.run("systemctl stop office", check=False)
+    try:
+        return wrong(site, calling, [], until(lambda: site.copied_from(site.boxes["one"]), seconds=60))
+    except sqlite3.DatabaseError as fault:
+        return fault
+    finally:
+        for it in site.pair():
+            it.run("systemctl start office", check=False)

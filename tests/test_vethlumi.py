@@ -1,5 +1,6 @@
 """vethlumi, the client: each of its commands, by an office behind the front, and what an answer that is lost leaves."""
 import base64
+import hashlib
 import json
 import os
 import pathlib
@@ -374,6 +375,21 @@ def test_doctor_finds_what_is_well_and_what_is_not(clients, signed, front, serve
     assert 1 == status
     assert {"front's certificate": "bad", "office": "bad", "list here": "bad", "client's certificate": "ok"} == {
         name: found[name] for name in ("front's certificate", "office", "list here", "client's certificate")}
+
+
+@pytest.mark.parametrize("digest, age, state, found", [
+    (None, 0, "warn", "there is none"), ("0" * 64, 0, "bad", "is of another list"), ("", 60, "ok", "made 6"),
+    ("", 7200, "bad", "made 72"),
+])
+def test_doctor_looks_at_the_statement_of_the_list(clients, digest, age, state, found):
+    root = clients["root"]
+    assert 0 == root("list", "--out", "list")[0]
+    if digest is not None:
+        digest = digest or hashlib.sha256(pathlib.Path("list").read_bytes()).hexdigest()
+        pathlib.Path("list.statement").write_text(f"list {digest} 0 {int(time.time()) - age}\n-----BEGIN ..")
+    told = [json.loads(it) for it in root("doctor", "--krl", "list", "--json")[1].splitlines()]
+    it = next(it for it in told if it["what"] == "list's statement")
+    assert state == it["state"] and it["found"].startswith(found)
 
 
 def settle_sshd(client, **settings):

@@ -10,7 +10,7 @@ pub {name}_spec : {{M : Type 1}} → statement M
 {name}_spec = ?
 """
 TYPE = re.compile(r"\b(?:struct|enum|union)\s+(\w+)")
-ITEM = re.compile(r"\b(?:fn\s+(?P<fn>\w+)|impl\b(?P<impl>[^{;]*)|const\s+(?P<const>\w+)\s*:)")
+ITEM = re.compile(r"\b(?:fn\s+(?P<fn>\w+)|impl\b(?P<impl>[^{;]*)|trait\s+(?P<trait>\w+)[^{;]*|const\s+(?P<const>\w+)\s*:)")
 
 
 class Item:
@@ -129,6 +129,9 @@ def items_in(path, text, types):
                 found.append(Item(name, *body, head_of(text, item.start())))
                 # The functions of a trait are those that the trait names, and a cycle of calls has one proof.
                 found[-1].can_have_twins = not (within and within[-1][3]) and "#[cycle" not in text
+        elif item["trait"]:
+            # A trait's function may have a body, by which a check names the trait.
+            impls.append((item.end(), closing(text, item.end()), "::".join([*module, item["trait"]]), True))
         elif text[item.end() : item.end() + 1] == "{" and not re.search(r"[(,&=:>]\s*$", text[: item.start()]):
             is_of_trait = " for " in item["impl"]
             impls.append((item.end(), closing(text, item.end()), impl_name(item["impl"], module, types), is_of_trait))

@@ -1,7 +1,9 @@
-/* Refuses the allocation that REFUSED numbers, counted from 1, and then makes the file that MARK names. To be preloaded. */
+/* Refuses the allocation that REFUSED numbers, counted from 1, and then makes the file that MARK names. At the end the
+   file that COUNTED names, if it is set, is told how many there were. To be preloaded. */
 #include <errno.h>
 #include <fcntl.h>
 #include <stddef.h>
+#include <stdio.h>
 #include <stdlib.h>
 #include <unistd.h>
 
@@ -10,8 +12,18 @@ extern void *__libc_calloc(size_t, size_t);
 extern void *__libc_realloc(void *, size_t);
 extern void *__libc_memalign(size_t, size_t);
 
+static long count;
+
+__attribute__((destructor)) static void tell(void) {
+    const char *name = getenv("COUNTED");
+    if (!name) return;
+    int file = creat(name, 0600);
+    dprintf(file, "%ld", count);
+    close(file);
+}
+
 static int is_refused(void) {
-    static long count, refused = -1;
+    static long refused = -1;
     if (refused < 0) {
         const char *number = getenv("REFUSED");
         refused = number ? atol(number) : 0;

@@ -3,6 +3,7 @@ use Rattle.std.specs.Prelude.{◌≡◌, ◌||◌, ℕ, Bool, nat_lt, if◌then�
 use Rattle.std.specs.List.{list_any}
 use Rattle.guard.specs.declared.retiring.RetireFault.{RetireFault}
 use Rattle.guard.specs.declared.retiring.RetireFault.TheVariants.{BadSerials, SerialApproved, Register}
+use Rattle.guard.specs.Judged.{HasCause}
 use Rattle.guard.specs.Machine.{State}
 use Rattle.guard.specs.Retiring.{with_last}
 
@@ -17,8 +18,19 @@ retirement s last =
     else if is_approved_over s last then Err SerialApproved
     else Ok (with_last s last)
 
+-- the retired state, or what there was
+abbrev pub if_retired : State → Result State RetireFault → State
+if_retired s (Ok t) = t
+if_retired s (Err e) = s
+
 -- what came of it, and what is kept then: the retired state, or after a fault what was kept before
 abbrev pub Retires : State → ℕ → (keeps : State → Type 0) → Result (Unit {0}) RetireFault → Type 0
 Retires s last keeps (Ok done) = (retirement s last ≡ Ok (with_last s last)) × keeps (with_last s last)
 Retires s last keeps (Err (Register e)) = keeps s
 Retires s last keeps (Err e) = (retirement s last ≡ Err e) × keeps s
+
+-- what a fault says: one of the register has its cause
+abbrev pub HasRetireCause : Type 0 → RetireFault → Type 0
+HasRetireCause failed (Register e) = HasCause e failed
+HasRetireCause failed BadSerials = Unit {0}
+HasRetireCause failed SerialApproved = Unit {0}

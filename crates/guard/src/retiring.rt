@@ -1,8 +1,11 @@
 //! A guard's last serial, lowered.
 
-ghost use Rattle.std.specs.Prelude.{◌≡◌, ◌<◌, ◌^◌, IfOk};
+ghost use Rattle.std.specs.Prelude.{◌≡◌, ◌<◌, ◌^◌, IfErr, IfOk, OnOk};
+ghost use Rattle.guard.specs.Judged.{HasCause};
 ghost use Rattle.guard.specs.Machine.{State};
-ghost use Rattle.guard.specs.Retirement.{Retires, is_approved_over};
+ghost use Rattle.guard.specs.Retirement.{HasRetireCause, Retires, if_retired, is_approved_over};
+ghost use Rattle.guard.specs.Retirement.{retirement};
+ghost use Rattle.guard.specs.Retiring.{with_last};
 
 use crate::register::{Register, RegisterFault};
 use std::alloc::Global;
@@ -39,6 +42,10 @@ fn is_approved_over<R: Register>(
     ensures over { R.is_honest register.new → (s : State) → R.keeps register.old s
         → IfOk result (λ found. last < u64.MAX → found ≡ is_approved_over s last) }
     ensures same { R.is_honest register.new → (s : State) → R.keeps register.old s → R.keeps register.new s }
+    ensures crash { R.is_honest register.new → (s : State) → R.keeps register.old s → R.leaves register.old s s
+        → R.leaves register.new s s }
+    ensures cause { R.is_honest register.new → (s : State) → R.keeps register.old s
+        → IfErr result (λ e. HasCause e (R.has_failed register.new)) }
 {
     if last == u64::MAX {
         return Ok(false);
@@ -66,6 +73,18 @@ pub fn retire<R: Register>(alloc: Global, register: &mut R, last: u64) -> Result
     // The register then keeps the retired state, or what it kept.
     ensures retired { R.is_honest register.new → (s : State) → R.keeps register.old s → s.scope.last < 2 ^ 63
         → Retires s last (R.keeps register.new) result }
+
+    // A last serial that was lowered outlasts a crash.
+    ensures durable { R.is_honest register.new → (s : State) → R.keeps register.old s → s.scope.last < 2 ^ 63
+        → OnOk result (R.leaves register.new (with_last s last) (with_last s last)) }
+
+    // A crash in its midst leaves what was kept, or the retired state.
+    ensures crash { R.is_honest register.new → (s : State) → R.keeps register.old s → R.leaves register.old s s
+        → s.scope.last < 2 ^ 63 → R.leaves register.new s (if_retired s (retirement s last)) }
+
+    // A register that keeps a guard tells no damage, and is said to have failed only if its database has.
+    ensures cause { R.is_honest register.new → (s : State) → R.keeps register.old s
+        → IfErr result (HasRetireCause (R.has_failed register.new)) }
 {
     let scope = register.scope()?;
     if last < scope.first || scope.last < last {

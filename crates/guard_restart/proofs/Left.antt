@@ -1,9 +1,13 @@
 -- What a run leaves in the files.
-use Rattle.std.proofs.Common.{◌⊎◌, inl, inr, IsTrue}
+use Rattle.std.proofs.Common.{◌⊎◌, inl, inr, sym, subst, IsTrue, Result, Ok, Err}
 use Rattle.std.proofs.Math.Logic.{∥∥₁_elim}
 use Rattle.sqlite_disk.specs.declared.Disk.{Ghosts}
 use Rattle.sqlite_disk.specs.declared.Files.{Files}
 use Rattle.sqlite_wal.specs.Recovery.{Image}
+use Rattle.sqlite_wal.specs.Files.{outcomes}
+use Rattle.sqlite_wal.specs.Reads.{AreClean}
+use Rattle.sqlite_wal.proofs.LogLemmas.{SeenMayStay}
+use Rattle.sqlite_pool.proofs.StateLemmas.{may_leave_is}
 use Rattle.sqlite_trees.specs.Tree.{Trees}
 use Rattle.sqlite_store.specs.declared.store.FileStore.{FileStore}
 use Rattle.sqlite_store.specs.FileStore.{state, view, recovers}
@@ -14,8 +18,11 @@ use Rattle.sqlite.proofs.Theorems.{opens_again}
 use Rattle.guard.specs.State.{State}
 use Rattle.guard_sql.specs.Contents.{Kept}
 use Rattle.guard_sql.specs.Rows.{guard_contents}
+use Rattle.restart.specs.declared.ending.EndFault.{EndFault}
+use Rattle.restart.specs.declared.ending.EndFault.TheVariants.{GivenUp, Uncopied}
+use Rattle.restart.specs.Ending.{AreEnded}
 use Rattle.guard_restart.specs.Images.{HoldsOneOf}
-use Rattle.guard_restart.specs.Runs.{LeavesOneOf, LeavesWhatIsKept, RunKeepsGuard}
+use Rattle.guard_restart.specs.Runs.{EndsWell, LeavesOneOf, LeavesWhatIsKept, RunKeepsGuard}
 
 -- after a good close each outcome of a crash holds the last commit
 pub leaves_what_is_kept : {D : Type 0} {g : Ghosts D} (c : Held (FileStore D g)) (files : Files D) → IsCopied c files
@@ -39,6 +46,22 @@ pub leaves_one_of : {D : Type 0} {g : Ghosts D} (c : Held (FileStore D g)) (it :
 leaves_one_of c it numbered sound fewer s t left image may =
     ∥∥₁_elim (opens_again it numbered sound image may) squash₁
     (λ db. holds_left s t image db.0 db.2 (left db.0 (fewer db.0 db.1)))
+
+-- how a connection ended says what its files hold
+pub ends_well : {D : Type 0} {g : Ghosts D} → SeenMayStay g → (c : Held (FileStore D g)) (r : Result Unit EndFault)
+    (files : Files D) → AreEnded c r files → EndsWell c r files
+ends_well {D} {g} stays c (Ok done) files ended = λ clean.
+    let copied = ended.1 clean in (copied.was_clean, leaves_what_is_kept c files copied)
+ends_well {D} {g} stays c (Err (GivenUp error)) files ended = λ clean.
+    let it = (ended clean).given in (
+      it.up.clean,
+      λ s t left image may.
+          let now : (state it.it).may_leave image =
+          may_leave_is it.it.pool image (subst (λ (p : D × D). AreClean g p.0 p.1) (sym it.are_its) clean)
+          (subst (λ (p : D × D). outcomes g p.0 p.1 image) (sym it.are_its) may) in
+          leaves_one_of c it.it it.up.numbered it.up.sound it.up.fewer s t left image now,
+    )
+ends_well stays c (Err (Uncopied error)) files ended = tt
 
 -- what was had at the open is kept at the end, perhaps with more bodies, and the close leaves that
 pub run_keeps_guard : {D : Type 0} {g : Ghosts D} (files : Files D) → RunKeepsGuard g files

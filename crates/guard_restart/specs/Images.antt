@@ -5,6 +5,7 @@ use Rattle.sqlite_trees.specs.Tree.{Trees}
 use Rattle.sqlite.specs.Files.{HoldsDatabase}
 use Rattle.guard.specs.State.{State}
 use Rattle.guard_sql.specs.Contents.{Kept}
+use Rattle.guard_sql.specs.Keeping.{IsGuard}
 use Rattle.guard_sql.specs.Rows.{guard_contents}
 
 -- a database with the rows of the guard of this state
@@ -12,6 +13,10 @@ pub record HoldsGuard (image : Image) (s : State) : Type 0 where
   pub trees : Trees
   pub holds : ∥ HoldsDatabase image trees ∥₁
   pub kept : Kept trees (guard_contents s)
+
+-- the guard of this state, which tables may keep
+abbrev pub HoldsKept : Image → State → Type 0
+HoldsKept image s = IsGuard s × HoldsGuard image s
 
 -- the guard of the one state or that of the other
 abbrev pub HoldsOneOf : Image → State → State → Type 0

@@ -1,5 +1,5 @@
 -- One run of a program that keeps a guard, from the two files that it finds to those that it leaves.
-use Rattle.std.specs.Prelude.{IsTrue}
+use Rattle.std.specs.Prelude.{IsTrue, Result, Ok, Err}
 use Rattle.sqlite_disk.specs.declared.Disk.{Ghosts}
 use Rattle.sqlite_disk.specs.declared.Files.{Files}
 use Rattle.sqlite_wal.specs.Recovery.{Image}
@@ -15,6 +15,8 @@ use Rattle.guard.specs.State.{State}
 use Rattle.guard_sql.specs.Contents.{Kept}
 use Rattle.guard_sql.specs.Keeping.{HasGuard, IsBlank, IsGuard, Keeps, Leaves}
 use Rattle.guard_sql.specs.Rows.{guard_contents}
+use Rattle.restart.specs.declared.ending.EndFault.{EndFault}
+use Rattle.restart.specs.declared.ending.EndFault.TheVariants.{GivenUp, Uncopied}
 use Rattle.restart.specs.Images.{HoldsNone}
 use Rattle.guard_restart.specs.Images.{HoldsGuard, HoldsOneOf}
 
@@ -47,6 +49,18 @@ ClosesWell {D} {g} conn files = AreClean g files.log files.db → LeavesWhatIsKe
 abbrev pub LeavesOneOf : Connection → (Image → Type 0) → Type 0
 LeavesOneOf c may_leave =
     (s t : State) → Leaves c s t → (image : Image) → may_leave image → HoldsOneOf image s t
+
+-- How the connection ended, if its disk has returned what was written: it was closed, and whatever a crash makes of
+-- the files, they hold the guard that was kept. Or it was given up, and they hold one of the two guards that a crash
+-- left. Of a log that couldn't be copied nothing is said.
+abbrev pub EndsWell : {D : Type 0} {g : Ghosts D} → Held (FileStore D g) → Result (Unit {0}) EndFault → Files D
+    → Type 0
+EndsWell {D} {g} conn (Ok done) files =
+    AreClean g files.log files.db → HasCleanDisk (file_state conn) × LeavesWhatIsKept g (file_state conn) files
+EndsWell {D} {g} conn (Err (GivenUp error)) files =
+    AreClean g files.log files.db
+    → HasCleanDisk (file_state conn) × LeavesOneOf (file_state conn) (outcomes g files.log files.db)
+EndsWell {D} {g} conn (Err (Uncopied error)) files = Unit {0}
 
 -- ---- the whole run
 

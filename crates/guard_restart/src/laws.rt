@@ -1,6 +1,7 @@
 //! Laws of a guard from run to run: functions without a body, whose contracts a caller cites.
 
 ghost use Rattle.sqlite.specs.Held.{state};
+ghost use Rattle.guard_restart.specs.Lives.{LivesKeep};
 ghost use Rattle.guard_restart.specs.Runs.{FoundIsHad, RunKeepsGuard};
 
 use sqlite::{Alter, Connection, Files};
@@ -12,6 +13,12 @@ pub fn what_is_found_is_had<S: Alter>(conn: &Connection<S>)
 {
     let _ = conn;
 }
+
+/// After every list of runs the files hold each body that they held at first, and each that any run said may be signed.
+/// A crash may have ended each run.
+pub fn lives_keep_what_was_signed()
+    ensures { LivesKeep }
+{}
 
 /// A run that was closed well leaves files that hold the guard which it found, with the bodies that it approved.
 pub fn a_run_keeps_the_guard<D: Disk + Drop>(files: &Files<D>)

@@ -4,9 +4,11 @@
 #![tactic(auto)]
 
 mod closing;
+mod ending;
 mod laws;
 mod opening;
 
 pub use closing::{close_at, close_path, store_of};
-pub use laws::{a_run_keeps_the_guard, what_is_found_is_had};
+pub use ending::{end_at, end_path};
+pub use laws::{a_run_keeps_the_guard, lives_keep_what_was_signed, what_is_found_is_had};
 pub use opening::{open_again, open_at};

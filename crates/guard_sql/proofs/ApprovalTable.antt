@@ -61,13 +61,13 @@ put = insert puts
 abbrev columns : List Term
 columns = col 1 0 ∷ col 1 2 ∷ col 1 3 ∷ []
 
-abbrev shown_row : Row → Row
+abbrev pub shown_row : Row → Row
 shown_row v = column v 0 ∷ column v 1 ∷ column v 2 ∷ []
 
 abbrev names : List (List ℕ)
 names = codes "serial" ∷ codes "moment" ∷ codes "body" ∷ []
 
-find_is : IsSelect whole FIND_APPROVED.now
+pub find_is : IsSelect whole FIND_APPROVED.now
     (on_table 1 (op2 (Compare Eq Binary) (col 1 0) (col 0 0) ∷ []) columns []) names 1
 unfolding everything
 find_is = query whole FIND_APPROVED.now _ _ 1 refl refl

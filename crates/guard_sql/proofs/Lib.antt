@@ -18,6 +18,7 @@ pub mod TransactionParts
 pub mod Words
 pub mod Wholes
 pub mod Newest
+pub mod Damaged
 pub mod Answering
 pub mod Changed
 pub mod Scopes

@@ -3,6 +3,7 @@ pub mod Granted
 pub mod Schema
 pub mod Cells
 pub mod Contents
+pub mod Damage
 pub mod Changes
 pub mod Calls
 pub mod Refusals

@@ -1,8 +1,10 @@
 //! The table of approved bodies.
 
+ghost use Rattle.store_sql.specs.Honest.{On};
 ghost use Rattle.guard_sql.specs.Calls.{FindsOne, FindsSuch};
 ghost use Rattle.guard_sql.specs.Changes.{approved_under, with_approval};
 ghost use Rattle.guard_sql.specs.Contents.{IsFirstFrom};
+ghost use Rattle.guard_sql.specs.Damage.{SaysRowUnless};
 ghost use Rattle.guard_sql.specs.Refusals.{RefusesApproval};
 ghost use Rattle.guard_sql.specs.Statements.{Reads, Writes};
 
@@ -84,7 +86,10 @@ pub(crate) fn find_approval<S: Alter>(
     conn: &mut Connection<S>,
     serial: Number,
 ) -> Result<Option<ApprovalRow>, Fault>
-    ensures { Reads S.Store (FindsOne (approved_under serial)) conn.old conn.new result }
+    ensures reads { Reads S.Store (FindsOne (approved_under serial)) conn.old conn.new result }
+
+    // Whatever rows the table holds, it is answered what those of the serial say.
+    ensures says { On S.Store (SaysRowUnless serial) conn.old conn.new result }
 {
     found_first(alloc, conn.query_all(FIND_APPROVED, &[value_of(serial)]))
 }

@@ -1,9 +1,13 @@
 //! The tables are a register.
 
 ghost use Rattle.std.proofs.Common.{inl, inr};
-ghost use Rattle.std.specs.Prelude.{◌≡◌};
+ghost use Rattle.std.specs.Prelude.{◌≡◌, IfErr, IfOk};
 ghost use Rattle.sqlite.specs.Held.{state};
 ghost use Rattle.sqlite.specs.State.{HasCleanDisk};
+ghost use Rattle.store_sql.specs.Honest.{On};
+ghost use Rattle.guard.specs.Judged.{HasCause};
+ghost use Rattle.guard.specs.State.{State, body_of};
+ghost use Rattle.guard_sql.specs.Damage.{SaysBodyUnless};
 ghost use Rattle.guard_sql.specs.Keeping.{HasFailed, Keeps, Leaves};
 
 use crate::serving::{body_of, keep, row_from, set_last};
@@ -26,7 +30,25 @@ impl<S: Alter> Register for GuardStore<S> {
         Ok(self.scope)
     }
 
-    fn body_of(&mut self, alloc: Global, serial: u64) -> Result<Option<Text>, RegisterFault> {
+    fn body_of(&mut self, alloc: Global, serial: u64) -> Result<Option<Text>, RegisterFault>
+        ensures honest { HasCleanDisk (state S.Store self.new.conn) → HasCleanDisk (state S.Store self.old.conn) }
+        ensures row { HasCleanDisk (state S.Store self.new.conn) → (s : State)
+            → (self.old.scope ≡ s.scope) × Keeps (state S.Store self.old.conn) s
+            → IfOk result (λ b. b ≡ body_of s serial) }
+        ensures same { HasCleanDisk (state S.Store self.new.conn) → (s : State)
+            → (self.old.scope ≡ s.scope) × Keeps (state S.Store self.old.conn) s
+            → (self.new.scope ≡ s.scope) × Keeps (state S.Store self.new.conn) s }
+        ensures crash { HasCleanDisk (state S.Store self.new.conn) → (s : State)
+            → (self.old.scope ≡ s.scope) × Keeps (state S.Store self.old.conn) s
+            → Leaves (state S.Store self.old.conn) s s → Leaves (state S.Store self.new.conn) s s }
+        ensures cause { HasCleanDisk (state S.Store self.new.conn) → (s : State)
+            → (self.old.scope ≡ s.scope) × Keeps (state S.Store self.old.conn) s
+            → IfErr result (λ e. HasCause e (HasFailed (state S.Store self.new.conn))) }
+
+        // Whatever rows the table of bodies holds, what is answered is what they say. Other rows than a guard writes are
+        // told damaged.
+        ensures says { On S.Store (SaysBodyUnless serial) self.old.conn self.new.conn result }
+    {
         body_of(alloc, &mut self.conn, serial)
     }
 

@@ -5,6 +5,8 @@ ghost use Rattle.std.specs.Option.{option_map};
 ghost use Rattle.guard.specs.Judged.{IsKeepable};
 ghost use Rattle.guard.specs.Machine.{body_of, with_approved};
 ghost use Rattle.guard.specs.Retiring.{IsLowered, IsRowFrom, with_last};
+ghost use Rattle.store_sql.specs.Honest.{On};
+ghost use Rattle.guard_sql.specs.Damage.{SaysBodyUnless};
 ghost use Rattle.guard_sql.specs.Registering.{LeadsOf, ShowsOf};
 ghost use Rattle.guard_sql.specs.Rows.{approved_in};
 
@@ -42,7 +44,8 @@ pub(crate) fn body_of<S: Alter>(
     conn: &mut Connection<S>,
     serial: u64,
 ) -> Result<Option<Text>, RegisterFault>
-    ensures { ShowsOf S.Store (λ s body. body ≡ body_of s serial) conn.old conn.new result }
+    ensures shows { ShowsOf S.Store (λ s body. body ≡ body_of s serial) conn.old conn.new result }
+    ensures says { On S.Store (SaysBodyUnless serial) conn.old conn.new result }
 {
     let Some(serial) = Number::new(serial) else {
         return Ok(None);

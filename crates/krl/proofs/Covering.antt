@@ -9,13 +9,16 @@ use Rattle.krl.proofs.Maximal.{covered_by}
 pub ends_from : (from k : ℕ) (rs : List Run) (d : Run) → AreRunsFrom from rs → k < length rs → from ≤ (get_or rs k d).hi
 ends_from from k [] d h lt = absurd (omega arith)
 ends_from from zero (r ∷ rs) d h lt = let a : r.lo ≤ r.hi = h.1 in let b : from ≤ r.lo = h.0 in omega arith
-ends_from from (suc k) (r ∷ rs) d h lt = let a : r.lo ≤ r.hi = h.1 in let b : from ≤ r.lo = h.0 in let c = ends_from (r.hi + 2) k rs d h.3 (omega arith) in omega arith
+ends_from from (suc k) (r ∷ rs) d h lt = let a : r.lo ≤ r.hi = h.1 in let b : from ≤ r.lo = h.0 in let c =
+    ends_from (r.hi + 2) k rs d h.3 (omega arith) in omega arith
 
 -- each begins there or above
-pub begins_from : (from k : ℕ) (rs : List Run) (d : Run) → AreRunsFrom from rs → k < length rs → from ≤ (get_or rs k d).lo
+pub begins_from : (from k : ℕ) (rs : List Run) (d : Run) → AreRunsFrom from rs → k < length rs
+    → from ≤ (get_or rs k d).lo
 begins_from from k [] d h lt = absurd (omega arith)
 begins_from from zero (r ∷ rs) d h lt = h.0
-begins_from from (suc k) (r ∷ rs) d h lt = let a : r.lo ≤ r.hi = h.1 in let b : from ≤ r.lo = h.0 in let c = begins_from (r.hi + 2) k rs d h.3 (omega arith) in omega arith
+begins_from from (suc k) (r ∷ rs) d h lt = let a : r.lo ≤ r.hi = h.1 in let b : from ≤ r.lo = h.0 in let c =
+    begins_from (r.hi + 2) k rs d h.3 (omega arith) in omega arith
 
 -- they begin in their order
 pub are_parted : (from serial : ℕ) (rs : List Run) → AreRunsFrom from rs → IsPartitionedBy (λ r. leb r.lo serial) rs
@@ -27,10 +30,12 @@ are_parted from serial (r ∷ rs) h zero (suc j) d le lt e =
     let c = leb-true (get_or rs j d).lo serial e in
     le-leb r.lo serial (omega arith)
 are_parted from serial (r ∷ rs) h (suc i) zero d le lt e = absurd (omega arith)
-are_parted from serial (r ∷ rs) h (suc i) (suc j) d le lt e = are_parted (r.hi + 2) serial rs h.3 i j d (omega arith) (omega arith) e
+are_parted from serial (r ∷ rs) h (suc i) (suc j) d le lt e =
+    are_parted (r.hi + 2) serial rs h.3 i j d (omega arith) (omega arith) e
 
 -- of runs that begin above it none covers an interval
-pub none_covers : (lo hi : ℕ) (rs : List Run) → ((k : ℕ) (d : Run) → k < length rs → leb (get_or rs k d).lo lo ≡ false) → list_any (covered_by lo hi) rs ≡ false
+pub none_covers : (lo hi : ℕ) (rs : List Run) → ((k : ℕ) (d : Run) → k < length rs → leb (get_or rs k d).lo lo ≡ false)
+    → list_any (covered_by lo hi) rs ≡ false
 none_covers lo hi [] above = refl
 none_covers lo hi (r ∷ rs) above =
     let out : leb r.lo lo ≡ false = above 0 r (omega arith) in
@@ -43,11 +48,14 @@ pub last_covers : (from lo hi i : ℕ) (rs : List Run) (d : Run) → AreRunsFrom
     → list_any (covered_by lo hi) rs ≡ leb hi (get_or rs i d).hi
 last_covers from lo hi i [] d h lt below above = absurd (omega arith)
 last_covers from lo hi zero (r ∷ rs) d h lt below above =
-    rw below (rw (none_covers lo hi rs (λ k e less. above (suc k) e (omega arith) (omega arith))) (or-false (leb hi r.hi)))
+    rw below (rw (none_covers lo hi rs (λ k e less. above (suc k) e (omega arith) (omega arith)))
+    (or-false (leb hi r.hi)))
 last_covers from lo hi (suc i) (r ∷ rs) d h lt below above =
-    let rest = last_covers (r.hi + 2) lo hi i rs d h.3 (omega arith) below (λ k e less more. above (suc k) e (omega arith) (omega arith)) in
+    let rest = last_covers (r.hi + 2) lo hi i rs d h.3 (omega arith) below
+    (λ k e less more. above (suc k) e (omega arith) (omega arith)) in
     let ends = ends_from (r.hi + 2) i rs d h.3 (omega arith) in
-    rw rest (either (leb r.lo lo) (leb hi r.hi) (leb hi (get_or rs i d).hi) (λ there. le-leb hi (get_or rs i d).hi (let a = leb-true hi r.hi there in omega arith)))
+    rw rest (either (leb r.lo lo) (leb hi r.hi) (leb hi (get_or rs i d).hi)
+    (λ there. le-leb hi (get_or rs i d).hi (let a = leb-true hi r.hi there in omega arith)))
   where
     either : (a b c : Bool) → (b ≡ true → c ≡ true) → ((a && b) || c) ≡ c
     either true true c imply = sym (imply refl)

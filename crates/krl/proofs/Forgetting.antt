@@ -62,12 +62,14 @@ none_above from (r ∷ rs) h =
 
 -- the part of a blob
 part_of : (blob : List ℕ) (cas : List CaPart)
-    → ((p : CaPart) × IsCaPartOf p cas × (key_blob p.ca ≡ blob)) ⊎ ((p : CaPart) → IsCaPartOf p cas → key_blob p.ca ≢ blob)
+    → ((p : CaPart) × IsCaPartOf p cas × (key_blob p.ca ≡ blob))
+    ⊎ ((p : CaPart) → IsCaPartOf p cas → key_blob p.ca ≢ blob)
 part_of blob [] = inr (λ p c. absurd c)
 part_of blob (q ∷ cas) = by_test (bytes_eq (key_blob q.ca) blob) refl (part_of blob cas)
   where
     by_test : (b : Bool) → bytes_eq (key_blob q.ca) blob ≡ b
-        → (((p : CaPart) × IsCaPartOf p cas × (key_blob p.ca ≡ blob)) ⊎ ((p : CaPart) → IsCaPartOf p cas → key_blob p.ca ≢ blob))
+        → (((p : CaPart) × IsCaPartOf p cas × (key_blob p.ca ≡ blob))
+        ⊎ ((p : CaPart) → IsCaPartOf p cas → key_blob p.ca ≢ blob))
         → ((p : CaPart) × IsCaPartOf p (q ∷ cas) × (key_blob p.ca ≡ blob))
         ⊎ ((p : CaPart) → IsCaPartOf p (q ∷ cas) → key_blob p.ca ≢ blob)
     by_test true same more = inl (q, inl refl, (bytes_eq-Decides (key_blob q.ca) blob).0 same)
@@ -143,7 +145,8 @@ something ids p h = by_runs p.runs refl
           r.lo,
           [],
           ap (λ x. contains x r.lo || is_key_id ids []) e
-              ∙ or_left (contains (r ∷ rs) r.lo) (is_key_id ids []) (or_left (is_within r.lo r) (contains rs r.lo) (is_in r.lo r.lo r.hi (omega arith) runs.1)),
+              ∙ or_left (contains (r ∷ rs) r.lo) (is_key_id ids [])
+              (or_left (is_within r.lo r) (contains rs r.lo) (is_in r.lo r.lo r.hi (omega arith) runs.1)),
         )
     by_runs [] e = by_ids ids refl
       where
@@ -154,7 +157,8 @@ something ids p h = by_runs p.runs refl
           0,
           i,
           ap (λ x. contains p.runs 0 || is_key_id x i) f
-              ∙ ap (λ x. contains p.runs 0 || x) (or_left (bytes_eq i i) (is_key_id is i) ((bytes_eq-Decides i i).1 refl)) ∙ or_true (contains p.runs 0),
+              ∙ ap (λ x. contains p.runs 0 || x)
+              (or_left (bytes_eq i i) (is_key_id is i) ((bytes_eq-Decides i i).1 refl)) ∙ or_true (contains p.runs 0),
         )
 
 -- ---- what is forgotten
@@ -170,9 +174,11 @@ module _ (o n : Contents) (h : AreContents o) (k : AreContents n) where
   pub kept_is_enough : ArePartsKept o.cas n.cas → IdsKept o.ids n.ids → ForgetsNothing (list_of o) (list_of n)
   kept_is_enough parts ids blob serial key_id revoked = by_part (part_of blob o.cas)
     where
-      by_part : (((p : CaPart) × IsCaPartOf p o.cas × (key_blob p.ca ≡ blob)) ⊎ ((p : CaPart) → IsCaPartOf p o.cas → key_blob p.ca ≢ blob))
+      by_part : (((p : CaPart) × IsCaPartOf p o.cas × (key_blob p.ca ≡ blob))
+          ⊎ ((p : CaPart) → IsCaPartOf p o.cas → key_blob p.ca ≢ blob))
           → revokes blob serial key_id (list_of n) ≡ true
-      by_part (inr none) = clash (revokes blob serial key_id (list_of o)) revoked ((exact o h).others blob none serial key_id)
+      by_part (inr none) =
+          clash (revokes blob serial key_id (list_of o)) revoked ((exact o h).others blob none serial key_id)
       by_part (inl part) = by_found (find_ca part.0 n.cas) refl (one_kept o.cas n.cas part.0 parts part.1)
         where
           says : (contains part.0.runs serial || is_key_id o.ids key_id) ≡ true
@@ -209,7 +215,8 @@ module _ (o n : Contents) (h : AreContents o) (k : AreContents n) where
       let id = fresh n.ids in
       let old = (exact o h).own p c serial id ∙ or_left (contains p.runs serial) (is_key_id o.ids id) is in
       let new = sym (new_says p q.0 serial id q.1) ∙ f (key_blob p.ca) serial id old in
-      sym (or-false (contains q.0.runs serial)) ∙ ap (λ b. contains q.0.runs serial || b) (sym (not_fresh n.ids)) ∙ new))
+      sym (or-false (contains q.0.runs serial)) ∙ ap (λ b. contains q.0.runs serial || b) (sym (not_fresh n.ids))
+      ∙ new))
 
   pub ids_must_be_kept : ForgetsNothing (list_of o) (list_of n) → IdsKept o.ids n.ids
   ids_must_be_kept f i is = by_cas o.cas refl
@@ -228,8 +235,12 @@ module _ (o n : Contents) (h : AreContents o) (k : AreContents n) where
   -- what is kept by parts and key ids is kept by pairs
   pairs_kept : ArePartsKept o.cas n.cas → IdsKept o.ids n.ids → KeepsEachPair o n
   pairs_kept parts ids = record {
-    serials = λ ca serial named. by_found named.0 (find_ca named.0 n.cas) refl (one_kept o.cas n.cas named.0 parts named.1) ca serial named.2 named.3;
-    key_ids = λ ca key_id named. by_id named.0 (find_ca named.0 n.cas) refl (one_kept o.cas n.cas named.0 parts named.1) ca key_id named.2 (ids key_id named.3);
+    serials =
+        λ ca serial named. by_found named.0 (find_ca named.0 n.cas) refl
+        (one_kept o.cas n.cas named.0 parts named.1) ca serial named.2 named.3;
+    key_ids =
+        λ ca key_id named. by_id named.0 (find_ca named.0 n.cas) refl
+        (one_kept o.cas n.cas named.0 parts named.1) ca key_id named.2 (ids key_id named.3);
   }
     where
       by_found : (p : CaPart) (f : Option CaPart) → find_ca p n.cas ≡ f → IsKeptBy p f → (ca : List ℕ) (serial : ℕ)
@@ -255,11 +266,14 @@ module _ (o n : Contents) (h : AreContents o) (k : AreContents n) where
       says : (q : CaPart) → IsCaPartOf q n.cas → (ca : List ℕ) → q.ca ≡ ca → key_blob ca ≡ blob
           → (contains q.runs serial || is_key_id n.ids key_id) ≡ true → revokes blob serial key_id (list_of n) ≡ true
       says q c ca same is named =
-          ap (λ b. revokes b serial key_id (list_of n)) (sym (ap key_blob same ∙ is)) ∙ (exact n k).own q c serial key_id ∙ named
+          ap (λ b. revokes b serial key_id (list_of n)) (sym (ap key_blob same ∙ is))
+          ∙ (exact n k).own q c serial key_id ∙ named
 
-      by_part : (((p : CaPart) × IsCaPartOf p o.cas × (key_blob p.ca ≡ blob)) ⊎ ((p : CaPart) → IsCaPartOf p o.cas → key_blob p.ca ≢ blob))
+      by_part : (((p : CaPart) × IsCaPartOf p o.cas × (key_blob p.ca ≡ blob))
+          ⊎ ((p : CaPart) → IsCaPartOf p o.cas → key_blob p.ca ≢ blob))
           → revokes blob serial key_id (list_of n) ≡ true
-      by_part (inr none) = clash (revokes blob serial key_id (list_of o)) revoked ((exact o h).others blob none serial key_id)
+      by_part (inr none) =
+          clash (revokes blob serial key_id (list_of o)) revoked ((exact o h).others blob none serial key_id)
       by_part (inl part) =
           let old = sym ((exact o h).own part.0 part.1 serial key_id)
           ∙ ap (λ b. revokes b serial key_id (list_of o)) part.2 ∙ revoked in

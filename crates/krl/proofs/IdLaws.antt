@@ -93,7 +93,8 @@ all_more (y ∷ xs) x h p = (h.0, all_more xs x h.1 p)
 text_more : (xs : List (List ℕ)) (x rest : List ℕ)
     → flat_map string_text (xs ++ x ∷ []) ++ rest ≡ flat_map string_text xs ++ (string_text x ++ rest)
 text_more xs x rest =
-    ap (λ t. t ++ rest) (sym (flat_map_more string_text [] xs x)) ∙ append_assoc (flat_map string_text xs) (string_text x) rest
+    ap (λ t. t ++ rest) (sym (flat_map_more string_text [] xs x))
+    ∙ append_assoc (flat_map string_text xs) (string_text x) rest
 
 -- one key id more was read
 pub one_id : (bytes rest next id : List ℕ) (last : Option (List ℕ)) → IdsSoFar bytes last rest → rest ≢ []
@@ -101,7 +102,8 @@ pub one_id : (bytes rest next id : List ℕ) (last : Option (List ℕ)) → IdsS
     → IdsSoFar bytes (Some id) next
 one_id bytes rest next id last so some behind short text reads = record {
   done = so.done ++ id ∷ [];
-  lawful = λ ids h. subst Ascend (sym (append_assoc so.done (id ∷ []) ids)) (so.lawful (id ∷ ids) (next_all last id ids behind h));
+  lawful = λ ids h. subst Ascend (sym (append_assoc so.done (id ∷ []) ids))
+      (so.lawful (id ∷ ids) (next_all last id ids behind h));
   short = all_more so.done id so.short short;
   read = so.read ∙ ap (λ t. flat_map string_text so.done ++ t) text ∙ sym (text_more so.done id next);
   left = λ ids are.
@@ -111,12 +113,17 @@ one_id bytes rest next id last so some behind short text reads = record {
       let id_is : id ≡ first.0 = ap (λ (x : List ℕ × List ℕ). x.0) same in
       let next_is : next ≡ flat_map string_text first.1 = ap (λ (x : List ℕ × List ℕ). x.1) same in
       let rise : AscendNext last (first.0 ∷ first.1) = subst (AscendNext last) first.2 others.1 in
-      let all : AllByRecursion IsString (first.0 ∷ first.1) = subst (AllByRecursion IsString) first.2 others.2 in
-      (first.1, subst (λ i. AscendNext (Some i) first.1) (sym id_is) (next_one last first.0 first.1 rise).1, all.1, next_is);
+      let all : AllByRecursion IsString (first.0 ∷ first.1) = subst (AllByRecursion IsString) first.2 others.2 in (
+        first.1,
+        subst (λ i. AscendNext (Some i) first.1) (sym id_is) (next_one last first.0 first.1 rise).1,
+        all.1,
+        next_is,
+      );
 }
 
 -- where no key id is read, or one that doesn't come next, the whole is no list of key ids
-pub not_ids : (bytes rest : List ℕ) (last : Option (List ℕ)) (result : Option (List ℕ × List ℕ)) → IdsSoFar bytes last rest
+pub not_ids : (bytes rest : List ℕ) (last : Option (List ℕ)) (result : Option (List ℕ × List ℕ))
+    → IdsSoFar bytes last rest
     → rest ≢ [] → result ≡ string_at rest
     → ((id next : List ℕ) → result ≡ Some (id, next) → AscendNext last (id ∷ []) → ⊥) → (ids : List (List ℕ))
     → AreIds bytes ids → ⊥
@@ -227,18 +234,23 @@ module _ (ids others : List (List ℕ)) (wanted rest id after : List ℕ) (k : I
       new = second.0;
       old_are = k.old_are;
       new_are = second.3;
-      fewer = λ kept i is. elim (or_cases (bytes_eq other i) (is_key_id second.0 i) (sym (ap (λ ns. is_key_id ns i) second.1) ∙ k.fewer kept i is)) [
-        | inl same ↦
-            let is_other : other ≡ i = (bytes_eq-Decides other i).0 same in
-            clash (is_key_id k.old i) is (ap (λ os. is_key_id os i) first.1 ∙ ap (is_key_id (id ∷ first.0)) (sym is_other)
-            ∙ rw (apart-back other id less) (not_among other id first.0 first.2 less))
-        | inr later ↦ later.1
-      ];
-      whole = λ kept. k.whole (λ i is. ap (λ ns. is_key_id ns i) second.1 ∙ rw (kept i is) (or_true (bytes_eq other i)));
+      fewer = λ kept i is. elim
+          (or_cases (bytes_eq other i) (is_key_id second.0 i)
+          (sym (ap (λ ns. is_key_id ns i) second.1) ∙ k.fewer kept i is)) [
+            | inl same ↦
+                let is_other : other ≡ i = (bytes_eq-Decides other i).0 same in
+                clash (is_key_id k.old i) is (ap (λ os. is_key_id os i) first.1
+                ∙ ap (is_key_id (id ∷ first.0)) (sym is_other)
+                ∙ rw (apart-back other id less) (not_among other id first.0 first.2 less))
+            | inr later ↦ later.1
+          ];
+      whole = λ kept. k.whole (λ i is. ap (λ ns. is_key_id ns i) second.1
+          ∙ rw (kept i is) (or_true (bytes_eq other i)));
     }
       where
         apart-back : (a b : List ℕ) → slice_cmp nat_cmp a b ≡ Less → bytes_eq b a ≡ false
-        apart-back a b less = sym (is_eq-slice_cmp b a) ∙ ap is_eq (nat_list_cmp_total.antisymm b a ∙ ap ordering_reverse less)
+        apart-back a b less = sym (is_eq-slice_cmp b a)
+            ∙ ap is_eq (nat_list_cmp_total.antisymm b a ∙ ap ordering_reverse less)
 
     -- the key id is there
     pub keep_id : slice_cmp nat_cmp other id ≡ Equal → IdsStillKept ids others after rest
@@ -248,12 +260,15 @@ module _ (ids others : List (List ℕ)) (wanted rest id after : List ℕ) (k : I
       old_are = first.3;
       new_are = k.new_are;
       fewer = λ kept i is. k.fewer kept i (ap (λ os. is_key_id os i) first.1 ∙ rw is (or_true (bytes_eq id i)));
-      whole = λ kept. k.whole (λ i is. elim (or_cases (bytes_eq id i) (is_key_id first.0 i) (sym (ap (λ os. is_key_id os i) first.1) ∙ is)) [
-        | inl this ↦
-            let all_same : other ≡ i = equal other id same ∙ (bytes_eq-Decides id i).0 this in
-            ap (λ ns. is_key_id ns i) second.1 ∙ or_left (bytes_eq other i) (is_key_id second.0 i) ((bytes_eq-Decides other i).1 all_same)
-        | inr later ↦ kept i later.1
-      ]);
+      whole = λ kept. k.whole
+          (λ i is. elim
+          (or_cases (bytes_eq id i) (is_key_id first.0 i) (sym (ap (λ os. is_key_id os i) first.1) ∙ is)) [
+            | inl this ↦
+                let all_same : other ≡ i = equal other id same ∙ (bytes_eq-Decides id i).0 this in
+                ap (λ ns. is_key_id ns i) second.1
+                ∙ or_left (bytes_eq other i) (is_key_id second.0 i) ((bytes_eq-Decides other i).1 all_same)
+            | inr later ↦ kept i later.1
+          ]);
     }
 
     -- the key id is lost
@@ -261,4 +276,5 @@ module _ (ids others : List (List ℕ)) (wanted rest id after : List ℕ) (k : I
     lose_id more kept =
         let less = greater other id more in
         clash (is_key_id k.new id) (k.fewer kept id here)
-        (ap (λ ns. is_key_id ns id) second.1 ∙ rw (sym (is_eq-slice_cmp other id) ∙ ap is_eq more) (not_among id other second.0 second.2 less))
+        (ap (λ ns. is_key_id ns id) second.1
+        ∙ rw (sym (is_eq-slice_cmp other id) ∙ ap is_eq more) (not_among id other second.0 second.2 less))

@@ -18,15 +18,20 @@ pub listed_texts : (rs : List Run) → flat_map u64_text (listed rs) ≡ flat_ma
 listed_texts [] = refl
 listed_texts (r ∷ rs) = by_short (is_short r) (listed_texts rs)
   where
-    by_short : (b : Bool) → flat_map u64_text (listed rs) ≡ flat_map listed_text rs → flat_map u64_text (cond b (serials_of r ++ listed rs) (listed rs)) ≡ cond b (flat_map u64_text (serials_of r)) [] ++ flat_map listed_text rs
-    by_short true more = flat_map-append u64_text (serials_of r) (listed rs) ∙ ap (λ t. flat_map u64_text (serials_of r) ++ t) more
+    by_short : (b : Bool) → flat_map u64_text (listed rs) ≡ flat_map listed_text rs
+        → flat_map u64_text (cond b (serials_of r ++ listed rs) (listed rs))
+        ≡ cond b (flat_map u64_text (serials_of r)) [] ++ flat_map listed_text rs
+    by_short true more = flat_map-append u64_text (serials_of r) (listed rs)
+        ∙ ap (λ t. flat_map u64_text (serials_of r) ++ t) more
     by_short false more = more
 
 pub listed_lengths : (rs : List Run) → length (flat_map u64_text (listed rs)) ≡ sum_by listed_length rs
 listed_lengths [] = refl
 listed_lengths (r ∷ rs) = by_short (is_short r) (listed_lengths rs) ∙ sym (sum_by-cons listed_length r rs)
   where
-    by_short : (b : Bool) → length (flat_map u64_text (listed rs)) ≡ sum_by listed_length rs → length (flat_map u64_text (cond b (serials_of r ++ listed rs) (listed rs))) ≡ cond b (8 * length (serials_of r)) 0 + sum_by listed_length rs
+    by_short : (b : Bool) → length (flat_map u64_text (listed rs)) ≡ sum_by listed_length rs
+        → length (flat_map u64_text (cond b (serials_of r ++ listed rs) (listed rs)))
+        ≡ cond b (8 * length (serials_of r)) 0 + sum_by listed_length rs
     by_short true more =
         let both = ap length (flat_map-append u64_text (serials_of r) (listed rs)) in
         let sum = length-append (flat_map u64_text (serials_of r)) (flat_map u64_text (listed rs)) in
@@ -46,19 +51,23 @@ pub range_lengths : (rs : List Run) → length (flat_map part_text (ranges rs)) 
 range_lengths [] = refl
 range_lengths (r ∷ rs) = by_short (is_short r) (range_lengths rs) ∙ sym (sum_by-cons range_length r rs)
   where
-    by_short : (b : Bool) → length (flat_map part_text (ranges rs)) ≡ sum_by range_length rs → length (flat_map part_text (cond b (ranges rs) (Range r ∷ ranges rs))) ≡ cond b 0 21 + sum_by range_length rs
+    by_short : (b : Bool) → length (flat_map part_text (ranges rs)) ≡ sum_by range_length rs
+        → length (flat_map part_text (cond b (ranges rs) (Range r ∷ ranges rs))) ≡ cond b 0 21 + sum_by range_length rs
     by_short true more = omega arith
     by_short false more = let sum = length-append (part_text (Range r)) (flat_map part_text (ranges rs)) in omega arith
 
 pub key_ids_lengths : (ids : List (List ℕ)) → length (flat_map string_text ids) ≡ sum_by key_id_length ids
 key_ids_lengths [] = refl
-key_ids_lengths (i ∷ ids) = let more = key_ids_lengths ids in let sum = length-append (string_text i) (flat_map string_text ids) in let inner = length-append (string_text []) i in let total = sum_by-cons key_id_length i ids in omega (arith, length-append i (flat_map string_text ids))
+key_ids_lengths (i ∷ ids) = let more = key_ids_lengths ids in let sum =
+    length-append (string_text i) (flat_map string_text ids) in let inner = length-append (string_text []) i in
+    let total = sum_by-cons key_id_length i ids in omega (arith, length-append i (flat_map string_text ids))
 
 tagged_some : (n : ℕ) → 0 < n → tagged_length n ≡ 5 + n
 tagged_some n lt = grind (arith, nat_tests)
 
 -- a list of serials with its type and length
-list_length : (ns : List ℕ) → length (flat_map part_text (serial_list ns)) ≡ tagged_length (length (flat_map u64_text ns))
+list_length : (ns : List ℕ)
+    → length (flat_map part_text (serial_list ns)) ≡ tagged_length (length (flat_map u64_text ns))
 list_length [] = refl
 list_length (n ∷ ns) =
     let some = tagged_some (length (flat_map u64_text (n ∷ ns))) (omega (arith, u64s_length (n ∷ ns))) in
@@ -66,7 +75,8 @@ list_length (n ∷ ns) =
     omega arith
 
 -- the key ids with their type and length
-pub ids_length : (ids : List (List ℕ)) → length (flat_map part_text (key_id_parts ids)) ≡ tagged_length (sum_by key_id_length ids)
+pub ids_length : (ids : List (List ℕ))
+    → length (flat_map part_text (key_id_parts ids)) ≡ tagged_length (sum_by key_id_length ids)
 ids_length [] = refl
 ids_length (i ∷ ids) =
     let same = key_ids_lengths (i ∷ ids) in
@@ -74,7 +84,8 @@ ids_length (i ∷ ids) =
     let sum = length-append (part_text (KeyIds (i ∷ ids))) [] in
     omega arith
 
-pub serial_lengths : (rs : List Run) → serial_length rs ≡ tagged_length (sum_by listed_length rs) + sum_by range_length rs
+pub serial_lengths : (rs : List Run)
+    → serial_length rs ≡ tagged_length (sum_by listed_length rs) + sum_by range_length rs
 serial_lengths rs =
     ap length (flat_map-append part_text (serial_list (listed rs)) (ranges rs))
     ∙ length-append (flat_map part_text (serial_list (listed rs))) (flat_map part_text (ranges rs))
@@ -90,20 +101,25 @@ listed_within rs = let all = serial_lengths rs in let more = tagged_more (sum_by
 pub ranges_within : (rs : List Run) → sum_by range_length rs ≤ serial_length rs
 ranges_within rs = let all = serial_lengths rs in omega arith
 
-pub data_lengths : (ids : List (List ℕ)) (p : CaPart) → length (section_data (ca_section ids p)) ≡ 8 + length (key_blob p.ca) + serial_length p.runs + tagged_length (sum_by key_id_length ids)
+pub data_lengths : (ids : List (List ℕ)) (p : CaPart)
+    → length (section_data (ca_section ids p)) ≡ 8 + length (key_blob p.ca) + serial_length p.runs + tagged_length
+    (sum_by key_id_length ids)
 data_lengths ids p =
     let split = ap length (flat_map-append part_text (serial_parts p.runs) (key_id_parts ids)) in
     let parts = length-append (flat_map part_text (serial_parts p.runs)) (flat_map part_text (key_id_parts ids)) in
-    let outer = length-append (string_text (key_blob p.ca)) (string_text [] ++ flat_map part_text (serial_parts p.runs ++ key_id_parts ids)) in
+    let outer = length-append (string_text (key_blob p.ca))
+    (string_text [] ++ flat_map part_text (serial_parts p.runs ++ key_id_parts ids)) in
     let inner = length-append (string_text []) (flat_map part_text (serial_parts p.runs ++ key_id_parts ids)) in
     let blob = length-append (string_text []) (key_blob p.ca) in
     let last = ids_length ids in
     omega arith
 
-pub ids_within : (ids : List (List ℕ)) (p : CaPart) → sum_by key_id_length ids ≤ length (section_data (ca_section ids p))
+pub ids_within : (ids : List (List ℕ)) (p : CaPart)
+    → sum_by key_id_length ids ≤ length (section_data (ca_section ids p))
 ids_within ids p = let all = data_lengths ids p in let more = tagged_more (sum_by key_id_length ids) in omega arith
 
-pub serials_within : (ids : List (List ℕ)) (p : CaPart) → serial_length p.runs ≤ length (section_data (ca_section ids p))
+pub serials_within : (ids : List (List ℕ)) (p : CaPart)
+    → serial_length p.runs ≤ length (section_data (ca_section ids p))
 serials_within ids p = let all = data_lengths ids p in omega arith
 
 -- what is known of the length of the serial parts, of a section's data, and of what is within it
@@ -113,11 +129,16 @@ pub ruleset data_len = (data_lengths, serials_within, ids_within)
 
 pub ruleset within_data = (ids_within, serials_within, listed_within)
 
-pub sections_length : (cas : List CaPart) (ids : List (List ℕ)) → length (flat_map section_text (published_sections cas ids)) ≡ sum_by (section_length ids) cas
+pub sections_length : (cas : List CaPart) (ids : List (List ℕ))
+    → length (flat_map section_text (published_sections cas ids)) ≡ sum_by (section_length ids) cas
 sections_length [] ids = refl
-sections_length (p ∷ cas) ids = by_idle (is_idle ids p) (sections_length cas ids) ∙ sym (sum_by-cons (section_length ids) p cas)
+sections_length (p ∷ cas) ids = by_idle (is_idle ids p) (sections_length cas ids)
+    ∙ sym (sum_by-cons (section_length ids) p cas)
   where
     by_idle : (b : Bool) → length (flat_map section_text (published_sections cas ids)) ≡ sum_by (section_length ids) cas
-        → length (flat_map section_text (cond b [] (ca_section ids p ∷ []) ++ published_sections cas ids)) ≡ cond b 0 (5 + length (section_data (ca_section ids p))) + sum_by (section_length ids) cas
+        → length (flat_map section_text (cond b [] (ca_section ids p ∷ []) ++ published_sections cas ids))
+        ≡ cond b 0 (5 + length (section_data (ca_section ids p))) + sum_by (section_length ids) cas
     by_idle true more = omega arith
-    by_idle false more = let sum = length-append (section_text (ca_section ids p)) (flat_map section_text (published_sections cas ids)) in omega arith
+    by_idle false more = let sum =
+        length-append (section_text (ca_section ids p)) (flat_map section_text (published_sections cas ids)) in
+        omega arith

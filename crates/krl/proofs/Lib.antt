@@ -27,3 +27,4 @@ pub mod ListedLaws
 pub mod PartsKept
 pub mod OneList
 pub mod Forgetting
+pub mod ReadBack

@@ -120,10 +120,12 @@ listed_found head sections bytes cas ids v d s none =
         parts = parts;
         distinct = s.distinct;
         ascending = s.key_ids.ascending;
-        unwritten = λ no_cas. no_ids ids (sym s.key_ids.text ∙ none (s.whole.text ∙ ap (flat_map (whole_text bytes)) no_cas));
+        unwritten =
+            λ no_cas. no_ids ids (sym s.key_ids.text ∙ none (s.whole.text ∙ ap (flat_map (whole_text bytes)) no_cas));
       };
       head_is = refl;
-      sections_are = s.whole.text ∙ ap (λ b. flat_map (whole_text b) cas) s.key_ids.text ∙ sym (sections_are cas ids parts);
+      sections_are = s.whole.text ∙ ap (λ b. flat_map (whole_text b) cas) s.key_ids.text
+          ∙ sym (sections_are cas ids parts);
       ids_are = s.key_ids.text;
     }
 
@@ -133,7 +135,8 @@ ids_short c h = by_cas c.cas refl
     by_cas : (cas : List CaPart) → c.cas ≡ cas → AllByRecursion IsString c.ids
     by_cas [] e = subst (AllByRecursion IsString) (sym (h.unwritten e)) tt
     by_cas (p ∷ cas) e =
-        let first : AllByRecursion (IsContentsPart c.ids) (p ∷ cas) = subst (AllByRecursion (IsContentsPart c.ids)) e h.parts in
+        let first : AllByRecursion (IsContentsPart c.ids) (p ∷ cas) =
+        subst (AllByRecursion (IsContentsPart c.ids)) e h.parts in
         strings_fit c.ids (ids_fit (flat_map string_text c.ids) p (part_to c.ids p first.0).short)
 
 -- the sections of a published list
@@ -156,7 +159,8 @@ pub pieces : (head : KrlHead) (sections : List ℕ) (c : Contents) → AreConten
     → (head ≡ c.head) × (sections ≡ flat_map section_text (published_sections c.cas c.ids))
 pieces head sections c h v d e =
     let rest = flat_map section_text (published_sections c.cas c.ids) in
-    let same = same_Some _ _ (sym (head_again head sections v d) ∙ ap head_at e ∙ head_again c.head rest h.version h.date) in
+    let same = same_Some _ _ (sym (head_again head sections v d) ∙ ap head_at e
+    ∙ head_again c.head rest h.version h.date) in
     (ap (λ (x : KrlHead × List ℕ). x.0) same, ap (λ (x : KrlHead × List ℕ). x.1) same)
 
 -- the data of the key ids, where no CA has a section

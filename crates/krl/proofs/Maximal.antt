@@ -35,7 +35,8 @@ first_is_run from s rs h = record {
 -- each of the runs is a run of the set that they make
 pub each_is_run : (from : ℕ) (rs : List Run) (r : Run) → AreRunsFrom from rs → IsOneOf r rs → IsRunOf (contains rs) r
 each_is_run from [] r h c = absurd c
-each_is_run from (s ∷ rs) r h (inl same) = subst (λ (x : Run). IsRunOf (contains (s ∷ rs)) x) same (first_is_run from s rs h)
+each_is_run from (s ∷ rs) r h (inl same) =
+    subst (λ (x : Run). IsRunOf (contains (s ∷ rs)) x) same (first_is_run from s rs h)
 each_is_run from (s ∷ rs) r h (inr c) =
     let le = one_from (s.hi + 2) rs r h.3 c in
     let is = each_is_run (s.hi + 2) rs r h.3 c in
@@ -57,16 +58,21 @@ run_of (s ∷ rs) n e = elim (or_cases (is_within n s) (contains rs n) e) [
 -- the serials of one of the runs are in the set
 pub member_contains : (rs : List Run) (s : Run) (m : ℕ) → IsOneOf s rs → s.lo ≤ m → m ≤ s.hi → contains rs m ≡ true
 member_contains [] s m c a b = absurd c
-member_contains (t ∷ rs) s m (inl same) a b = or_left (is_within m t) (contains rs m) (subst (λ (x : Run). is_within m x ≡ true) (sym same) (is_in m s.lo s.hi a b))
+member_contains (t ∷ rs) s m (inl same) a b =
+    or_left (is_within m t) (contains rs m)
+    (subst (λ (x : Run). is_within m x ≡ true) (sym same) (is_in m s.lo s.hi a b))
 member_contains (t ∷ rs) s m (inr c) a b = rw (member_contains rs s m c a b) (or_true (is_within m t))
 
 -- two runs of one set that share a serial are one
-one_run : (set : ℕ → Bool) (r s : Run) (n : ℕ) → IsRunOf set r → IsRunOf set s → r.lo ≤ n → n ≤ r.hi → s.lo ≤ n → n ≤ s.hi → s ≡ r
+one_run : (set : ℕ → Bool) (r s : Run) (n : ℕ) → IsRunOf set r → IsRunOf set s → r.lo ≤ n → n ≤ r.hi → s.lo ≤ n
+    → n ≤ s.hi → s ≡ r
 one_run set r s n p q a b c d =
     let lo : s.lo ≡ r.lo = elim (cases_lt s.lo r.lo) [
-      | inl lt ↦ clash (set (r.lo - 1)) (q.inside (r.lo - 1) (omega arith) (omega arith)) (p.below (r.lo - 1) (omega arith))
+      | inl lt ↦
+          clash (set (r.lo - 1)) (q.inside (r.lo - 1) (omega arith) (omega arith)) (p.below (r.lo - 1) (omega arith))
       | inr le ↦ elim (cases_lt r.lo s.lo) [
-        | inl lt ↦ clash (set (s.lo - 1)) (p.inside (s.lo - 1) (omega arith) (omega arith)) (q.below (s.lo - 1) (omega arith))
+        | inl lt ↦
+            clash (set (s.lo - 1)) (p.inside (s.lo - 1) (omega arith) (omega arith)) (q.below (s.lo - 1) (omega arith))
         | inr ge ↦ omega arith
       ]
     ] in
@@ -80,14 +86,17 @@ one_run set r s n p q a b c d =
     λ i. record { lo = lo i; hi = hi i }
 
 -- each run of the set that the runs make is one of them
-pub each_run_is_there : (from : ℕ) (rs : List Run) (r : Run) → AreRunsFrom from rs → IsRunOf (contains rs) r → IsOneOf r rs
+pub each_run_is_there : (from : ℕ) (rs : List Run) (r : Run) → AreRunsFrom from rs → IsRunOf (contains rs) r
+    → IsOneOf r rs
 each_run_is_there from rs r h is =
     let some : r.lo ≤ r.hi = is.some in
     let s = run_of rs r.lo (is.inside r.lo (omega arith) some) in
-    subst (λ (x : Run). IsOneOf x rs) (one_run (contains rs) r s.0 r.lo is (each_is_run from rs s.0 h s.1) (omega arith) some s.2 s.3) s.1
+    subst (λ (x : Run). IsOneOf x rs)
+    (one_run (contains rs) r s.0 r.lo is (each_is_run from rs s.0 h s.1) (omega arith) some s.2 s.3) s.1
 
 -- two lists of runs of one set begin alike
-same_first : (a b : ℕ) (r s : Run) (rs qs : List Run) → AreRunsFrom a (r ∷ rs) → AreRunsFrom b (s ∷ qs) → ((n : ℕ) → contains (r ∷ rs) n ≡ contains (s ∷ qs) n) → s.lo ≤ r.lo
+same_first : (a b : ℕ) (r s : Run) (rs qs : List Run) → AreRunsFrom a (r ∷ rs) → AreRunsFrom b (s ∷ qs)
+    → ((n : ℕ) → contains (r ∷ rs) n ≡ contains (s ∷ qs) n) → s.lo ≤ r.lo
 same_first a b r s rs qs h k same = elim (cases_lt r.lo s.lo) [
   | inl lt ↦ clash (contains (s ∷ qs) r.lo)
       (sym (same r.lo) ∙ or_left (is_within r.lo r) (contains rs r.lo) (is_in r.lo r.lo r.hi (omega arith) h.1))
@@ -96,21 +105,28 @@ same_first a b r s rs qs h k same = elim (cases_lt r.lo s.lo) [
 ]
 
 -- runs that make one set are the same runs
-pub runs_unique : (a b : ℕ) (rs qs : List Run) → AreRunsFrom a rs → AreRunsFrom b qs → ((n : ℕ) → contains rs n ≡ contains qs n) → rs ≡ qs
+pub runs_unique : (a b : ℕ) (rs qs : List Run) → AreRunsFrom a rs → AreRunsFrom b qs
+    → ((n : ℕ) → contains rs n ≡ contains qs n) → rs ≡ qs
 runs_unique a b [] [] h k same = refl
-runs_unique a b [] (s ∷ qs) h k same = clash (contains (s ∷ qs) s.lo) (or_left (is_within s.lo s) (contains qs s.lo) (is_in s.lo s.lo s.hi (omega arith) k.1)) (sym (same s.lo))
-runs_unique a b (r ∷ rs) [] h k same = clash (contains (r ∷ rs) r.lo) (or_left (is_within r.lo r) (contains rs r.lo) (is_in r.lo r.lo r.hi (omega arith) h.1)) (same r.lo)
+runs_unique a b [] (s ∷ qs) h k same =
+    clash (contains (s ∷ qs) s.lo)
+    (or_left (is_within s.lo s) (contains qs s.lo) (is_in s.lo s.lo s.hi (omega arith) k.1)) (sym (same s.lo))
+runs_unique a b (r ∷ rs) [] h k same =
+    clash (contains (r ∷ rs) r.lo)
+    (or_left (is_within r.lo r) (contains rs r.lo) (is_in r.lo r.lo r.hi (omega arith) h.1)) (same r.lo)
 runs_unique a b (r ∷ rs) (s ∷ qs) h k same =
     let p = same_first a b r s rs qs h k same in
     let q = same_first b a s r qs rs k h (λ n. sym (same n)) in
     let set : contains (s ∷ qs) ≡ contains (r ∷ rs) = λ i n. sym (same n) i in
     let other : IsRunOf (contains (r ∷ rs)) s = subst (λ (t : ℕ → Bool). IsRunOf t s) set (first_is_run b s qs k) in
-    let one : r ≡ s = one_run (contains (r ∷ rs)) s r r.lo other (first_is_run a r rs h) (omega arith) (let le : s.lo ≤ s.hi = k.1 in omega arith) (omega arith) h.1 in
+    let one : r ≡ s = one_run (contains (r ∷ rs)) s r r.lo other (first_is_run a r rs h) (omega arith)
+    (let le : s.lo ≤ s.hi = k.1 in omega arith) (omega arith) h.1 in
     let hi : r.hi ≡ s.hi = ap (λ (x : Run). x.hi) one in
     let lo : r.lo ≡ s.lo = ap (λ (x : Run). x.lo) one in
     let rest = runs_unique (r.hi + 2) (s.hi + 2) rs qs h.3 k.3 (λ n. elim (cases_lt n (r.hi + 2)) [
       | inl lt ↦ none_below (r.hi + 2) n rs h.3 lt ∙ sym (none_below (s.hi + 2) n qs k.3 (omega arith))
-      | inr le ↦ sym (ap (λ b. b || contains rs n) (is_over n r.lo r.hi (omega arith))) ∙ same n ∙ ap (λ b. b || contains qs n) (is_over n s.lo s.hi (omega arith))
+      | inr le ↦ sym (ap (λ b. b || contains rs n) (is_over n r.lo r.hi (omega arith))) ∙ same n
+          ∙ ap (λ b. b || contains qs n) (is_over n s.lo s.hi (omega arith))
     ]) in
     λ i. one i ∷ rest i
 
@@ -119,10 +135,12 @@ abbrev pub covered_by : ℕ → ℕ → Run → Bool
 covered_by lo hi r = leb r.lo lo && leb hi r.hi
 
 -- what one of the runs covers is in the set
-pub covered : (from lo hi : ℕ) (rs : List Run) → AreRunsFrom from rs → list_any (covered_by lo hi) rs ≡ true → HasAll (contains rs) lo hi
+pub covered : (from lo hi : ℕ) (rs : List Run) → AreRunsFrom from rs → list_any (covered_by lo hi) rs ≡ true
+    → HasAll (contains rs) lo hi
 covered from lo hi [] h e n p q = absurd cc
 covered from lo hi (r ∷ rs) h e n p q = elim (or_cases (covered_by lo hi r) (list_any (covered_by lo hi) rs) e) [
-  | inl here ↦ let both = ends_of r here in or_left (is_within n r) (contains rs n) (is_in n r.lo r.hi (omega arith) (omega arith))
+  | inl here ↦ let both = ends_of r here in
+      or_left (is_within n r) (contains rs n) (is_in n r.lo r.hi (omega arith) (omega arith))
   | inr later ↦ rw (covered (r.hi + 2) lo hi rs h.3 later.1 n p q) (or_true (is_within n r))
 ]
   where
@@ -130,15 +148,19 @@ covered from lo hi (r ∷ rs) h e n p q = elim (or_cases (covered_by lo hi r) (l
     ends_of r e = (grind (arith, nat_tests), grind (arith, nat_tests))
 
 -- the run that an interval of the set begins in covers it
-one_covers : (rs : List Run) (s : Run) (lo hi : ℕ) → IsOneOf s rs → s.lo ≤ lo → hi ≤ s.hi → list_any (covered_by lo hi) rs ≡ true
+one_covers : (rs : List Run) (s : Run) (lo hi : ℕ) → IsOneOf s rs → s.lo ≤ lo → hi ≤ s.hi
+    → list_any (covered_by lo hi) rs ≡ true
 one_covers [] s lo hi c a b = absurd c
-one_covers (t ∷ rs) s lo hi (inl same) a b = or_left (covered_by lo hi t) (list_any (covered_by lo hi) rs) (subst (λ (x : Run). covered_by lo hi x ≡ true) (sym same) (both s a b))
+one_covers (t ∷ rs) s lo hi (inl same) a b =
+    or_left (covered_by lo hi t) (list_any (covered_by lo hi) rs)
+    (subst (λ (x : Run). covered_by lo hi x ≡ true) (sym same) (both s a b))
   where
     both : (s : Run) → s.lo ≤ lo → hi ≤ s.hi → covered_by lo hi s ≡ true
     both s a b = grind (arith, nat_tests)
 one_covers (t ∷ rs) s lo hi (inr c) a b = rw (one_covers rs s lo hi c a b) (or_true (covered_by lo hi t))
 
-pub covers_all : (from lo hi : ℕ) (rs : List Run) → AreRunsFrom from rs → lo ≤ hi → HasAll (contains rs) lo hi → list_any (covered_by lo hi) rs ≡ true
+pub covers_all : (from lo hi : ℕ) (rs : List Run) → AreRunsFrom from rs → lo ≤ hi → HasAll (contains rs) lo hi
+    → list_any (covered_by lo hi) rs ≡ true
 covers_all from lo hi rs h le all =
     let s = run_of rs lo (all lo (omega arith) le) in
     let is = each_is_run from rs s.0 h s.1 in

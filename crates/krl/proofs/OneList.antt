@@ -1,10 +1,12 @@
 -- A text is that of one list.
 use Rattle.krl.proofs.Words.{AllByRecursion, AreRunsFrom, CaPart, IsString, List, None, Run, []}
-use Rattle.krl.proofs.Words.{KrlHead, ap, flat_map, header_text, listed_text, range_text, refl, same_Some, section_text, string_text}
+use Rattle.krl.proofs.Words.{KrlHead, ap, flat_map, header_text, listed_text, range_text, refl, same_Some, section_text}
+use Rattle.krl.proofs.Words.{string_text}
 use Rattle.krl.proofs.Words.{subst, sym, published_sections, ℕ, ◌++◌, ◌+◌, ◌∙◌, ◌∷◌, ◌≡◌, ◌≢◌}
 use Rattle.krl.specs.Published.{published_header, published_text}
 use Rattle.krl.specs.Contents.{Contents, Publishes}
-use Rattle.krl.specs.Fronts.{AreIds, AreListed, AreSplit, IsWhole, behind_at, listed_bytes, part_at, part_if_any, range_begin}
+use Rattle.krl.specs.Fronts.{AreIds, AreListed, AreSplit, IsWhole, behind_at, listed_bytes, part_at, part_if_any}
+use Rattle.krl.specs.Fronts.{range_begin}
 use Rattle.krl.specs.Fronts.{ranges_bytes, run_at, section_at, whole_text}
 use Rattle.krl.proofs.ListedLaws.{listed_sections, pieces}
 use Rattle.krl.proofs.RunLaws.{no_run, run_again}
@@ -32,7 +34,8 @@ split_unique from base l m a b (r ∷ rs) qs h k x y s t =
 part_unique : (ids others : List ℕ) (p q : CaPart) → IsWhole ids p → IsWhole others q
     → part_if_any 0x23 ids ≡ part_if_any 0x23 others → ids ≡ others
 part_unique ids others p q w v e =
-    ap (λ (x : List ℕ × List ℕ). x.0) (same_Some _ _ (sym (ids_again ids p w) ∙ ap (part_at 0x23) e ∙ ids_again others q v))
+    ap (λ (x : List ℕ × List ℕ). x.0)
+    (same_Some _ _ (sym (ids_again ids p w) ∙ ap (part_at 0x23) e ∙ ids_again others q v))
 
 -- a section at the front is that of one part
 whole_unique : (ids others r s : List ℕ) (p q : CaPart) → IsWhole ids p → IsWhole others q
@@ -41,7 +44,8 @@ whole_unique ids others r s p q w v e =
     let same = same_Some _ _ (sym (whole_again ids r p w) ∙ ap section_at e ∙ whole_again others s q v) in
     let ca : p.ca ≡ q.ca = ap (λ (x : (List ℕ × (List ℕ × List ℕ)) × List ℕ). x.0.0) same in
     let short : listed_bytes p ≡ listed_bytes q = ap (λ (x : (List ℕ × (List ℕ × List ℕ)) × List ℕ). x.0.1.0) same in
-    let long : ranges_bytes ids p ≡ ranges_bytes others q = ap (λ (x : (List ℕ × (List ℕ × List ℕ)) × List ℕ). x.0.1.1) same in
+    let long : ranges_bytes ids p ≡ ranges_bytes others q =
+    ap (λ (x : (List ℕ × (List ℕ × List ℕ)) × List ℕ). x.0.1.1) same in
     let split = split_unique 0 0 (listed_bytes p) (ranges_bytes ids p) (part_if_any 0x23 ids) (part_if_any 0x23 others)
     p.runs q.runs w.runs v.runs (no_range ids) (no_range others) (record { short = refl; long = refl })
     (record { short = short; long = long }) in (
@@ -58,7 +62,8 @@ parts_unique ids others [] das h k e =
     (sym (no_whole_text others das (sym e)), λ some. absurd (some refl))
 parts_unique ids others (p ∷ cas) [] h k e = absurd (let none = no_whole_text ids (p ∷ cas) e in cc)
 parts_unique ids others (p ∷ cas) (q ∷ das) h k e =
-    let first = whole_unique ids others (flat_map (whole_text ids) cas) (flat_map (whole_text others) das) p q h.0 k.0 e in
+    let first = whole_unique ids others (flat_map (whole_text ids) cas)
+    (flat_map (whole_text others) das) p q h.0 k.0 e in
     let rest = parts_unique ids others cas das h.1 k.1 first.2 in
     (λ i. first.0 i ∷ rest.0 i, λ some. first.1)
 

@@ -1,5 +1,6 @@
 -- The part of a CA in another list.
-use Rattle.krl.proofs.Words.{AllByRecursion, Bool, CaPart, List, None, Option, Some, [], ap, bytes_eq, cond, false, refl}
+use Rattle.krl.proofs.Words.{AllByRecursion, Bool, CaPart, List, None, Option, Some, [], ap, bytes_eq, cond, false}
+use Rattle.krl.proofs.Words.{refl}
 use Rattle.krl.proofs.Words.{same_Some, subst, true, ℕ, ◌∙◌, ◌∷◌, ◌≡◌}
 use Rattle.std.specs.Prelude.{find}
 use Rattle.std.specs.Option.{option_map}
@@ -23,15 +24,18 @@ found_whole ids p (o ∷ others) q h e = by_test (bytes_eq o.ca p.ca) (found_who
 -- where no runs are found the part is lost
 pub is_lost : (ids : List ℕ) (others : List CaPart) (p : CaPart) (ca : List ℕ) → ca ≡ p.ca
     → None ≡ runs_under ids ca others → IsKeptBy p (find_ca p others) → ⊥
-is_lost ids others p ca same none kept = by_found (find_ca p others) (none ∙ ap (λ c. runs_under ids c others) same) kept
+is_lost ids others p ca same none kept =
+    by_found (find_ca p others) (none ∙ ap (λ c. runs_under ids c others) same) kept
   where
-    by_found : (o : Option CaPart) → None ≡ option_map {U = List ℕ × List ℕ} (λ q. (listed_bytes q, ranges_bytes ids q)) o
+    by_found : (o : Option CaPart)
+        → None ≡ option_map {U = List ℕ × List ℕ} (λ q. (listed_bytes q, ranges_bytes ids q)) o
         → IsKeptBy p o → ⊥
     by_found None none kept = kept
     by_found (Some q) none kept = cc
 
 -- the runs that are found are those of the part
-pub runs_there : (ids : List ℕ) (others : List CaPart) (p : CaPart) (ca l m : List ℕ) → AllByRecursion (IsWhole ids) others
+pub runs_there : (ids : List ℕ) (others : List CaPart) (p : CaPart) (ca l m : List ℕ)
+    → AllByRecursion (IsWhole ids) others
     → ca ≡ p.ca → Some (l, m) ≡ runs_under ids ca others
     → (q : CaPart) × IsWhole ids q × AreSplit l m q.runs (part_if_any 0x23 ids) × (find_ca p others ≡ Some q)
 runs_there ids others p ca l m h same some =

@@ -36,7 +36,8 @@ listed_small : (from : ℕ) (rs : List Run) → AreRunsFrom from rs → AllByRec
 listed_small from [] h = tt
 listed_small from (r ∷ rs) h = by_short (is_short r) (listed_small (r.hi + 2) rs h.3)
   where
-    by_short : (b : Bool) → AllByRecursion (λ n. n < 2 ^ 64) (listed rs) → AllByRecursion (λ n. n < 2 ^ 64) (cond b (serials_of r ++ listed rs) (listed rs))
+    by_short : (b : Bool) → AllByRecursion (λ n. n < 2 ^ 64) (listed rs)
+        → AllByRecursion (λ n. n < 2 ^ 64) (cond b (serials_of r ++ listed rs) (listed rs))
     by_short false more = more
     by_short true more = by_one (eqb r.lo r.hi)
       where
@@ -53,16 +54,20 @@ ranges_small from (r ∷ rs) h =
     elim (is_short r) as (λ b. AllByRecursion IsPartContent (cond b (ranges rs) (Range r ∷ ranges rs)))
     [ true ↦ more | false ↦ ((omega arith, fits), more) ]
 
-all_append : {X : Type 0} (P : X → Type 0) (xs ys : List X) → AllByRecursion P xs → AllByRecursion P ys → AllByRecursion P (xs ++ ys)
+all_append : {X : Type 0} (P : X → Type 0) (xs ys : List X) → AllByRecursion P xs → AllByRecursion P ys
+    → AllByRecursion P (xs ++ ys)
 all_append P [] ys h k = k
 all_append P (x ∷ xs) ys h k = (h.0, all_append P xs ys h.1 k)
 
-all_both : {X : Type 0} (P Q : X → Type 0) (xs : List X) → AllByRecursion P xs → AllByRecursion Q xs → AllByRecursion (λ x. P x × Q x) xs
+all_both : {X : Type 0} (P Q : X → Type 0) (xs : List X) → AllByRecursion P xs → AllByRecursion Q xs
+    → AllByRecursion (λ x. P x × Q x) xs
 all_both P Q [] h k = tt
 all_both P Q (x ∷ xs) h k = ((h.0, k.0), all_both P Q xs h.1 k.1)
 
 serial_content : (rs : List Run) → AreRuns rs → AllByRecursion IsPartContent (serial_parts rs)
-serial_content rs h = all_append IsPartContent (serial_list (listed rs)) (ranges rs) (by_list (listed rs) (listed_small 0 rs h)) (ranges_small 0 rs h)
+serial_content rs h =
+    all_append IsPartContent (serial_list (listed rs)) (ranges rs) (by_list (listed rs) (listed_small 0 rs h))
+    (ranges_small 0 rs h)
   where
     by_list : (ns : List ℕ) → AllByRecursion (λ n. n < 2 ^ 64) ns → AllByRecursion IsPartContent (serial_list ns)
     by_list [] h = tt
@@ -72,7 +77,8 @@ key_id_content : (ids : List (List ℕ)) → AllByRecursion IsString ids → All
 key_id_content [] h = tt
 key_id_content (i ∷ ids) h = (((λ e. cc), h), tt)
 
-id_fits : (ids : List (List ℕ)) → AllByRecursion (λ p. IsString (part_data p)) (key_id_parts ids) → AllByRecursion IsString ids
+id_fits : (ids : List (List ℕ)) → AllByRecursion (λ p. IsString (part_data p)) (key_id_parts ids)
+    → AllByRecursion IsString ids
 id_fits [] h = tt
 id_fits (i ∷ ids) h = strings_fit (i ∷ ids) h.0
 
@@ -81,18 +87,23 @@ back P [] ys h = h
 back P (x ∷ xs) ys h = back P xs ys h.1
 
 -- the parts of a section whose data fits
-lawful_parts : (rs : List Run) (ids : List (List ℕ)) → AreRuns rs → IsString (flat_map part_text (serial_parts rs ++ key_id_parts ids)) → AllByRecursion IsPart (serial_parts rs ++ key_id_parts ids)
+lawful_parts : (rs : List Run) (ids : List (List ℕ)) → AreRuns rs
+    → IsString (flat_map part_text (serial_parts rs ++ key_id_parts ids))
+    → AllByRecursion IsPart (serial_parts rs ++ key_id_parts ids)
 lawful_parts rs ids h small =
     let data_small = inner_fits (serial_parts rs ++ key_id_parts ids) small in
     all_both IsPartContent (λ p. IsString (part_data p)) (serial_parts rs ++ key_id_parts ids)
-    (all_append IsPartContent (serial_parts rs) (key_id_parts ids) (serial_content rs h) (key_id_content ids (id_fits ids (back (λ p. IsString (part_data p)) (serial_parts rs) (key_id_parts ids) data_small))))
+    (all_append IsPartContent (serial_parts rs) (key_id_parts ids) (serial_content rs h)
+    (key_id_content ids
+    (id_fits ids (back (λ p. IsString (part_data p)) (serial_parts rs) (key_id_parts ids) data_small))))
     data_small
 
 no_parts : (rs : List Run) → serial_parts rs ≡ [] → rs ≡ []
 no_parts [] e = refl
 no_parts (r ∷ rs) e = absurd (by_short (is_short r) e)
   where
-    by_short : (b : Bool) → serial_list (cond b (serials_of r ++ listed rs) (listed rs)) ++ cond b (ranges rs) (Range r ∷ ranges rs) ≡ [] → ⊥
+    by_short : (b : Bool) → serial_list (cond b (serials_of r ++ listed rs) (listed rs))
+        ++ cond b (ranges rs) (Range r ∷ ranges rs) ≡ [] → ⊥
     by_short false e = by_list (listed rs) e
       where
         by_list : (ns : List ℕ) → serial_list ns ++ (Range r ∷ ranges rs) ≡ [] → ⊥
@@ -118,7 +129,8 @@ some_parts (i ∷ ids) p idle e = behind (serial_parts p.runs) e
     behind [] e = cc
     behind (q ∷ ps) e = cc
 
-lawful_section : (ids : List (List ℕ)) (p : CaPart) → AreRuns p.runs → is_idle ids p ≡ false → IsString (section_data (ca_section ids p)) → IsSection (ca_section ids p)
+lawful_section : (ids : List (List ℕ)) (p : CaPart) → AreRuns p.runs → is_idle ids p ≡ false
+    → IsString (section_data (ca_section ids p)) → IsSection (ca_section ids p)
 lawful_section ids p h idle small =
     let ps = serial_parts p.runs ++ key_id_parts ids in
     let outer = length-append (string_text (key_blob p.ca)) (string_text [] ++ flat_map part_text ps) in
@@ -126,19 +138,23 @@ lawful_section ids p h idle small =
     let blob = length-append (string_text []) (key_blob p.ca) in
     ((omega arith, omega arith, some_parts ids p idle, lawful_parts p.runs ids h (omega arith)), small)
 
-fits_part : (ids : List (List ℕ)) (p : CaPart) → is_idle ids p ≡ false → part_fits ids p ≡ true → IsString (section_data (ca_section ids p))
+pub fits_part : (ids : List (List ℕ)) (p : CaPart) → is_idle ids p ≡ false → part_fits ids p ≡ true
+    → IsString (section_data (ca_section ids p))
 fits_part ids p idle e = by_le (length (section_data (ca_section ids p))) (rw idle at e)
   where
     by_le : (n : ℕ) → leb n 4294967295 ≡ true → n < 2 ^ 32
     by_le n e = grind (arith, nat_tests)
 
-pub lawful_sections : (cas : List CaPart) (ids : List (List ℕ)) → AllByRecursion (λ p. AreRuns p.runs) cas → fits cas ids ≡ true → AllByRecursion IsSection (published_sections cas ids)
+pub lawful_sections : (cas : List CaPart) (ids : List (List ℕ)) → AllByRecursion (λ p. AreRuns p.runs) cas
+    → fits cas ids ≡ true → AllByRecursion IsSection (published_sections cas ids)
 lawful_sections [] ids h e = tt
 lawful_sections (p ∷ cas) ids h e =
     let both = and_parts (part_fits ids p) (fits cas ids) e in
     by_idle (is_idle ids p) refl (lawful_sections cas ids h.1 both.1) both.0
   where
-    by_idle : (b : Bool) → is_idle ids p ≡ b → AllByRecursion IsSection (published_sections cas ids) → part_fits ids p ≡ true → AllByRecursion IsSection (cond b [] (ca_section ids p ∷ []) ++ published_sections cas ids)
+    by_idle : (b : Bool) → is_idle ids p ≡ b → AllByRecursion IsSection (published_sections cas ids)
+        → part_fits ids p ≡ true
+        → AllByRecursion IsSection (cond b [] (ca_section ids p ∷ []) ++ published_sections cas ids)
     by_idle true idle more one = more
     by_idle false idle more one = (lawful_section ids p h.0 idle (fits_part ids p idle one), more)
 
@@ -165,7 +181,8 @@ parts_supported rs ids =
     ∙ and_from _ _ (list_all-append is_supported_part (serial_list (listed rs)) (ranges rs)
     ∙ and_from _ _ (list_supported (listed rs)) (ranges_supported rs)) (ids_supported ids)
 
-sections_supported : (cas : List CaPart) (ids : List (List ℕ)) → list_all is_supported_section (published_sections cas ids) ≡ true
+sections_supported : (cas : List CaPart) (ids : List (List ℕ))
+    → list_all is_supported_section (published_sections cas ids) ≡ true
 sections_supported [] ids = refl
 sections_supported (p ∷ cas) ids =
     let more = sections_supported cas ids in
@@ -174,9 +191,12 @@ sections_supported (p ∷ cas) ids =
     [ true ↦ more | false ↦ rw (parts_supported p.runs ids) more ]
 
 -- the published text has one cut, and it is supported
-pub only_cut : (head : KrlHead) (cas : List CaPart) (ids : List (List ℕ)) → head.version < 2 ^ 64 → head.date < 2 ^ 64 → AllByRecursion (λ p. AreRuns p.runs) cas → fits cas ids ≡ true → AreOnly (published_text head cas ids) (published_list head cas ids)
+pub only_cut : (head : KrlHead) (cas : List CaPart) (ids : List (List ℕ)) → head.version < 2 ^ 64 → head.date < 2 ^ 64
+    → AllByRecursion (λ p. AreRuns p.runs) cas → fits cas ids ≡ true
+    → AreOnly (published_text head cas ids) (published_list head cas ids)
 only_cut head cas ids v d h e =
-    let cut : IsCut (published_text head cas ids) (published_list head cas ids) = record { header = (v, d, omega arith, omega arith); sections = lawful_sections cas ids h e; text = refl } in
+    let cut : IsCut (published_text head cas ids) (published_list head cas ids) =
+    record { header = (v, d, omega arith, omega arith); sections = lawful_sections cas ids h e; text = refl } in
     record {
       cut = cut;
       one = λ m other. cut_unique (published_text head cas ids) m (published_list head cas ids) other cut;
@@ -185,11 +205,13 @@ only_cut head cas ids v d h e =
 
 -- ---- what it revokes
 
-list_names : (serial : ℕ) (key_id : List ℕ) (ns : List ℕ) → list_any (names serial key_id) (serial_list ns) ≡ named_set (serial_list ns) serial
+list_names : (serial : ℕ) (key_id : List ℕ) (ns : List ℕ)
+    → list_any (names serial key_id) (serial_list ns) ≡ named_set (serial_list ns) serial
 list_names serial key_id [] = refl
 list_names serial key_id (n ∷ ns) = refl
 
-ranges_name : (serial : ℕ) (key_id : List ℕ) (rs : List Run) → list_any (names serial key_id) (ranges rs) ≡ named_set (ranges rs) serial
+ranges_name : (serial : ℕ) (key_id : List ℕ) (rs : List Run)
+    → list_any (names serial key_id) (ranges rs) ≡ named_set (ranges rs) serial
 ranges_name serial key_id [] = refl
 ranges_name serial key_id (r ∷ rs) =
     let more = ranges_name serial key_id rs in
@@ -197,11 +219,14 @@ ranges_name serial key_id (r ∷ rs) =
     ≡ named_set (cond b (ranges rs) (Range r ∷ ranges rs)) serial)
     [ true ↦ more | false ↦ ap (λ b. names_serial serial (Range r) || b) more ]
 
-ids_name : (serial : ℕ) (key_id : List ℕ) (ids : List (List ℕ)) → list_any (names serial key_id) (key_id_parts ids) ≡ is_key_id ids key_id
+ids_name : (serial : ℕ) (key_id : List ℕ) (ids : List (List ℕ))
+    → list_any (names serial key_id) (key_id_parts ids) ≡ is_key_id ids key_id
 ids_name serial key_id [] = refl
 ids_name serial key_id (i ∷ ids) = or-false (is_key_id (i ∷ ids) key_id)
 
-parts_name : (serial : ℕ) (key_id : List ℕ) (rs : List Run) (ids : List (List ℕ)) → AreRuns rs → list_any (names serial key_id) (serial_parts rs ++ key_id_parts ids) ≡ (contains rs serial || is_key_id ids key_id)
+parts_name : (serial : ℕ) (key_id : List ℕ) (rs : List Run) (ids : List (List ℕ)) → AreRuns rs
+    → list_any (names serial key_id) (serial_parts rs ++ key_id_parts ids)
+    ≡ (contains rs serial || is_key_id ids key_id)
 parts_name serial key_id rs ids h =
     list_any-append (names serial key_id) (serial_parts rs) (key_id_parts ids)
     ∙ (λ i. serials i || ids_name serial key_id ids i)
@@ -215,27 +240,46 @@ parts_name serial key_id rs ids h =
 
 -- whether the CA part is the blob's and names the serial or the key id
 abbrev pub part_revokes : List ℕ → ℕ → List ℕ → List (List ℕ) → CaPart → Bool
-part_revokes blob serial key_id ids p = bytes_eq (key_blob p.ca) blob && (contains p.runs serial || is_key_id ids key_id)
+part_revokes blob serial key_id ids p =
+    bytes_eq (key_blob p.ca) blob && (contains p.runs serial || is_key_id ids key_id)
 
 not_zero : (n : ℕ) → 0 < n → eqb n 0 ≡ false
 not_zero n lt = grind (arith, nat_tests)
 
-nothing_idle : (serial : ℕ) (key_id : List ℕ) (ids : List (List ℕ)) (rs : List Run) → (eqb (length rs) 0 && eqb (length ids) 0) ≡ true → (contains rs serial || is_key_id ids key_id) ≡ false
+nothing_idle : (serial : ℕ) (key_id : List ℕ) (ids : List (List ℕ)) (rs : List Run)
+    → (eqb (length rs) 0 && eqb (length ids) 0) ≡ true → (contains rs serial || is_key_id ids key_id) ≡ false
 nothing_idle serial key_id [] [] e = refl
-nothing_idle serial key_id (i ∷ ids) [] e = clash (eqb (suc (length ids)) 0) e (not_zero (suc (length ids)) (omega arith))
-nothing_idle serial key_id ids (r ∷ rs) e = clash (eqb (suc (length rs)) 0) ((and_parts (eqb (suc (length rs)) 0) (eqb (length ids) 0) e).0) (not_zero (suc (length rs)) (omega arith))
+nothing_idle serial key_id (i ∷ ids) [] e =
+    clash (eqb (suc (length ids)) 0) e (not_zero (suc (length ids)) (omega arith))
+nothing_idle serial key_id ids (r ∷ rs) e =
+    clash (eqb (suc (length rs)) 0) ((and_parts (eqb (suc (length rs)) 0) (eqb (length ids) 0) e).0)
+    (not_zero (suc (length rs)) (omega arith))
 
 for_blob : (blob ca : List ℕ) → is_for blob (key_blob ca) ≡ bytes_eq (key_blob ca) blob
-for_blob blob ca = ap (λ b. b || bytes_eq (key_blob ca) blob) (not_zero (length (key_blob ca)) (let both = length-append (string_text []) ca in omega arith))
+for_blob blob ca =
+    ap (λ b. b || bytes_eq (key_blob ca) blob)
+    (not_zero (length (key_blob ca)) (let both = length-append (string_text []) ca in omega arith))
 
 -- whether the list revokes, a CA part at a time
-pub list_revokes : (blob : List ℕ) (serial : ℕ) (key_id : List ℕ) (cas : List CaPart) (ids : List (List ℕ)) → AllByRecursion (λ p. AreRuns p.runs) cas → list_any (section_revokes blob serial key_id) (published_sections cas ids) ≡ list_any (part_revokes blob serial key_id ids) cas
+pub list_revokes : (blob : List ℕ) (serial : ℕ) (key_id : List ℕ) (cas : List CaPart) (ids : List (List ℕ))
+    → AllByRecursion (λ p. AreRuns p.runs) cas
+    → list_any (section_revokes blob serial key_id) (published_sections cas ids)
+    ≡ list_any (part_revokes blob serial key_id ids) cas
 list_revokes blob serial key_id [] ids h = refl
-list_revokes blob serial key_id (p ∷ cas) ids h = by_idle (is_idle ids p) refl (list_revokes blob serial key_id cas ids h.1)
+list_revokes blob serial key_id (p ∷ cas) ids h =
+    by_idle (is_idle ids p) refl (list_revokes blob serial key_id cas ids h.1)
   where
-    by_idle : (b : Bool) → is_idle ids p ≡ b → list_any (section_revokes blob serial key_id) (published_sections cas ids) ≡ list_any (part_revokes blob serial key_id ids) cas
-        → list_any (section_revokes blob serial key_id) (cond b [] (ca_section ids p ∷ []) ++ published_sections cas ids) ≡ (part_revokes blob serial key_id ids p || list_any (part_revokes blob serial key_id ids) cas)
-    by_idle true idle more = more ∙ sym (ap (λ b. (bytes_eq (key_blob p.ca) blob && b) || list_any (part_revokes blob serial key_id ids) cas) (nothing_idle serial key_id ids p.runs idle) ∙ ap (λ b. b || list_any (part_revokes blob serial key_id ids) cas) (and-false (bytes_eq (key_blob p.ca) blob)))
+    by_idle : (b : Bool) → is_idle ids p ≡ b
+        → list_any (section_revokes blob serial key_id) (published_sections cas ids)
+        ≡ list_any (part_revokes blob serial key_id ids) cas
+        → list_any (section_revokes blob serial key_id)
+        (cond b [] (ca_section ids p ∷ []) ++ published_sections cas ids)
+        ≡ (part_revokes blob serial key_id ids p || list_any (part_revokes blob serial key_id ids) cas)
+    by_idle true idle more =
+        more ∙ sym
+        (ap (λ b. (bytes_eq (key_blob p.ca) blob && b) || list_any (part_revokes blob serial key_id ids) cas)
+        (nothing_idle serial key_id ids p.runs idle)
+        ∙ ap (λ b. b || list_any (part_revokes blob serial key_id ids) cas) (and-false (bytes_eq (key_blob p.ca) blob)))
     by_idle false idle more = λ i. (for_blob blob p.ca i && parts_name serial key_id p.runs ids h.0 i) || more i
 
 pub bytes_other : (a b : List ℕ) → a ≢ b → bytes_eq a b ≡ false
@@ -249,21 +293,37 @@ bytes_other a b apart = by_test (bytes_eq a b) refl
 pub blob_key : (a b : List ℕ) → key_blob a ≡ key_blob b → a ≡ b
 blob_key a b e = cc
 
-none_revokes : (blob : List ℕ) (serial : ℕ) (key_id : List ℕ) (cas : List CaPart) (ids : List (List ℕ)) → ((p : CaPart) → IsCaPartOf p cas → key_blob p.ca ≢ blob) → list_any (part_revokes blob serial key_id ids) cas ≡ false
+none_revokes : (blob : List ℕ) (serial : ℕ) (key_id : List ℕ) (cas : List CaPart) (ids : List (List ℕ))
+    → ((p : CaPart) → IsCaPartOf p cas → key_blob p.ca ≢ blob)
+    → list_any (part_revokes blob serial key_id ids) cas ≡ false
 none_revokes blob serial key_id [] ids none = refl
-none_revokes blob serial key_id (p ∷ cas) ids none = rw (bytes_other (key_blob p.ca) blob (none p (inl refl))) (none_revokes blob serial key_id cas ids (λ q c. none q (inr c)))
+none_revokes blob serial key_id (p ∷ cas) ids none =
+    rw (bytes_other (key_blob p.ca) blob (none p (inl refl)))
+    (none_revokes blob serial key_id cas ids (λ q c. none q (inr c)))
 
-one_revokes : (serial : ℕ) (key_id : List ℕ) (cas : List CaPart) (ids : List (List ℕ)) (p : CaPart) → AreDistinctCas cas → IsCaPartOf p cas → list_any (part_revokes (key_blob p.ca) serial key_id ids) cas ≡ (contains p.runs serial || is_key_id ids key_id)
+one_revokes : (serial : ℕ) (key_id : List ℕ) (cas : List CaPart) (ids : List (List ℕ)) (p : CaPart) → AreDistinctCas cas
+    → IsCaPartOf p cas
+    → list_any (part_revokes (key_blob p.ca) serial key_id ids) cas ≡ (contains p.runs serial || is_key_id ids key_id)
 one_revokes serial key_id [] ids p d c = absurd c
 one_revokes serial key_id (q ∷ cas) ids p d (inl same) =
-    subst (λ (x : CaPart). list_any (part_revokes (key_blob x.ca) serial key_id ids) (q ∷ cas) ≡ (contains x.runs serial || is_key_id ids key_id)) same
-    (rw ((bytes_eq-Decides (key_blob q.ca) (key_blob q.ca)).1 refl, none_revokes (key_blob q.ca) serial key_id cas ids (λ r c e. d.0 r c (blob_key r.ca q.ca e))) (or-false (contains q.runs serial || is_key_id ids key_id)))
+    subst (λ (x : CaPart). list_any (part_revokes (key_blob x.ca) serial key_id ids) (q ∷ cas)
+    ≡ (contains x.runs serial || is_key_id ids key_id)) same
+    (rw (
+      (bytes_eq-Decides (key_blob q.ca) (key_blob q.ca)).1 refl,
+      none_revokes (key_blob q.ca) serial key_id cas ids (λ r c e. d.0 r c (blob_key r.ca q.ca e)),
+    )
+    (or-false (contains q.runs serial || is_key_id ids key_id)))
 one_revokes serial key_id (q ∷ cas) ids p d (inr c) =
-    rw (bytes_other (key_blob q.ca) (key_blob p.ca) (λ e. d.0 p c (sym (blob_key q.ca p.ca e)))) (one_revokes serial key_id cas ids p d.1 c)
+    rw (bytes_other (key_blob q.ca) (key_blob p.ca) (λ e. d.0 p c (sym (blob_key q.ca p.ca e))))
+    (one_revokes serial key_id cas ids p d.1 c)
 
 -- the published list revokes just what its parts name
-pub revokes_exactly : (head : KrlHead) (cas : List CaPart) (ids : List (List ℕ)) → AllByRecursion (λ p. AreRuns p.runs) cas → AreDistinctCas cas → RevokesExactly (published_list head cas ids) cas ids
+pub revokes_exactly : (head : KrlHead) (cas : List CaPart) (ids : List (List ℕ))
+    → AllByRecursion (λ p. AreRuns p.runs) cas → AreDistinctCas cas
+    → RevokesExactly (published_list head cas ids) cas ids
 revokes_exactly head cas ids h d = record {
-  own = λ p c serial key_id. list_revokes (key_blob p.ca) serial key_id cas ids h ∙ one_revokes serial key_id cas ids p d c;
-  others = λ blob none serial key_id. list_revokes blob serial key_id cas ids h ∙ none_revokes blob serial key_id cas ids none;
+  own = λ p c serial key_id. list_revokes (key_blob p.ca) serial key_id cas ids h
+      ∙ one_revokes serial key_id cas ids p d c;
+  others = λ blob none serial key_id. list_revokes blob serial key_id cas ids h
+      ∙ none_revokes blob serial key_id cas ids none;
 }

@@ -52,7 +52,10 @@ long_again r rest long lo hi =
 -- where there is no range there is no long run
 pub no_long : (after : List ℕ) → behind_at range_begin after ≡ None → long_at after ≡ None
 unfolding long_at
-no_long after none = ap (λ o. o >>= (λ begun. u64_at begun >>= (λ lo. u64_at lo.1 >>= (λ hi. cond (is_short (run_of lo.0 hi.0)) None (Some (run_of lo.0 hi.0, hi.1)))))) none
+no_long after none =
+    ap (λ o. o >>=
+    (λ begun. u64_at begun >>=
+    (λ lo. u64_at lo.1 >>= (λ hi. cond (is_short (run_of lo.0 hi.0)) None (Some (run_of lo.0 hi.0, hi.1)))))) none
 
 -- the first range is that of a run
 pub long_low : (from : ℕ) (q : Run) (rest after : List ℕ) (rs : List Run) → AreRunsFrom from rs
@@ -123,7 +126,8 @@ two_again : (lo hi : ℕ) (rest : List ℕ) → hi < 2 ^ 64 → hi ≡ lo + 1
 unfolding short_at
 two_again lo hi rest small next =
     then (u64_at (u64_text lo ++ (u64_text hi ++ rest))) (lo, u64_text hi ++ rest) _ _ (u64_again lo _ (omega arith))
-    (ap (λ o. Some (short_from lo (u64_text hi ++ rest) o)) (u64_again hi rest small) ∙ rw (eq-eqb hi (lo + 1) next) refl)
+    (ap (λ o. Some (short_from lo (u64_text hi ++ rest) o)) (u64_again hi rest small)
+    ∙ rw (eq-eqb hi (lo + 1) next) refl)
 
 -- the serials of a short run are read as the run
 pub short_again : (from : ℕ) (r : Run) (rs : List Run) → AreRunsFrom from (r ∷ rs) → is_short r ≡ true
@@ -139,7 +143,8 @@ short_again from r rs h short = by_one (eqb r.lo r.hi) refl
     by_one true e =
         let small : r.hi < 2 ^ 64 = h.2 in
         let same : r.lo ≡ r.hi = grind (arith, nat_tests) in
-        one_again r.lo (flat_map listed_text rs) (omega arith) (λ n t is. let low = listed_low (r.hi + 2) n t rs h.3 is in omega arith)
+        one_again r.lo (flat_map listed_text rs) (omega arith) (λ n t is. let low =
+        listed_low (r.hi + 2) n t rs h.3 is in omega arith)
         ∙ ap (λ hi. Some (run_of r.lo hi, flat_map listed_text rs)) same
     by_one false e =
         let apart : r.lo ≢ r.hi = λ same. clash (eqb r.lo r.hi) (eq-eqb _ _ same) e in
@@ -185,15 +190,19 @@ run_again from r rs after h none = by_short (is_short r) refl
         ((cond b [] (part_text (Range r)) ++ flat_map range_text rs) ++ after)
         ≡ Some (r, (flat_map listed_text rs, flat_map range_text rs ++ after))
     by_short true short =
-        ap (λ o. lower (flat_map u64_text (serials_of r) ++ flat_map listed_text rs) (flat_map range_text rs ++ after) o (long_at (flat_map range_text rs ++ after)))
+        ap (λ o. lower (flat_map u64_text (serials_of r) ++ flat_map listed_text rs) (flat_map range_text rs ++ after) o
+        (long_at (flat_map range_text rs ++ after)))
         (short_again from r rs h short)
         ∙ lower_short _ _ (r, flat_map listed_text rs) (long_at (flat_map range_text rs ++ after))
-        (λ l is. let low = long_low (r.hi + 2) l.0 l.1 after rs h.3 none is in let le : r.lo ≤ r.hi = h.1 in omega arith)
+        (λ l is. let low = long_low (r.hi + 2) l.0 l.1 after rs h.3 none is in let le : r.lo ≤ r.hi =
+        h.1 in omega arith)
     by_short false long =
         let le : r.lo ≤ r.hi = h.1 in
         let small : r.hi < 2 ^ 64 = h.2 in
-        ap (λ t. lower (flat_map listed_text rs) t (short_at (flat_map listed_text rs)) (long_at t)) (append_assoc (part_text (Range r)) (flat_map range_text rs) after)
-        ∙ ap (λ o. lower (flat_map listed_text rs) (part_text (Range r) ++ (flat_map range_text rs ++ after)) (short_at (flat_map listed_text rs)) o)
+        ap (λ t. lower (flat_map listed_text rs) t (short_at (flat_map listed_text rs)) (long_at t))
+        (append_assoc (part_text (Range r)) (flat_map range_text rs) after)
+        ∙ ap (λ o. lower (flat_map listed_text rs) (part_text (Range r) ++ (flat_map range_text rs ++ after))
+        (short_at (flat_map listed_text rs)) o)
         (long_again r (flat_map range_text rs ++ after) long (omega arith) small)
         ∙ lower_long _ _ (short_at (flat_map listed_text rs)) (r, flat_map range_text rs ++ after)
         (λ s is. let low = short_low (r.hi + 2) s.0 s.1 rs h.3 is in omega arith)

@@ -55,7 +55,9 @@ none_over rs qs a b l m l' m' p o r k none_a none_b e f kept =
     let old = first_read k.low l m p o r k.old a k.old_runs none_a k.old_text e in
     let new = none_read k.base l' m' k.new b k.new_runs none_b k.new_text f in
     let runs : AreRunsFrom k.low (r ∷ old.0) = subst (AreRunsFrom k.low) old.1 k.old_runs in
-    let still : AreKept (r ∷ old.0) [] = λ n is. subst (λ qs. contains qs n ≡ true) new.0 (k.fewer kept n (subst (λ os. contains os n ≡ true) (sym old.1) is)) in
+    let still : AreKept (r ∷ old.0) [] =
+    λ n is. subst (λ qs. contains qs n ≡ true) new.0
+    (k.fewer kept n (subst (λ os. contains os n ≡ true) (sym old.1) is)) in
     let in_old = or_left (is_within r.lo r) (contains old.0 r.lo) (is_in r.lo r.lo r.hi (omega arith) runs.1) in
     let bad = still r.lo in_old in
     absurd cc
@@ -79,8 +81,11 @@ passed rs qs a b l m l' m' p o s t r q k none_a none_b e f below =
       old_text = k.old_text;
       new_text = new.2;
       fewer = λ kept n is. elim (cases_lt n r.lo) [
-        | inl lt ↦ clash (contains k.old n) is (ap (λ os. contains os n) old.1 ∙ none_below r.lo n (r ∷ old.0) (omega arith, runs.1, runs.2, runs.3) lt)
-        | inr le ↦ sym (ap (λ x. x || contains new.0 n) (is_over n q.lo q.hi (omega arith))) ∙ sym (ap (λ ns. contains ns n) new.1) ∙ k.fewer kept n is
+        | inl lt ↦
+            clash (contains k.old n) is (ap (λ os. contains os n) old.1
+            ∙ none_below r.lo n (r ∷ old.0) (omega arith, runs.1, runs.2, runs.3) lt)
+        | inr le ↦ sym (ap (λ x. x || contains new.0 n) (is_over n q.lo q.hi (omega arith)))
+            ∙ sym (ap (λ ns. contains ns n) new.1) ∙ k.fewer kept n is
       ];
       whole = λ kept. k.whole (λ n is. ap (λ ns. contains ns n) new.1 ∙ rw (kept n is) (or_true (is_within n q)));
     }
@@ -103,10 +108,13 @@ covered_one rs qs a b l m l' m' p o s t r q k none_a none_b e f lo hi =
       old_text = old.2;
       new_text = k.new_text;
       fewer = λ kept n is. k.fewer kept n (ap (λ os. contains os n) old.1 ∙ rw is (or_true (is_within n r)));
-      whole = λ kept. k.whole (λ n is. elim (or_cases (is_within n r) (contains old.0 n) (sym (ap (λ os. contains os n) old.1) ∙ is)) [
-        | inl here ↦ let both = ends n r.lo r.hi here in ap (λ ns. contains ns n) new.1 ∙ or_left (is_within n q) (contains new.0 n) (is_in n q.lo q.hi (omega arith) (omega arith))
-        | inr later ↦ kept n later.1
-      ]);
+      whole = λ kept. k.whole
+          (λ n is. elim (or_cases (is_within n r) (contains old.0 n) (sym (ap (λ os. contains os n) old.1) ∙ is)) [
+            | inl here ↦ let both = ends n r.lo r.hi here in
+                ap (λ ns. contains ns n) new.1
+                ∙ or_left (is_within n q) (contains new.0 n) (is_in n q.lo q.hi (omega arith) (omega arith))
+            | inr later ↦ kept n later.1
+          ]);
     }
 
 -- an old run that isn't within the new run that it reaches isn't kept
@@ -118,15 +126,19 @@ lost rs qs a b l m l' m' p o s t r q k none_a none_b e f reaches over kept =
     let new = first_read k.base l' m' s t q k.new b k.new_runs none_b k.new_text f in
     let runs : AreRunsFrom k.low (r ∷ old.0) = subst (AreRunsFrom k.low) old.1 k.old_runs in
     let others : AreRunsFrom k.base (q ∷ new.0) = subst (AreRunsFrom k.base) new.1 k.new_runs in
-    let still : AreKept (r ∷ old.0) (q ∷ new.0) = λ n is. sym (ap (λ ns. contains ns n) new.1) ∙ k.fewer kept n (ap (λ os. contains os n) old.1 ∙ is) in
-    let has : (n : ℕ) → r.lo ≤ n → n ≤ r.hi → contains (q ∷ new.0) n ≡ true = λ n x y. still n (or_left (is_within n r) (contains old.0 n) (is_in n r.lo r.hi x y)) in
+    let still : AreKept (r ∷ old.0) (q ∷ new.0) = λ n is. sym (ap (λ ns. contains ns n) new.1)
+    ∙ k.fewer kept n (ap (λ os. contains os n) old.1 ∙ is) in
+    let has : (n : ℕ) → r.lo ≤ n → n ≤ r.hi
+    → contains (q ∷ new.0) n ≡ true =
+    λ n x y. still n (or_left (is_within n r) (contains old.0 n) (is_in n r.lo r.hi x y)) in
     let order : r.lo ≤ r.hi = runs.1 in
     elim (cases_lt r.lo q.lo) [
       | inl lt ↦ clash (contains (q ∷ new.0) r.lo) (has r.lo (omega arith) order)
           (none_below q.lo r.lo (q ∷ new.0) (omega arith, others.1, others.2, others.3) lt)
       | inr le ↦ elim (cases_lt q.hi r.hi) [
         | inl lt ↦ clash (contains (q ∷ new.0) (q.hi + 1)) (has (q.hi + 1) (omega arith) (omega arith))
-            (ap (λ x. x || contains new.0 (q.hi + 1)) (is_over (q.hi + 1) q.lo q.hi (omega arith)) ∙ none_below (q.hi + 2) (q.hi + 1) new.0 others.3 (omega arith))
+            (ap (λ x. x || contains new.0 (q.hi + 1)) (is_over (q.hi + 1) q.lo q.hi (omega arith))
+            ∙ none_below (q.hi + 2) (q.hi + 1) new.0 others.3 (omega arith))
         | inr ge ↦ over le ge
       ]
     ]

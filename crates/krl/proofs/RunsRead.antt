@@ -1,6 +1,7 @@
 -- Runs that are read to the end.
 use Rattle.krl.proofs.Words.{AreRuns, AreRunsFrom, List, None, Option, Run, Some, [], append_assoc, ap, flat_map}
-use Rattle.krl.proofs.Words.{listed_text, range_text, refl, same_Some, subst, sym, ℕ, ◌++◌, ◌+◌, ◌<◌, ◌^◌, ◌∙◌, ◌∷◌, ◌≡◌}
+use Rattle.krl.proofs.Words.{listed_text, range_text, refl, same_Some, subst, sym, ℕ, ◌++◌, ◌+◌, ◌<◌, ◌^◌, ◌∙◌, ◌∷◌}
+use Rattle.krl.proofs.Words.{◌≡◌}
 use Rattle.krl.proofs.Words.{◌≤◌}
 use Rattle.std.specs.Option.{option_map_or}
 use Rattle.std.proofs.lemmas.List.{append-nil, flat_map_more}
@@ -42,7 +43,11 @@ first_read from l m l' m' r (q ∷ qs) after h none split e =
     let same = same_Some _ _ (sym is ∙ sym (λ i. run_at (split.short i) (split.long i)) ∙ e) in (
       qs,
       λ i. (same i).0 ∷ qs,
-      record { short = sym (ap (λ (x : Run × (List ℕ × List ℕ)). x.1.0) same); long = sym (ap (λ (x : Run × (List ℕ × List ℕ)). x.1.1) same) },
+      record {
+        short = sym (ap (λ (x : Run × (List ℕ × List ℕ)). x.1.0) same);
+        long =
+            sym (ap (λ (x : Run × (List ℕ × List ℕ)). x.1.1) same);
+      },
     )
 
 -- where no run is read none is left
@@ -65,8 +70,10 @@ pub one_more : (listed ranges l m l' m' : List ℕ) (last : Option Run) (r : Run
 one_more listed ranges l m l' m' last r so low order small short long e = record {
   done = so.done ++ r ∷ [];
   lawful = λ rs h. subst AreRuns (sym (append_assoc so.done (r ∷ []) rs)) (so.lawful (r ∷ rs) (low, order, small, h));
-  listed_read = so.listed_read ∙ ap (λ t. flat_map listed_text so.done ++ t) short ∙ sym (text_more listed_text so.done r l');
-  ranges_read = so.ranges_read ∙ ap (λ t. flat_map range_text so.done ++ t) long ∙ sym (text_more range_text so.done r m');
+  listed_read = so.listed_read ∙ ap (λ t. flat_map listed_text so.done ++ t) short
+      ∙ sym (text_more listed_text so.done r l');
+  ranges_read = so.ranges_read ∙ ap (λ t. flat_map range_text so.done ++ t) long
+      ∙ sym (text_more range_text so.done r m');
   left = λ rs after h none split.
       let qs = so.left rs after h none split in
       let next = first_read (least last) l m l' m' r qs.0 after qs.1 none qs.2 e in
@@ -91,7 +98,8 @@ all_read listed ranges l m last so none = (
   so.done,
   subst AreRuns (append-nil so.done) (so.lawful [] tt),
   record {
-    short = so.listed_read ∙ ap (λ t. flat_map listed_text so.done ++ t) none ∙ append-nil (flat_map listed_text so.done);
+    short = so.listed_read ∙ ap (λ t. flat_map listed_text so.done ++ t) none
+        ∙ append-nil (flat_map listed_text so.done);
     long = so.ranges_read;
   },
 )

@@ -2,7 +2,8 @@
 use Rattle.krl.proofs.Words.{Bool, CaPart, IsString, List, None, Option, Range, Run, Some, [], ap, arith}
 use Rattle.krl.proofs.Words.{bytes_eq, cond, false, flat_map, is_short, key_blob, length, length-append, listed_text}
 use Rattle.krl.proofs.Words.{ltb, part_text, range_text, refl, string_text, subst, sym, take, true, ℕ, ◌++◌}
-use Rattle.krl.proofs.Words.{◌∙◌, ◌∷◌, ◌≡◌, ◌≢◌, AreRuns, same_Some, serials_of, u64_text, eqb, drop, ne_eqb, u32_text, ◌||◌, ◌&&◌, ◌⊎◌, inl, inr}
+use Rattle.krl.proofs.Words.{◌∙◌, ◌∷◌, ◌≡◌, ◌≢◌, AreRuns, same_Some, serials_of, u64_text, eqb, drop, ne_eqb, u32_text}
+use Rattle.krl.proofs.Words.{◌||◌, ◌&&◌, ◌⊎◌, inl, inr}
 use Rattle.std.specs.Prelude.{not}
 use Rattle.std.proofs.lemmas.List.{append-nil}
 use Rattle.wire.proofs.Laws.{string_again}
@@ -24,7 +25,8 @@ pub other_front : (a b : ℕ) (xs ys : List ℕ) → a ≢ b → behind_at (a �
 other_front a b xs ys apart =
     let front = take (length (a ∷ xs)) (b ∷ ys) in
     let differ = bytes_other front (a ∷ xs) (λ e. apart cc) in
-    neither (ltb (length (b ∷ ys)) (length (a ∷ xs))) (bytes_eq front (a ∷ xs)) (Some (drop (length (a ∷ xs)) (b ∷ ys))) differ
+    neither (ltb (length (b ∷ ys)) (length (a ∷ xs))) (bytes_eq front (a ∷ xs))
+    (Some (drop (length (a ∷ xs)) (b ∷ ys))) differ
 
 -- behind the runs stands no range
 pub no_range : (ids : List ℕ) → behind_at range_begin (part_if_any 0x23 ids) ≡ None
@@ -32,13 +34,15 @@ no_range [] = refl
 no_range (b ∷ ids) = other_front 0x21 0x23 (u32_text 16) (string_text (b ∷ ids)) (λ e. omega arith)
 
 -- behind the list of serials stands no other
-pub no_list : (rs : List Run) (ids : List ℕ) → behind_at (0x20 ∷ []) (flat_map range_text rs ++ part_if_any 0x23 ids) ≡ None
+pub no_list : (rs : List Run) (ids : List ℕ)
+    → behind_at (0x20 ∷ []) (flat_map range_text rs ++ part_if_any 0x23 ids) ≡ None
 no_list [] [] = refl
 no_list [] (b ∷ ids) = other_front 0x20 0x23 [] (string_text (b ∷ ids)) (λ e. omega arith)
 no_list (r ∷ rs) ids = by_short (is_short r) (no_list rs ids)
   where
     by_short : (b : Bool) → behind_at (0x20 ∷ []) (flat_map range_text rs ++ part_if_any 0x23 ids) ≡ None
-        → behind_at (0x20 ∷ []) ((cond b [] (part_text (Range r)) ++ flat_map range_text rs) ++ part_if_any 0x23 ids) ≡ None
+        → behind_at (0x20 ∷ []) ((cond b [] (part_text (Range r)) ++ flat_map range_text rs) ++ part_if_any 0x23 ids)
+        ≡ None
     by_short true more = more
     by_short false more =
         let range = u32_text 16 ++ (u64_text r.lo ++ u64_text r.hi) in
@@ -55,7 +59,8 @@ part_again kind (b ∷ d) rest small none =
 listed_fits : (ca listed ranges : List ℕ) → IsString (section_bytes ca listed ranges) → IsString listed
 listed_fits ca [] ranges small = omega arith
 listed_fits ca (b ∷ listed) ranges small =
-    let outer = length-append (string_text (key_blob ca)) (string_text [] ++ (part_if_any 0x20 (b ∷ listed) ++ ranges)) in
+    let outer = length-append (string_text (key_blob ca))
+    (string_text [] ++ (part_if_any 0x20 (b ∷ listed) ++ ranges)) in
     let inner = length-append (string_text []) (part_if_any 0x20 (b ∷ listed) ++ ranges) in
     let parts = length-append (part_if_any 0x20 (b ∷ listed)) ranges in
     let text = length-append (string_text []) (b ∷ listed) in
@@ -70,12 +75,15 @@ section_again ca listed ranges rest len small none =
     let d = section_bytes ca listed ranges in
     let parts = part_if_any 0x20 listed ++ ranges in
     let blob : IsString (key_blob ca) = omega (arith, length-key_blob ca) in
-    then (behind_at (1 ∷ []) (tagged_text 1 d ++ rest)) (string_text d ++ rest) _ _ (behind_again (1 ∷ []) (string_text d ++ rest))
+    then (behind_at (1 ∷ []) (tagged_text 1 d ++ rest)) (string_text d ++ rest) _ _
+    (behind_again (1 ∷ []) (string_text d ++ rest))
     (then (string_at (string_text d ++ rest)) (d, rest) _ _ (string_again d rest small)
-    (then (string_at d) (key_blob ca, string_text [] ++ parts) _ _ (string_again (key_blob ca) (string_text [] ++ parts) blob)
+    (then (string_at d) (key_blob ca, string_text [] ++ parts) _ _
+    (string_again (key_blob ca) (string_text [] ++ parts) blob)
     (then (key_of (key_blob ca)) ca _ _ (key_of_again ca len)
     (then (behind_at (string_text []) (string_text [] ++ parts)) parts _ _ (behind_again (string_text []) parts)
-    (then (part_at 0x20 parts) (listed, ranges) _ _ (part_again 0x20 listed ranges (listed_fits ca listed ranges small) none) refl)))))
+    (then (part_at 0x20 parts) (listed, ranges) _ _
+    (part_again 0x20 listed ranges (listed_fits ca listed ranges small) none) refl)))))
 
 -- the section of a CA is read
 pub whole_again : (ids rest : List ℕ) (p : CaPart) → IsWhole ids p
@@ -107,7 +115,8 @@ pub ids_fit : (ids : List ℕ) (p : CaPart) → IsString (whole_data ids p) → 
 ids_fit [] p small = omega arith
 ids_fit (b ∷ ids) p small =
     let ranges = ranges_bytes (b ∷ ids) p in
-    let outer = length-append (string_text (key_blob p.ca)) (string_text [] ++ (part_if_any 0x20 (listed_bytes p) ++ ranges)) in
+    let outer = length-append (string_text (key_blob p.ca))
+    (string_text [] ++ (part_if_any 0x20 (listed_bytes p) ++ ranges)) in
     let inner = length-append (string_text []) (part_if_any 0x20 (listed_bytes p) ++ ranges) in
     let parts = length-append (part_if_any 0x20 (listed_bytes p)) ranges in
     let tail = length-append (flat_map range_text p.runs) (part_if_any 0x23 (b ∷ ids)) in
@@ -129,7 +138,8 @@ no_text (r ∷ rs) e f = absurd (by_short (is_short r) e f)
     by_short false e f = cc
     by_short true e f = by_one (eqb r.lo r.hi) e
       where
-        by_one : (b : Bool) → flat_map u64_text (cond b (r.lo ∷ []) (r.lo ∷ r.hi ∷ [])) ++ flat_map listed_text rs ≡ [] → ⊥
+        by_one : (b : Bool) → flat_map u64_text (cond b (r.lo ∷ []) (r.lo ∷ r.hi ∷ [])) ++ flat_map listed_text rs ≡ []
+            → ⊥
         by_one true e = cc
         by_one false e = cc
 
@@ -155,7 +165,8 @@ pub whole_found : (bytes rest ca l m after ids none : List ℕ) (rs : List Run) 
     → (p : CaPart) × IsWhole ids p × (bytes ≡ whole_text ids p ++ rest)
 whole_found bytes rest ca l m after ids none rs len text small runs split parts end busy =
     let p : CaPart = record { ca = ca; runs = rs } in
-    let tail : after ≡ part_if_any 0x23 ids = parts ∙ ap (λ t. part_if_any 0x23 ids ++ t) end ∙ append-nil (part_if_any 0x23 ids) in
+    let tail : after ≡ part_if_any 0x23 ids = parts ∙ ap (λ t. part_if_any 0x23 ids ++ t) end
+    ∙ append-nil (part_if_any 0x23 ids) in
     let long : m ≡ ranges_bytes ids p = split.long ∙ ap (λ t. flat_map range_text rs ++ t) tail in
     let same : section_bytes ca l m ≡ whole_data ids p = λ i. section_bytes ca (split.short i) (long i) in (
       p,

@@ -30,8 +30,11 @@ ranges_in (OtherPart t bytes ∷ ps) = ranges_in ps
 
 named_parts : (ps : List Part) (n : ℕ) → named_set ps n ≡ (has (serials_in ps) n || contains (ranges_in ps) n)
 named_parts [] n = refl
-named_parts (Serials ns ∷ ps) n = ap (λ b. has ns n || b) (named_parts ps n) ∙ sym (or_group (has ns n) (has (serials_in ps) n) (contains (ranges_in ps) n)) ∙ ap (λ b. b || contains (ranges_in ps) n) (sym (list_any-append (eqb n) ns (serials_in ps)))
-named_parts (Range r ∷ ps) n = ap (λ b. is_within n r || b) (named_parts ps n) ∙ or_order (is_within n r) (has (serials_in ps) n) (contains (ranges_in ps) n)
+named_parts (Serials ns ∷ ps) n = ap (λ b. has ns n || b) (named_parts ps n)
+    ∙ sym (or_group (has ns n) (has (serials_in ps) n) (contains (ranges_in ps) n))
+    ∙ ap (λ b. b || contains (ranges_in ps) n) (sym (list_any-append (eqb n) ns (serials_in ps)))
+named_parts (Range r ∷ ps) n = ap (λ b. is_within n r || b) (named_parts ps n)
+    ∙ or_order (is_within n r) (has (serials_in ps) n) (contains (ranges_in ps) n)
 named_parts (KeyIds ids ∷ ps) n = named_parts ps n
 named_parts (OtherPart t bytes ∷ ps) n = named_parts ps n
 
@@ -43,7 +46,8 @@ parts_cost (KeyIds ids ∷ ps) = let more = parts_cost ps in omega arith
 parts_cost (OtherPart t bytes ∷ ps) = let more = parts_cost ps in omega arith
 
 -- one listed serial wants a list
-list_cost : (ps : List Part) → 0 < length (serials_in ps) → 5 + 8 * length (serials_in ps) + 21 * length (ranges_in ps) ≤ parts_len ps
+list_cost : (ps : List Part) → 0 < length (serials_in ps)
+    → 5 + 8 * length (serials_in ps) + 21 * length (ranges_in ps) ≤ parts_len ps
 list_cost [] lt = absurd (omega arith)
 list_cost (Serials ns ∷ ps) lt = let more = parts_cost ps in let both = length-append ns (serials_in ps) in omega arith
 list_cost (Range r ∷ ps) lt = let more = list_cost ps lt in omega arith
@@ -67,9 +71,11 @@ written_ranges rs h none =
     let rest : parts_len (ranges rs) ≡ least_of_all rs = omega arith in
     ap (λ (ns : List ℕ). parts_len (serial_list ns ++ ranges rs)) e ∙ rest
 
-pub shortest_cost : (rs : List Run) (ps : List Part) → AreRuns rs → ((n : ℕ) → named_set ps n ≡ contains rs n) → parts_len (serial_parts rs) ≤ parts_len ps
+pub shortest_cost : (rs : List Run) (ps : List Part) → AreRuns rs → ((n : ℕ) → named_set ps n ≡ contains rs n)
+    → parts_len (serial_parts rs) ≤ parts_len ps
 shortest_cost rs ps h same =
-    let both : (n : ℕ) → contains rs n ≡ (has (serials_in ps) n || contains (ranges_in ps) n) = λ n. sym (same n) ∙ named_parts ps n in
+    let both : (n : ℕ) → contains rs n ≡ (has (serials_in ps) n || contains (ranges_in ps) n) = λ n. sym (same n)
+    ∙ named_parts ps n in
     let bound = least rs (serials_in ps) (ranges_in ps) h both in
     let len = written_len rs h in
     let cost = parts_cost ps in
@@ -77,7 +83,8 @@ shortest_cost rs ps h same =
       | inl some ↦ let more = list_cost ps some in omega arith
       | inr none ↦
           let e : serials_in ps ≡ [] = nil_from_length _ (omega arith) in
-          let alone = ranges_alone rs (ranges_in ps) h (λ n. both n ∙ ap (λ (ns : List ℕ). has ns n || contains (ranges_in ps) n) e) in
+          let alone = ranges_alone rs (ranges_in ps) h
+          (λ n. both n ∙ ap (λ (ns : List ℕ). has ns n || contains (ranges_in ps) n) e) in
           elim (cases_lt 0 (how_short rs)) [
             | inl short ↦ let save = short_saves 0 rs h in omega arith
             | inr long ↦ let exact = written_ranges rs h (omega arith) in omega arith
@@ -94,7 +101,8 @@ part_bytes (OtherPart t bytes) = omega arith
 
 parts_bytes : (ps : List Part) → parts_len ps ≤ parts_length ps
 parts_bytes [] = omega arith
-parts_bytes (p ∷ ps) = let one = part_bytes p in let more = parts_bytes ps in let both = length-append (part_text p) (flat_map part_text ps) in omega arith
+parts_bytes (p ∷ ps) = let one = part_bytes p in let more = parts_bytes ps in let both =
+    length-append (part_text p) (flat_map part_text ps) in omega arith
 
 ranges_bytes : (rs : List Run) → parts_length (ranges rs) ≡ parts_len (ranges rs)
 ranges_bytes [] = refl
@@ -117,8 +125,10 @@ serial_bytes rs = by_list (listed rs)
         let both = length-append (part_text (Serials (n ∷ ns))) (flat_map part_text (ranges rs)) in
         omega arith
 
-pub shortest_bytes : (rs : List Run) (others : List Part) → AreRuns rs → ((n : ℕ) → named_set others n ≡ contains rs n) → parts_length (serial_parts rs) ≤ parts_length others
-shortest_bytes rs others h same = let cost = shortest_cost rs others h same in let here = serial_bytes rs in let there = parts_bytes others in omega arith
+pub shortest_bytes : (rs : List Run) (others : List Part) → AreRuns rs → ((n : ℕ) → named_set others n ≡ contains rs n)
+    → parts_length (serial_parts rs) ≤ parts_length others
+shortest_bytes rs others h same = let cost = shortest_cost rs others h same in let here = serial_bytes rs in let there =
+    parts_bytes others in omega arith
 
 -- ---- they name the set
 
@@ -129,7 +139,8 @@ list_named : (ns : List ℕ) (n : ℕ) → named_set (serial_list ns) n ≡ is_a
 list_named [] n = refl
 list_named (m ∷ ns) n = or-false (is_among (m ∷ ns) n)
 
-runs_named : (from : ℕ) (rs : List Run) (n : ℕ) → AreRunsFrom from rs → (is_among (listed rs) n || named_set (ranges rs) n) ≡ contains rs n
+runs_named : (from : ℕ) (rs : List Run) (n : ℕ) → AreRunsFrom from rs
+    → (is_among (listed rs) n || named_set (ranges rs) n) ≡ contains rs n
 runs_named from [] n h = refl
 runs_named from (r ∷ rs) n h = elim (cases_lt r.hi (r.lo + 2)) [
   | inl lt ↦ rw (ltb-yes lt) (
@@ -137,11 +148,14 @@ runs_named from (r ∷ rs) n h = elim (cases_lt r.hi (r.lo + 2)) [
       ∙ or_group (is_among (serials_of r) n) (is_among (listed rs) n) (named_set (ranges rs) n)
       ∙ ap (λ b. b || (is_among (listed rs) n || named_set (ranges rs) n)) (run_named r n h.1 lt)
       ∙ ap (λ b. is_within n r || b) (runs_named (r.hi + 2) rs n h.3))
-  | inr ge ↦ rw (le-ltb _ _ ge) (or_order (is_among (listed rs) n) (is_within n r) (named_set (ranges rs) n) ∙ ap (λ b. is_within n r || b) (runs_named (r.hi + 2) rs n h.3))
+  | inr ge ↦
+      rw (le-ltb _ _ ge) (or_order (is_among (listed rs) n) (is_within n r) (named_set (ranges rs) n)
+      ∙ ap (λ b. is_within n r || b) (runs_named (r.hi + 2) rs n h.3))
 ]
 
 pub serials_named : (rs : List Run) (n : ℕ) → AreRuns rs → named_set (serial_parts rs) n ≡ contains rs n
-serials_named rs n h = list_any-append (names_serial n) (serial_list (listed rs)) (ranges rs) ∙ ap (λ b. b || named_set (ranges rs) n) (list_named (listed rs) n) ∙ runs_named 0 rs n h
+serials_named rs n h = list_any-append (names_serial n) (serial_list (listed rs)) (ranges rs)
+    ∙ ap (λ b. b || named_set (ranges rs) n) (list_named (listed rs) n) ∙ runs_named 0 rs n h
 
 -- the parts that are written are shortest
 pub are_shortest : (rs : List Run) → AreRuns rs → AreShortest (serial_parts rs) rs

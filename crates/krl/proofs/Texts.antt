@@ -79,9 +79,11 @@ part_texts = record {
 
 -- ---- sections
 
-section_from : (p q : Section) → IsSection p → IsSection q → section_type p ≡ section_type q → section_data p ≡ section_data q → p ≡ q
+section_from : (p q : Section) → IsSection p → IsSection q → section_type p ≡ section_type q
+    → section_data p ≡ section_data q → p ≡ q
 section_from (Certificates ca r ps) (Certificates da s qs) p q t d =
-    let front = string_unique ca da (string_text r ++ flat_map part_text ps) (string_text s ++ flat_map part_text qs) p.0.0 q.0.0 d in
+    let front = string_unique ca da (string_text r ++ flat_map part_text ps)
+    (string_text s ++ flat_map part_text qs) p.0.0 q.0.0 d in
     let mid = string_unique r s (flat_map part_text ps) (flat_map part_text qs) p.0.1 q.0.1 front.1 in
     let parts = items_unique part_texts ps qs p.0.3 q.0.3 mid.1 in
     λ i. Certificates (front.0 i) (mid.0 i) (parts i)
@@ -100,7 +102,11 @@ section_texts = record {
 -- ---- headers
 
 -- a header's fields, and what follows it
-pub header_fields : (h : Header) (r : List ℕ) → header_text h ++ r ≡ u64_text magic ++ (u32_text 1 ++ (u64_text h.version ++ (u64_text h.date ++ (u64_text 0 ++ (string_text h.reserved ++ (string_text h.comment ++ r))))))
+pub header_fields : (h : Header) (r : List ℕ)
+    → header_text h ++ r ≡ u64_text magic
+    ++ (u32_text 1
+    ++ (u64_text h.version
+    ++ (u64_text h.date ++ (u64_text 0 ++ (string_text h.reserved ++ (string_text h.comment ++ r))))))
 header_fields h r = simp append_assoc
 
 pub header_unique : (h k : Header) (r s : List ℕ) → IsHeader h → IsHeader k → header_text h ++ r ≡ header_text k ++ s

@@ -1,13 +1,16 @@
 -- Sections that are read one after the other.
-use Rattle.krl.proofs.Words.{AllByRecursion, Bool, CaPart, List, None, Option, Some, [], ap, append_assoc, arith, bytes_eq}
-use Rattle.krl.proofs.Words.{cond, false, flat_map, inl, inr, length, length-append, list_all, refl, same_Some, subst, sym}
+use Rattle.krl.proofs.Words.{AllByRecursion, Bool, CaPart, List, None, Option, Some, [], ap, append_assoc, arith}
+use Rattle.krl.proofs.Words.{bytes_eq}
+use Rattle.krl.proofs.Words.{cond, false, flat_map, inl, inr, length, length-append, list_all, refl, same_Some, subst}
+use Rattle.krl.proofs.Words.{sym}
 use Rattle.krl.proofs.Words.{true, ℕ, ◌++◌, ◌+◌, ◌∙◌, ◌∷◌, ◌≡◌, ◌≢◌, ◌≤◌}
 use Rattle.std.specs.Option.{is_some, option_map}
 use Rattle.std.proofs.lemmas.List.{append-nil, flat_map_more}
 use Rattle.std.specs.Prelude.{find}
 use Rattle.std.proofs.lemmas.Slice.Eq.{bytes_eq-Decides}
 use Rattle.krl.specs.Published.{IsCaPartOf}
-use Rattle.krl.specs.Fronts.{AreSplit, AreWhole, IsWhole, listed_bytes, part_if_any, ranges_bytes, runs_under, section_at}
+use Rattle.krl.specs.Fronts.{AreSplit, AreWhole, IsWhole, listed_bytes, part_if_any, ranges_bytes, runs_under}
+use Rattle.krl.specs.Fronts.{section_at}
 use Rattle.krl.specs.Fronts.{whole_text}
 use Rattle.krl.proofs.Booleans.{clash}
 use Rattle.krl.proofs.SectionLaws.{none_whole, read_as}
@@ -65,12 +68,15 @@ one_whole sections ids rest next count p so some room whole text reads = record 
   as_many = let size = length-append so.done (p ∷ []) in let many = so.as_many in omega arith;
   few = let few = so.few in omega arith;
   whole = all_more ids so.done p so.whole whole;
-  read = so.read ∙ ap (λ t. flat_map (whole_text ids) so.done ++ t) text ∙ sym (text_more (whole_text ids) so.done p next);
+  read = so.read ∙ ap (λ t. flat_map (whole_text ids) so.done ++ t) text
+      ∙ sym (text_more (whole_text ids) so.done p next);
   left = λ cas are.
       let others = so.left cas are in
       let first = next_whole ids rest others.0 (Some (ids, next)) some others.2 others.3 reads in
-      let after : next ≡ flat_map (whole_text ids) first.1 = ap (λ (x : List ℕ × List ℕ). x.1) (same_Some _ _ first.3) in
-      let all : AllByRecursion (IsWhole ids) (first.0 ∷ first.1) = subst (AllByRecursion (IsWhole ids)) first.2 others.2 in
+      let after : next ≡ flat_map (whole_text ids) first.1 =
+      ap (λ (x : List ℕ × List ℕ). x.1) (same_Some _ _ first.3) in
+      let all : AllByRecursion (IsWhole ids) (first.0 ∷ first.1) =
+      subst (AllByRecursion (IsWhole ids)) first.2 others.2 in
       let size = ap length first.2 in
       let many = others.1 in
       (first.1, omega arith, all.1, after);
@@ -96,7 +102,8 @@ whole_read sections ids rest count so none = (
   record {
     few = let many = so.as_many in let few = so.few in omega arith;
     whole = so.whole;
-    text = so.read ∙ ap (λ t. flat_map (whole_text ids) so.done ++ t) none ∙ append-nil (flat_map (whole_text ids) so.done);
+    text = so.read ∙ ap (λ t. flat_map (whole_text ids) so.done ++ t) none
+        ∙ append-nil (flat_map (whole_text ids) so.done);
   },
 )
 
@@ -125,7 +132,8 @@ no_more ids bytes (p ∷ ps) whole text is =
     absurd (none_whole bytes ids (flat_map (whole_text ids) ps) p whole.0 text is)
 
 -- the others are whole
-pub others_whole : (ids : List ℕ) (left ps : List CaPart) (p : CaPart) → AllByRecursion (IsWhole ids) left → left ≡ p ∷ ps
+pub others_whole : (ids : List ℕ) (left ps : List CaPart) (p : CaPart) → AllByRecursion (IsWhole ids) left
+    → left ≡ p ∷ ps
     → IsWhole ids p × AllByRecursion (IsWhole ids) ps
 others_whole ids left ps p whole same = subst (AllByRecursion (IsWhole ids)) same whole
 
@@ -158,7 +166,8 @@ runs_found ids ca (p ∷ ps) x e = by_test (bytes_eq p.ca ca) refl (runs_found i
     by_test : (b : Bool) → bytes_eq p.ca ca ≡ b
         → (runs_under ids ca ps ≡ Some x
         → (q : CaPart) × IsCaPartOf q ps × (q.ca ≡ ca) × (x ≡ (listed_bytes q, ranges_bytes ids q)))
-        → option_map {U = List ℕ × List ℕ} (λ q. (listed_bytes q, ranges_bytes ids q)) (cond b (Some p) (find (λ q. bytes_eq q.ca ca) ps))
+        → option_map {U = List ℕ × List ℕ} (λ q. (listed_bytes q, ranges_bytes ids q))
+        (cond b (Some p) (find (λ q. bytes_eq q.ca ca) ps))
         ≡ Some x → (q : CaPart) × IsCaPartOf q (p ∷ ps) × (q.ca ≡ ca) × (x ≡ (listed_bytes q, ranges_bytes ids q))
     by_test true holds more e = (p, inl refl, (bytes_eq-Decides p.ca ca).0 holds, sym (same_Some _ _ e))
     by_test false fails more e = let found = more e in (found.0, inr found.1, found.2, found.3)
@@ -171,7 +180,8 @@ runs_none ids ca (p ∷ ps) e q c same = by_test (bytes_eq p.ca ca) refl (runs_n
   where
     by_test : (b : Bool) → bytes_eq p.ca ca ≡ b
         → (runs_under ids ca ps ≡ None → (q : CaPart) → IsCaPartOf q ps → q.ca ≢ ca)
-        → option_map {U = List ℕ × List ℕ} (λ q. (listed_bytes q, ranges_bytes ids q)) (cond b (Some p) (find (λ q. bytes_eq q.ca ca) ps))
+        → option_map {U = List ℕ × List ℕ} (λ q. (listed_bytes q, ranges_bytes ids q))
+        (cond b (Some p) (find (λ q. bytes_eq q.ca ca) ps))
         ≡ None → IsCaPartOf q (p ∷ ps) → ⊥
     by_test true holds more e c = absurd cc
     by_test false fails more e (inl is) =

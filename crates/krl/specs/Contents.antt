@@ -9,7 +9,7 @@ use Rattle.krl.specs.declared.ca_part.CaPart.{CaPart}
 use Rattle.krl.specs.declared.krl_head.KrlHead.{KrlHead}
 use Rattle.krl.specs.Sets.{AreRuns, contains}
 use Rattle.krl.specs.Format.{IsString, RevocationList, revokes, section_data}
-use Rattle.krl.specs.Published.{AreDistinctCas, IsCaPartOf, ca_section, is_idle, is_key_id, published_list}
+use Rattle.krl.specs.Published.{AreDistinctCas, IsCaPartOf, ca_section, fits, is_idle, is_key_id, published_list}
 use Rattle.krl.specs.Published.{published_text}
 
 -- the head, the parts of the CAs that have a section, and the key ids
@@ -53,6 +53,17 @@ list_of c = published_list c.head c.cas c.ids
 pub record Publishes (bytes : List ℕ) (c : Contents) : Type 0 where
   pub lawful : AreContents c
   pub text : bytes ≡ published_text c.head c.cas c.ids
+
+-- a head, CA parts and key ids of which the list that is written can be read back: as above, but a CA may have nothing
+-- that is revoked
+pub record AreReadBack (head : KrlHead) (cas : List CaPart) (ids : List (List ℕ)) : Type 0 where
+  pub version : head.version < 2 ^ 64
+  pub date : head.date < 2 ^ 64
+  pub few : length cas ≤ 8
+  pub parts : AllByRecursion (λ p. (length p.ca ≡ 32) × AreRuns p.runs) cas
+  pub distinct : AreDistinctCas cas
+  pub ascending : Ascend ids
+  pub fit : fits cas ids ≡ true
 
 -- the bytes are a published list
 abbrev pub IsPublished : List ℕ → Type 0

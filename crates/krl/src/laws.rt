@@ -4,7 +4,11 @@ ghost use Rattle.std.specs.Prelude.{◌≡◌, ◌↔◌, ◌&&◌, ◌+◌, ◌
 ghost use Rattle.krl.specs.declared.run.Run.{Run};
 ghost use Rattle.krl.specs.Sets.{AreRuns, IsOneOf, IsRunOf, contains, is_counted, runs_in};
 ghost use Rattle.krl.specs.Format.{RevocationList};
-ghost use Rattle.krl.specs.Contents.{AreContents, Contents, ForgetsNothing, KeepsEachPair, Publishes, list_of};
+ghost use Rattle.krl.specs.declared.ca_part.CaPart.{CaPart};
+ghost use Rattle.krl.specs.declared.krl_head.KrlHead.{KrlHead};
+ghost use Rattle.krl.specs.Published.{published_text};
+ghost use Rattle.krl.specs.Contents.{AreContents, AreReadBack, Contents, ForgetsNothing, IsPublished, KeepsEachPair};
+ghost use Rattle.krl.specs.Contents.{Publishes, list_of};
 
 /// The runs of a set are its intervals that can't be made longer, and all of these.
 pub fn runs_are_maximal()
@@ -31,6 +35,13 @@ pub fn a_set_has_its_runs()
 pub fn a_text_has_one_list()
     ensures list { (bytes : List ℕ) (c d : Contents) → Publishes bytes c → Publishes bytes d → c ≡ d }
     ensures text { (a b : List ℕ) (c : Contents) → Publishes a c → Publishes b c → a ≡ b }
+{}
+
+/// What is written of at most eight CAs, of which no two are one, and of key ids that ascend by their bytes, is a
+/// published list.
+pub fn what_is_written_is_read()
+    ensures { (head : KrlHead) (cas : List CaPart) (ids : List (List ℕ)) → AreReadBack head cas ids
+        → IsPublished (published_text head cas ids) }
 {}
 
 /// A list forgets nothing of itself. What forgets nothing of a list forgets nothing of those of which that list forgets

@@ -23,7 +23,7 @@ pub use krl_fault::KrlFault;
 pub use krl_head::KrlHead;
 pub use laws::{
     a_set_has_its_runs, a_text_has_one_list, nothing_is_forgotten_by_pairs, revocations_only_grow,
-    runs_are_maximal, runs_are_one,
+    runs_are_maximal, runs_are_one, what_is_written_is_read,
 };
 pub use lengths::krl_len;
 pub use published::{PublishedList, forgets_nothing, read_published};

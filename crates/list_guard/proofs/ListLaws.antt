@@ -19,7 +19,7 @@ use Rattle.list_guard.specs.Machine.{IsRefused, with_last}
 use Rattle.list_guard.specs.declared.verdict.Verdict.{Verdict}
 use Rattle.list_guard.specs.declared.verdict.Verdict.TheVariants as verdict
 use Rattle.list_guard.specs.Judged.{Decided, DecidedAfter}
-use Rattle.list_guard.specs.History.{Approves, ComesLater, Grow, IsLater}
+use Rattle.list_guard.specs.History.{Approves, Call, Comes, ComesLater, Grow, IsLater, Lives, before, stated}
 
 -- ---- lists that grow
 
@@ -76,6 +76,44 @@ lawful [] s lists t h is = subst IsLawful (sym h.1) is
 lawful (q ∷ qs) s lists t (inl taken) is =
     lawful qs (with_last q.list) taken.0 t taken.3 (taken.1.0, taken.1.1.published)
 lawful (q ∷ qs) s lists t (inr left) is = lawful qs s lists t left.1 is
+
+-- ---- calls, whatever comes of them
+
+-- what is approved comes later than what was kept
+approved_later : (s : State) (q : Question) (kept : List ℕ) → IsApproved s q → s.last ≡ Some kept → ComesLater kept q.list
+approved_later s q kept approved is =
+    let next : IsNext (Some kept) q approved.0 = subst (λ o. IsNext o q approved.0) is approved.2 in
+    next_later kept q approved.0 next.0 approved.1 next.1
+
+-- lists that come later than what is kept, and grow
+abbrev AreLater : State → List (List ℕ) → Type 0
+AreLater s lists = ((kept : List ℕ) → s.last ≡ Some kept → AllByRecursion (ComesLater kept) lists) × Grow lists
+
+-- a list that is approved, and lists that come later than it
+first_of_all : (s : State) (q : Question) (lists : List (List ℕ)) → IsApproved s q → AreLater (with_last q.list) lists
+    → AreLater s (q.list ∷ lists)
+first_of_all s q lists approved more =
+    let between : IsPublished q.list = (approved.0, approved.1.published) in
+    let others = more.0 q.list refl in (
+      λ kept is.
+          let first = approved_later s q kept approved is in
+          (first, all_later kept q.list lists between first others),
+      (others, more.1),
+    )
+
+one_call : (s u : State) (q : Question) (told : Option (List ℕ)) (lists : List (List ℕ)) → Comes s q told u
+    → AreLater u lists → AreLater s (before told lists)
+one_call s u q (Some list) lists (same, approved, goes) more = subst (λ l. AreLater s (l ∷ lists)) (sym same)
+    (first_of_all s q lists approved (subst (λ t. AreLater t lists) goes more))
+one_call s u q None lists (inl same) more = subst (λ t. AreLater t lists) same more
+one_call s u q None lists (inr (approved, goes)) more =
+    let all = first_of_all s q lists approved (subst (λ t. AreLater t lists) goes more) in
+    (λ kept is. (all.0 kept is).1, all.1.1)
+
+pub live : (calls : List Call) (s t : State) → Lives s calls t → AreLater s (stated calls)
+live [] s t h = (λ kept is. tt, tt)
+live (call ∷ calls) s t (u, comes, rest) =
+    one_call s u call.asked call.told (stated calls) comes (live calls u t rest)
 
 -- ---- one question
 

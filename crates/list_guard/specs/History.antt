@@ -1,5 +1,5 @@
 -- Questions one after the other, and what is known of the lists that were approved.
-use Rattle.std.specs.Prelude.{◌≡◌, ◌≤◌, ◌⊎◌, ℕ, List, [], ◌∷◌}
+use Rattle.std.specs.Prelude.{◌≡◌, ◌≤◌, ◌⊎◌, ℕ, List, [], ◌∷◌, Option, Some, None}
 use Rattle.std.specs.List.{AllByRecursion}
 use Rattle.krl.specs.Contents.{Contents, ForgetsNothing, Publishes, list_of}
 use Rattle.list_guard.specs.Machine.{State, Question, IsApproved, with_last}
@@ -24,3 +24,30 @@ ComesLater a b = (c d : Contents) → Publishes a c → Publishes b d → IsLate
 abbrev pub Grow : List (List ℕ) → Type 0
 Grow [] = Unit {0}
 Grow (a ∷ lists) = AllByRecursion (ComesLater a) lists × Grow lists
+
+-- ---- calls that fail, and crashes
+
+-- one call: what was asked, and the list that it stated, if it did
+pub record Call : Type 0 where
+  pub asked : Question
+  pub told : Option (List ℕ)
+
+-- What comes of a call. A list is stated only if it was approved. If none is stated, by a refusal, a fault or a crash,
+-- what is kept stays, or becomes the list, if that was approved.
+abbrev pub Comes : State → Question → Option (List ℕ) → State → Type 0
+Comes s q (Some list) t = (list ≡ q.list) × IsApproved s q × (t ≡ with_last q.list)
+Comes s q None t = (t ≡ s) ⊎ (IsApproved s q × (t ≡ with_last q.list))
+
+-- calls one after the other, whatever comes of each
+abbrev pub Lives : State → List Call → State → Type 0
+Lives s [] t = t ≡ s
+Lives s (call ∷ calls) t = (u : State) × Comes s call.asked call.told u × Lives u calls t
+
+-- the lists that they stated, in order
+abbrev pub before : Option (List ℕ) → List (List ℕ) → List (List ℕ)
+before None lists = lists
+before (Some list) lists = list ∷ lists
+
+abbrev pub stated : List Call → List (List ℕ)
+stated [] = []
+stated (call ∷ calls) = before call.told (stated calls)

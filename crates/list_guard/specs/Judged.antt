@@ -1,7 +1,7 @@
 -- What judging a list answers, whatever keeps the guard.
-use Rattle.std.specs.Prelude.{◌≡◌, ℕ, List, Bool, Some}
+use Rattle.std.specs.Prelude.{◌≡◌, ◌≤◌, ℕ, List, Bool, Some, length}
 use Rattle.lines.specs.Digests.{digest_text}
-use Rattle.krl.specs.Contents.{Contents}
+use Rattle.krl.specs.Contents.{Contents, IsPublished}
 use Rattle.list_guard.specs.declared.judging.Answer.{Answer}
 use Rattle.list_guard.specs.declared.judging.Answer.TheVariants as answer
 use Rattle.list_guard.specs.declared.verdict.Verdict.{Verdict}
@@ -44,6 +44,13 @@ settled (verdict.Refuse r) s q = s
 abbrev pub left_by : Answer → State → Question → State
 left_by (answer.Approve digest version) s q = with_last q.list
 left_by (answer.Refuse r) s q = s
+
+-- a list for which each register has room
+abbrev pub IsShort : List ℕ → Type 0
+IsShort list = length list ≤ 268435456
+
+abbrev pub IsKeepable : List ℕ → Type 0
+IsKeepable list = IsPublished list × IsShort list
 
 -- what a fault of a register says that keeps a published list: such a register is never damaged
 abbrev pub HasCause : RegisterFault → Type 0 → Type 0

@@ -1,9 +1,10 @@
 //! Lists judged, one after the other.
 
-ghost use Rattle.std.specs.Prelude.{◌≡◌, ◌≢◌, ◌⊎◌, IfErr, IfOk, IfSome, IsSome, OnErr, OnOk, option_copied};
+ghost use Rattle.std.specs.Prelude.{◌≡◌, ◌≢◌, ◌⊎◌, IfErr, IfOk, IfSome, IsOk, IsSome, OnErr, OnOk, option_copied};
 ghost use Rattle.krl.specs.Contents.{Contents, Publishes};
 ghost use Rattle.list_guard.specs.Machine.{IsApproved, IsLawful, Question, State, with_last};
-ghost use Rattle.list_guard.specs.Judged.{Answers, Decided, DecidedAfter, HasCause, left_by, question, settled};
+ghost use Rattle.list_guard.specs.Judged.{Answers, Decided, DecidedAfter, HasCause, IsShort, left_by};
+ghost use Rattle.list_guard.specs.Judged.{question, settled};
 
 use crate::refusal::Refusal;
 use crate::register::{ListRegister, RegisterFault};
@@ -88,8 +89,9 @@ fn settle<R: ListRegister>(
         → OnOk result (R.leaves register.new (settled verdict s q) (settled verdict s q)) }
     ensures crash { R.is_honest register.new → (s : State) → R.keeps register.old s → R.leaves register.old s s
         → (q : Question) → q.list ≡ list.now → Decided verdict s q → R.leaves register.new s (settled verdict s q) }
-    ensures cause { R.is_honest register.new → (s : State) → R.keeps register.old s → IsLawful s → (q : Question)
-        → q.list ≡ list.now → Decided verdict s q → IfErr result (λ e. HasCause e (R.has_failed register.new)) }
+    ensures cause { R.is_honest register.new → (s : State) → R.keeps register.old s → (q : Question)
+        → q.list ≡ list.now → Decided verdict s q → IsLawful s → IsShort list.now
+        → IfErr result (λ e. HasCause e (R.has_failed register.new)) }
 {
     match verdict {
         Verdict::Approve(_) => {
@@ -120,36 +122,20 @@ fn answer_of(list: &[u8], verdict: Verdict) -> Answer
     }
 }
 
-/// The verdict on a list over a register.
+/// The verdict on a list over a register. `Damaged` where what is kept is no published list.
 fn verdict_on<R: ListRegister>(
-    alloc: Global,
-    register: &mut R,
+    register: &R,
     keys: &[[u8; 32]],
     begins: bool,
     list: &[u8],
 ) -> Result<Verdict, RegisterFault>
-    ensures honest { R.is_honest register.new → R.is_honest register.old }
-    ensures decided { R.is_honest register.new → (s : State) → R.keeps register.old s
+    ensures decided { R.is_honest register.now → (s : State) → R.keeps register.now s
         → IfOk result (λ v. Decided v s (question keys.now begins list.now)) }
-    ensures same { R.is_honest register.new → (s : State) → R.keeps register.old s → R.keeps register.new s }
-    ensures crash { R.is_honest register.new → (s : State) → R.keeps register.old s → R.leaves register.old s s
-        → R.leaves register.new s s }
-    ensures cause { R.is_honest register.new → (s : State) → R.keeps register.old s → IsLawful s
-        → IfErr result (λ e. HasCause e (R.has_failed register.new)) }
+    ensures sure { R.is_honest register.now → (s : State) → R.keeps register.now s → IsLawful s → IsOk result }
 {
-    let kept = register.last(alloc)?;
-    match decide(bytes_of(&kept), keys, begins, list) {
+    match decide(register.last(), keys, begins, list) {
         Some(verdict) => Ok(verdict),
         None => Err(RegisterFault::Damaged),
-    }
-}
-
-fn bytes_of(list: &Option<Text>) -> Option<&[u8]>
-    ensures { option_copied result ≡ list.now }
-{
-    match list {
-        Some(list) => Some(list.as_slice()),
-        None => None,
     }
 }
 
@@ -191,10 +177,10 @@ pub fn judge_list<R: ListRegister>(
         × R.leaves register.new s (with_last list.now)) }
 
     // The register is said to have failed only if its database has, and to be damaged only if it is.
-    ensures cause { R.is_honest register.new → (s : State) → R.keeps register.old s → IsLawful s
+    ensures cause { R.is_honest register.new → (s : State) → R.keeps register.old s → IsLawful s → IsShort list.now
         → IfErr result (λ e. HasCause e (R.has_failed register.new)) }
 {
-    let verdict = verdict_on(alloc, register, keys, begins, list)?;
+    let verdict = verdict_on(register, keys, begins, list)?;
     settle(alloc, register, list, verdict)?;
     Ok(answer_of(list, verdict))
 }

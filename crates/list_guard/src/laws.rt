@@ -3,12 +3,18 @@
 ghost use Rattle.std.specs.Prelude.{◌≡◌, List, ℕ};
 ghost use Rattle.list_guard.specs.declared.refusal.Refusal.{Refusal};
 ghost use Rattle.list_guard.specs.Machine.{IsApproved, IsLawful, IsRefused, Question, State, opened, with_last};
-ghost use Rattle.list_guard.specs.History.{Approves, Grow};
+ghost use Rattle.list_guard.specs.History.{Approves, Call, Grow, Lives, stated};
 
 /// Over any list of questions the lists that are approved only grow in what they revoke, no version goes back, and two
 /// lists of one version are equal, byte by byte.
 pub fn approved_lists_only_grow()
     ensures { (qs : List Question) (lists : List (List ℕ)) (t : State) → Approves opened qs lists t → Grow lists }
+{}
+
+/// The same holds of the lists that are stated over any list of calls, whether a call is answered, meets a fault or is
+/// cut off by a crash.
+pub fn stated_lists_only_grow()
+    ensures { (calls : List Call) (t : State) → Lives opened calls t → Grow (stated calls) }
 {}
 
 /// What a guard keeps is a published list, whatever it was asked.

@@ -18,9 +18,9 @@ mod verdict;
 pub use judging::{Answer, judge_list};
 pub use laws::{
     a_published_list_is_kept, an_approved_list_is_stated_again, approved_lists_only_grow,
-    what_is_approved_is_not_refused,
+    stated_lists_only_grow, what_is_approved_is_not_refused,
 };
 pub use memory::MemoryListGuard;
 pub use refusal::Refusal;
-pub use register::{ListRegister, RegisterFault};
+pub use register::{LONGEST_LIST, ListRegister, RegisterFault};
 pub use statement::put_answer;

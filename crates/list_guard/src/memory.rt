@@ -1,13 +1,12 @@
 //! A list guard's register in memory.
 
-ghost use Rattle.std.specs.Prelude.{◌≡◌, ◌⊎◌, IfOk, option_copied};
+ghost use Rattle.std.specs.Prelude.{◌≡◌, ◌⊎◌};
 ghost use Rattle.std.proofs.Common.{inl, inr};
 ghost use Rattle.list_guard.specs.State.{opened};
 
 use crate::register::{ListRegister, RegisterFault};
-use std::alloc::Global;
 use std::marker::Model;
-use text::{NoMemory, Text};
+use text::Text;
 
 /// A list guard's register in memory. Contracts see it as the plain guard's state.
 #[derive(Drop)]
@@ -21,15 +20,6 @@ impl Model for MemoryListGuard {
     ghost Value = { State };
 
     ghost view = { λ g. record { last = g.last } };
-}
-
-fn copied(alloc: Global, list: Option<&Text>) -> Result<Option<Text>, NoMemory>
-    ensures { IfOk result (λ copy. copy ≡ option_copied list.entry) }
-{
-    match list {
-        Some(list) => Ok(Some(list.copied(alloc)?)),
-        None => Ok(None),
-    }
 }
 
 impl MemoryListGuard {
@@ -52,8 +42,11 @@ impl ListRegister for MemoryListGuard {
 
     ghost widens = { λ g s t h. elim h [ inl e ↦ inl e | inr e ↦ inl e ] };
 
-    fn last(&mut self, alloc: Global) -> Result<Option<Text>, RegisterFault> {
-        Ok(copied(alloc, self.last.as_ref())?)
+    fn last(&self) -> Option<&[u8]> {
+        match &self.last {
+            Some(list) => Some(list.as_slice()),
+            None => None,
+        }
     }
 
     fn keep(&mut self, list: Text) -> Result<(), RegisterFault> {

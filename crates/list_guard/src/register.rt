@@ -1,11 +1,9 @@
 //! What keeps a list guard.
 
-ghost use Rattle.std.specs.Prelude.{◌≡◌, IfErr, IfOk, List, OnErr, OnOk, ℕ};
-ghost use Rattle.krl.specs.Contents.{IsPublished};
+ghost use Rattle.std.specs.Prelude.{◌≡◌, IfErr, List, OnErr, OnOk, option_copied, ℕ};
 ghost use Rattle.list_guard.specs.State.{IsLawful, State, with_last};
-ghost use Rattle.list_guard.specs.Judged.{HasCause};
+ghost use Rattle.list_guard.specs.Judged.{HasCause, IsKeepable};
 
-use std::alloc::Global;
 use text::Text;
 
 /// Why a register did not answer. What it keeps is as before.
@@ -19,11 +17,15 @@ pub enum RegisterFault {
     NoMemory,
 }
 
+/// The most bytes of a list for which each register has room.
+pub const LONGEST_LIST: u64 = 268435456;
+
 /// What keeps a list guard's state: a table in a file, or a list in memory.
 ///
 /// Each call's clauses are asked of an honest register alone, as the call leaves it: honesty only falls. A register that
-/// keeps a published list tells no damage, and `Device` only if its database has failed. What was kept when a call
-/// answered is what a crash leaves; a crash in the midst of a call leaves that, or what the call leads to.
+/// keeps a published list tells no damage, and `Device` only if its database has failed, or the list has more than
+/// `LONGEST_LIST` bytes. What was kept when a call answered is what a crash leaves; a crash in the midst of a call
+/// leaves that, or what the call leads to.
 pub trait ListRegister {
     /// So far every answer of the disk was true.
     ghost is_honest: { Self → Type 0 };
@@ -41,14 +43,8 @@ pub trait ListRegister {
     ghost widens: { (g : Self) (s t : State) → leaves g s s → leaves g s t };
 
     /// The bytes of the last list that was approved, if one was.
-    fn last(&mut self, alloc: Global) -> Result<Option<Text>, RegisterFault>
-        ensures honest { is_honest self.new → is_honest self.old }
-        ensures list { is_honest self.new → (s : State) → keeps self.old s → IfOk result (λ l. l ≡ s.last) }
-        ensures same { is_honest self.new → (s : State) → keeps self.old s → keeps self.new s }
-        ensures crash { is_honest self.new → (s : State) → keeps self.old s → leaves self.old s s
-            → leaves self.new s s }
-        ensures cause { is_honest self.new → (s : State) → keeps self.old s → IsLawful s
-            → IfErr result (λ e. HasCause e (has_failed self.new)) };
+    fn last(&self) -> Option<&[u8]>
+        ensures { is_honest self.now → (s : State) → keeps self.now s → option_copied result ≡ s.last };
 
     /// Keeps a list as the last one that was approved. After a fault the register keeps what it kept.
     fn keep(&mut self, list: Text) -> Result<(), RegisterFault>
@@ -60,7 +56,7 @@ pub trait ListRegister {
             → OnOk result (leaves self.new (with_last list) (with_last list)) }
         ensures crash { is_honest self.new → (s : State) → keeps self.old s → leaves self.old s s
             → leaves self.new s (with_last list) }
-        ensures cause { is_honest self.new → (s : State) → keeps self.old s → IsLawful s → IsPublished list
+        ensures cause { is_honest self.new → (s : State) → keeps self.old s → IsLawful s → IsKeepable list
             → IfErr result (λ e. HasCause e (has_failed self.new)) };
 }
 

@@ -13,3 +13,4 @@ pub mod Agreeing
 pub mod Listed
 pub mod Texts
 pub mod Dates
+pub mod Waiting

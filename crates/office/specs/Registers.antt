@@ -29,3 +29,10 @@ abbrev pub FailsAsARegister : {S X : Type 0} → (means : S → Opening → List
     → Type 0
 FailsAsARegister means old result =
     IfErr result (λ e. (o : Opening) (l : List Arrival) → means old o l → IsOfARegister e)
+
+-- the database failed in a call on a register that meant what it had meant before
+pub record FailsWithin {S : Type 0} (means : S → Opening → List Arrival → Type 0) (fails : S → S → Type 0) (old new : S)
+    : Type 0 where
+  pub before : S
+  pub same : (o : Opening) (l : List Arrival) → means old o l → means before o l
+  pub failed : fails before new

@@ -35,7 +35,7 @@ pub use certificate::Certificate;
 pub use concern::{Concern, concerned};
 pub use deciding::decide;
 pub use laws::{refusals_ascend, replies_are_short};
-pub use listing::{BATCH, Revocations, has_key_id};
+pub use listing::{BATCH, Revocations, has_key_id, place_behind};
 pub use opening::{Opening, OpeningFault};
 pub use publication::{Entry, Issued, Pending, Revoked, Standing};
 pub use registry::Registry;

@@ -1,13 +1,14 @@
 //! What is listed of certificates beside what is revoked.
 
-ghost use Rattle.std.specs.Prelude.{◌≡◌};
+ghost use Rattle.std.specs.Prelude.{◌≡◌, ◌+◌, ◌++◌, IfOk, OnOk, length};
 ghost use Rattle.std.specs.List.{list_any};
 ghost use Rattle.std.specs.Str.{bytes_eq};
-ghost use Rattle.office.specs.Listing.{is_among};
+ghost use Rattle.office.specs.Listing.{is_among, is_named, waiting_row, waiting_rows};
 
 use crate::certificate::Certificate;
+use crate::publication::Pending;
 use krl::Runs;
-use text::Text;
+use text::{NoMemory, Text};
 
 /// The most certificates that a register gives at once.
 pub const BATCH: usize = 1000;
@@ -21,13 +22,53 @@ pub struct Revocations {
 }
 
 impl Revocations {
+    /// Whether the serial is one of these, or the key id.
+    pub fn names(&self, serial: u64, key_id: &[u8]) -> bool
+        ensures { result ≡ is_named self.now serial key_id.now }
+    {
+        self.serials.has_all(serial, serial) || has_key_id(self.key_ids.as_slice(), key_id)
+    }
+
     /// Whether the certificate's serial is one of these, or its key id.
     pub fn has(&self, certificate: &Certificate) -> bool
         ensures { result ≡ is_among self.now certificate.now }
     {
-        let serial = certificate.fields.serial;
-        let key_id = certificate.fields.key_id.as_slice();
-        self.serials.has_all(serial, serial) || has_key_id(self.key_ids.as_slice(), key_id)
+        let fields = &certificate.fields;
+        self.names(fields.serial, fields.key_id.as_slice())
+    }
+
+    // Puts the row of a certificate, if it is neither signed nor one of these.
+    fn push_row(&self, rows: &mut Vec<Pending>, certificate: &Certificate) -> Result<(), NoMemory>
+        ensures { OnOk result (rows.new.items ≡ rows.old.items ++ waiting_row self.now certificate.now) }
+    {
+        if certificate.signature.is_none() && !self.has(certificate) {
+            rows.push(certificate.pending_row())?;
+        }
+        Ok(())
+    }
+
+    /// Puts the rows of those certificates that are neither signed nor revoked, where these are revoked.
+    pub fn push_waiting(
+        &self,
+        rows: &mut Vec<Pending>,
+        certificates: &[Certificate],
+    ) -> Result<(), NoMemory>
+        ensures { OnOk result (rows.new.items ≡ rows.old.items ++ waiting_rows self.now certificates.now) }
+    {
+        for certificate in certificates {
+            self.push_row(rows, certificate)?;
+        }
+        Ok(())
+    }
+}
+
+/// The place behind so many certificates from a place on.
+pub fn place_behind(place: u64, certificates: &[Certificate]) -> Result<u64, NoMemory>
+    ensures { IfOk result (λ next. next ≡ place + length certificates.now) }
+{
+    match place.checked_add(certificates.len() as u64) {
+        Some(next) => Ok(next),
+        None => Err(NoMemory),
     }
 }
 

@@ -5,7 +5,7 @@ use text::{Text, Texts};
 use values::Kind;
 
 /// A certificate that waits for its signature.
-#[derive(Drop)]
+#[derive(Clone, Copy)]
 pub struct Pending {
     pub serial: u64,
     /// The SHA-256 of the body, as 64 hexadecimal digits in lower case.

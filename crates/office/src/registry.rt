@@ -5,17 +5,18 @@ ghost use Rattle.office.specs.declared.opening.Opening.{Opening};
 ghost use Rattle.office.specs.declared.arrival.Arrival.{Arrival};
 ghost use Rattle.office.specs.Machine.{body_of};
 ghost use Rattle.office.specs.Listing.{AreRevocations, batch_of};
-ghost use Rattle.office.specs.Publication.{AreRevoked, departments_of, issued_of};
+ghost use Rattle.office.specs.Publication.{AreRevoked, departments_of, issued_of, pending_of};
 ghost use Rattle.office.specs.History.{due, state};
 ghost use Rattle.office.specs.Shows.{IsOffice};
 ghost use Rattle.office.specs.Faults.{HasCause};
-ghost use Rattle.office.specs.Registers.{AnswersBy, FailsAsARegister, MeansOneMore, MeansTheSame};
+ghost use Rattle.office.specs.Registers.{AnswersBy, FailsAsARegister, FailsWithin, MeansOneMore};
+ghost use Rattle.office.specs.Registers.{MeansTheSame};
 
 use crate::arrival::{Arrival, Outcome};
 use crate::ca::Ca;
 use crate::certificate::Certificate;
-use crate::listing::Revocations;
-use crate::publication::{Issued, Revoked};
+use crate::listing::{Revocations, place_behind};
+use crate::publication::{Issued, Pending, Revoked};
 use crate::store_fault::StoreFault;
 use message::Department;
 use std::alloc::Global;
@@ -144,6 +145,32 @@ pub trait Registry {
         ensures before { is_honest self.new → is_open self.new → is_as_before self.old self.new }
         ensures cause { IfErr result (λ e. HasCause e (fails self.old self.new)) }
         ensures only { is_honest self.new → FailsAsARegister means self.old result };
+
+    /// The certificates that are neither signed nor revoked, by serial. A register that has nothing better looks through
+    /// all certificates.
+    fn pending(&mut self, alloc: Global) -> Result<Vec<Pending>, StoreFault>
+        ensures honest { is_honest self.new → is_honest self.old }
+        ensures was_open { is_honest self.new → is_open self.new → is_open self.old }
+        ensures stays_open { is_honest self.new → OnOk result (is_open self.new) }
+        ensures row { is_honest self.new → AnswersBy means self.old result
+            (λ o l rows. rows.items ≡ pending_of (state o l)) }
+        ensures same { is_honest self.new → MeansTheSame means self.old self.new }
+        ensures cause { is_honest self.new → IfErr result (λ e. HasCause e (FailsWithin means fails self.old self.new)) }
+        ensures only { is_honest self.new → FailsAsARegister means self.old result }
+    {
+        let revocations = self.revocations(alloc)?;
+        let mut rows = Vec::new(alloc);
+        let mut place = 0;
+        'batches: loop {
+            let batch = self.certificates(alloc, place)?;
+            revocations.push_waiting(&mut rows, &batch)?;
+            let next = place_behind(place, &batch)?;
+            if next == place {
+                return Ok(rows);
+            }
+            place = next;
+        }
+    }
 
     /// It shows no office whose opening isn't lawful, nor one whose version has none after it.
     ghost lawful: { (s : Self) (o : Opening) (l : List Arrival) → means s o l → IsOffice o l };

@@ -90,7 +90,7 @@ same_text : (t u : List ℕ) → slice_cmp nat_cmp t u ≡ Equal → t ≡ u
 same_text t u e = (bytes_eq-Decides t u).0 (sym (is_eq-slice_cmp t u) ∙ ap is_eq e)
 
 -- the key ids with one more
-put_has : (t : List ℕ) (ids : List (List ℕ)) (k : List ℕ) → has_key_id k (put_text t ids) ≡ (has_key_id k ids || bytes_eq t k)
+pub put_has : (t : List ℕ) (ids : List (List ℕ)) (k : List ℕ) → has_key_id k (put_text t ids) ≡ (has_key_id k ids || bytes_eq t k)
 put_has t [] k = or_swap (bytes_eq t k) false
 put_has t (u ∷ us) k = by_place (slice_cmp nat_cmp t u) refl (put_has t us k)
   where

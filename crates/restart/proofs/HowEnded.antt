@@ -1,5 +1,5 @@
 -- How a connection to files ended.
-use Rattle.std.proofs.Common.{◌≡◌, ap, arith, inl, inr, sym, subst, Result, Ok, Err}
+use Rattle.std.proofs.Common.{◌≡◌, ◌≤◌, ℕ, false, true, ap, arith, inl, inr, sym, subst, IsTrue, Option, Some, None, Result, Ok, Err}
 use Rattle.sqlite_disk.specs.declared.Disk.{Ghosts}
 use Rattle.sqlite_disk.specs.declared.Files.{Files}
 use Rattle.sqlite_wal.specs.Files.{outcomes}
@@ -7,16 +7,23 @@ use Rattle.sqlite_wal.specs.Reads.{AreClean}
 use Rattle.sqlite_wal.proofs.LogLemmas.{SeenMayStay}
 use Rattle.sqlite_pool.proofs.StateLemmas.{may_leave_is}
 use Rattle.sqlite_store.specs.declared.store.FileStore.{FileStore}
-use Rattle.sqlite.specs.State.{HasCleanDisk, IsUnchanged, Survives}
+use Rattle.sqlite_store.specs.FileStore.{view}
+use Rattle.sqlite_trees.specs.View.{IsClean}
+use Rattle.sqlite_trees.specs.declared.error.StoreError.{StoreError}
+use Rattle.sqlite_trees.specs.declared.error.StoreError.TheVariants.{OutOfMemory, Io, Corrupt, Full, Broken, Unstorable}
+use Rattle.sqlite.specs.declared.error.Error.{Error}
+use Rattle.sqlite.specs.State.{State, HasCleanDisk, IsUnchanged, Survives}
 use Rattle.sqlite.specs.Held.{Held}
-use Rattle.sqlite.specs.Files.{file_state}
+use Rattle.sqlite.specs.Files.{file_state, ExcusesClose, FailsToClose, IsClosed}
 use Rattle.sqlite.specs.Closing.{HoldsAlone, IsCopied}
 use Rattle.store_sql.specs.Calls.{Never}
 use Rattle.restart.specs.declared.ending.EndFault.{EndFault}
 use Rattle.restart.specs.declared.ending.EndFault.TheVariants.{GivenUp, Uncopied}
 use Rattle.restart.specs.Lives.{End}
 use Rattle.restart.specs.Runs.{AreRuns}
-use Rattle.restart.specs.Ending.{AreEnded, AreGivenUp, EndsRuns}
+use Rattle.restart.specs.Runs.{IsGivenUp}
+use Rattle.restart.specs.Ending.{AreClosed, AreEnded, AreGivenUp, EndsRuns, Excuses, IsClosedTo, IsEndOfClose}
+use Rattle.restart.specs.Ending.{IsGivenUpTo}
 use Rattle.restart.proofs.Ended.{closed_runs, cut_runs}
 
 -- what was copied of a connection was copied of it as it was before a call that changed nothing
@@ -36,42 +43,119 @@ copied_since old new files honest same copied =
     }
 
 -- so a connection that was given up was given up as it was before a call that a crash leaves no trees of
-pub given_up_since : {D : Type 0} {g : Ghosts D} (old new : Held (FileStore D g)) (files : Files D)
-    → Survives (file_state old) (file_state new) Never → AreGivenUp new files → AreGivenUp old files
-given_up_since old new files survives given = record {
-  it = given.it;
-  are_its = given.are_its;
-  up = record {
-    clean = omega (arith, survives.clean, given.up.clean);
-    numbered = given.up.numbered;
-    sound = given.up.sound;
-    fewer = λ trees may. elim (survives.crash given.up.clean trees (given.up.fewer trees may)) [
-      | inl before ↦ before
-      | inr never ↦ absurd never
-    ];
-  };
+up_since : {D : Type 0} {g : Ghosts D} (old new : Held (FileStore D g)) (it : FileStore D g)
+    → Survives (file_state old) (file_state new) Never → IsGivenUp new it → IsGivenUp old it
+up_since old new it survives up = record {
+  clean = omega (arith, survives.clean, up.clean);
+  numbered = up.numbered;
+  sound = up.sound;
+  fewer = λ trees may. elim (survives.crash up.clean trees (up.fewer trees may)) [
+    | inl before ↦ before
+    | inr never ↦ absurd never
+  ];
 }
+
+more_faults : (old : State) (a b : ℕ) (e : Error) → a ≤ b → Excuses old a e → Excuses old b e
+more_faults old a b e counts (inl memory) = inl memory
+more_faults old a b e counts (inr (inl shut)) = inr (inl shut)
+more_faults old a b e counts (inr (inr failed)) = inr (inr (omega (arith, counts, failed)))
+
+pub given_up_since : {D : Type 0} {g : Ghosts D} (old new : Held (FileStore D g)) (error : Error) (files : Files D)
+    → Survives (file_state old) (file_state new) Never
+    → (HasCleanDisk (file_state new) → Excuses (file_state old) (file_state new).faults error) → IsGivenUpTo new files
+    → AreGivenUp old error files
+given_up_since old new error files survives cause given = record {
+  given = record {
+    it = given.it;
+    are_its = given.are_its;
+    up = up_since old new given.it survives given.up;
+    counts = omega (arith, survives.counts, given.counts);
+  };
+  cause = more_faults (file_state old) (file_state new).faults _ error given.counts (cause given.up.clean);
+}
+
+-- and one that was closed was closed as it was before a call that changed nothing
+module _ {D : Type 0} {g : Ghosts D} (old new : Held (FileStore D g)) (it : FileStore D g)
+    (survives : Survives (file_state old) (file_state new) Never) (clean : HasCleanDisk (file_state new)) where
+  quiet_since : IsClosed new it → IsClosed old it
+  quiet_since closed = record {
+    quiet = record {
+      shield = λ shield. closed.quiet.shield (survives.shield shield);
+      clean = omega (arith, survives.clean, closed.quiet.clean);
+      counts = omega (arith, survives.counts, closed.quiet.counts);
+      closes = λ is was. elim (survives.closes clean was) [
+        | inl still ↦ elim (closed.quiet.closes is still) [
+          | inl on ↦ inl on
+          | inr failed ↦ inr (omega (arith, survives.counts, failed))
+        ]
+        | inr failed ↦ inr (omega (arith, closed.quiet.counts, failed))
+      ];
+      outcomes = λ trees may. elim (survives.crash clean trees (closed.quiet.outcomes trees may)) [
+        | inl before ↦ before
+        | inr never ↦ absurd never
+      ];
+    };
+    sound = closed.sound;
+  }
+
+  excused_since : IsTrue (file_state new).is_open → (cause : StoreError) → ExcusesClose new it cause
+      → ExcusesClose old it cause
+  excused_since still OutOfMemory h = tt
+  excused_since still Broken (inl shut) = absurd (let on : (view new.store).is_open ≡ true = still in
+      let off : (view new.store).is_open ≡ false = shut in cc)
+  excused_since still Broken (inr failed) = inr (omega (arith, survives.counts, failed))
+  excused_since still Unstorable h = absurd h
+  excused_since still Io h = omega (arith, survives.counts, h)
+  excused_since still Corrupt h = omega (arith, survives.counts, h)
+  excused_since still Full h = omega (arith, survives.counts, h)
+
+  fails_since : IsTrue (file_state new).is_open → (e : Error) → FailsToClose new it e → FailsToClose old it e
+  fails_since still e h = (h.0, h.1, excused_since still h.0 h.2, h.3)
+
+closed_since : {D : Type 0} {g : Ghosts D} (old new : Held (FileStore D g)) (error : Option Error)
+    (files : Files D) → Survives (file_state old) (file_state new) Never
+    → (HasCleanDisk (file_state new) → IsUnchanged (file_state old) (file_state new)) → IsClosedTo new error files
+    → AreClosed old error files
+closed_since old new error files survives same closed =
+    let was : IsClean (view closed.it) → HasCleanDisk (file_state new) =
+    λ is. omega (arith, is, closed.quiet.quiet.clean) in
+    record {
+      it = closed.it;
+      are_its = closed.are_its;
+      quiet = λ is. quiet_since old new closed.it survives (was is) closed.quiet;
+      cause = λ e is_it is. fails_since old new closed.it survives (was is) (same (was is)).0.is_open e
+          (closed.cause e is_it is);
+    }
 
 pub ended_since : {D : Type 0} {g : Ghosts D} (old new : Held (FileStore D g)) (r : Result Unit EndFault)
     (files : Files D) → Survives (file_state old) (file_state new) Never
-    → (HasCleanDisk (file_state new) → IsUnchanged (file_state old) (file_state new)) → AreEnded new r files
+    → (HasCleanDisk (file_state new) → IsUnchanged (file_state old) (file_state new)) → IsEndOfClose new r files
     → AreEnded old r files
-ended_since old new (Ok done) files survives same ended = λ clean.
-    copied_since old new files (λ honest. omega (arith, survives.clean)) same (ended clean)
-ended_since old new (Err (GivenUp error)) files survives same ended = λ clean.
-    given_up_since old new files survives (ended clean)
-ended_since old new (Err (Uncopied error)) files survives same ended = tt
+ended_since old new (Ok done) files survives same ended = (
+  closed_since old new None files survives same ended.0,
+  λ clean. copied_since old new files (λ honest. omega (arith, survives.clean)) same (ended.1 clean),
+)
+ended_since old new (Err (GivenUp error)) files survives same ended = absurd ended
+ended_since old new (Err (Uncopied error)) files survives same ended =
+    closed_since old new (Some error) files survives same ended
 
 -- so a run that ended so is a run of the program
 pub ends_runs : {D : Type 0} {g : Ghosts D} → SeenMayStay g → (last : Held (FileStore D g)) (r : Result Unit EndFault)
     (files : Files D) → AreEnded last r files → EndsRuns last r files
-ends_runs {D} {g} stays last (Ok done) files ended clean image asked opened found did end is =
-    subst (λ (e : End). AreRuns image asked e (outcomes g files.log files.db)) (sym is)
-    (closed_runs files image asked opened last found did (ended clean))
-ends_runs {D} {g} stays last (Err (GivenUp error)) files ended clean image asked opened found did end is =
-    subst (λ (e : End). AreRuns image asked e (outcomes g files.log files.db)) (sym is) (λ left may.
-    let it = ended clean in
-    cut_runs stays it.it image asked opened last found did it.up left
-    (may_leave_is it.it.pool left (subst (λ (p : D × D). AreClean g p.0 p.1) (sym it.are_its) clean)
-    (subst (λ (p : D × D). outcomes g p.0 p.1 left) (sym it.are_its) may)))
-ends_runs stays last (Err (Uncopied error)) files ended clean image asked opened found did end is = absurd is
+ends_runs {D} {g} stays last (Ok done) files ended clean end is =
+    let copied = ended.1 clean in (
+      copied.was_clean,
+      λ image asked opened found did.
+          subst (λ (e : End). AreRuns image asked e (outcomes g files.log files.db)) (sym is)
+          (closed_runs files image asked opened last found did copied),
+    )
+ends_runs {D} {g} stays last (Err (GivenUp error)) files ended clean end is =
+    let it = (ended clean).given in (
+      it.up.clean,
+      λ image asked opened found did.
+          subst (λ (e : End). AreRuns image asked e (outcomes g files.log files.db)) (sym is)
+          (λ left may. cut_runs stays it.it image asked opened last found did it.up left
+          (may_leave_is it.it.pool left (subst (λ (p : D × D). AreClean g p.0 p.1) (sym it.are_its) clean)
+          (subst (λ (p : D × D). outcomes g p.0 p.1 left) (sym it.are_its) may))),
+    )
+ends_runs stays last (Err (Uncopied error)) files ended clean end is = absurd is

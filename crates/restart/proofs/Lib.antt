@@ -3,6 +3,7 @@ pub mod HalfMade
 pub mod Opened
 pub mod Left
 pub mod Ended
+pub mod Looked
 pub mod HowEnded
 pub mod Lives
 pub mod Adding

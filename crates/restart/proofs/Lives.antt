@@ -3,7 +3,8 @@ use Rattle.std.proofs.Common.{List, [], ◌∷◌, ◌++◌, None, inl, refl, sy
 use Rattle.std.proofs.Math.Logic.{∥∥₁_elim, ∥∥₁_map}
 use Rattle.sqlite_wal.specs.Recovery.{Image}
 use Rattle.restart.specs.Images.{Holds, Standing}
-use Rattle.restart.specs.Lives.{AreDue, Follow, IsRun, Life, LivesAreDue, Run, RunsGoOn}
+use Rattle.restart.specs.Lives.{AreDue, Asked, End, Follow, IsRun, Life, LivesAreDue, Run, RunsGoOn}
+use Rattle.restart.specs.Runs.{AreRuns, RunsOn}
 
 -- what the runs were due, from where the office stood, and where it stands in the files that are left
 runs_due : (runs : List Run) (first last : Image) → Follow first runs last → (before : Standing) → Holds first before
@@ -34,3 +35,13 @@ runs_go_on run is runs life =
       empty = life.empty;
       follow = follow_then runs run life.first life.follow is;
     } in (longer, lives_are_due (runs ++ run ∷ []) run.left longer)
+
+-- a run of the program goes on with each life
+pub runs_on : (Gave : Asked → Type 0) (image : Image) (asked : Asked) (end : End) (may_leave : Image → Type 0)
+    → Gave asked → AreRuns image asked end may_leave → RunsOn Gave image end may_leave
+runs_on Gave image asked end may_leave gave runs = record {
+  asked = asked;
+  gave = gave;
+  runs = runs;
+  goes_on = λ left may. runs_go_on (record { found = image; asked = asked; end = end; left = left }) (runs left may);
+}

@@ -1,15 +1,20 @@
 -- How a connection to files ends.
-use Rattle.std.specs.Prelude.{◌≡◌, Result, Ok, Err}
+use Rattle.std.specs.Prelude.{◌≡◌, ◌≤◌, ◌⊎◌, ℕ, false, Option, Some, None, Result, Ok, Err}
 use Rattle.sqlite_disk.specs.declared.Disk.{Ghosts}
 use Rattle.sqlite_disk.specs.declared.Files.{Files}
+use Rattle.sqlite_disk.specs.Disk.{MoreFaults}
 use Rattle.sqlite_wal.specs.Recovery.{Image}
 use Rattle.sqlite_wal.specs.Files.{outcomes}
 use Rattle.sqlite_wal.specs.Reads.{AreClean}
 use Rattle.sqlite_store.specs.declared.store.FileStore.{FileStore}
 use Rattle.sqlite_store.specs.FileStore as store
-use Rattle.sqlite.specs.State.{HasCleanDisk}
+use Rattle.sqlite_trees.specs.View.{IsClean}
+use Rattle.sqlite.specs.declared.error.Error.{Error}
+use Rattle.sqlite.specs.declared.error.Error.TheVariants.{SqliteFailure}
+use Rattle.sqlite.specs.declared.error.ErrorCode.TheVariants.{OutOfMemory}
+use Rattle.sqlite.specs.State.{HasCleanDisk, State}
 use Rattle.sqlite.specs.Held.{Held}
-use Rattle.sqlite.specs.Files.{file_state}
+use Rattle.sqlite.specs.Files.{file_state, over_files, FailsToClose, IsClosed}
 use Rattle.sqlite.specs.Closing.{IsCopied}
 use Rattle.restart.specs.declared.ending.EndFault.{EndFault}
 use Rattle.restart.specs.declared.ending.EndFault.TheVariants.{GivenUp, Uncopied}
@@ -17,19 +22,58 @@ use Rattle.restart.specs.Lives.{Asked, End}
 use Rattle.restart.specs.Lives.End.{closed, cut}
 use Rattle.restart.specs.Runs.{AreRuns, DoesOver, IsFound, IsGivenUp}
 
+-- With so many failures of the disk at the end, this error has its cause: memory was refused, the connection was shut
+-- before, or the disk has failed since.
+abbrev pub Excuses : State → (faults : ℕ) → Error → Type 0
+Excuses old faults e = (e ≡ SqliteFailure OutOfMemory) ⊎ ((old.is_open ≡ false) ⊎ MoreFaults old.faults faults)
+
 -- these are the files of a store that the connection was given up to
-pub record AreGivenUp {D : Type 0} {g : Ghosts D} (conn : Held (FileStore D g)) (files : Files D) : Type 0 where
+pub record IsGivenUpTo {D : Type 0} {g : Ghosts D} (conn : Held (FileStore D g)) (files : Files D) : Type 0 where
   pub it : FileStore D g
   pub are_its : store.files it ≡ (files.log, files.db)
   pub up : IsGivenUp conn it
+  pub counts : (file_state conn).faults ≤ store.faults it
 
--- If their disk has returned what was written: the last commit is in the database file alone. Or the connection was
--- given up. Or its log wasn't copied.
+-- so they are, and it was given up for this error
+pub record AreGivenUp {D : Type 0} {g : Ghosts D} (conn : Held (FileStore D g)) (error : Error) (files : Files D)
+    : Type 0 where
+  pub given : IsGivenUpTo conn files
+  pub cause : Excuses (file_state conn) (store.faults given.it) error
+
+-- These are the files of a store that was closed, and an error of the close has its cause. A crash has no outcome that
+-- it hadn't before.
+pub record IsClosedTo {D : Type 0} {g : Ghosts D} (conn : Held (FileStore D g)) (error : Option Error)
+    (files : Files D) : Type 0 where
+  pub it : FileStore D g
+  pub are_its : store.files it ≡ (files.log, files.db)
+  pub quiet : IsClosed conn it
+  pub cause : (e : Error) → error ≡ Some e → IsClean (store.view it) → FailsToClose conn it e
+
+-- so a connection was closed that was open
+abbrev pub IsEndOfClose : {D : Type 0} {g : Ghosts D} → Held (FileStore D g) → Result (Unit {0}) EndFault → Files D
+    → Type 0
+IsEndOfClose {D} {g} conn (Ok done) files =
+    IsClosedTo conn None files × (AreClean g files.log files.db → IsCopied conn files)
+IsEndOfClose {D} {g} conn (Err (Uncopied error)) files = IsClosedTo conn (Some error) files
+IsEndOfClose {D} {g} conn (Err (GivenUp error)) files = ⊥
+
+-- These are the files of a store that was closed. If their disk has returned what was written, a crash has no outcome
+-- that it hadn't before the close, and an error of the close has its cause.
+pub record AreClosed {D : Type 0} {g : Ghosts D} (conn : Held (FileStore D g)) (error : Option Error)
+    (files : Files D) : Type 0 where
+  pub it : FileStore D g
+  pub are_its : store.files it ≡ (files.log, files.db)
+  pub quiet : IsClean (store.view it) → IsClosed conn it
+  pub cause : (e : Error) → error ≡ Some e → IsClean (store.view it) → FailsToClose conn it e
+
+-- The last commit is in the database file alone. Or the connection was given up. Or its log wasn't copied. All of it is
+-- said of a disk that has returned what was written.
 abbrev pub AreEnded : {D : Type 0} {g : Ghosts D} → Held (FileStore D g) → Result (Unit {0}) EndFault → Files D
     → Type 0
-AreEnded {D} {g} conn (Ok done) files = AreClean g files.log files.db → IsCopied conn files
-AreEnded {D} {g} conn (Err (GivenUp error)) files = AreClean g files.log files.db → AreGivenUp conn files
-AreEnded {D} {g} conn (Err (Uncopied error)) files = Unit {0}
+AreEnded {D} {g} conn (Ok done) files =
+    AreClosed conn None files × (AreClean g files.log files.db → IsCopied conn files)
+AreEnded {D} {g} conn (Err (GivenUp error)) files = AreClean g files.log files.db → AreGivenUp conn error files
+AreEnded {D} {g} conn (Err (Uncopied error)) files = AreClosed conn (Some error) files
 
 -- the run ended so
 abbrev pub IsEnd : Result (Unit {0}) EndFault → End → Type 0
@@ -37,10 +81,13 @@ IsEnd (Ok done) end = end ≡ closed
 IsEnd (Err (GivenUp error)) end = end ≡ cut
 IsEnd (Err (Uncopied error)) end = ⊥
 
--- a run over this connection that found files and did what it was asked is a run of the program that ended so
+-- The run ended so, and its disk has returned what was written. Then it had done so before the end. And a run over this
+-- connection that found files and did what it was asked is a run of the program that ended so.
 abbrev pub EndsRuns : {D : Type 0} {g : Ghosts D} → Held (FileStore D g) → Result (Unit {0}) EndFault → Files D
     → Type 0
 EndsRuns {D} {g} last result files =
-    AreClean g files.log files.db → (image : Image) (asked : Asked) (opened : Held (FileStore D g))
-    → (HasCleanDisk (file_state opened) → IsFound image opened) → DoesOver asked opened last
-    → (end : End) → IsEnd result end → AreRuns image asked end (outcomes g files.log files.db)
+    AreClean g files.log files.db → (end : End) → IsEnd result end
+    → HasCleanDisk (file_state last)
+    × ((image : Image) (asked : Asked) (opened : Held (FileStore D g))
+    → (HasCleanDisk (file_state opened) → IsFound image opened) → DoesOver over_files asked opened last
+    → AreRuns image asked end (outcomes g files.log files.db))

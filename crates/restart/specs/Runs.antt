@@ -6,11 +6,12 @@ use Rattle.sqlite_wal.specs.Recovery.{Image}
 use Rattle.sqlite_wal.specs.Files.{outcomes}
 use Rattle.sqlite_wal.specs.Reads.{AreClean}
 use Rattle.sqlite_trees.specs.Tree.{Trees}
+use Rattle.sqlite_trees.specs.declared.store.Store as tables
 use Rattle.sqlite_store.specs.declared.store.FileStore.{FileStore}
 use Rattle.sqlite_store.specs.FileStore as store
 use Rattle.sqlite.specs.State.{State, HasCleanDisk, IsLive, Opens}
-use Rattle.sqlite.specs.Held.{AreDatabases, Held}
-use Rattle.sqlite.specs.Files.{file_state, IsOpened}
+use Rattle.sqlite.specs.Held.{AreDatabases, Held, state}
+use Rattle.sqlite.specs.Files.{file_state, over_files, IsOpened}
 use Rattle.sqlite.specs.Closing.{IsCopied}
 use Rattle.office.specs.declared.opening.Opening.{Opening}
 use Rattle.office.specs.declared.arrival.Arrival.{Arrival}
@@ -21,7 +22,7 @@ use Rattle.store.specs.Former.{TellsBefore}
 use Rattle.store.specs.Meaning.{IsBlank, IsHistory, Stores, Tells}
 use Rattle.web.specs.Runs.{AllDue}
 use Rattle.restart.specs.Images.{HoldsAtLeast, HoldsFormer, HoldsNone, HoldsOffice}
-use Rattle.restart.specs.Lives.{Asked, End, GivesNone, IsRun}
+use Rattle.restart.specs.Lives.{Asked, End, GivesNone, GoesOn, IsRun}
 use Rattle.restart.specs.Lives.End.{closed, cut}
 
 -- ---- the open
@@ -129,27 +130,36 @@ pub record Does (asked : Asked) (opened last : State) : Type 0 where
       × (IsFounded asked.founds last ⊎ IsUnfounded asked.founds opened last)
 
 -- if the disk has returned what was written, it had done so before, and this was done
-abbrev pub DoesOver : {D : Type 0} {g : Ghosts D} → Asked → (opened last : Held (FileStore D g)) → Type 0
-DoesOver asked opened last =
-    HasCleanDisk (file_state last) → HasCleanDisk (file_state opened) × Does asked (file_state opened) (file_state last)
+abbrev pub DoesOver : {S : Type 0} → tables.Ghosts S → Asked → (opened last : Held S) → Type 0
+DoesOver g asked opened last =
+    HasCleanDisk (state g last) → HasCleanDisk (state g opened) × Does asked (state g opened) (state g last)
 
 -- what came of these files is a run of the program that ended so, whatever a crash makes of what is left
 abbrev pub AreRuns : Image → Asked → End → (Image → Type 0) → Type 0
 AreRuns image asked end may_leave = (left : Image) → may_leave left
     → IsRun (record { found = image; asked = asked; end = end; left = left })
 
+-- What a run was asked and gave, of which this holds, and how it ended. Whatever a crash makes of what is left, it is a
+-- run of the program, and goes on with each life that has left what it found.
+pub record RunsOn (Gave : Asked → Type 0) (image : Image) (end : End) (may_leave : Image → Type 0) : Type 0 where
+  pub asked : Asked
+  pub gave : Gave asked
+  pub runs : AreRuns image asked end may_leave
+  pub goes_on : (left : Image) → may_leave left
+      → GoesOn (record { found = image; asked = asked; end = end; left = left })
+
 -- a run that found these files, did this and closed well
 abbrev pub ClosedRuns : {D : Type 0} (g : Ghosts D) → Files D → Type 0
 ClosedRuns {D} g files =
     (image : Image) (asked : Asked) (opened last : Held (FileStore D g))
-    → (HasCleanDisk (file_state opened) → IsFound image opened) → DoesOver asked opened last → IsCopied last files
+    → (HasCleanDisk (file_state opened) → IsFound image opened) → DoesOver over_files asked opened last → IsCopied last files
     → AreRuns image asked closed (outcomes g files.log files.db)
 
 -- a run that found these files, did this, and whose connection was given up
 abbrev pub CutRuns : {D : Type 0} (g : Ghosts D) → FileStore D g → Type 0
 CutRuns {D} g it =
     (image : Image) (asked : Asked) (opened last : Held (FileStore D g))
-    → (HasCleanDisk (file_state opened) → IsFound image opened) → DoesOver asked opened last → IsGivenUp last it
+    → (HasCleanDisk (file_state opened) → IsFound image opened) → DoesOver over_files asked opened last → IsGivenUp last it
     → AreRuns image asked cut (store.state it).may_leave
 
 -- ---- the next run

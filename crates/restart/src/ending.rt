@@ -1,11 +1,12 @@
 //! A connection to files, ended: closed or, where a failed disk has shut it, given up.
 
-ghost use Rattle.std.specs.Prelude.{◌≡◌, None};
+ghost use Rattle.std.specs.Prelude.{◌≡◌, None, Some};
 ghost use Rattle.sqlite_wal.specs.Reads.{AreClean};
 ghost use Rattle.sqlite.specs.State.{HasCleanDisk, IsUnchanged, Survives};
 ghost use Rattle.sqlite.specs.Files.{file_state};
+ghost use Rattle.sqlite.specs.declared.error.Error.{Error};
 ghost use Rattle.store_sql.specs.Calls.{Never};
-ghost use Rattle.restart.specs.Ending.{AreEnded, AreGivenUp, EndsRuns};
+ghost use Rattle.restart.specs.Ending.{AreEnded, EndsRuns, Excuses, IsEndOfClose, IsGivenUpTo};
 
 use sqlite::{Connection, Error, FileStore, Files};
 use sqlite_disk::Disk;
@@ -19,8 +20,9 @@ pub enum EndFault {
     Uncopied(Error),
 }
 
+// Closes the connection, which copies its log into the database file.
 fn close<D: Disk + Drop>(conn: Connection<FileStore<D>>) -> (Result<(), EndFault>, Files<D>)
-    ensures { AreEnded conn result.0 result.1 }
+    ensures { IsEndOfClose conn result.0 result.1 }
 {
     match conn.close_files() {
         Ok(files) => (Ok(()), files),
@@ -28,20 +30,26 @@ fn close<D: Disk + Drop>(conn: Connection<FileStore<D>>) -> (Result<(), EndFault
     }
 }
 
-/// Why the connection can't be used, if it can't: a failed disk has shut it, or memory is refused.
+// Why the connection can't be used, if it can't: a failed disk has shut it, or memory is refused.
 fn shut<D: Disk + Drop>(conn: &mut Connection<FileStore<D>>) -> Option<Error>
     ensures same { HasCleanDisk (file_state conn.new) → result ≡ None
         → IsUnchanged (file_state conn.old) (file_state conn.new) }
+    ensures cause { HasCleanDisk (file_state conn.new) → (e : Error) → result ≡ Some e
+        → Excuses (file_state conn.old) (file_state conn.new).faults e }
     ensures survives { Survives (file_state conn.old) (file_state conn.new) Never }
 {
     match conn.prepare("COMMIT") {
-        Ok(_) => None,
+        Ok(statement) => {
+            drop(statement);
+            None
+        }
         Err(error) => Some(error),
     }
 }
 
+// Gives the files back as they are.
 fn give_up<D: Disk + Drop>(conn: Connection<FileStore<D>>) -> Files<D>
-    ensures { AreClean D.Disk result.log result.db → AreGivenUp conn result }
+    ensures { AreClean D.Disk result.log result.db → IsGivenUpTo conn result }
 {
     conn.into_store().close()
 }

@@ -13,6 +13,8 @@ mod closing;
 mod ending;
 mod laws;
 mod opening;
+#[cfg(test)]
+mod tests;
 
 pub use closing::{close_at, close_path, store_of};
 pub use ending::{EndFault, end_at};

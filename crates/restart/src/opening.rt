@@ -1,8 +1,9 @@
 //! The files at a path, opened.
 
-ghost use Rattle.std.specs.Prelude.{IfOk};
+ghost use Rattle.std.specs.Prelude.{IfErr, IfOk, IsTrue};
 ghost use Rattle.sqlite_wal.specs.Files.{image_at, outcomes};
 ghost use Rattle.sqlite.specs.Held.{IsNew};
+ghost use Rattle.sqlite.specs.Opening.{is_open_error};
 ghost use Rattle.sqlite.specs.State.{HasCleanDisk};
 ghost use Rattle.sqlite.specs.Files.{IsOpened, file_state};
 ghost use Rattle.restart.specs.Runs.{IsBlankIfNone, TellsAfter, TellsFormer, TellsWhatIsHeld};
@@ -22,6 +23,7 @@ pub fn open_at<S: Start>(
     start: S,
 ) -> Result<Connection<FileStore<FileFrom<S>>>, Error>
     ensures new { IfOk result IsNew }
+    ensures named { IfErr result (λ e. IsTrue (is_open_error e)) }
     ensures opened { IfOk result (λ c. HasCleanDisk (file_state c) → IsOpened c) }
 
     // The connection tells each history whose office the files held.

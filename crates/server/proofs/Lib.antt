@@ -1,3 +1,4 @@
 pub mod Extensions
 pub mod Runs
 pub mod Visits
+pub mod Keeping

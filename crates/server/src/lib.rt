@@ -27,4 +27,4 @@ pub use loopback::Loopback;
 pub use own_client::selftest;
 pub use patience::{CONNECTION_SECONDS, STEP_SECONDS};
 pub use scripted::{ScriptedConnection, ScriptedListener};
-pub use serve::serve_on;
+pub use serve::{serve_keeping, serve_on};

@@ -9,6 +9,7 @@ use crate::report::report;
 use http_requests::Routes;
 use office::Registry;
 use std::io::Write;
+use waiting::Waiting;
 use wire::Source;
 
 /// The status where all connections were met.
@@ -63,4 +64,32 @@ pub fn serve_on<R: AllocGlobal, L: Listener, S: Registry, N: Source, O: Write, E
         }
     }
     DONE
+}
+
+/// As `serve_on`, over a register that is given, and comes back with the status. Which certificates are pending is kept
+/// in memory from one ask to the next.
+pub fn serve_keeping<R: AllocGlobal, L: Listener, S: Registry, N: Source, O: Write, E: Write>(
+    rt: &R,
+    listener: &mut L,
+    store: S,
+    nonces: &mut N,
+    connections: u64,
+    out: &mut O,
+    err: &mut E,
+) -> (u8, S)
+    requires { N.failed nonces.old + connections ≤ u64.MAX }
+    ensures status { result.0 ≤ FAULT }
+    ensures honest { S.is_honest result.1 → S.is_honest store }
+    ensures was_open { S.is_honest result.1 → S.is_open result.1 → S.is_open store }
+    ensures met { result.0 ≡ DONE → Meets connections (L.book listener.old) (L.book listener.new)
+        (N.remaining nonces.old) (N.remaining nonces.new) S.Registry store result.1 }
+    ensures served { S.is_honest result.1 → Extends connections (S.means store) (S.means result.1) }
+    ensures unmet { result.0 ≡ FAULT → result.1 ≡ store }
+    ensures untouched { result.0 ≡ FAULT → (listener.new ≡ listener.old) × (nonces.new ≡ nonces.old) }
+    ensures drawn { N.failed nonces.new ≤ N.failed nonces.old + connections }
+    ensures quiet { out.new ≡ out.old }
+{
+    let mut office = Waiting::new(rt.alloc(), store);
+    let status = serve_on(rt, listener, &mut office, nonces, connections, out, err);
+    (status, office.into_register())
 }

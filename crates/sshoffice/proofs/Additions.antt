@@ -1,16 +1,10 @@
 -- What a job adds to the history that the tables tell.
-use Rattle.std.proofs.Common.{◌≡◌, ◌≢◌, ℕ, List, [], append-nil, inl, Bool, true, false, Option, Result}
-use Rattle.std.proofs.Common.{Ok, Err, sym, subst, ◌∙◌}
+use Rattle.std.proofs.Common.{◌≢◌, ℕ, List, [], append-nil, Bool, true, false, Option, Result, Ok, Err, sym, subst}
 use Rattle.std.specs.Prelude.{IsTrue}
-use Rattle.sqlite.specs.Effect.{Database}
 use Rattle.sqlite.specs.State.{State}
-use Rattle.sqlite.specs.Tree.{Trees}
 use Rattle.office.specs.declared.opening.Opening.{Opening}
 use Rattle.office.specs.declared.arrival.Arrival.{Arrival}
-use Rattle.store_sql.specs.Contents.{Kept, Means}
 use Rattle.store_sql.specs.Schema.{whole}
-use Rattle.store.specs.Rows.{office_contents}
-use Rattle.store.specs.Transactions.{IsAsBefore, IsAtRest}
 use Rattle.store.specs.Meaning.{Tells}
 use Rattle.web.specs.declared.exchange.Exchange.{Exchange}
 use Rattle.web.specs.declared.exchange.Given.{Given}
@@ -44,38 +38,17 @@ adds_run old new keeps exchanges given served o l told =
     let more = arrivals_stay o l exchanges given run.0 run.1 in
     (more.0, subst (Tells new o) more.1 run.2)
 
--- a database at rest that is as before, on a connection that is was, tells what it told
-tells_as_before : (old new : State) → IsTrue old.is_open → IsAtRest old → IsTrue new.is_open
-    → ((trees : Trees) → new.may_leave trees → trees ≡ new.committed.trees) → new.step_limit ≡ old.step_limit
-    → IsAsBefore old new → TellsOn old new
-tells_as_before old new was rest still settled limit before o l told =
-    let c = office_contents o l in
-    let rests = told.rows was in
-    let now : Means new.now c = subst (λ (d : Database). Means d c) (sym (before.same still rest)) rests.now in
-    let after = before.rest still rest in
-    let committed : Means new.committed c = subst (λ (d : Database). Means d c) after.1 now in
-    record {
-      history = told.history;
-      unlimited = limit ∙ told.unlimited;
-      rows = λ _. record { autocommit = after.0; now = now; committed = committed };
-      left = λ trees may. inl (subst (λ (t : Trees). Kept t c) (sym (settled trees may)) committed.kept);
-    }
-
 -- ---- each job
 
-module _ (old new : State) (was : IsTrue old.is_open) (rest : IsAtRest old) (still : IsTrue new.is_open)
-    (settled : (trees : Trees) → new.may_leave trees → trees ≡ new.committed.trees) where
+module _ (old new : State) (was : IsTrue old.is_open) where
   -- no office is made in one that is there
   not_new : old.now.schema ≢ whole → AddsArrivals old new
   not_new none o l told = absurd (none (told.rows was).now.schema)
 
-  unchanged : new.step_limit ≡ old.step_limit → IsAsBefore old new → AddsArrivals old new
-  unchanged limit before = adds_none old new (tells_as_before old new was rest still settled limit before)
-
   made : (opening : Opening) (r : Result Unit JobFault) → Makes opening old new r → AddsArrivals old new
   made opening (Ok done) h = not_new h.unlike
-  made opening (Err fault.NoMemory) h = unchanged h.crash.limit h.before
-  made opening (Err (fault.Store e)) h = unchanged h.crash.limit h.before
+  made opening (Err fault.NoMemory) h = adds_none old new h.tells
+  made opening (Err (fault.Store e)) h = adds_none old new h.tells
   made opening (Err fault.File) h = absurd h
   made opening (Err fault.Write) h = absurd h
   made opening (Err fault.Socket) h = absurd h
@@ -89,8 +62,8 @@ module _ (old new : State) (was : IsTrue old.is_open) (rest : IsAtRest old) (sti
 
   moved : (r : Result Unit JobFault) → Migrates old new r → AddsArrivals old new
   moved (Ok done) h = not_new h.unlike
-  moved (Err fault.NoMemory) h = unchanged h.crash.limit h.before
-  moved (Err (fault.Store e)) h = unchanged h.crash.limit h.before
+  moved (Err fault.NoMemory) h = adds_none old new h.tells
+  moved (Err (fault.Store e)) h = adds_none old new h.tells
   moved (Err fault.File) h = absurd h
   moved (Err fault.Write) h = absurd h
   moved (Err fault.Socket) h = absurd h

@@ -7,8 +7,11 @@ use Rattle.sqlite.specs.Held.{Held, state}
 use Rattle.sqlite.specs.State.{HasCleanDisk}
 use Rattle.store_sql.specs.Honest.{StaysClean}
 use Rattle.office.specs.declared.opening.Opening.{Opening}
-use Rattle.store.specs.Transactions.{IsAtRest}
-use Rattle.restart.specs.Runs.{AddsArrivals, KeepsOffice}
+use Rattle.restart.specs.declared.ending.EndFault.{EndFault}
+use Rattle.restart.specs.Ending.{IsEnd}
+use Rattle.restart.specs.Lives.{Asked, End}
+use Rattle.restart.specs.Runs.{AddsArrivals, Does, KeepsOffice, RunsOn}
+use Rattle.restart.proofs.Lives.{runs_on}
 use Rattle.sshoffice.specs.declared.world.World.{Ghosts}
 use Rattle.sshoffice.specs.declared.job_fault.JobFault.{JobFault}
 use Rattle.sshoffice.specs.declared.job.OfficeJob.{OfficeJob}
@@ -64,10 +67,10 @@ module _ {W File Tables Incoming Reader Writer : Type 0} (store : store.Ghosts T
   ready_for job w conn w' h = let was = opened_for job w conn w' h in databases.ready was.0 path (Ok conn) w' was.1
 
   -- a run that added arrivals keeps the office
-  pub kept : (opened between w' : W) (conn last : Held Tables) (closing : Result (Unit {0}) Error)
+  pub kept : (opened between w' : W) (conn last : Held Tables) (closing : Result (Unit {0}) EndFault)
       → WasOpened conn opened → StaysClean store conn last
-      → (IsTrue (state store conn).is_open → IsAtRest (state store conn) → IsTrue (state store last).is_open
-      → HasCleanDisk (state store last) → AddsArrivals (state store conn) (state store last))
+      → (IsTrue (state store conn).is_open → HasCleanDisk (state store last)
+      → AddsArrivals (state store conn) (state store last))
       → world.closes between last closing w' → closing ≡ Ok tt → world.is_clean w' last
       → KeepsOffice world.image (world.leaves w' last)
   kept opened between w' conn last closing was honest adds closes well =
@@ -75,6 +78,19 @@ module _ {W File Tables Incoming Reader Writer : Type 0} (store : store.Ghosts T
       databases.keeps was.0 opened between w' path conn last was.1
       (λ clean. (
         honest clean,
-        λ still. let rests = ready.rests (honest clean) in adds rests.0 rests.1 still clean,
+        λ still. adds (ready.rests (honest clean)).0 clean,
       ))
-      (subst (λ (r : Result (Unit {0}) Error). world.closes between last r w') well closes)
+      (subst (λ (r : Result (Unit {0}) EndFault). world.closes between last r w') well closes)
+
+  -- a run that did what it was asked is one of the program
+  pub ran : (opened between w' : W) (conn last : Held Tables) (closing : Result (Unit {0}) EndFault)
+      (Asks : Asked → Type 0) → WasOpened conn opened → StaysClean store conn last
+      → (HasCleanDisk (state store last) → IsTrue (state store conn).is_open
+      → (asked : Asked) × Asks asked × Does asked (state store conn) (state store last))
+      → world.closes between last closing w' → (end : End) → IsEnd closing end → world.is_clean w' last
+      → RunsOn Asks world.image end (world.leaves w' last)
+  ran opened between w' conn last closing Asks was honest does closes end is clean =
+      let ended = databases.ends was.0 opened between w' path conn last closing end was.1 closes is clean in
+      let ready = databases.ready was.0 path (Ok conn) opened was.1 in
+      let did = does ended.0 (ready.rests (honest ended.0)).0 in
+      runs_on Asks world.image did.0 end (world.leaves w' last) did.1 (ended.1 did.0 (λ now. (honest now, did.2)))

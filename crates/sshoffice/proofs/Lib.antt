@@ -6,6 +6,7 @@ pub mod Bodies
 pub mod Carried
 pub mod Causes
 pub mod Commanded
+pub mod Doing
 pub mod Ended
 pub mod Found
 pub mod Kept

@@ -11,6 +11,7 @@ use Rattle.store.specs.Meaning.{DiskFailed, IsBlank}
 use Rattle.sshoffice.specs.declared.job_fault.JobFault.{JobFault}
 use Rattle.sshoffice.specs.Faults.{of_store}
 use Rattle.sshoffice.specs.Making.{IsMadeWhole, IsUnmade, Makes}
+use Rattle.sshoffice.specs.Opening.{TellsOn}
 
 makes_not : (e : StoreFault) (opening : Opening) (old new : State) → IsUnmade opening old new e
     → Makes opening old new (Err (of_store e))
@@ -23,7 +24,14 @@ makes_not store.Damaged opening old new u = u
 
 pub unmade : (e : StoreFault) (f : JobFault) (opening : Opening) (old new : State) → f ≡ of_store e
     → IsAsBefore old new → (IsBlank old → IsTrue new.is_open → IsBlank new)
-    → (IsBlank old → IsExcused (DiskFailed old new) e) → IsMadeWhole opening old new → Makes opening old new (Err f)
-unmade e f opening old new same before blank only crash =
+    → (IsBlank old → IsExcused (DiskFailed old new) e) → TellsOn old new → IsMadeWhole opening old new
+    → Makes opening old new (Err f)
+unmade e f opening old new same before blank only tells crash =
     subst (λ (f : JobFault). Makes opening old new (Err f)) (sym same)
-    (makes_not e opening old new (record { before = before; blank = blank; only = only; crash = crash }))
+    (makes_not e opening old new (record {
+      before = before;
+      blank = blank;
+      only = only;
+      tells = tells;
+      crash = crash;
+    }))

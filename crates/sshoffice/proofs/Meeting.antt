@@ -11,11 +11,13 @@ use Rattle.web.specs.Runs.{Serves as AllServed}
 use Rattle.server.specs.Books.{Book}
 use Rattle.server.specs.Connections.{AreServed, Extends, Meets, Visit, exchange_of, given_of}
 use Rattle.server.specs.Names.{listening_line}
+use Rattle.store.specs.Transactions.{IsAsBefore}
 use Rattle.store.specs.Meaning.{Tells}
 use Rattle.sshoffice.specs.Faults.{of_store}
 use Rattle.sshoffice.specs.Opening.{IsUnopened, TellsOn}
 use Rattle.sshoffice.specs.Serving.{MeetsOver, Serves}
 use Rattle.sshoffice.specs.Whole.{heard_of}
+use Rattle.sshoffice.proofs.Carried.{before_again}
 use Rattle.sshoffice.specs.declared.job_fault.JobFault.{JobFault}
 use Rattle.sshoffice.specs.declared.job_fault.JobFault.TheVariants as fault
 
@@ -44,67 +46,79 @@ met_from n book book' nonces nonces' old mid new tells x = record {
   served = λ honest o l m. x.served honest o l (tells o l m);
 }
 
+-- where nothing was done nothing has changed
+same_is_unmet : (old new : State) → new ≡ old → IsAsBefore old new × TellsOn old new
+same_is_unmet old new same = subst (λ (s : State). IsAsBefore old s × TellsOn old s) (sym same)
+    (record { was_open = λ is. is; rest = λ _ rests. rests; same = λ _ _. refl }, λ o l told. told)
+
 -- what is served at a port whose line is printed
 pub served_at : (n port status : ℕ) (book book' : Option Book) (source first left : Option (List ℕ)) (old new : State)
     (held listening holds : Option (List ℕ)) → Appends held listening (listening_line port) → holds ≡ listening
-    → first ≡ source → (status ≡ 0 → MeetsOver n book book' first left old new) → Extends n (Tells old) (Tells new)
-    → status ≤ 1 → Serves n source (Some (Ok (book, port))) old new held holds (Ok status)
-served_at n port status book book' source first left old new held listening holds printed quiet same met served low = (
-  book,
-  port,
-  refl,
-  subst (λ (o : Option (List ℕ)). Appends held o (listening_line port)) (sym quiet) printed,
-  record {
-    met = λ done. (
-      book',
-      left,
-      subst (λ (f : Option (List ℕ)). MeetsOver n book book' f left old new) same (met done),
-    );
-    served = served;
-    lawful = low;
-  },
-)
+    → first ≡ source → (status ≡ 0 → MeetsOver n book book' first left old new) → (status ≡ 1 → new ≡ old)
+    → Extends n (Tells old) (Tells new) → status ≤ 1
+    → Serves n source (Some (Ok (book, port))) old new held holds (Ok status)
+served_at n port status book book' source first left old new held listening holds printed quiet same met unmet served
+    low = (
+      book,
+      port,
+      refl,
+      subst (λ (o : Option (List ℕ)). Appends held o (listening_line port)) (sym quiet) printed,
+      record {
+        met = λ done. (
+          book',
+          left,
+          subst (λ (f : Option (List ℕ)). MeetsOver n book book' f left old new) same (met done),
+        );
+        unmet = λ failed. same_is_unmet old new (unmet failed);
+        served = served;
+        lawful = low;
+      },
+    )
 
 -- what is served after an opening is served of what was opened
 served_from : (n : ℕ) (source : Option (List ℕ)) (heard : Result (Option Book × ℕ) ErrorKind) (old mid new : State)
-    (held holds : Option (List ℕ)) (r : Result ℕ JobFault) → TellsOn old mid
+    (held holds : Option (List ℕ)) (r : Result ℕ JobFault) → IsAsBefore old mid → TellsOn old mid
     → Serves n source (Some heard) mid new held holds r → Serves n source (Some heard) old new held holds r
-served_from n source heard old mid new held holds (Ok status) tells h = (
+served_from n source heard old mid new held holds (Ok status) before tells h = (
   h.0,
   h.1,
   h.2,
   h.3,
   record {
     met = λ done. let m = h.4.met done in (m.0, m.1, met_from n _ _ source _ old mid new tells m.2);
+    unmet = λ failed. (
+      before_again old mid new before (h.4.unmet failed).0,
+      λ o l m. (h.4.unmet failed).1 o l (tells o l m),
+    );
     served = λ o l m. h.4.served o l (tells o l m);
     lawful = h.4.lawful;
   },
 )
-served_from n source heard old mid new held holds (Err fault.Socket) tells h =
+served_from n source heard old mid new held holds (Err fault.Socket) before tells h =
     (h.0, h.1, λ o l m. h.2 o l (tells o l m), h.3)
-served_from n source heard old mid new held holds (Err fault.Write) tells h =
+served_from n source heard old mid new held holds (Err fault.Write) before tells h =
     (h.0, h.1, λ o l m. h.2 o l (tells o l m))
-served_from n source heard old mid new held holds (Err fault.NoMemory) tells h = let no = h.0 in absurd (cc)
-served_from n source heard old mid new held holds (Err (fault.Store e)) tells h = let no = h.0 in absurd (cc)
-served_from n source heard old mid new held holds (Err fault.File) tells h = absurd h
-served_from n source heard old mid new held holds (Err (fault.Connection x)) tells h = absurd h
-served_from n source heard old mid new held holds (Err fault.Mismatch) tells h = absurd h
-served_from n source heard old mid new held holds (Err (fault.BadExchange k)) tells h = absurd h
-served_from n source heard old mid new held holds (Err (fault.Line x)) tells h = absurd h
-served_from n source heard old mid new held holds (Err (fault.Opening x)) tells h = absurd h
-served_from n source heard old mid new held holds (Err (fault.List x)) tells h = absurd h
-served_from n source heard old mid new held holds (Err fault.Fault) tells h = absurd h
+served_from n source heard old mid new held holds (Err fault.NoMemory) before tells h = let no = h.0 in absurd (cc)
+served_from n source heard old mid new held holds (Err (fault.Store e)) before tells h = let no = h.0 in absurd (cc)
+served_from n source heard old mid new held holds (Err fault.File) before tells h = absurd h
+served_from n source heard old mid new held holds (Err (fault.Connection x)) before tells h = absurd h
+served_from n source heard old mid new held holds (Err fault.Mismatch) before tells h = absurd h
+served_from n source heard old mid new held holds (Err (fault.BadExchange k)) before tells h = absurd h
+served_from n source heard old mid new held holds (Err (fault.Line x)) before tells h = absurd h
+served_from n source heard old mid new held holds (Err (fault.Opening x)) before tells h = absurd h
+served_from n source heard old mid new held holds (Err (fault.List x)) before tells h = absurd h
+served_from n source heard old mid new held holds (Err fault.Fault) before tells h = absurd h
 
 -- the same, of a listener by its book
 pub served_of : {Incoming : Type 0} (n : ℕ) (source : Option (List ℕ)) (book : Incoming → Option Book)
     (heard : Result (Incoming × ℕ) ErrorKind) (old mid new : State) (held holds : Option (List ℕ))
-    (r : Result ℕ JobFault) → TellsOn old mid
+    (r : Result ℕ JobFault) → IsAsBefore old mid → TellsOn old mid
     → Serves n source (heard_of book (Some heard)) mid new held holds r
     → Serves n source (heard_of book (Some heard)) old new held holds r
-served_of n source book (Ok at) old mid new held holds r tells h =
-    served_from n source (Ok (book at.0, at.1)) old mid new held holds r tells h
-served_of n source book (Err kind) old mid new held holds r tells h =
-    served_from n source (Err kind) old mid new held holds r tells h
+served_of n source book (Ok at) old mid new held holds r before tells h =
+    served_from n source (Ok (book at.0, at.1)) old mid new held holds r before tells h
+served_of n source book (Err kind) old mid new held holds r before tells h =
+    served_from n source (Err kind) old mid new held holds r before tells h
 
 -- nobody listens where the office can't be opened
 unopened : (n : ℕ) (source : Option (List ℕ)) (old new : State) (held holds : Option (List ℕ)) (e : StoreFault)

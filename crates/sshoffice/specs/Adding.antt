@@ -2,7 +2,6 @@
 use Rattle.std.specs.Prelude.{ℕ, List, IsTrue, Option, Result}
 use Rattle.sqlite_trees.specs.declared.store.Store.{Ghosts}
 use Rattle.sqlite.specs.Held.{Held, state}
-use Rattle.store.specs.Transactions.{IsAtRest}
 use Rattle.restart.specs.Runs.{AddsArrivals}
 use Rattle.sshoffice.specs.declared.job.OfficeJob.{OfficeJob}
 use Rattle.sshoffice.specs.declared.job_fault.JobFault.{JobFault}
@@ -10,18 +9,17 @@ use Rattle.sshoffice.specs.Jobs.{Does}
 use Rattle.sshoffice.specs.Serving.{Heard, Serves}
 
 module _ {S : Type 0} (g : Ghosts S) (new : Held S) where
-  -- A job over a connection that was at rest, as a new one is, and that is open before and after. Each history that the
-  -- tables told is told with arrivals after it.
+  -- A job over a connection that was open. Each history that the tables told is told with arrivals after it.
   abbrev pub JobsAddArrivals : Type 0
   JobsAddArrivals =
-      (old : Held S) → IsTrue (state g old).is_open → IsAtRest (state g old) → IsTrue (state g new).is_open
+      (old : Held S) → IsTrue (state g old).is_open
       → (job : OfficeJob) (held holds : Option (List ℕ)) (r : Result (Unit {0}) JobFault)
       → Does job (state g old) (state g new) held holds r → AddsArrivals (state g old) (state g new)
 
   -- so it is of a server
   abbrev pub ServersAddArrivals : Type 0
   ServersAddArrivals =
-      (old : Held S) → IsTrue (state g old).is_open → IsAtRest (state g old) → IsTrue (state g new).is_open
+      (old : Held S) → IsTrue (state g old).is_open
       → (connections : ℕ) (nonces : Option (List ℕ)) (heard : Heard) (held holds : Option (List ℕ))
       (r : Result ℕ JobFault) → Serves connections nonces heard (state g old) (state g new) held holds r
       → AddsArrivals (state g old) (state g new)

@@ -11,17 +11,21 @@ use Rattle.server.specs.Books.{Book}
 use Rattle.server.specs.declared.connection_fault.SelftestFault.{SelftestFault}
 use Rattle.command_line.specs.declared.job.Job.{Job}
 use Rattle.command_line.specs.declared.job.Job.TheVariants as job
+use Rattle.command_line.specs.declared.words_fault.WordsFault.{WordsFault}
+use Rattle.command_line.specs.Answers.{IsFaultOf, Names}
 use Rattle.sshoffice.specs.declared.world.World.{Ghosts}
 use Rattle.sshoffice.specs.declared.job_fault.JobFault.{JobFault}
 use Rattle.sshoffice.specs.declared.job_fault.JobFault.TheVariants.{Write}
 use Rattle.sshoffice.specs.declared.job.OfficeJob.{OfficeJob}
 use Rattle.sshoffice.specs.declared.job.OfficeJob.TheVariants as office
+use Rattle.sshoffice.specs.Asked.{AsksOffice}
 use Rattle.sshoffice.specs.Checking.{ChecksFile}
 use Rattle.sshoffice.specs.Faults.{of_store, test_result}
 use Rattle.sshoffice.specs.Finding.{OpensThere, WithFile}
 use Rattle.sshoffice.specs.Jobs.{Does, told_text}
 use Rattle.sshoffice.specs.Steps.{Follows}
 use Rattle.sshoffice.specs.Trial.{TriesFile}
+use Rattle.sshoffice.specs.Words.{AnswersWords}
 use Rattle.sshoffice.specs.Whole.{AppliesIn, DoesIn, FoundsIn, IsKeyOf, Prints, ServesIn}
 
 -- a server is asked for
@@ -79,7 +83,7 @@ module _ {W File Tables Incoming Reader Writer : Type 0} (store : store.Ghosts T
   -- a job that asks the office in a database, which has to be there
   abbrev pub Asks : OfficeJob → (db : List ℕ) → (held holds : Option (List ℕ)) → Result (Unit {0}) JobFault → Type 0
   Asks asked db held holds result =
-      DoesIn store world book w w' (OpensThere world db) (Does asked) (told_text asked) held holds result
+      DoesIn store world book w w' (OpensThere world db) (Does asked) (AsksOffice asked) (told_text asked) held holds result
 
   -- What each job does. No server is asked for.
   abbrev pub DoesJob : Job → (held holds : Option (List ℕ)) → Result (Unit {0}) JobFault → Type 0
@@ -118,3 +122,20 @@ module _ {W File Tables Incoming Reader Writer : Type 0} (store : store.Ghosts T
     pub result : Result ℕ JobFault
     pub runs : Runs job held holds result
     pub is_its : status ≡ status_by result
+
+  -- The words name a job, and that is what it came to. Or they name none, nothing was asked of the world, and that is
+  -- what they are answered with.
+  abbrev pub RunsWords : (words : List (List ℕ)) → (held holds : Option (List ℕ)) → (status : ℕ) → Type 0
+  RunsWords words held holds status =
+      ((job : Job) × Names words job × RunsJob job held holds status)
+      ⊎ ((fault : WordsFault) × IsFaultOf words fault × (w' ≡ w) × AnswersWords fault held holds status)
+
+-- The same in a world of which this holds afterwards.
+pub record RunsWordsOver {W File Tables Incoming Reader Writer : Type 0} (store : store.Ghosts Tables)
+    (world : Ghosts W File (Held Tables) Incoming Reader Writer) (remaining : File → Option (List ℕ))
+    (book : Incoming → Option Book) (Left : W → Type 0) (words : List (List ℕ)) (held holds : Option (List ℕ))
+    (status : ℕ) : Type 0 where
+  pub before : W
+  pub after : W
+  pub left : Left after
+  pub runs : RunsWords store world remaining book before after words held holds status

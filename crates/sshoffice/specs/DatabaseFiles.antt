@@ -1,18 +1,18 @@
 -- A connection to the two files of a database, as it is opened, and what its close leaves of them.
-use Rattle.std.specs.Prelude.{◌≡◌, Result, Ok, IfErr}
+use Rattle.std.specs.Prelude.{IfErr, IfOk, IsTrue, Result}
 use Rattle.sqlite_disk.specs.declared.Disk.{Ghosts}
 use Rattle.sqlite_disk.specs.declared.Files.{Files}
 use Rattle.sqlite_wal.specs.Recovery.{Image}
 use Rattle.sqlite_wal.specs.Files.{outcomes}
 use Rattle.sqlite_wal.specs.Reads.{AreClean}
 use Rattle.sqlite_store.specs.declared.store.FileStore.{FileStore}
-use Rattle.sqlite_store.specs.FileStore.{view, files as files_of}
-use Rattle.sqlite_trees.specs.View.{IsClean}
 use Rattle.sqlite.specs.declared.error.Error.{Error}
+use Rattle.sqlite.specs.Opening.{is_open_error}
 use Rattle.sqlite.specs.State.{HasCleanDisk}
 use Rattle.sqlite.specs.Held.{Held, IsNew}
-use Rattle.sqlite.specs.Files.{file_state, IsClosed, IsOpened, FailsToClose}
-use Rattle.sqlite.specs.Closing.{IsCopied}
+use Rattle.sqlite.specs.Files.{file_state, IsOpened}
+use Rattle.restart.specs.declared.ending.EndFault.{EndFault}
+use Rattle.restart.specs.Ending.{AreEnded, EndsRuns}
 use Rattle.restart.specs.Runs.{IsBlankIfNone, TellsWhatIsHeld}
 
 module _ {D : Type 0} {g : Ghosts D} where
@@ -24,15 +24,16 @@ module _ {D : Type 0} {g : Ghosts D} where
     pub told : HasCleanDisk (file_state conn) → TellsWhatIsHeld image (file_state conn)
     pub blank : HasCleanDisk (file_state conn) → IsBlankIfNone image (file_state conn)
 
-  -- A crash has no outcome that it hadn't before the close. If the close went well, the last commit is in the database
-  -- file alone. If it failed, the error has its cause.
-  pub record ClosesFiles (conn : Held (FileStore D g)) (closed : Result (Unit {0}) Error) (files : Files D)
+  -- what came of opening it: such a connection, or an error of an open
+  abbrev pub OpensOrNot : Image → Result (Held (FileStore D g)) Error → Type 0
+  OpensOrNot image found = IfOk found (OpensFiles image) × IfErr found (λ e. IsTrue (is_open_error e))
+
+  -- The last commit is in the database file alone, or the connection was given up, or its log wasn't copied. What was
+  -- done over the connection was a run of the program, whatever a crash makes of the files.
+  pub record ClosesFiles (conn : Held (FileStore D g)) (closed : Result (Unit {0}) EndFault) (files : Files D)
       : Type 0 where
-    pub last : FileStore D g
-    pub are_its : files_of last ≡ (files.log, files.db)
-    pub quiet : IsClosed conn last
-    pub copied : closed ≡ Ok tt → AreClean g files.log files.db → IsCopied conn files
-    pub fails : IfErr closed (λ e. IsClean (view last) → FailsToClose conn last e)
+    pub ended : AreEnded conn closed files
+    pub runs : EndsRuns conn closed files
 
   -- the disk of this connection has returned what was written to its files
   abbrev pub AreCleanOf : Held (FileStore D g) → Files D → Type 0

@@ -4,6 +4,8 @@ use Rattle.sqlite.specs.declared.error.Error.{Error}
 use Rattle.sqlite.specs.declared.error.Error.TheVariants.{SqliteFailure}
 use Rattle.sqlite.specs.declared.error.ErrorCode.TheVariants.{OutOfMemory}
 use Rattle.office.specs.declared.store_fault.StoreFault.TheVariants.{Device}
+use Rattle.restart.specs.declared.ending.EndFault.{EndFault}
+use Rattle.restart.specs.declared.ending.EndFault.TheVariants.{GivenUp, Uncopied}
 use Rattle.sshoffice.specs.declared.job_fault.JobFault.{JobFault}
 use Rattle.sshoffice.specs.declared.job_fault.JobFault.TheVariants.{NoMemory, Store}
 
@@ -12,11 +14,16 @@ abbrev pub of_database : Error → JobFault
 of_database (SqliteFailure OutOfMemory) = NoMemory
 of_database other = Store Device
 
+-- of a database that was given up, or whose log wasn't copied
+abbrev pub of_end : EndFault → JobFault
+of_end (GivenUp error) = of_database error
+of_end (Uncopied error) = of_database error
+
 -- A fault of the job is kept, and where the job went well, one of the closing is told.
-abbrev pub closed : {A : Type 0} → Result A JobFault → (closing : Result (Unit {0}) Error) → Result A JobFault
+abbrev pub closed : {A : Type 0} → Result A JobFault → (closing : Result (Unit {0}) EndFault) → Result A JobFault
 closed (Err e) closing = Err e
 closed (Ok x) (Ok done) = Ok x
-closed (Ok x) (Err error) = Err (of_database error)
+closed (Ok x) (Err fault) = Err (of_end fault)
 
 -- the status of what was done
 abbrev pub status : {A : Type 0} → Result A JobFault → ℕ

@@ -1,8 +1,10 @@
 -- What each job does over the connection to its database.
-use Rattle.std.specs.Prelude.{◌≡◌, ℕ, List, [], codes, Option, Result}
+use Rattle.std.specs.Prelude.{◌≡◌, ℕ, List, [], codes, Option, Result, Err}
 use Rattle.sqlite.specs.State.{State}
 use Rattle.office.specs.Openings.{IsOpening}
+use Rattle.office.specs.declared.store_fault.StoreFault.TheVariants.{NotAnOffice}
 use Rattle.sshoffice.specs.declared.job_fault.JobFault.{JobFault}
+use Rattle.sshoffice.specs.declared.job_fault.JobFault.TheVariants.{Store}
 use Rattle.sshoffice.specs.declared.job.OfficeJob.{OfficeJob}
 use Rattle.sshoffice.specs.declared.job.OfficeJob.TheVariants.{Init, Apply, Krl, Signers, Table, Migrate}
 use Rattle.sshoffice.specs.declared.reporting.Report.TheVariants as report
@@ -15,6 +17,15 @@ use Rattle.sshoffice.specs.Reporting.{Reports}
 abbrev pub IsLawful : OfficeJob → Type 0
 IsLawful (Init opening) = IsOpening opening.now
 IsLawful other = Unit {0}
+
+-- an office is to be made
+abbrev pub IsMaking : OfficeJob → Type 0
+IsMaking (Init opening) = Unit {0}
+IsMaking other = ⊥
+
+-- there is no office, and the connection is what it was
+abbrev pub RefusesNone : {A C : Type 0} → (conn last : C) → Result A JobFault → Type 0
+RefusesNone conn last r = (r ≡ Err (Store NotAnOffice)) × (last ≡ conn)
 
 -- What a job does between these tables and this output and those, with this result.
 abbrev pub Does : OfficeJob → (old new : State) → (held holds : Option (List ℕ)) → Result (Unit {0}) JobFault → Type 0

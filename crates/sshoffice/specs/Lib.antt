@@ -8,6 +8,7 @@ pub mod Jobs
 pub mod Ending
 pub mod Reading
 pub mod Serving
+pub mod Asked
 pub mod Checking
 pub mod TrialOffice
 pub mod Trial

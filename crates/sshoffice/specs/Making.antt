@@ -17,6 +17,7 @@ use Rattle.store.specs.Migrating.{HasStopped, IsExcused, Judges}
 use Rattle.store.specs.Meaning.{DiskFailed, IsBlank, IsHistory, Tells}
 use Rattle.office.specs.Openings.{made_opening}
 use Rattle.sshoffice.specs.declared.founding.Founding.{Founding}
+use Rattle.sshoffice.specs.Opening.{TellsOn}
 use Rattle.sshoffice.specs.declared.job_fault.JobFault.{JobFault}
 use Rattle.sshoffice.specs.declared.job_fault.JobFault.TheVariants.{NoMemory, Store}
 
@@ -38,11 +39,13 @@ pub record IsMade (opening : Opening) (old new : State) : Type 0 where
   pub is_open : IsTrue new.is_open
   pub crash : IsMadeWhole opening old new
 
--- nothing is made; of a database without tables that is for want of memory, or the database failed
+-- Nothing is made; of a database without tables that is for want of memory, or the database failed. An office that is
+-- there stays.
 pub record IsUnmade (opening : Opening) (old new : State) (e : StoreFault) : Type 0 where
   pub before : IsAsBefore old new
   pub blank : IsBlank old → IsTrue new.is_open → IsBlank new
   pub only : IsBlank old → IsExcused (DiskFailed old new) e
+  pub tells : TellsOn old new
   pub crash : IsMadeWhole opening old new
 
 abbrev pub Makes : Opening → (old new : State) → Result (Unit {0}) JobFault → Type 0
@@ -72,13 +75,14 @@ pub record IsMoved (old new : State) : Type 0 where
   pub is_open : IsTrue new.is_open
   pub crash : IsMovedWhole old new
 
--- they have not, and this fault has its cause
+-- They have not, and this fault has its cause. An office of schema 2 stays.
 pub record IsUnmoved (old new : State) (e : StoreFault) : Type 0 where
   pub judged : (c : Contents) → Rests (Had c) old → Judges c (HasStopped c old new) (Err e)
   pub only : IsTrue old.is_open → (o : Opening) (l : List Arrival) → IsHistory o l → TellsBefore old o l
       → IsExcused (DiskFailed old new) e
   pub before : IsAsBefore old new
   pub back : (o : Opening) (l : List Arrival) → TellsBefore old o l → TellsBefore new o l
+  pub tells : TellsOn old new
   pub crash : IsMovedWhole old new
 
 abbrev pub Migrates : (old new : State) → Result (Unit {0}) JobFault → Type 0

@@ -8,6 +8,7 @@ use Rattle.web.specs.Runs.{Serves as AllServed}
 use Rattle.server.specs.Books.{Book}
 use Rattle.server.specs.Connections.{Extends, TellsAll, Visit, drawn_of, exchange_of, given_of}
 use Rattle.server.specs.Names.{listening_line}
+use Rattle.store.specs.Transactions.{IsAsBefore}
 use Rattle.store.specs.Meaning.{Tells}
 use Rattle.sshoffice.specs.declared.job_fault.JobFault.{JobFault}
 use Rattle.sshoffice.specs.declared.job_fault.JobFault.TheVariants.{NoMemory, Socket, Store, Write}
@@ -24,12 +25,13 @@ pub record MeetsOver (connections : ℕ) (book book' : Option Book) (nonces nonc
   pub served : HasCleanDisk new → AllServed (Tells old) (Tells new) (λ o l. Tells new o l × IsTrue new.is_open)
       (map exchange_of visits) (map given_of visits)
 
--- The connections that the listener tells were met, each with the response that is due or a fault; or there was no
--- memory to begin with.
+-- The connections that the listener tells were met, each with the response that is due or a fault. Or there was no
+-- memory to begin with, and nothing has changed.
 pub record IsServed (connections : ℕ) (book : Option Book) (nonces : Option (List ℕ)) (old new : State) (status : ℕ)
     : Type 0 where
   pub met : status ≡ 0
       → (book' : Option Book) × (left : Option (List ℕ)) × MeetsOver connections book book' nonces left old new
+  pub unmet : status ≡ 1 → IsAsBefore old new × TellsOn old new
   pub served : Extends connections (Tells old) (Tells new)
   pub lawful : status ≤ 1
 

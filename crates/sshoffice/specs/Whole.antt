@@ -15,7 +15,10 @@ use Rattle.lines.specs.declared.key_line.KeyLine.{KeyLine}
 use Rattle.office.specs.declared.opening.Opening.{Opening}
 use Rattle.office.specs.declared.opening.OpeningFault.{OpeningFault}
 use Rattle.store.specs.Transactions.{IsAtRest}
-use Rattle.restart.specs.Runs.{AddsArrivals, KeepsOffice}
+use Rattle.restart.specs.declared.ending.EndFault.{EndFault}
+use Rattle.restart.specs.Ending.{IsEnd}
+use Rattle.restart.specs.Lives.{Asked, End}
+use Rattle.restart.specs.Runs.{AddsArrivals, AreRuns, DoesOver, KeepsOffice, RunsOn}
 use Rattle.web.specs.declared.exchange.Exchange.{Exchange}
 use Rattle.exchanges.specs.Exchanges.{AreExchanges, IsBadRecord, exchanges_text}
 use Rattle.server.specs.Books.{Book}
@@ -23,6 +26,7 @@ use Rattle.sshoffice.specs.declared.world.World.{Ghosts}
 use Rattle.sshoffice.specs.declared.job_fault.JobFault.{JobFault}
 use Rattle.sshoffice.specs.declared.job_fault.JobFault.TheVariants.{BadExchange, Write}
 use Rattle.sshoffice.specs.Applying.{Applies}
+use Rattle.sshoffice.specs.Asked.{AsksExchanges, AsksServing, founding_asked}
 use Rattle.sshoffice.specs.Ending.{closed}
 use Rattle.sshoffice.specs.Faults.{IsOfAKey, IsOfAnOpening, IsOfExchanges}
 use Rattle.sshoffice.specs.Finding.{OpensNew, OpensThere}
@@ -48,7 +52,9 @@ Adds store opened last =
     × (IsTrue (state store last).is_open → AddsArrivals (state store opened) (state store last))
 
 -- What a world's databases keep. What is opened is ready. If arrivals were added to it and it closed well, then all
--- that a crash may leave of the files holds the office that they held, with arrivals after it.
+-- that a crash may leave of the files holds the office that they held, with arrivals after it. And if what was asked
+-- was done over it, and it was closed well or given up, then this was a run of the program, whatever a crash makes of
+-- the files. That is said of a disk that has returned what was written.
 pub record KeepsDatabases {W File Tables Incoming Reader Writer : Type 0} (store : store.Ghosts Tables)
     (world : Ghosts W File (Held Tables) Incoming Reader Writer) : Type 0 where
   pub ready : (w : W) (path : List ℕ) (found : Result (Held Tables) Error) (w' : W) → world.opens w path found w'
@@ -56,6 +62,11 @@ pub record KeepsDatabases {W File Tables Incoming Reader Writer : Type 0} (store
   pub keeps : (w opened between w' : W) (path : List ℕ) (conn last : Held Tables) → world.opens w path (Ok conn) opened
       → Adds store conn last → world.closes between last (Ok tt) w' → world.is_clean w' last
       → KeepsOffice world.image (world.leaves w' last)
+  pub ends : (w opened between w' : W) (path : List ℕ) (conn last : Held Tables) (closing : Result (Unit {0}) EndFault)
+      (end : End) → world.opens w path (Ok conn) opened → world.closes between last closing w' → IsEnd closing end
+      → world.is_clean w' last
+      → HasCleanDisk (state store last)
+      × ((asked : Asked) → DoesOver store asked conn last → AreRuns world.image asked end (world.leaves w' last))
 
 -- this was printed, or the output failed
 abbrev pub Prints : List ℕ → (held holds : Option (List ℕ)) → Result (Unit {0}) JobFault → Type 0
@@ -127,27 +138,35 @@ module _ {W File Tables Incoming Reader Writer : Type 0} (store : store.Ghosts T
 -- A world as it was before is `w`, and as it is afterwards `w'`. A listener tells of its connections so.
 module _ {W File Tables Incoming Reader Writer : Type 0} (store : store.Ghosts Tables)
     (world : Ghosts W File (Held Tables) Incoming Reader Writer) (book : Incoming → Option Book) (w w' : W) where
-  -- This was done over the connection, and what it left was closed. A fault of either is what came of it.
-  pub record RunsOver {A : Type 0} (Did : W → W → Held Tables → Held Tables → Result A JobFault → Type 0) (opened : W)
-      (conn : Held Tables) (result : Result A JobFault) : Type 0 where
+  -- This was done over the connection, and what it left was closed. A fault of either is what came of it. Whatever a
+  -- crash makes of the files, what was done so is a run of the program that was asked this, and goes on with each life
+  -- that has left the files as they were opened: all is due in it.
+  pub record RunsOver {A : Type 0} (Did : W → W → Held Tables → Held Tables → Result A JobFault → Type 0)
+      (Asks : (before after : W) (conn last : Held Tables) (r : Result A JobFault) → Did before after conn last r
+      → Asked → Type 0)
+      (opened : W) (conn : Held Tables) (result : Result A JobFault) : Type 0 where
     pub outcome : Result A JobFault
     pub last : Held Tables
     pub between : W
     pub did : Did opened between conn last outcome
     pub honest : StaysClean store conn last
-    pub closing : Result (Unit {0}) Error
+    pub closing : Result (Unit {0}) EndFault
     pub is_closed : world.closes between last closing w'
     pub keeps : closing ≡ Ok tt → world.is_clean w' last → KeepsOffice world.image (world.leaves w' last)
+    pub runs : (end : End) → IsEnd closing end → world.is_clean w' last
+        → RunsOn (Asks opened between conn last outcome did) world.image end (world.leaves w' last)
     pub came : result ≡ closed outcome closing
 
   -- The database was opened so, once, and this was done over its connection. Or it wasn't opened, and nothing was done.
   pub record RunsIn {A : Type 0} (Opens : W → Result (Held Tables) JobFault → W → Type 0)
-      (Did : W → W → Held Tables → Held Tables → Result A JobFault → Type 0) (Nothing : Type 0)
-      (result : Result A JobFault) : Type 0 where
+      (Did : W → W → Held Tables → Held Tables → Result A JobFault → Type 0)
+      (Asks : (before after : W) (conn last : Held Tables) (r : Result A JobFault) → Did before after conn last r
+      → Asked → Type 0)
+      (Nothing : Type 0) (result : Result A JobFault) : Type 0 where
     pub found : Result (Held Tables) JobFault
     pub opened : W
     pub is_opened : Opens w found opened
-    pub ran : Follows (RunsOver Did opened) ((w' ≡ opened) × Nothing) found result
+    pub ran : Follows (RunsOver Did Asks opened) ((w' ≡ opened) × Nothing) found result
 
   -- this was done between the tables, and nothing else was asked of the world
   abbrev pub Quietly : (State → State → Result (Unit {0}) JobFault → Type 0) → W → W → Held Tables → Held Tables
@@ -157,10 +176,12 @@ module _ {W File Tables Incoming Reader Writer : Type 0} (store : store.Ghosts T
   -- The same, and once the database was closed what is told of it is printed.
   pub record DoesIn (Opens : W → Result (Held Tables) JobFault → W → Type 0)
       (Did : State → State → Option (List ℕ) → Option (List ℕ) → Result (Unit {0}) JobFault → Type 0)
+      (Asks : Option (List ℕ) → Option (List ℕ) → Result (Unit {0}) JobFault → Asked → Type 0)
       (told : List ℕ) (held holds : Option (List ℕ)) (result : Result (Unit {0}) JobFault) : Type 0 where
     pub between : Option (List ℕ)
     pub done : Result (Unit {0}) JobFault
-    pub ran : RunsIn Opens (Quietly (λ old new. Did old new held between)) (between ≡ held) done
+    pub ran : RunsIn Opens (Quietly (λ old new. Did old new held between)) (λ _ _ _ _ r _.
+        Asks held between r) (between ≡ held) done
     pub told_of : Follows (λ _. Prints told between holds) (holds ≡ between) done result
 
   -- The exchanges of the file were applied. Or it has none, and then nothing was looked for or opened, and nothing is
@@ -169,7 +190,7 @@ module _ {W File Tables Incoming Reader Writer : Type 0} (store : store.Ghosts T
       : Type 0 where
     pub exchanges : Result (List Exchange) JobFault
     pub are_of : AreOf file exchanges
-    pub applied : Follows (λ es. DoesIn (OpensThere world db) (Applies es) [] held holds) ((w' ≡ w) × (holds ≡ held))
+    pub applied : Follows (λ es. DoesIn (OpensThere world db) (Applies es) (AsksExchanges es) [] held holds) ((w' ≡ w) × (holds ≡ held))
         exchanges result
 
   -- The office with the key of the file was made, and is told of. Or there is none, and then nothing was made or
@@ -179,13 +200,14 @@ module _ {W File Tables Incoming Reader Writer : Type 0} (store : store.Ghosts T
     pub opening : Result Opening JobFault
     pub begins : Begins file due opening
     pub made : Follows
-        (λ o. DoesIn (OpensNew world db) (λ old new from to r. Makes o old new r × (to ≡ from)) (ready_text o) held
-        holds)
+        (λ o. DoesIn (OpensNew world db) (λ old new from to r. Makes o old new r × (to ≡ from))
+        (λ from to r asked. asked ≡ founding_asked o) (ready_text o) held holds)
         ((w' ≡ w) × (holds ≡ held)) opening result
 
   -- The office was served, with nonces from this source. Or it wasn't opened, and nothing is printed.
   abbrev pub ServesIn : (db : List ℕ) → (port connections : ℕ) → (nonces held holds : Option (List ℕ))
       → Result ℕ JobFault → Type 0
   ServesIn db port connections nonces held holds result =
-      RunsIn (OpensThere world db) (ServesAt store world book port connections nonces held holds) (holds ≡ held)
-      result
+      RunsIn (OpensThere world db) (ServesAt store world book port connections nonces held holds)
+      (λ _ _ _ _ r did. AsksServing connections nonces (heard_of book did.heard) r)
+      (holds ≡ held) result

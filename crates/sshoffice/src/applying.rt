@@ -5,7 +5,9 @@ ghost use Rattle.exchanges.specs.Exchanges.{IsBadRecord};
 ghost use Rattle.sshoffice.specs.Applying.{Applies};
 ghost use Rattle.sshoffice.specs.Faults.{IsOfATrial, run_result};
 ghost use Rattle.sshoffice.specs.Trial.{AppliesToTrial};
-ghost use Rattle.store_sql.specs.Honest.{IsOutside, IsUnlimited, On, StaysClean};
+ghost use Rattle.std.specs.List.{list_any};
+ghost use Rattle.store_sql.specs.Look.{is_office_table};
+ghost use Rattle.store_sql.specs.Honest.{IsOutside, IsUnlimited, On, StaysClean, tables_of};
 
 use crate::file_reader::read_exchanges_from;
 use crate::job_fault::JobFault;
@@ -13,6 +15,7 @@ use crate::opening::open_office;
 use crate::trial::trial_office;
 use exchanges::{RunFault, apply_exchanges};
 use headline::replay;
+use office::StoreFault;
 use sqlite::{Alter, Connection};
 use std::alloc::Global;
 use std::io::{Read, Write};
@@ -40,6 +43,10 @@ pub fn apply_over<S: Alter, W: Write>(
     ensures applies { On S.Store (λ old new. Applies exchanges.now old new (W.contents out.old) (W.contents out.new))
         conn result.1 result.0 }
     ensures honest { StaysClean S.Store conn result.1 }
+
+    // A database without the table of an office is refused, and stays.
+    ensures none { list_any is_office_table (tables_of S.Store conn) ≡ false
+        → result ≡ record { 0 = Err (JobFault.Store StoreFault.NotAnOffice); 1 = conn } }
 {
     match open_office(alloc, conn) {
         Ok(store) => {

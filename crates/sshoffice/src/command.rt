@@ -1,14 +1,15 @@
 //! Jobs done, in a world.
 
-ghost use Rattle.std.specs.Prelude.{◌≡◌, ◌≤◌, IfOk, map, string_bytes};
-ghost use Rattle.std.specs.Io.KnownBytes.{Keeps};
+ghost use Rattle.std.specs.Prelude.{◌≡◌, ◌≤◌, ℕ, List, Option, IfOk, map, string_bytes};
+ghost use Rattle.std.specs.Io.KnownBytes.{Appends, Keeps};
 ghost use Rattle.command_line.specs.Answers.{AreBad};
-ghost use Rattle.sshoffice.specs.Commands.{ChecksIn, DoesJob, IsFlushed, IsServing, Runs, RunsJob, TestsItself};
+ghost use Rattle.sshoffice.specs.Commands.{ChecksIn, DoesJob, IsFlushed, IsServing, Runs, RunsJob, RunsWords};
+ghost use Rattle.sshoffice.specs.Commands.{TestsItself};
 ghost use Rattle.sshoffice.specs.Finding.{WithFile};
 ghost use Rattle.sshoffice.specs.Making.{due_opening};
 ghost use Rattle.sshoffice.specs.Trial.{TriesFile};
 ghost use Rattle.sshoffice.specs.Whole.{AppliesIn, FoundsIn, KeepsDatabases, ServesIn};
-ghost use Rattle.sshoffice.specs.Words.{IsOfBadWords, status_of_no_words};
+ghost use Rattle.sshoffice.specs.Words.{AnswersWords, IsOfBadWords, status_of_no_words};
 
 use crate::applying::apply_to_trial;
 use crate::checking::check_in;
@@ -259,16 +260,24 @@ pub fn do_job<S: Alter, W: World<Conn = Connection<S>> + AllocGlobal, O: Write, 
     }
 }
 
+// Prints a text that was asked for.
+fn show<O: Write, E: Write>(text: &String, out: &mut O, err: &mut E) -> u8
+    ensures shown { result ≡ 0 → (between : Option (List ℕ)) × Appends (O.contents out.old) between
+        (string_bytes text.now) × Keeps between (O.contents out.new) }
+    ensures status { result ≤ 1 }
+{
+    let shown = write_out(out, text.as_bytes());
+    status_of(err, flushed(out, shown))
+}
+
 // What is answered to words that ask for no job: the text of clap, or a fault.
 fn answer_words<O: Write, E: Write>(fault: WordsFault, out: &mut O, err: &mut E) -> u8
+    ensures answers { AnswersWords fault (O.contents out.old) (O.contents out.new) result }
     ensures status { result ≤ BAD_WORDS }
     ensures bad { result ≡ BAD_WORDS → IsOfBadWords fault }
 {
     match fault {
-        WordsFault::Help(text) => {
-            let shown = write_out(out, text.as_bytes());
-            status_of(err, flushed(out, shown))
-        }
+        WordsFault::Help(text) => show(&text, out, err),
         WordsFault::BadWords(text) => {
             let _ = write_out(err, text.as_bytes());
             BAD_WORDS
@@ -285,6 +294,8 @@ pub fn do_words<S: Alter, W: World<Conn = Connection<S>> + AllocGlobal, O: Write
     err: &mut E,
 ) -> (u8, O)
     requires { KeepsDatabases S.Store W.World }
+    ensures runs { RunsWords S.Store W.World W.File.remaining W.Incoming.book world.old world.new
+        (map string_bytes words.now) (O.contents out) (O.contents result.1) result.0 }
     ensures status { result.0 ≤ BAD_WORDS }
     ensures bad { result.0 ≡ BAD_WORDS → AreBad (map string_bytes words.now) }
 {

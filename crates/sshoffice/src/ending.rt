@@ -3,7 +3,7 @@
 ghost use Rattle.std.specs.Prelude.{◌≡◌, Err, IfErr, IsOk, Ok, OnOk};
 ghost use Rattle.std.specs.Io.KnownBytes.{Appends, Keeps};
 ghost use Rattle.std.specs.Prelude.{codes};
-ghost use Rattle.sshoffice.specs.Ending.{closed, of_database, status};
+ghost use Rattle.sshoffice.specs.Ending.{closed, of_database, of_end, status};
 ghost use Rattle.sshoffice.specs.Faults.{IsOfADatabase, of_selftest};
 ghost use Rattle.sshoffice.specs.Jobs.{told_text};
 ghost use Rattle.sshoffice.specs.Making.{ready_text};
@@ -13,6 +13,7 @@ use crate::job_fault::JobFault;
 use crate::output::write_out;
 use lines::{KeyLine, fingerprint};
 use office::{Opening, StoreFault};
+use restart::EndFault;
 use server::SelftestFault;
 use sqlite::{Error, ErrorCode};
 use std::io::Write;
@@ -34,13 +35,26 @@ pub fn database_fault(error: Error) -> JobFault
     }
 }
 
+// The fault of a database that was given up, or whose log wasn't copied.
+fn end_fault(fault: EndFault) -> JobFault
+    ensures { result ≡ of_end fault }
+{
+    match fault {
+        EndFault::GivenUp(error) => database_fault(error),
+        EndFault::Uncopied(error) => database_fault(error),
+    }
+}
+
 /// What comes of a job and of the closing of its database. A fault of the job is kept, and where the job went well, one
 /// of the closing is told.
-pub fn closed<T: Copy>(done: Result<T, JobFault>, closing: Result<(), Error>) -> Result<T, JobFault>
+pub fn closed<T: Copy>(
+    done: Result<T, JobFault>,
+    closing: Result<(), EndFault>,
+) -> Result<T, JobFault>
     ensures { result ≡ closed done closing }
 {
     match (done, closing) {
-        (Ok(_), Err(error)) => Err(database_fault(error)),
+        (Ok(_), Err(fault)) => Err(end_fault(fault)),
         (done, _) => done,
     }
 }

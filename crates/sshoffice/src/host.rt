@@ -2,22 +2,24 @@
 //!
 //! Each call is one of the system's or of a crate's. Of what the system answers nothing is proved.
 
-ghost use Rattle.std.specs.Prelude.{◌≡◌, ◌≤◌, IfOk, IsSomeAnd, map, string_bytes};
+ghost use Rattle.std.specs.Prelude.{◌≡◌, ◌≤◌, IsSomeAnd, map, string_bytes};
 ghost use Rattle.sqlite_wal.specs.Files.{image_at};
+ghost use Rattle.sqlite.specs.Files.{over_files};
 ghost use Rattle.command_line.specs.Answers.{AreBad};
-ghost use Rattle.sshoffice.specs.DatabaseFiles.{AreCleanOf, ClosesFiles, MayBecome, OpensFiles};
+ghost use Rattle.sshoffice.specs.Commands.{RunsWordsOver};
+ghost use Rattle.sshoffice.specs.DatabaseFiles.{AreCleanOf, ClosesFiles, MayBecome, OpensOrNot};
 
 use crate::command::{BAD_WORDS, do_words};
 use crate::files::make_file;
 use crate::trial::MemoryOffice;
 use crate::world::World;
-use restart::open_at;
-use server::{Loopback, SelftestFault, selftest};
+use restart::{EndFault, end_at, open_at};
+use server::{Listener, Loopback, SelftestFault, selftest};
 use sqlite::{Connection, Error, ErrorCode, FileFrom, FileStore, Files, Start};
 use std::alloc::{Alloc, Global};
 use std::cell::OnceCell;
 use std::fs;
-use std::io::{ErrorKind, Write};
+use std::io::{ErrorKind, Read, Write};
 use std::net::{SocketAddr, SocketAddrV4, TcpListener};
 
 /// A connection to the files at a path.
@@ -25,7 +27,7 @@ type FileConnection<S> = Connection<FileStore<FileFrom<S>>>;
 
 /// Opens the database at a path, or makes one without tables. `start` stands for what its files hold.
 fn open_files<S: Start>(rt: &HostRuntime, path: &str, start: S) -> Result<FileConnection<S>, Error>
-    ensures { IfOk result (OpensFiles (image_at S.Start)) }
+    ensures { OpensOrNot (image_at S.Start) result }
 {
     match open_at(rt, path, start) {
         Ok(conn) => Ok(conn),
@@ -60,6 +62,14 @@ impl<'a, S: Start> Host<'a, S> {
             listener,
         }
     }
+
+    /// The files of the database, if one was closed.
+    pub fn into_files(self) -> Option<Files<FileFrom<S>>>
+        ensures { result ≡ self.entry.left }
+    {
+        let Host { left, .. } = self;
+        left
+    }
 }
 
 impl<S: Start> Alloc for Host<'_, S> {
@@ -77,7 +87,7 @@ impl<'a, S: Start> World for Host<'a, S> {
 
     type Incoming = Loopback<'a, HostRuntime>;
 
-    ghost opens = { λ _ _ found _. IfOk found (OpensFiles (image_at S.Start)) };
+    ghost opens = { λ _ _ found _. OpensOrNot (image_at S.Start) found };
 
     ghost image = { image_at S.Start };
 
@@ -109,17 +119,10 @@ impl<'a, S: Start> World for Host<'a, S> {
         }
     }
 
-    fn close_database(&mut self, conn: FileConnection<S>) -> Result<(), Error> {
-        match conn.close_files() {
-            Ok(files) => {
-                self.left = Some(files);
-                Ok(())
-            }
-            Err((error, store)) => {
-                self.left = Some(store.close());
-                Err(error)
-            }
-        }
+    fn close_database(&mut self, conn: FileConnection<S>) -> Result<(), EndFault> {
+        let (ended, files) = end_at(conn);
+        self.left = Some(files);
+        ended
     }
 
     fn listen(
@@ -149,20 +152,25 @@ fn listen_in<'a>(
     }
 }
 
-/// Does what the words ask for in the world of the system, and answers the status and `out`. `start` stands for what
-/// the files of the job's database hold. Only here is a job done over a file's connection: such a call takes half a
-/// minute to prove.
+/// Does what the words ask for in the world of the system, and answers the status, `out`, and the files of the job's
+/// database as they are left, if it was opened. `start` stands for what they hold. Only here is a job done over a file's
+/// connection: such a call takes half a minute to prove.
 pub fn run<S: Start, O: Write, E: Write>(
     rt: &HostRuntime,
     start: S,
     words: &[String],
     out: O,
     err: &mut E,
-) -> (u8, O)
+) -> (u8, O, Option<Files<FileFrom<S>>>)
+    // This came of the words in a world whose database is left in these files.
+    ensures runs { RunsWordsOver over_files ⟦<Host<'static, S> as World>⟧
+        ⟦<fs::File as Read>⟧.remaining ⟦<Loopback<'static, HostRuntime> as Listener>⟧.book (λ host. host.left ≡ result.2)
+        (map string_bytes words.now) (O.contents out) (O.contents result.1) result.0 }
     ensures status { result.0 ≤ BAD_WORDS }
     ensures bad { result.0 ≡ BAD_WORDS → AreBad (map string_bytes words.now) }
 {
     let listener = OnceCell::new();
     let mut host = Host::new(rt, start, &listener);
-    do_words(&mut host, words, out, err)
+    let (status, out) = do_words(&mut host, words, out, err);
+    (status, out, host.into_files())
 }

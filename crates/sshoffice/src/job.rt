@@ -1,7 +1,10 @@
 //! What is asked of the office in a database, and its doing.
 
-ghost use Rattle.sshoffice.specs.Jobs.{Does, IsLawful};
-ghost use Rattle.store_sql.specs.Honest.{IsOutside, IsUnlimited, On, StaysClean};
+ghost use Rattle.std.specs.Prelude.{◌≡◌, false};
+ghost use Rattle.std.specs.List.{list_any};
+ghost use Rattle.store_sql.specs.Look.{is_office_table};
+ghost use Rattle.store_sql.specs.Honest.{IsOutside, IsUnlimited, On, StaysClean, tables_of};
+ghost use Rattle.sshoffice.specs.Jobs.{Does, IsLawful, IsMaking, RefusesNone};
 
 use crate::applying::apply_over;
 use crate::founding::make_over;
@@ -56,6 +59,10 @@ pub fn do_on<S: Alter, W: Write>(
     ensures does { On S.Store (λ old new. Does job.now old new (W.contents out) (W.contents result.out))
         conn result.conn result.outcome }
     ensures honest { StaysClean S.Store conn result.conn }
+
+    // A database without the table of an office is refused, and stays, if none is to be made.
+    ensures none { (IsMaking job.now → ⊥) → list_any is_office_table (tables_of S.Store conn) ≡ false
+        → RefusesNone conn result.conn result.outcome }
 {
     let mut out = out;
     match job {

@@ -1,14 +1,17 @@
 //! The key revocation list, printed.
 
-ghost use Rattle.std.specs.Prelude.{◌≡◌};
+ghost use Rattle.std.specs.Prelude.{◌≡◌, Err, false};
+ghost use Rattle.std.specs.List.{list_any};
+ghost use Rattle.store_sql.specs.Look.{is_office_table};
 ghost use Rattle.sshoffice.specs.Faults.{publish_result};
 ghost use Rattle.sshoffice.specs.Listing.{Lists};
-ghost use Rattle.store_sql.specs.Honest.{IsOutside, IsUnlimited, On, StaysClean};
+ghost use Rattle.store_sql.specs.Honest.{IsOutside, IsUnlimited, On, StaysClean, tables_of};
 
 use crate::job::Done;
 use crate::job_fault::JobFault;
 use crate::opening::open_office;
 use headline::{PublishFault, publish};
+use office::StoreFault;
 use sqlite::{Alter, Connection};
 use std::alloc::Global;
 use std::io::Write;
@@ -31,6 +34,10 @@ pub fn list_over<S: Alter, W: Write>(alloc: Global, conn: Connection<S>, out: W)
     ensures lists { On S.Store (λ old new. Lists old new (W.contents out) (W.contents result.out))
         conn result.conn result.outcome }
     ensures honest { StaysClean S.Store conn result.conn }
+
+    // A database without the table of an office is refused, and stays.
+    ensures none { list_any is_office_table (tables_of S.Store conn) ≡ false
+        → result ≡ record { outcome = Err (JobFault.Store StoreFault.NotAnOffice); conn = conn; out = out } }
 {
     match open_office(alloc, conn) {
         Ok(store) => {

@@ -1,8 +1,10 @@
 //! The office of a database, opened.
 
-ghost use Rattle.std.specs.Prelude.{IfErr, IfOk};
+ghost use Rattle.std.specs.Prelude.{◌≡◌, Err, IfErr, IfOk, false};
+ghost use Rattle.std.specs.List.{list_any};
 ghost use Rattle.sshoffice.specs.Opening.{IsOpened, IsUnopened};
-ghost use Rattle.store_sql.specs.Honest.{Between, IsOutside, IsUnlimited, On, StaysClean};
+ghost use Rattle.store_sql.specs.Honest.{Between, IsOutside, IsUnlimited, On, StaysClean, tables_of};
+ghost use Rattle.store_sql.specs.Look.{is_office_table};
 
 use office::StoreFault;
 use sqlite::{Alter, Connection};
@@ -20,6 +22,10 @@ pub fn open_office<S: Alter>(
     ensures unopened { IfErr result (λ e. On S.Store IsUnopened conn e.1 e.0) }
     ensures honest { IfOk result (λ s. StaysClean S.Store conn s.conn) }
     ensures honest_back { IfErr result (λ e. StaysClean S.Store conn e.1) }
+
+    // A database without the table of an office is refused, and stays.
+    ensures none { list_any is_office_table (tables_of S.Store conn) ≡ false
+        → result ≡ Err (record { 0 = StoreFault.NotAnOffice; 1 = conn }) }
 {
     match Store::open(alloc, conn) {
         Ok(store) => Ok(store),

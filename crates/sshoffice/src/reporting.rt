@@ -1,13 +1,16 @@
 //! Reports of an office, printed.
 
-ghost use Rattle.std.specs.Prelude.{◌≡◌, ◌==◌, ◌<◌, ◌^◌, ℕ, List, length, None, Some, option_copied, option_map};
+ghost use Rattle.std.specs.Prelude.{◌≡◌, ◌==◌, ◌<◌, ◌^◌, ℕ, List, length, None, Some, Err, false};
+ghost use Rattle.std.specs.Prelude.{option_copied, option_map};
 ghost use Rattle.std.specs.Prelude.{position};
 ghost use Rattle.http_requests.specs.declared.response.MediaType.TheVariants.{PlainText};
 ghost use Rattle.http_requests.specs.Asks.{Asks, get};
 ghost use Rattle.http_requests.specs.Responses.{response_text};
 ghost use Rattle.exchanges.specs.Reading.{after, cut_of};
 ghost use Rattle.sshoffice.specs.Reporting.{Reports, resource_of};
-ghost use Rattle.store_sql.specs.Honest.{IsOutside, IsUnlimited, On, StaysClean};
+ghost use Rattle.std.specs.List.{list_any};
+ghost use Rattle.store_sql.specs.Look.{is_office_table};
+ghost use Rattle.store_sql.specs.Honest.{IsOutside, IsUnlimited, On, StaysClean, tables_of};
 
 use crate::job_fault::JobFault;
 use crate::opening::open_office;
@@ -122,6 +125,10 @@ pub fn report_over<S: Alter, W: Write>(
     ensures reports { On S.Store (λ old new. Reports report old new (W.contents out.old) (W.contents out.new))
         conn result.1 result.0 }
     ensures honest { StaysClean S.Store conn result.1 }
+
+    // A database without the table of an office is refused, and stays.
+    ensures none { list_any is_office_table (tables_of S.Store conn) ≡ false
+        → result ≡ record { 0 = Err (JobFault.Store StoreFault.NotAnOffice); 1 = conn } }
 {
     match open_office(alloc, conn) {
         Ok(store) => {

@@ -1,19 +1,22 @@
 //! An office served.
 
-ghost use Rattle.std.specs.Prelude.{◌≡◌, ◌≤◌, ◌+◌, IfErr, IfOk, OnOk};
+ghost use Rattle.std.specs.Prelude.{◌≡◌, ◌≤◌, ◌+◌, IfErr, IfOk, OnOk, false};
+ghost use Rattle.std.specs.List.{list_any};
 ghost use Rattle.std.specs.Io.KnownBytes.{Appends};
 ghost use Rattle.sqlite.specs.Held.{state};
-ghost use Rattle.store_sql.specs.Honest.{Between, IsOutside, IsUnlimited, StaysClean};
+ghost use Rattle.store_sql.specs.Look.{is_office_table};
+ghost use Rattle.store_sql.specs.Honest.{Between, IsOutside, IsUnlimited, StaysClean, tables_of};
 ghost use Rattle.server.specs.Connections.{Extends};
 ghost use Rattle.server.specs.Names.{listening_line};
 ghost use Rattle.store.specs.Meaning.{Tells};
+ghost use Rattle.sshoffice.specs.Jobs.{RefusesNone};
 ghost use Rattle.sshoffice.specs.Serving.{MeetsOver};
 ghost use Rattle.sshoffice.specs.Whole.{Listens, ServesAt, ServesOpen};
 
 use crate::job_fault::JobFault;
 use crate::opening::open_office;
 use crate::world::World;
-use server::{Listener, serve_on};
+use server::{Listener, serve_keeping};
 use sqlite::{Alter, Connection};
 use std::io;
 use std::io::{ErrorKind, Write};
@@ -44,8 +47,7 @@ pub fn serve_over<R: AllocGlobal, S: Alter, L: Listener, N: Source, O: Write, E:
     ensures honest { StaysClean S.Store store.conn result.1 }
     ensures quiet { out.new ≡ out.old }
 {
-    let mut office = store;
-    let status = serve_on(rt, listener, &mut office, nonces, connections, out, err);
+    let (status, office) = serve_keeping(rt, listener, store, nonces, connections, out, err);
     (status, office.into_connection())
 }
 
@@ -128,6 +130,10 @@ pub fn serve_at_port<S: Alter, W: World<Conn = Connection<S>> + AllocGlobal, O: 
         (O.contents out.old) (O.contents out.new) world.old world.new conn result.1 result.0 }
     ensures honest { StaysClean S.Store conn result.1 }
     ensures status { IfOk result.0 (λ status. status ≤ 1) }
+
+    // A database without the table of an office is refused, and stays.
+    ensures none { list_any is_office_table (tables_of S.Store conn) ≡ false
+        → RefusesNone conn result.1 result.0 }
 {
     match open_office(world.alloc(), conn) {
         Ok(store) => serve_listening(world, store, nonces, port, connections, out, err),

@@ -5,6 +5,7 @@
 
 ghost use Rattle.std.specs.Prelude.{◌≤◌, IfOk};
 ghost use Rattle.office.specs.Openings.{IsOpening};
+ghost use Rattle.sshoffice.specs.Asked.{AsksOffice};
 ghost use Rattle.sshoffice.specs.Finding.{OpensFor};
 ghost use Rattle.sshoffice.specs.Jobs.{Does, IsLawful, told_text};
 ghost use Rattle.sshoffice.specs.Making.{due_opening};
@@ -33,7 +34,7 @@ pub(crate) fn do_in<S: Alter, W: World<Conn = Connection<S>> + AllocGlobal, O: W
     requires keeps { KeepsDatabases S.Store W.World }
     requires lawful { IsLawful job.now }
     ensures { DoesIn S.Store W.World W.Incoming.book world.old world.new
-        (OpensFor W.World db.now job.now) (Does job.now) (told_text job.now)
+        (OpensFor W.World db.now job.now) (Does job.now) (AsksOffice job.now) (told_text job.now)
         (O.contents out) (O.contents result.1) result.0 }
 {
     let alloc = world.alloc();

@@ -5,9 +5,11 @@ ghost use Rattle.std.specs.declared.io.ErrorKind.{ErrorKind as Kind};
 ghost use Rattle.std.specs.declared.net.socket_addr.SocketAddrV4.{SocketAddrV4 as Address};
 ghost use Rattle.sqlite_wal.specs.Recovery.{Image};
 ghost use Rattle.sqlite.specs.declared.error.Error.{Error as Fault};
+ghost use Rattle.restart.specs.declared.ending.EndFault.{EndFault};
 ghost use Rattle.server.specs.declared.connection_fault.SelftestFault.{SelftestFault as TestFault};
 
 use crate::trial::MemoryOffice;
+use restart::EndFault;
 use server::{Listener, SelftestFault};
 use sqlite::Error;
 use std::io::{ErrorKind, Read};
@@ -33,12 +35,12 @@ pub trait World {
 
     ghost opens: { Self → List ℕ → Result Self.Conn Fault → Self → Type 0 } = { λ _ _ _ _. ⊤ };
 
-    ghost closes: { Self → Self.Conn → Result (Unit {0}) Fault → Self → Type 0 } = { λ _ _ _ _. ⊤ };
+    ghost closes: { Self → Self.Conn → Result (Unit {0}) EndFault → Self → Type 0 } = { λ _ _ _ _. ⊤ };
 
     ghost listens: { Self → Address → Result (Self.Incoming × ℕ) Kind → Self → Type 0 } = { λ _ _ _ _. ⊤ };
 
-    // What the files of the database that is opened hold; and, of a connection that was closed, whether its disk had
-    // returned what was written, and what a crash may leave of its files.
+    // What the files of the database that is opened hold; and, of a connection that was closed or given up, whether its
+    // disk had returned what was written, and what a crash may leave of its files.
     ghost image: { Image };
 
     ghost is_clean: { Self → Self.Conn → Type 0 };
@@ -84,7 +86,7 @@ pub trait World {
     /// # Errors
     ///
     /// Why it can't be closed well. It is closed all the same.
-    fn close_database(&mut self, conn: Self::Conn) -> Result<(), Error>
+    fn close_database(&mut self, conn: Self::Conn) -> Result<(), EndFault>
         ensures { closes self.old conn result self.new };
 
     /// Listens at an address, and says at which port: at one that the system chooses, where the address has port 0.

@@ -1,62 +1,89 @@
--- A guard in the two files of a database: as it is made and opened, and what its close leaves of them.
-use Rattle.std.specs.Prelude.{◌≡◌, Result, Ok, Err, IfErr}
+-- A guard in the two files of a database: as it is made and opened, and what its end leaves of them.
+use Rattle.std.specs.Prelude.{◌≡◌, Result, Ok, Err}
 use Rattle.sqlite_disk.specs.declared.Disk.{Ghosts}
 use Rattle.sqlite_disk.specs.declared.Files.{Files}
+use Rattle.sqlite_wal.specs.Recovery.{Image}
+use Rattle.sqlite_wal.specs.Files.{outcomes}
 use Rattle.sqlite_wal.specs.Reads.{AreClean}
 use Rattle.sqlite_store.specs.declared.store.FileStore.{FileStore}
-use Rattle.sqlite_store.specs.FileStore.{view, files as files_of}
-use Rattle.sqlite_trees.specs.View.{IsClean}
 use Rattle.sqlite.specs.declared.error.Error.{Error}
 use Rattle.sqlite.specs.declared.error.Error.TheVariants.{SqliteFailure}
 use Rattle.sqlite.specs.declared.error.ErrorCode.TheVariants.{OutOfMemory}
-use Rattle.sqlite.specs.State.{State, HasCleanDisk}
+use Rattle.sqlite.specs.State.{State as Connection, HasCleanDisk}
 use Rattle.sqlite.specs.Held.{Held, IsNew}
-use Rattle.sqlite.specs.Files.{file_state, IsClosed, IsOpened, FailsToClose}
-use Rattle.sqlite.specs.Closing.{IsCopied}
+use Rattle.sqlite.specs.Files.{file_state, IsOpened}
 use Rattle.guard.specs.declared.scope.Scope.{Scope}
+use Rattle.guard.specs.State.{State}
 use Rattle.guard_sql.specs.declared.store.GuardStore.{GuardStore}
+use Rattle.guard_sql.specs.Keeping.{IsGuard}
 use Rattle.guard_sql.specs.Opening.{Finds, Founds}
+use Rattle.restart.specs.declared.ending.EndFault.{EndFault}
+use Rattle.restart.specs.declared.ending.EndFault.TheVariants.{GivenUp, Uncopied}
+use Rattle.guard_restart.specs.Images.{HoldsKept, HoldsOneOf}
+use Rattle.guard_restart.specs.Runs.{EndsWell, HasWhatIsHeld, IsBlankIfNone}
 use Rattle.station_jobs.specs.declared.station_fault.StationFault.{StationFault}
 use Rattle.station_jobs.specs.declared.station_fault.StationFault.TheVariants.{Device, NoMemory}
+
+-- ---- faults
 
 -- of a database that was not opened or closed
 abbrev pub of_database : Error → StationFault
 of_database (SqliteFailure OutOfMemory) = NoMemory
 of_database other = Device
 
--- what came of the closing
-abbrev pub of_closing : Result (Unit {0}) Error → Result (Unit {0}) StationFault
-of_closing (Ok done) = Ok done
-of_closing (Err error) = Err (of_database error)
+-- what came of the end of a connection
+abbrev pub of_ending : Result (Unit {0}) EndFault → Result (Unit {0}) StationFault
+of_ending (Ok done) = Ok done
+of_ending (Err (GivenUp error)) = Err (of_database error)
+of_ending (Err (Uncopied error)) = Err (of_database error)
+
+-- the log was copied, or nobody began to copy it
+abbrev pub IsWhole : Result (Unit {0}) EndFault → Type 0
+IsWhole (Ok done) = Unit {0}
+IsWhole (Err (GivenUp error)) = Unit {0}
+IsWhole (Err (Uncopied error)) = ⊥
+
+-- ---- what files hold
 
 module _ {D : Type 0} {g : Ghosts D} where
-  -- A new connection to the files was opened, and this is the guard over it. If the disk has returned what was written,
-  -- it has found what the connection had: the guard of the tables, or tables that were blank.
-  pub record OpensGuard (Found : State → State → Type 0) (guard : GuardStore (FileStore D g)) : Type 0 where
-    pub conn : Held (FileStore D g)
+  -- It is new. If its disk has returned what was written, it has each guard that the files held, and is blank if they
+  -- held none.
+  pub record OpensFiles (image : Image) (conn : Held (FileStore D g)) : Type 0 where
     pub new : IsNew conn
     pub opened : HasCleanDisk (file_state conn) → IsOpened conn
+    pub held : HasCleanDisk (file_state conn) → HasWhatIsHeld image (file_state conn)
+    pub blank : HasCleanDisk (file_state conn) → IsBlankIfNone image (file_state conn)
+
+  -- A connection to the files was opened so, and this is the guard over it. If the disk has returned what was written,
+  -- it has found what the connection had.
+  pub record OpensGuard (image : Image) (Found : Connection → Connection → Type 0) (guard : GuardStore (FileStore D g))
+      : Type 0 where
+    pub conn : Held (FileStore D g)
+    pub files : OpensFiles image conn
+    pub honest : HasCleanDisk (file_state guard.conn) → HasCleanDisk (file_state conn)
     pub found : HasCleanDisk (file_state guard.conn) → Found (file_state conn) (file_state guard.conn)
 
   -- the guard of the tables is opened
-  abbrev pub FindsGuard : GuardStore (FileStore D g) → Type 0
-  FindsGuard guard = OpensGuard (Finds guard.scope) guard
+  abbrev pub FindsGuard : Image → GuardStore (FileStore D g) → Type 0
+  FindsGuard image guard = OpensGuard image (Finds guard.scope) guard
 
   -- a guard of this scope that has approved nothing yet is made in blank tables
-  abbrev pub MakesGuard : Scope → GuardStore (FileStore D g) → Type 0
-  MakesGuard scope guard = OpensGuard (Founds scope) guard × (guard.scope ≡ scope)
+  abbrev pub MakesGuard : Image → Scope → GuardStore (FileStore D g) → Type 0
+  MakesGuard image scope guard = OpensGuard image (Founds scope) guard × (guard.scope ≡ scope)
 
-  -- A crash has no outcome that it hadn't before the close. If the close went well, the last commit is in the database
-  -- file alone. If it failed, the error has its cause.
-  pub record ClosesFiles (conn : Held (FileStore D g)) (closed : Result (Unit {0}) Error) (files : Files D)
-      : Type 0 where
-    pub last : FileStore D g
-    pub are_its : files_of last ≡ (files.log, files.db)
-    pub quiet : IsClosed conn last
-    pub copied : closed ≡ Ok tt → AreClean g files.log files.db → IsCopied conn files
-    pub fails : IfErr closed (λ e. IsClean (view last) → FailsToClose conn last e)
+  -- ---- files that were closed or given up: how that went, and the files
 
-  -- so it is of the guard over the connection, with the fault that is told of the error
-  abbrev pub ClosesGuard : GuardStore (FileStore D g) → Result (Unit {0}) StationFault → Files D → Type 0
-  ClosesGuard guard done files =
-      (closed : Result (Unit {0}) Error) × ClosesFiles guard.conn closed files × (done ≡ of_closing closed)
+  abbrev pub EndsGuard : GuardStore (FileStore D g) → Result (Unit {0}) StationFault
+      → Result (Unit {0}) EndFault × Files D → Type 0
+  EndsGuard guard done left = EndsWell guard.conn left.0 left.1 × (done ≡ of_ending left.0)
+
+  -- the disk has returned what was written, and the log was copied, or nobody began to copy it
+  abbrev pub AreSettled : GuardStore (FileStore D g) → Result (Unit {0}) EndFault × Files D → Type 0
+  AreSettled guard left = AreClean g left.1.log left.1.db × IsWhole left.0
+
+  -- whatever a crash makes of the files, they hold this guard, or one of these two, of which tables may keep the first
+  abbrev pub HaveGuard : GuardStore (FileStore D g) → State → Result (Unit {0}) EndFault × Files D → Type 0
+  HaveGuard guard s left = (image : Image) → outcomes g left.1.log left.1.db image → HoldsKept image s
+
+  abbrev pub HaveOne : GuardStore (FileStore D g) → (s t : State) → Result (Unit {0}) EndFault × Files D → Type 0
+  HaveOne guard s t left = IsGuard s × ((image : Image) → outcomes g left.1.log left.1.db image → HoldsOneOf image s t)

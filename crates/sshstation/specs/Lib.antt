@@ -1,2 +1,4 @@
 pub mod Ending
 pub mod GuardFiles
+pub mod Doing
+pub mod ListFiles

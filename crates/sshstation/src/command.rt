@@ -1,83 +1,171 @@
 //! Jobs done.
 
-ghost use Rattle.std.specs.Prelude.{◌≡◌, ◌≤◌, IfSome, map, string_bytes};
+ghost use Rattle.std.specs.Prelude.{◌≡◌, ◌≤◌, IfErr, map, string_bytes};
+ghost use Rattle.office.specs.Openings.{are_serials};
 ghost use Rattle.station_command.specs.Answers.{AreBad};
-ghost use Rattle.station_jobs.specs.Jobs.{IsLawful};
+ghost use Rattle.station_jobs.specs.Whole.{KeepsFiles};
+ghost use Rattle.sshstation.specs.Doing.{DoesJob, DoesList, DoesWords, InitsAt, PrintsPolicyAt};
 ghost use Rattle.sshstation.specs.Ending.{IsOfBadWords};
 
 use crate::ending::status_of;
-use crate::guard_database::run_at;
-use crate::host::Host;
 use command_line::WordsFault;
-use sqlite::Start;
-use station_command::{StationJob, read_words};
+use guard::Register;
+use list_guard::ListRegister;
+use list_jobs::{ListFile, ListJob, Listing};
+use station_command::{Judging as JudgingWords, Listing as ListingWords, StationJob, read_words};
 use station_jobs::{
-    GuardJob, Judging, StationFault, Surroundings, print, print_policy, scope_from,
+    GuardFile, GuardJob, Judging, StationFault, Surroundings, print, print_policy, run_in,
+    scope_from,
 };
-use std::io::{ErrorKind, Write};
+use std::alloc::Global;
+use std::io::{BufRead, ErrorKind, Read, Write};
 
 /// The status of bad words.
 pub const BAD_WORDS: u8 = 2;
 
 /// Makes a guard with the key of a file in a new database.
-fn init<S: Start, O: Write>(
-    rt: &HostRuntime,
-    start: S,
-    db: &str,
+fn init<
+    F: Read + Drop,
+    P: Surroundings<File = F>,
+    G: Register,
+    D: GuardFile<Guard = G>,
+    I: BufRead,
+    O: Write,
+>(
+    alloc: Global,
+    around: &P,
+    db: &mut D,
+    path: &str,
     ca: &str,
     serials: (u64, u64),
+    input: &mut I,
     out: &mut O,
-) -> Result<(), StationFault> {
-    let ca = Host { rt }.open(ca)?;
-    let scope = scope_from(rt.alloc(), ca, serials.0, serials.1)?;
-    run_at(rt, start, db, &GuardJob::Init(scope), out)
+) -> Result<(), StationFault>
+    requires { KeepsFiles G.Register D.GuardFile }
+    ensures { InitsAt P.Surroundings around.now F.remaining G.Register D.GuardFile db.old db.new path.now ca.now
+        serials.0 serials.1 (O.contents out.old) (O.contents out.new) result }
+{
+    match around.open(ca) {
+        Ok(file) => match scope_from(alloc, file, serials.0, serials.1) {
+            Ok(scope) => run_in(alloc, around, db, path, &GuardJob::Init(scope), input, out),
+            Err(fault) => Err(fault),
+        },
+        Err(fault) => Err(fault),
+    }
 }
 
-/// Prints the names of a policy's departments.
-fn policy<O: Write>(rt: &HostRuntime, file: &str, out: &mut O) -> Result<(), StationFault> {
-    let file = Host { rt }.open(file)?;
-    print_policy(rt.alloc(), file, out)
+/// Prints the names of the departments of a policy at a path.
+fn policy<F: Read + Drop, P: Surroundings<File = F>, O: Write>(
+    alloc: Global,
+    around: &P,
+    path: &str,
+    out: &mut O,
+) -> Result<(), StationFault>
+    ensures { PrintsPolicyAt P.Surroundings around.now F.remaining path.now (O.contents out.old) (O.contents out.new)
+        result }
+{
+    match around.open(path) {
+        Ok(file) => print_policy(alloc, file, out),
+        Err(fault) => Err(fault),
+    }
 }
 
-/// The path of a database and what is asked of its guard, where the words say it all.
-fn asked_of(job: &StationJob) -> Option<(&str, GuardJob<'_>)>
-    ensures { IfSome result (λ a. IsLawful a.1) }
+/// What is to be judged, as the words say it.
+fn judging_of(words: &JudgingWords) -> Judging<'_>
+    ensures policy { result.policy.now ≡ string_bytes words.now.policy }
+    ensures ahead { result.ahead ≡ words.now.ahead }
+    ensures bodies { result.bodies.now ≡ words.now.bodies.items }
+{
+    Judging {
+        policy: words.policy.as_str(),
+        ahead: words.ahead,
+        bodies: words.bodies.as_slice(),
+    }
+}
+
+/// The list that is to be judged, as the words say it.
+fn listing_of(words: &ListingWords) -> Listing<'_>
+    ensures cas { result.cas.now ≡ words.now.cas.items }
+    ensures begins { result.begins ≡ words.now.begins }
+    ensures list { result.list.now ≡ string_bytes words.now.list }
+{
+    Listing {
+        cas: words.cas.as_slice(),
+        begins: words.begins,
+        list: words.list.as_str(),
+    }
+}
+
+/// Does a job, whole: what it gives is written to `out`.
+///
+/// # Errors
+///
+/// Why it wasn't done.
+pub(crate) fn do_job<
+    F: Read + Drop,
+    P: Surroundings<File = F>,
+    G: Register,
+    D: GuardFile<Guard = G>,
+    K: ListRegister,
+    L: ListFile<Guard = K>,
+    I: BufRead,
+    O: Write,
+>(
+    alloc: Global,
+    around: &P,
+    db: &mut D,
+    lists: &mut L,
+    job: &StationJob,
+    input: &mut I,
+    out: &mut O,
+) -> Result<(), StationFault>
+    requires { KeepsFiles G.Register D.GuardFile }
+    ensures guard { DoesJob P.Surroundings around.now F.remaining G.Register D.GuardFile db.old db.new job.now
+        (I.remaining input.old) (O.contents out.old) (O.contents out.new) result }
+    ensures lists { DoesList P.Surroundings around.now F.remaining G.Register D.GuardFile db.old db.new K.ListRegister
+        L.ListFile lists.old lists.new job.now (O.contents out.old) (O.contents out.new) result }
 {
     match job {
-        StationJob::Judge(judging) => {
-            let asked = Judging {
-                policy: judging.policy.as_str(),
-                ahead: judging.ahead,
-                bodies: judging.bodies.as_slice(),
-            };
-            Some((judging.db.as_str(), GuardJob::Judge(asked)))
-        }
-        StationJob::Bodies { db } => Some((db.as_str(), GuardJob::Bodies)),
-        StationJob::Body { db, serial } => Some((db.as_str(), GuardJob::Body(*serial))),
-        StationJob::Retire { db, last } => Some((db.as_str(), GuardJob::Retire(*last))),
-        _ => None,
-    }
-}
-
-/// Does a job: what it gives is written to `out`. `start` stands for what the files of the job's database hold.
-fn do_job<S: Start, O: Write>(
-    rt: &HostRuntime,
-    start: S,
-    job: &StationJob,
-    out: &mut O,
-) -> Result<(), StationFault> {
-    if let Some((db, asked)) = asked_of(job) {
-        return run_at(rt, start, db, &asked, out);
-    }
-    match job {
         StationJob::Init {
-            db,
+            db: path,
             ca,
             first,
             last,
-        } => init(rt, start, db.as_str(), ca.as_str(), (*first, *last), out),
-        StationJob::Policy { file } => policy(rt, file.as_str(), out),
-        _ => Ok(()),
+        } => {
+            let (path, ca) = (path.as_str(), ca.as_str());
+            init(alloc, around, db, path, ca, (*first, *last), input, out)
+        }
+        StationJob::Judge(words) => {
+            let asked = GuardJob::Judge(judging_of(words));
+            run_in(alloc, around, db, words.db.as_str(), &asked, input, out)
+        }
+        StationJob::Bodies { db: path } => {
+            run_in(
+                alloc,
+                around,
+                db,
+                path.as_str(),
+                &GuardJob::Bodies,
+                input,
+                out,
+            )
+        }
+        StationJob::Body { db: path, serial } => {
+            let asked = GuardJob::Body(*serial);
+            run_in(alloc, around, db, path.as_str(), &asked, input, out)
+        }
+        StationJob::Policy { file } => policy(alloc, around, file.as_str(), out),
+        StationJob::Retire { db: path, last } => {
+            let asked = GuardJob::Retire(*last);
+            run_in(alloc, around, db, path.as_str(), &asked, input, out)
+        }
+        StationJob::Lists { db: path } => {
+            list_jobs::run_in(alloc, around, lists, path.as_str(), &ListJob::Init, out)
+        }
+        StationJob::List(words) => {
+            let asked = ListJob::List(listing_of(words));
+            list_jobs::run_in(alloc, around, lists, words.db.as_str(), &asked, out)
+        }
     }
 }
 
@@ -100,20 +188,38 @@ fn answer_words<O: Write, E: Write>(fault: WordsFault, out: &mut O, err: &mut E)
 }
 
 /// Does the job that the words ask for, or shows the text of clap. What it gives is written to `out`, and the name of a
-/// fault to `err`. Answers the status. `start` stands for what the files of the job's database hold.
-pub(crate) fn do_words<S: Start, O: Write, E: Write>(
-    rt: &HostRuntime,
-    start: S,
+/// fault to `err`. Answers the status.
+pub(crate) fn do_words<
+    F: Read + Drop,
+    P: Surroundings<File = F>,
+    G: Register,
+    D: GuardFile<Guard = G>,
+    K: ListRegister,
+    L: ListFile<Guard = K>,
+    I: BufRead,
+    O: Write,
+    E: Write,
+>(
+    alloc: Global,
+    around: &P,
+    db: &mut D,
+    lists: &mut L,
     words: &[String],
+    input: &mut I,
     out: &mut O,
     err: &mut E,
 ) -> u8
+    // What is opened is what the files held, and what is closed is what they hold then.
+    requires { KeepsFiles G.Register D.GuardFile }
     ensures status { result ≤ BAD_WORDS }
     ensures bad { result ≡ BAD_WORDS → AreBad (map string_bytes words.now) }
+    ensures does { DoesWords P.Surroundings around.now F.remaining G.Register D.GuardFile db.old db.new
+        K.ListRegister L.ListFile lists.old lists.new (map string_bytes words.now) (I.remaining input.old)
+        (O.contents out.old) (O.contents out.new) result }
 {
-    match read_words(rt.alloc(), words) {
+    match read_words(alloc, words) {
         Ok(job) => {
-            let done = do_job(rt, start, &job, out);
+            let done = do_job(alloc, around, db, lists, &job, input, out);
             drop(job);
             status_of(err, done)
         }

@@ -1,30 +1,30 @@
 //! Guards in the files of databases: looked for, made, opened and closed.
 
-ghost use Rattle.std.specs.Prelude.{◌≡◌, IfErr, IfOk, IsSomeAnd, IsTrue};
+ghost use Rattle.std.specs.Prelude.{◌≡◌, IfOk, IsSomeAnd, IsTrue};
 ghost use Rattle.office.specs.Openings.{are_serials};
-ghost use Rattle.sqlite.specs.Files.{IsOpened, file_state};
-ghost use Rattle.sqlite.specs.Held.{IsNew};
-ghost use Rattle.sqlite.specs.State.{HasCleanDisk};
-ghost use Rattle.station_jobs.specs.Jobs.{IsLawful};
-ghost use Rattle.sshstation.specs.GuardFiles.{ClosesFiles, ClosesGuard, FindsGuard, MakesGuard};
-ghost use Rattle.sshstation.specs.GuardFiles.{of_closing, of_database};
+ghost use Rattle.sqlite_wal.specs.Files.{image_at};
+ghost use Rattle.restart.specs.Images.{HoldsNone};
+ghost use Rattle.guard_restart.specs.Images.{HoldsKept};
+ghost use Rattle.sshstation.specs.GuardFiles.{AreSettled, EndsGuard, FindsGuard, HaveGuard, HaveOne};
+ghost use Rattle.sshstation.specs.GuardFiles.{MakesGuard, OpensFiles, of_database, of_ending};
 
-use crate::host::Host;
 use guard::Scope;
+use guard_restart::{end_path, open_at};
 use guard_sql::{GuardStore, OpeningFault};
+use restart::EndFault;
 use sqlite::{Connection, Error, ErrorCode, FileFrom, FileStore, Files, Start};
-use station_jobs::{GuardFile, GuardJob, StationFault, run_in};
+use station_jobs::{GuardFile, StationFault};
 use std::alloc::Global;
 use std::fs;
 use std::fs::{OpenOptions, Permissions};
-use std::io::{self, ErrorKind, Write};
+use std::io::{self, ErrorKind};
 use std::os::unix::fs::{OpenOptionsExt, PermissionsExt};
 
 /// The mode of a file that its owner alone may read and write.
 const OWNER_ALONE: u32 = 0o600;
 
 /// A connection to the files at a path.
-type FileConnection<S> = Connection<FileStore<FileFrom<S>>>;
+pub(crate) type FileConnection<S> = Connection<FileStore<FileFrom<S>>>;
 
 /// A guard in the files at a path.
 type FileGuard<S> = GuardStore<FileStore<FileFrom<S>>>;
@@ -60,37 +60,27 @@ fn unopened_fault(fault: OpeningFault) -> StationFault {
 }
 
 /// Opens the database at a path, or makes one without tables. `start` stands for what its files hold.
-fn open_database<S: Start>(
+pub(crate) fn open_database<S: Start>(
     rt: &HostRuntime,
     path: &str,
     start: S,
 ) -> Result<FileConnection<S>, StationFault>
-    ensures new { IfOk result IsNew }
-    ensures opened { IfOk result (λ c. HasCleanDisk (file_state c) → IsOpened c) }
+    ensures { IfOk result (OpensFiles (image_at S.Start)) }
 {
-    match Connection::open_from(rt, path, false, start) {
+    match open_at(rt, path, start) {
         Ok(conn) => Ok(conn),
-        Err((error, _)) => Err(database_fault(error)),
-    }
-}
-
-/// Closes a connection, and gives its files as the close left them, whether it went well or not.
-fn close_database<S: Start>(conn: FileConnection<S>) -> (Result<(), Error>, Files<FileFrom<S>>)
-    ensures { ClosesFiles conn result.0 result.1 }
-{
-    match conn.close_files() {
-        Ok(files) => (Ok(()), files),
-        Err((error, store)) => (Err(error), store.close()),
-    }
-}
-
-/// What came of a closing.
-fn of_closing(closed: Result<(), Error>) -> Result<(), StationFault>
-    ensures { result ≡ of_closing closed }
-{
-    match closed {
-        Ok(()) => Ok(()),
         Err(error) => Err(database_fault(error)),
+    }
+}
+
+/// What came of the end of a connection.
+pub(crate) fn of_ending(ended: Result<(), EndFault>) -> Result<(), StationFault>
+    ensures { result ≡ of_ending ended }
+{
+    match ended {
+        Ok(()) => Ok(()),
+        Err(EndFault::GivenUp(error)) => Err(database_fault(error)),
+        Err(EndFault::Uncopied(error)) => Err(database_fault(error)),
     }
 }
 
@@ -118,7 +108,7 @@ fn make_file(rt: &HostRuntime, path: &str) -> io::Result<()> {
 }
 
 /// Makes the file of a guard, if it isn't there.
-fn made(rt: &HostRuntime, path: &str) -> Result<(), StationFault> {
+pub(crate) fn made(rt: &HostRuntime, path: &str) -> Result<(), StationFault> {
     match make_file(rt, path) {
         Ok(()) => Ok(()),
         Err(error) => Err(unfound_fault(&error)),
@@ -126,7 +116,7 @@ fn made(rt: &HostRuntime, path: &str) -> Result<(), StationFault> {
 }
 
 /// Looks for the file of a guard.
-fn looked_for(rt: &HostRuntime, path: &str) -> Result<(), StationFault> {
+pub(crate) fn looked_for(rt: &HostRuntime, path: &str) -> Result<(), StationFault> {
     match fs::exists(rt, path) {
         Ok(true) => Ok(()),
         Ok(false) => Err(StationFault::NotAGuard),
@@ -134,25 +124,32 @@ fn looked_for(rt: &HostRuntime, path: &str) -> Result<(), StationFault> {
     }
 }
 
-/// The guard in the files at a path. They are opened once.
+/// The guard in the files of a database, which are opened once.
 #[derive(Drop)]
-struct GuardDatabase<'a, S: Start> {
+pub(crate) struct GuardDatabase<'a, S: Start> {
     rt: &'a HostRuntime,
-    path: &'a str,
     // What stands for what the files hold, until they are opened.
     start: Option<S>,
-    // The files as the close left them, whether it went well or not.
-    left: Option<Files<FileFrom<S>>>,
+    // How the connection ended, and its files as they were left.
+    left: Option<(Result<(), EndFault>, Files<FileFrom<S>>)>,
 }
 
-impl<S: Start> GuardDatabase<'_, S> {
-    /// Opens the files, unless they were opened before.
-    fn connect(&mut self) -> Result<FileConnection<S>, StationFault>
-        ensures new { IfOk result IsNew }
-        ensures opened { IfOk result (λ c. HasCleanDisk (file_state c) → IsOpened c) }
+impl<'a, S: Start> GuardDatabase<'a, S> {
+    /// The guard in files that hold what `start` stands for, before they are opened.
+    pub(crate) fn new(rt: &'a HostRuntime, start: S) -> GuardDatabase<'a, S> {
+        GuardDatabase {
+            rt,
+            start: Some(start),
+            left: None,
+        }
+    }
+
+    /// Opens the files at a path, unless they were opened before.
+    fn connect(&mut self, path: &str) -> Result<FileConnection<S>, StationFault>
+        ensures { IfOk result (OpensFiles (image_at S.Start)) }
     {
         match self.start.take() {
-            Some(start) => open_database(self.rt, self.path, start),
+            Some(start) => open_database(self.rt, path, start),
             None => Err(StationFault::Device),
         }
     }
@@ -166,10 +163,9 @@ fn make_over<S: Start>(
     first: u64,
     last: u64,
 ) -> Result<FileGuard<S>, StationFault>
-    requires new { IsNew conn }
-    requires opened { HasCleanDisk (file_state conn) → IsOpened conn }
+    requires files { OpensFiles (image_at S.Start) conn }
     requires lawful { IsTrue (are_serials first last) }
-    ensures { IfOk result (MakesGuard (record { ca = ca; first = first; last = last })) }
+    ensures { IfOk result (MakesGuard (image_at S.Start) (record { ca = ca; first = first; last = last })) }
 {
     match GuardStore::init(alloc, conn, &Scope { ca, first, last }) {
         Ok(guard) => Ok(guard),
@@ -182,9 +178,8 @@ fn make_over<S: Start>(
 
 /// The guard of a new connection is opened.
 fn open_over<S: Start>(alloc: Global, conn: FileConnection<S>) -> Result<FileGuard<S>, StationFault>
-    requires new { IsNew conn }
-    requires opened { HasCleanDisk (file_state conn) → IsOpened conn }
-    ensures { IfOk result FindsGuard }
+    requires { OpensFiles (image_at S.Start) conn }
+    ensures { IfOk result (FindsGuard (image_at S.Start)) }
 {
     match GuardStore::open(alloc, conn) {
         Ok(guard) => Ok(guard),
@@ -198,15 +193,30 @@ fn open_over<S: Start>(alloc: Global, conn: FileConnection<S>) -> Result<FileGua
 impl<S: Start> GuardFile for GuardDatabase<'_, S> {
     type Guard = FileGuard<S>;
 
-    ghost makes = { λ _ scope found _. IfOk found (MakesGuard scope) };
+    ghost makes = { λ _ _ scope found _. IfOk found (MakesGuard (image_at S.Start) scope) };
 
-    ghost opens = { λ _ found _. IfOk found FindsGuard };
+    ghost opens = { λ _ _ found _. IfOk found (FindsGuard (image_at S.Start)) };
 
-    ghost closes = { λ _ guard done db. IsSomeAnd db.left (ClosesGuard guard done) };
+    ghost closes = { λ _ guard done db. IsSomeAnd db.left (EndsGuard guard done) };
 
-    fn make(&mut self, alloc: Global, scope: &Scope) -> Result<FileGuard<S>, StationFault> {
-        match made(self.rt, self.path) {
-            Ok(()) => match self.connect() {
+    ghost held = { λ s. HoldsKept (image_at S.Start) s };
+
+    ghost is_blank = { HoldsNone (image_at S.Start) };
+
+    ghost is_settled = { λ db guard. IsSomeAnd db.left (AreSettled guard) };
+
+    ghost has = { λ db guard s. IsSomeAnd db.left (HaveGuard guard s) };
+
+    ghost has_one = { λ db guard s t. IsSomeAnd db.left (HaveOne guard s t) };
+
+    fn make(
+        &mut self,
+        alloc: Global,
+        path: &str,
+        scope: &Scope,
+    ) -> Result<FileGuard<S>, StationFault> {
+        match made(self.rt, path) {
+            Ok(()) => match self.connect(path) {
                 Ok(conn) => make_over(alloc, conn, scope.ca, scope.first, scope.last),
                 Err(fault) => Err(fault),
             },
@@ -214,9 +224,9 @@ impl<S: Start> GuardFile for GuardDatabase<'_, S> {
         }
     }
 
-    fn open(&mut self, alloc: Global) -> Result<FileGuard<S>, StationFault> {
-        match looked_for(self.rt, self.path) {
-            Ok(()) => match self.connect() {
+    fn open(&mut self, alloc: Global, path: &str) -> Result<FileGuard<S>, StationFault> {
+        match looked_for(self.rt, path) {
+            Ok(()) => match self.connect(path) {
                 Ok(conn) => open_over(alloc, conn),
                 Err(fault) => Err(fault),
             },
@@ -225,28 +235,9 @@ impl<S: Start> GuardFile for GuardDatabase<'_, S> {
     }
 
     fn close(&mut self, guard: FileGuard<S>) -> Result<(), StationFault> {
-        let (closed, files) = close_database(guard.into_connection());
-        self.left = Some(files);
-        of_closing(closed)
+        let (ended, files) = end_path(guard.into_connection());
+        let done = of_ending(ended);
+        self.left = Some((ended, files));
+        done
     }
-}
-
-/// Does what is asked of the guard in the files at a path.
-pub(crate) fn run_at<S: Start, O: Write>(
-    rt: &HostRuntime,
-    start: S,
-    path: &str,
-    job: &GuardJob<'_>,
-    out: &mut O,
-) -> Result<(), StationFault>
-    requires { IsLawful job.now }
-{
-    let mut db = GuardDatabase {
-        rt,
-        path,
-        start: Some(start),
-        left: None,
-    };
-    let mut input = rt.reader();
-    run_in(rt.alloc(), &Host { rt }, &mut db, job, &mut input, out)
 }

@@ -1,10 +1,16 @@
-//! The system's files and its clock.
+//! The system's files and its clock, and what the words ask for done with them.
 
-ghost use Rattle.std.specs.Prelude.{◌≤◌, IfSome};
+ghost use Rattle.std.specs.Prelude.{◌≡◌, ◌≤◌, IfSome, map, string_bytes};
 ghost use Rattle.values.specs.declared.limits.TheConstants.{LATEST_MOMENT};
+ghost use Rattle.station_command.specs.Answers.{AreBad};
 
+use crate::command::{BAD_WORDS, do_words};
+use crate::guard_database::GuardDatabase;
+use crate::list_database::ListDatabase;
+use sqlite::Start;
 use station_jobs::{StationFault, Surroundings, file_fault};
 use std::fs;
+use std::io::Write;
 use std::time::{Clock, SystemTime, UNIX_EPOCH};
 use values::LATEST_MOMENT;
 
@@ -45,4 +51,33 @@ impl Surroundings for Host<'_> {
     fn moment(&self) -> Option<u64> {
         moment_of(self.rt)
     }
+}
+
+/// Does what the words ask for, with the system's files and clock, and answers the status. `start` stands for what the
+/// files of a guard hold, and `lists` for what those of a list guard hold: a job opens the ones or the others.
+pub(crate) fn run<S: Start, T: Start, O: Write, E: Write>(
+    rt: &HostRuntime,
+    start: S,
+    lists: T,
+    words: &[String],
+    out: &mut O,
+    err: &mut E,
+) -> u8
+    ensures status { result ≤ BAD_WORDS }
+    ensures bad { result ≡ BAD_WORDS → AreBad (map string_bytes words.now) }
+{
+    let mut db = GuardDatabase::new(rt, start);
+    let mut lists = ListDatabase::new(rt, lists);
+    let mut input = rt.reader();
+    let host = Host { rt };
+    do_words(
+        rt.alloc(),
+        &host,
+        &mut db,
+        &mut lists,
+        words,
+        &mut input,
+        out,
+        err,
+    )
 }

@@ -1,15 +1,17 @@
 //! The program `sshstation`: words, and what each command does.
 //!
 //! What a command does with a guard is proved in `station_jobs`, over any register, files, input and output: `run_in`
-//! does it, from the opening of the guard's file to its closing. Here `do_words` reads the words, opens what they name,
-//! and has it done over the tables of a database. Of a database's files is proved what an open finds in them and what a
-//! close leaves. Other files, the console and the clock are the system's, and nothing is proved of them.
+//! does it, from the opening of the guard's file to its closing. Here `do_words` reads the words and does the job that
+//! they name, and `run` has it done over the tables of a database: it shows that the guard which is opened is the one
+//! that the files held, and that they hold the one which is closed. Other files, the console and the clock are the
+//! system's, and nothing is proved of them.
 #![tactic(auto)]
 
 mod command;
 mod ending;
 mod guard_database;
 mod host;
+mod list_database;
 
 use sqlite::Unknown;
 use std::process::ExitCode;
@@ -25,7 +27,7 @@ fn status_by(rt: &HostRuntime) -> u8 {
     let mut err = rt.stderr();
     let mut out = rt.stdout();
     match words_of(rt) {
-        Ok(words) => command::do_words(rt, Unknown, words.as_slice(), &mut out, &mut err),
+        Ok(words) => host::run(rt, Unknown, Unknown, words.as_slice(), &mut out, &mut err),
         Err(fault) => command::do_no_words(fault.kind(), &mut err),
     }
 }

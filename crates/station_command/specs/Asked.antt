@@ -1,5 +1,5 @@
 -- What the words ask for: a subcommand with the values that clap finds for it.
-use Rattle.std.specs.Prelude.{ℕ, List, Option, Some, None, codes, bytes_eq, map}
+use Rattle.std.specs.Prelude.{ℕ, List, Bool, Option, Some, None, codes, bytes_eq, map}
 use Rattle.std.specs.Prelude.{if◌then◌else◌, option_and_then, option_map, string_bytes}
 use Rattle.clap.specs.Words.{Row, Text, all_of, first_of, subcommand_of}
 use Rattle.command_line.specs.Asked.{◌>>=◌, number_at, number_or}
@@ -7,6 +7,7 @@ use Rattle.command_line.specs.Command.{most}
 use Rattle.station_command.specs.declared.command.TheConstants.{AHEAD}
 use Rattle.station_command.specs.declared.job.StationJob.{StationJob}
 use Rattle.station_command.specs.declared.job.StationJob.TheVariants as job
+use Rattle.station_command.specs.Arguments.{is_set}
 use Rattle.station_command.specs.Command.{station_command}
 
 -- a job without where its texts lie in memory
@@ -17,6 +18,8 @@ pub data Asked : Type 0 where
   body : Text → ℕ → Asked
   policy : Text → Asked
   retire : Text → ℕ → Asked
+  lists : Text → Asked
+  list : Text → List Text → Bool → Text → Asked
 
 abbrev pub asked : StationJob → Asked
 asked (job.Init db ca first last) = init (string_bytes db) (string_bytes ca) first last
@@ -26,6 +29,9 @@ asked (job.Bodies db) = bodies (string_bytes db)
 asked (job.Body db serial) = body (string_bytes db) serial
 asked (job.Policy file) = policy (string_bytes file)
 asked (job.Retire db last) = retire (string_bytes db) last
+asked (job.Lists db) = lists (string_bytes db)
+asked (job.List l) =
+    list (string_bytes l.db) (map string_bytes l.cas.items) l.begins (string_bytes l.list)
 
 abbrev pub init_in : List Row → Option Asked
 init_in rows = do
@@ -62,6 +68,17 @@ retire_in rows = do
   last ← number_at rows (codes "last") 0 most
   Some (retire db last)
 
+-- a list guard is made only where that is said
+abbrev pub lists_in : List Row → Option Asked
+lists_in rows = if is_set rows (codes "init") then option_map lists (first_of (codes "db") rows) else None
+
+abbrev pub list_in : List Row → Option Asked
+list_in rows = do
+  db ← first_of (codes "db") rows
+  cas ← all_of (codes "ca") rows
+  file ← first_of (codes "LIST") rows
+  Some (list db cas (is_set rows (codes "begin")) file)
+
 -- what the subcommand of this name asks for, by what clap found for it
 abbrev pub asked_by : Text → List Row → Option Asked
 asked_by name rows =
@@ -71,6 +88,8 @@ asked_by name rows =
     else if bytes_eq name (codes "body") then body_in rows
     else if bytes_eq name (codes "policy") then policy_in rows
     else if bytes_eq name (codes "retire") then retire_in rows
+    else if bytes_eq name (codes "lists") then lists_in rows
+    else if bytes_eq name (codes "list") then list_in rows
     else None
 
 -- what a subcommand asks for, where there is one

@@ -3,6 +3,7 @@ use Rattle.std.specs.Prelude.{◌∷◌, [], false, true, codes}
 use Rattle.clap.specs.Words.{App, Shape}
 use Rattle.command_line.specs.Command.{most, number, number_word, on_database, optional_number, required, subcommand}
 use Rattle.command_line.specs.Command.{word, words}
+use Rattle.station_command.specs.Arguments.{flag, several, with_more}
 
 -- init --db PATH --ca PATH --first N --last N
 abbrev pub init_command : Shape
@@ -28,6 +29,16 @@ policy_command = subcommand (codes "policy") (word (codes "FILE") ∷ [])
 abbrev pub retire_command : Shape
 retire_command = subcommand (codes "retire") (required (codes "db") ∷ number (codes "last") 0 most ∷ [])
 
+-- lists --db PATH --init
+abbrev pub lists_command : Shape
+lists_command = with_more (subcommand (codes "lists") (required (codes "db") ∷ [])) (flag (codes "init"))
+
+-- list --db PATH LIST --ca PATH .. [--begin]
+abbrev pub list_command : Shape
+list_command =
+    with_more (with_more (subcommand (codes "list") (required (codes "db") ∷ word (codes "LIST") ∷ []))
+    (several (codes "ca"))) (flag (codes "begin"))
+
 -- `sshstation`, which has a version and wants a subcommand
 abbrev pub top_command : Shape
 top_command = record (subcommand (codes "sshstation") []) { subcommand_required = true; has_version = true }
@@ -37,5 +48,5 @@ abbrev pub station_command : App
 station_command = record {
   top = record top_command { is_leaf = false };
   subs = init_command ∷ judge_command ∷ on_database (codes "bodies") ∷ body_command ∷ policy_command
-      ∷ retire_command ∷ [];
+      ∷ retire_command ∷ lists_command ∷ list_command ∷ [];
 }

@@ -1,3 +1,4 @@
+pub mod Arguments
 pub mod Command
 pub mod Asked
 pub mod Answers

@@ -3,9 +3,11 @@
 ghost use Rattle.std.specs.Prelude.{◌≡◌, [], IfOk, codes};
 ghost use Rattle.clap.specs.Words.{app_of};
 ghost use Rattle.command_line.specs.Command.{IsSubcommand, on_database};
-ghost use Rattle.station_command.specs.Command.{body_command, init_command, judge_command, policy_command};
-ghost use Rattle.station_command.specs.Command.{retire_command, station_command, top_command};
+ghost use Rattle.station_command.specs.Command.{body_command, init_command, judge_command, list_command};
+ghost use Rattle.station_command.specs.Command.{lists_command, policy_command, retire_command, station_command};
+ghost use Rattle.station_command.specs.Command.{top_command};
 
+use crate::arguments::{flag, several, with_option};
 use crate::help;
 use clap::Command;
 use command_line::{Part, job_command, plain_command, with_job};
@@ -80,6 +82,26 @@ fn retire_command<'a>(alloc: Global) -> Result<Command<'a>, AllocError>
     job_command(alloc, "retire", help::RETIRE, help::RETIRE_MORE, &parts)
 }
 
+fn lists_command<'a>(alloc: Global) -> Result<Command<'a>, AllocError>
+    ensures { IfOk result (IsSubcommand lists_command) }
+{
+    let parts = [Part::Required("db", "PATH", help::NEW_DATABASE)];
+    let command = job_command(alloc, "lists", help::LISTS, help::LISTS_MORE, &parts);
+    with_option(command, flag(alloc, "init", help::INIT_LISTS))
+}
+
+fn list_command<'a>(alloc: Global) -> Result<Command<'a>, AllocError>
+    ensures { IfOk result (IsSubcommand list_command) }
+{
+    let parts = [
+        Part::Required("db", "PATH", help::LIST_DATABASE),
+        Part::Word("LIST", help::LIST_FILE),
+    ];
+    let command = job_command(alloc, "list", help::LIST, help::LIST_MORE, &parts);
+    let command = with_option(command, several(alloc, "ca", "PATH", help::LIST_CA));
+    with_option(command, flag(alloc, "begin", help::BEGIN))
+}
+
 /// The whole command, whose meaning to clap is that of `specs/Command.antt`.
 ///
 /// # Errors
@@ -93,5 +115,7 @@ pub fn station_command<'a>(alloc: Global) -> Result<Command<'a>, AllocError>
     let station = with_job(station, bodies_command(alloc));
     let station = with_job(station, body_command(alloc));
     let station = with_job(station, policy_command(alloc));
-    with_job(station, retire_command(alloc))
+    let station = with_job(station, retire_command(alloc));
+    let station = with_job(station, lists_command(alloc));
+    with_job(station, list_command(alloc))
 }

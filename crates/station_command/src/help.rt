@@ -11,6 +11,7 @@ pub const STATION_MORE: &str = "In this order:
   1. init makes a guard in a new database, beside the CA's key.
   2. policy says whether a policy can be read.
   3. judge says of each certificate body whether it may be signed, and keeps it first.
+  4. lists makes a file for lists of what is revoked, and list says which is the next one.
 
 Status:
   0  it is done
@@ -77,11 +78,47 @@ pub const RETIRE_MORE: &str = "Example:
 
 After a rollover this is the new CA's first serial, less one.";
 
+/// What `lists` does.
+pub const LISTS: &str = "Makes a file for lists, which has approved none yet";
+
+/// What the help of `lists` says at its end.
+pub const LISTS_MORE: &str = "Example:
+  sshstation lists --init --db lists.db
+
+The file is made if it isn't there, and then you alone may read and write it.";
+
+/// What `list` does.
+pub const LIST: &str = "Says whether a list is the office's next one, and keeps it if it is";
+
+/// What the help of `list` says at its end.
+pub const LIST_MORE: &str = "Example:
+  sshstation list --db lists.db --ca ca.pub krl
+
+It prints one line: list SHA256 VERSION MOMENT or refuse NAME.
+A list that is older than the one approved last, that has other bytes under the same version, or
+that doesn't revoke all that this one revokes, is refused. The first list wants --begin.";
+
 /// What `--db` is, where a guard is in it.
 pub const DATABASE: &str = "The guard's database, which init has made";
 
 /// What `--db` of `init` is.
 pub const NEW_DATABASE: &str = "The database to make";
+
+/// What `--init` of `lists` is.
+pub const INIT_LISTS: &str = "Makes the file; nothing else can be asked for yet";
+
+/// What `--db` of `list` is.
+pub const LIST_DATABASE: &str = "The file for lists, which lists --init has made";
+
+/// What `--ca` of `list` is.
+pub const LIST_CA: &str =
+    "The file with the public key line of a CA that the list may speak of; again for each";
+
+/// What `--begin` is.
+pub const BEGIN: &str = "Takes a first list, where none was approved yet";
+
+/// What `LIST` is.
+pub const LIST_FILE: &str = "The file of the list";
 
 /// What `--ca` is.
 pub const CA_FILE: &str = "The file with the public key line of the CA";

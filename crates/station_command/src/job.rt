@@ -13,6 +13,19 @@ pub struct Judging {
     pub bodies: Vec<String>,
 }
 
+/// Which list is to be judged, and by what.
+#[derive(Drop)]
+pub struct Listing {
+    /// Path of the database.
+    pub db: String,
+    /// Paths of the files with the CAs' key lines, at least one.
+    pub cas: Vec<String>,
+    /// Whether a first list is taken.
+    pub begins: bool,
+    /// Path of the list.
+    pub list: String,
+}
+
 /// What the words ask for. A path is the word's text.
 #[derive(Drop)]
 pub enum StationJob {
@@ -53,4 +66,11 @@ pub enum StationJob {
         /// The new last serial.
         last: u64,
     },
+    /// Makes a list guard in a new database.
+    Lists {
+        /// Path of the database.
+        db: String,
+    },
+    /// Judges a list.
+    List(Listing),
 }

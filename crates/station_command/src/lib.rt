@@ -5,11 +5,12 @@
 //! only where they ask for help, have a mistake or name no job, or memory was refused.
 #![tactic(auto)]
 
+mod arguments;
 mod command;
 mod help;
 mod job;
 mod words_reader;
 
 pub use command::AHEAD;
-pub use job::{Judging, StationJob};
+pub use job::{Judging, Listing, StationJob};
 pub use words_reader::read_words;

@@ -5,10 +5,11 @@ ghost use Rattle.clap.specs.Words.{found_of, rows_of, subcommand_rows_of};
 ghost use Rattle.command_line.specs.Answers.{IsLack};
 ghost use Rattle.station_command.specs.Answers.{IsFaultOf, Names};
 ghost use Rattle.station_command.specs.Asked.{asked, asked_by, asked_in, bodies_in, body_in, init_in, judge_in};
-ghost use Rattle.station_command.specs.Asked.{policy_in, retire_in};
+ghost use Rattle.station_command.specs.Asked.{list_in, lists_in, policy_in, retire_in};
 
+use crate::arguments::is_set;
 use crate::command::{AHEAD, station_command};
-use crate::job::{Judging, StationJob};
+use crate::job::{Judging, Listing, StationJob};
 use clap::ArgMatches;
 use command_line::{WordsFault, fault_by, lack, number_at, number_if_given, text_at, texts_at};
 use std::alloc::Global;
@@ -75,6 +76,30 @@ fn retire_job(alloc: Global, found: &ArgMatches<'_>) -> Result<StationJob, Words
     })
 }
 
+fn lists_job(alloc: Global, found: &ArgMatches<'_>) -> Result<StationJob, WordsFault>
+    ensures ok { IfOk result (λ job. lists_in (rows_of (found_of found.now)) ≡ Some (asked job)) }
+    ensures err { IfErr result (IsLack (lists_in (rows_of (found_of found.now)))) }
+{
+    if !is_set(found, "init") {
+        return Err(lack(alloc, "--init"));
+    }
+    Ok(StationJob::Lists {
+        db: text_at(alloc, found, "db")?,
+    })
+}
+
+fn list_job(alloc: Global, found: &ArgMatches<'_>) -> Result<StationJob, WordsFault>
+    ensures ok { IfOk result (λ job. list_in (rows_of (found_of found.now)) ≡ Some (asked job)) }
+    ensures err { IfErr result (IsLack (list_in (rows_of (found_of found.now)))) }
+{
+    Ok(StationJob::List(Listing {
+        db: text_at(alloc, found, "db")?,
+        cas: texts_at(alloc, found, "ca")?,
+        begins: is_set(found, "begin"),
+        list: text_at(alloc, found, "LIST")?,
+    }))
+}
+
 // The job of the subcommand of this name.
 fn named_job(alloc: Global, name: &str, found: &ArgMatches<'_>) -> Result<StationJob, WordsFault>
     ensures ok { IfOk result (λ job. asked_by name.now (rows_of (found_of found.now)) ≡ Some (asked job)) }
@@ -87,6 +112,8 @@ fn named_job(alloc: Global, name: &str, found: &ArgMatches<'_>) -> Result<Statio
         "body" => body_job(alloc, found),
         "policy" => policy_job(alloc, found),
         "retire" => retire_job(alloc, found),
+        "lists" => lists_job(alloc, found),
+        "list" => list_job(alloc, found),
         _ => Err(lack(alloc, "a command")),
     }
 }

@@ -1,6 +1,6 @@
 -- Bodies judged one after the other.
 use Rattle.std.proofs.Common.{◌≡◌, ◌≤◌, ◌<◌, ◌++◌, ◌∷◌, [], ℕ, List, All, Option, Some, None, Result, Ok, Err, length, map, take}
-use Rattle.std.proofs.Common.{append_assoc, arith, drop, get_or, ◌+◌, refl, sym, ap, subst, ◌∙◌, ◌⊎◌, inl, inr}
+use Rattle.std.proofs.Common.{IfSome, append_assoc, arith, drop, get_or, ◌+◌, refl, sym, ap, subst, ◌∙◌, ◌⊎◌, inl, inr}
 use Rattle.std.specs.Io.KnownBytes.{Appends}
 use Rattle.std.proofs.KnownBytes.{Appends-nil, Appends-trans}
 use Rattle.std.proofs.lemmas.List.{append-nil, map_push, take_more, take-append-drop}
@@ -12,12 +12,17 @@ use Rattle.guard.specs.declared.judging.Answer.TheVariants as answer
 use Rattle.guard.specs.AnswerLines.{answer_line}
 use Rattle.guard.specs.Judged.{IsKept}
 use Rattle.guard.specs.Machine.{State, Question, after}
+use Rattle.guard.specs.declared.register.Register as register
+use Rattle.guard.proofs.Allowed.{left_by as after_or_before}
 use Rattle.guard.proofs.Histories.{one_kept}
 use Rattle.station_jobs.specs.declared.station_fault.StationFault.{StationFault}
 use Rattle.station_jobs.specs.declared.surroundings.Surroundings.{Ghosts}
 use Rattle.station_jobs.specs.Judging.{AreAnswered, Asks, AsksNow, Covers, IsPolicyAt, IsPrinted, Judgement, Judges}
 use Rattle.station_jobs.specs.Judging.{left_by, lines_of}
+use Rattle.station_jobs.specs.Leaving.{Leaves}
 use Rattle.station_jobs.specs.Steps.{Answered, AnswersOne, IsLinePrinted, NotOk, Weighs}
+use Rattle.station_jobs.proofs.Leavings.{leaves_then}
+use Rattle.station_jobs.proofs.Longer.{of_all}
 
 -- ---- lists of judgements
 
@@ -63,9 +68,10 @@ kept_append s a b x y =
 
 -- ---- none, one, and more
 
-module _ (keeps : State → Type 0) (Asked : List ℕ → Question → Type 0) where
+module _ (Left : State → Result (Unit {0}) StationFault → Type 0)
+    (Asked : List ℕ → Question → Type 0) where
   -- nothing was judged, and nothing more is printed
-  pub none_judged : (s : State) (held : Option (List ℕ)) → keeps s → Judges s keeps Asked [] held held (Ok tt)
+  pub none_judged : (s : State) (held : Option (List ℕ)) → Left s (Ok tt) → Judges s Left Asked [] held held (Ok tt)
   none_judged s held left = record {
     judged = [];
     asked = All-nil (λ (j : Judgement). Asked j.path j.question);
@@ -77,8 +83,8 @@ module _ (keeps : State → Type 0) (Asked : List ℕ → Question → Type 0) w
   }
 
   -- a fault was met before anything was judged
-  pub fault_first : (s : State) (paths : List (List ℕ)) (held : Option (List ℕ)) (e : StationFault) → keeps s
-      → Judges s keeps Asked paths held held (Err e)
+  pub fault_first : (s : State) (paths : List (List ℕ)) (held : Option (List ℕ)) (e : StationFault) → Left s (Err e)
+      → Judges s Left Asked paths held held (Err e)
   fault_first s paths held e left = record {
     judged = [];
     asked = All-nil (λ (j : Judgement). Asked j.path j.question);
@@ -91,7 +97,7 @@ module _ (keeps : State → Type 0) (Asked : List ℕ → Question → Type 0) w
 
   -- after a fault more paths may have been given
   pub more_given : (s : State) (paths more : List (List ℕ)) (held holds : Option (List ℕ)) (e : StationFault)
-      → Judges s keeps Asked paths held holds (Err e) → Judges s keeps Asked (paths ++ more) held holds (Err e)
+      → Judges s Left Asked paths held holds (Err e) → Judges s Left Asked (paths ++ more) held holds (Err e)
   more_given s paths more held holds e is = record {
     judged = is.judged;
     asked = is.asked;
@@ -136,26 +142,60 @@ module _ (keeps : State → Type 0) (Asked : List ℕ → Question → Type 0) w
   )
 
 -- Bodies were judged, and then more of them.
-pub judged_on : (between keeps : State → Type 0) (Asked : List ℕ → Question → Type 0) (s : State) (a b : List (List ℕ))
-    (held mid holds : Option (List ℕ)) (r : Result (Unit {0}) StationFault)
+judged_on : (between then Left : State → Result (Unit {0}) StationFault → Type 0) (Asked : List ℕ → Question → Type 0)
+    (s : State) (a b : List (List ℕ)) (held mid holds : Option (List ℕ)) (r : Result (Unit {0}) StationFault)
     (first : Judges s between Asked a held mid (Ok tt))
-    → Judges (left_by s first.judged) keeps Asked b mid holds r → Judges s keeps Asked (a ++ b) held holds r
-judged_on between keeps Asked s a b held mid holds r first second = record {
+    → Judges (left_by s first.judged) then Asked b mid holds r
+    → ((t : State) → then t r → Left t r) → Judges s Left Asked (a ++ b) held holds r
+judged_on between then Left Asked s a b held mid holds r first second leads = record {
   judged = first.judged ++ second.judged;
   asked = All-append (λ j. Asked j.path j.question) first.judged second.judged first.asked second.asked;
   answered = answered_append s first.judged second.judged first.answered second.answered;
-  left = subst keeps (sym (left_append s first.judged second.judged)) second.left;
+  left = subst (λ (t : State). Left t r) (sym (left_append s first.judged second.judged))
+      (leads (left_by (left_by s first.judged) second.judged) second.left);
   kept = kept_append s first.judged second.judged first.kept second.kept;
-  in_order = covers keeps Asked a b first.judged second.judged r first.in_order second.in_order;
-  printed = prints keeps Asked held mid holds first.judged second.judged r first.printed second.printed;
+  in_order = covers Left Asked a b first.judged second.judged r first.in_order second.in_order;
+  printed = prints Left Asked held mid holds first.judged second.judged r first.printed second.printed;
 }
 
--- the same judgements, of what asks less
-pub asked_so : (keeps : State → Type 0) (Asked Asked' : List ℕ → Question → Type 0) (s : State) (paths : List (List ℕ))
-    (held holds : Option (List ℕ)) (r : Result (Unit {0}) StationFault)
+-- so it is over a register, which has kept the scope
+one_scope : (s : State) (q : Question) → (after s q).scope ≡ s.scope
+one_scope s q = after_or_before (λ t. t.scope ≡ s.scope) s q refl (λ c new. refl)
+
+same_scope : (s : State) (js : List Judgement) → (left_by s js).scope ≡ s.scope
+same_scope s [] = refl
+same_scope s (j ∷ js) = same_scope (after s j.question) js ∙ one_scope s j.question
+
+pub judged_then : {G : Type 0} (guard : register.Ghosts G) (old between new : G) (Asked : List ℕ → Question → Type 0)
+    (s : State) (a b : List (List ℕ)) (held mid holds : Option (List ℕ)) (r : Result (Unit {0}) StationFault)
+    (first : Judges s (Leaves guard old between s) Asked a held mid (Ok tt))
+    → Judges (left_by s first.judged) (Leaves guard between new (left_by s first.judged)) Asked b mid holds r
+    → Judges s (Leaves guard old new s) Asked (a ++ b) held holds r
+judged_then guard old between new Asked s a b held mid holds r first second =
+    judged_on (Leaves guard old between s) (Leaves guard between new (left_by s first.judged)) (Leaves guard old new s)
+    Asked s a b held mid holds r first second
+    (λ t is. leaves_then guard old between new s (left_by s first.judged) t r (same_scope s first.judged) first.left is)
+
+-- the same judgements, of what asks less and of what is left
+pub judged_so : (Left Left' : State → Result (Unit {0}) StationFault → Type 0) (Asked : List ℕ → Question → Type 0)
+    (s : State) (paths : List (List ℕ)) (held holds : Option (List ℕ)) (r : Result (Unit {0}) StationFault)
+    → ((t : State) → Left t r → Left' t r) → Judges s Left Asked paths held holds r
+    → Judges s Left' Asked paths held holds r
+judged_so Left Left' Asked s paths held holds r leads is = record {
+  judged = is.judged;
+  asked = is.asked;
+  answered = is.answered;
+  left = leads (left_by s is.judged) is.left;
+  kept = is.kept;
+  in_order = is.in_order;
+  printed = is.printed;
+}
+
+pub asked_so : (Left : State → Result (Unit {0}) StationFault → Type 0) (Asked Asked' : List ℕ → Question → Type 0)
+    (s : State) (paths : List (List ℕ)) (held holds : Option (List ℕ)) (r : Result (Unit {0}) StationFault)
     → ((path : List ℕ) (q : Question) → Asked path q → Asked' path q)
-    → Judges s keeps Asked paths held holds r → Judges s keeps Asked' paths held holds r
-asked_so keeps Asked Asked' s paths held holds r leads is = record {
+    → Judges s Left Asked paths held holds r → Judges s Left Asked' paths held holds r
+asked_so Left Asked Asked' s paths held holds r leads is = record {
   judged = is.judged;
   asked = All-weaker (λ j. Asked j.path j.question) (λ j. Asked' j.path j.question)
       (λ j asks. leads j.path j.question asks) is.judged is.asked;
@@ -169,10 +209,10 @@ asked_so keeps Asked Asked' s paths held holds r leads is = record {
 -- ---- one body
 
 -- a question that was answered is a judgement
-pub one_judged : (keeps : State → Type 0) (Asked : List ℕ → Question → Type 0) (s : State) (path : List ℕ) (q : Question)
-    (held holds : Option (List ℕ)) (r : Result (Unit {0}) StationFault) → Asked path q
-    → AnswersOne s keeps q held holds r → Judges s keeps Asked (path ∷ []) held holds r
-one_judged keeps Asked s path q held holds r asks (inl is) =
+pub one_judged : (Left : State → Result (Unit {0}) StationFault → Type 0) (Asked : List ℕ → Question → Type 0) (s : State)
+    (path : List ℕ) (q : Question) (held holds : Option (List ℕ)) (r : Result (Unit {0}) StationFault) → Asked path q
+    → AnswersOne s Left q held holds r → Judges s Left Asked (path ∷ []) held holds r
+one_judged Left Asked s path q held holds r asks (inl is) =
     let j : Judgement = record { path = path; question = q; answer = is.answer } in
     record {
       judged = j ∷ [];
@@ -203,26 +243,32 @@ one_judged keeps Asked s path q held holds r asks (inl is) =
       subst (λ (t : List ℕ). Appends held holds (take printed.count t)) (sym (append-nil (answer_line j.answer)))
           printed.grown,
     )
-one_judged keeps Asked s path q held holds r asks (inr is) = go r is
+one_judged Left Asked s path q held holds r asks (inr is) = go r is
   where
-    go : (r : Result (Unit {0}) StationFault) → NotOk r × keeps s × (holds ≡ held)
-        → Judges s keeps Asked (path ∷ []) held holds r
+    go : (r : Result (Unit {0}) StationFault) → NotOk r × Left s r × (holds ≡ held)
+        → Judges s Left Asked (path ∷ []) held holds r
     go (Ok done) is = absurd is.0
     go (Err e) is =
-        subst (λ (h : Option (List ℕ)). Judges s keeps Asked (path ∷ []) held h (Err e)) (sym is.2)
-        (fault_first keeps Asked s (path ∷ []) held e is.1)
+        subst (λ (h : Option (List ℕ)). Judges s Left Asked (path ∷ []) held h (Err e)) (sym is.2)
+        (fault_first Left Asked s (path ∷ []) held e is.1)
 
 -- ---- what is asked of a file
 
--- a body was read from a file at the path, at a moment
-pub asks : {E F : Type 0} (world : Ghosts E F) (around : E) (remaining : F → Option (List ℕ)) (policy : List Department)
-    (ahead : ℕ) (path read body : List ℕ) (moment : ℕ) → body ≡ read → Weighs world around remaining path read moment
-    → Asks world around remaining (λ p. p ≡ policy) ahead path
-    (record { policy = policy; moment = moment; ahead = ahead; body = body })
-asks world around remaining policy ahead path read body moment same is =
-    subst (λ (b : List ℕ). Asks world around remaining (λ p. p ≡ policy) ahead path
-    (record { policy = policy; moment = moment; ahead = ahead; body = b })) (sym same)
-    (record { file = is.file; found = is.found; body = is.body_of; policy = refl; moment = is.moment_of; ahead_of = refl })
+-- a body was read from a file at the path and judged, at a moment
+pub one_weighed : {E F : Type 0} (world : Ghosts E F) (around : E) (remaining : F → Option (List ℕ))
+    (policy : List Department) (ahead : ℕ) (path read body : List ℕ) (moment : ℕ) → body ≡ read
+    → Weighs world around remaining path read moment
+    → (Left : State → Result (Unit {0}) StationFault → Type 0) (s : State) (held holds : Option (List ℕ))
+    (r : Result (Unit {0}) StationFault)
+    → AnswersOne s Left (record { policy = policy; moment = moment; ahead = ahead; body = body }) held holds r
+    → Judges s Left (Asks world around remaining (λ p. p ≡ policy) ahead) (path ∷ []) held holds r
+one_weighed world around remaining policy ahead path read body moment same is Left s held holds r answers =
+    let q : Question = record { policy = policy; moment = moment; ahead = ahead; body = body } in
+    let all = of_all (remaining is.file) s q Left held holds r
+    (subst (λ (b : List ℕ). IfSome (remaining is.file) (λ bytes. b ≡ take 16385 bytes)) (sym same) is.body_of) answers in
+    one_judged Left (Asks world around remaining (λ p. p ≡ policy) ahead) s path (record q { body = all.0 }) held holds r
+    (record { file = is.file; found = is.found; body = all.1; policy = refl; moment = is.moment_of; ahead_of = refl })
+    all.2
 
 -- by the policy that a file has
 pub asks_now : {E F : Type 0} (world : Ghosts E F) (around : E) (remaining : F → Option (List ℕ)) (policy : List Department)

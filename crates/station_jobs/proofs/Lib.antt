@@ -1,4 +1,8 @@
 mod Causes
+mod Leavings
+mod Longer
 mod Judgements
 mod Lines
 mod Rows
+mod Filed
+mod Retirings

@@ -4,11 +4,15 @@ use Rattle.std.proofs.Common.{IfSome, arith, length, refl, sym, ap, subst, ◌�
 use Rattle.std.specs.Io.BufRead.{drop_through, first_piece, strip_last, take_through}
 use Rattle.std.specs.Io.KnownBytes.{IsAtEnd}
 use Rattle.std.proofs.lemmas.List.{append-nil}
+use Rattle.guard.specs.declared.register.Register.{Ghosts}
 use Rattle.guard.specs.Machine.{State, Question}
 use Rattle.station_jobs.specs.declared.station_fault.StationFault.{StationFault}
+use Rattle.station_jobs.specs.declared.station_fault.StationFault.TheVariants.{File}
 use Rattle.station_jobs.specs.Input.{AreLines, Begins, JudgesInput, JudgesNext, TakesLine, TakesPath}
 use Rattle.station_jobs.specs.Judging.{Judges, left_by}
-use Rattle.station_jobs.proofs.Judgements.{fault_first, judged_on, none_judged}
+use Rattle.station_jobs.specs.Leaving.{Leaves}
+use Rattle.station_jobs.proofs.Judgements.{fault_first, judged_then, none_judged}
+use Rattle.station_jobs.proofs.Leavings.{fails_same}
 
 -- ---- lines
 
@@ -52,22 +56,22 @@ abbrev Taken : (input now : Option (List ℕ)) → List (List ℕ) → Type 0
 Taken input now paths = IfSome input (λ text. (left : List ℕ) × (now ≡ Some left) × Begins paths text left)
 
 -- the bodies at the first paths of an input were judged
-pub record Underway (s : State) (keeps : State → Type 0) (Asked : List ℕ → Question → Type 0)
-    (input now held holds : Option (List ℕ)) : Type 0 where
+pub record Underway (s : State) (Left : State → Result (Unit {0}) StationFault → Type 0)
+    (Asked : List ℕ → Question → Type 0) (input now held holds : Option (List ℕ)) : Type 0 where
   pub paths : List (List ℕ)
   pub taken : Taken input now paths
-  pub judges : Judges s keeps Asked paths held holds (Ok tt)
+  pub judges : Judges s Left Asked paths held holds (Ok tt)
 
 none_taken : (input : Option (List ℕ)) → Taken input input []
 none_taken None = tt
 none_taken (Some text) = (text, refl, refl)
 
-pub starts : (keeps : State → Type 0) (Asked : List ℕ → Question → Type 0) (s : State) (input held : Option (List ℕ))
-    → keeps s → Underway s keeps Asked input input held held
-starts keeps Asked s input held left = record {
+pub starts : (Left : State → Result (Unit {0}) StationFault → Type 0) (Asked : List ℕ → Question → Type 0) (s : State)
+    (input held : Option (List ℕ)) → Left s (Ok tt) → Underway s Left Asked input input held held
+starts Left Asked s input held left = record {
   paths = [];
   taken = none_taken input;
-  judges = none_judged keeps Asked s held left;
+  judges = none_judged Left Asked s held left;
 }
 
 one_taken : (input mid now : Option (List ℕ)) (paths : List (List ℕ)) (path : List ℕ) → Taken input mid paths → TakesPath mid now path
@@ -81,14 +85,15 @@ one_taken (Some text) (Some rest) now paths path (left, same, begins) takes =
       begins_with_more paths path text rest (subst (Begins paths text) (sym is) begins) takes.0 takes.1,
     )
 
-pub goes_on : {A : Type 0} (between keeps : State → Type 0) (Asked : List ℕ → Question → Type 0) (s : State)
-    (input mid now held so_far holds : Option (List ℕ)) (x : A) (first : Underway s between Asked input mid held so_far)
-    → JudgesNext (left_by s first.judges.judged) keeps Asked mid now so_far holds (Ok (Some x))
-    → Underway s keeps Asked input now held holds
-goes_on between keeps Asked s input mid now held so_far holds x first (path, takes, judges) = record {
+pub goes_on : {G A : Type 0} (guard : Ghosts G) (old between new : G) (Asked : List ℕ → Question → Type 0) (s : State)
+    (input mid now held so_far holds : Option (List ℕ)) (x : A)
+    (first : Underway s (Leaves guard old between s) Asked input mid held so_far)
+    → JudgesNext (left_by s first.judges.judged) (Leaves guard between new (left_by s first.judges.judged)) Asked mid now
+    so_far holds (Ok (Some x)) → Underway s (Leaves guard old new s) Asked input now held holds
+goes_on guard old between new Asked s input mid now held so_far holds x first (path, takes, judges) = record {
   paths = first.paths ++ path ∷ [];
   taken = one_taken input mid now first.paths path first.taken takes;
-  judges = judged_on between keeps Asked s first.paths (path ∷ []) held so_far holds (Ok tt) first.judges judges;
+  judges = judged_then guard old between new Asked s first.paths (path ∷ []) held so_far holds (Ok tt) first.judges judges;
 }
 
 all_taken : (input now : Option (List ℕ)) (paths : List (List ℕ)) → Taken input now paths → IsAtEnd now
@@ -103,44 +108,53 @@ some_taken : (input now : Option (List ℕ)) (paths : List (List ℕ)) (e : Stat
 some_taken None now paths e taken = tt
 some_taken (Some text) now paths e (left, same, begins) = (left, begins)
 
-pub ends : (A : Type 0) (between keeps : State → Type 0) (Asked : List ℕ → Question → Type 0) (s : State)
-    (input mid now held so_far holds : Option (List ℕ)) (first : Underway s between Asked input mid held so_far)
-    → JudgesNext {A = A} (left_by s first.judges.judged) keeps Asked mid now so_far holds (Ok None)
-    → JudgesInput s keeps Asked input held holds (Ok tt)
-ends A between keeps Asked s input mid now held so_far holds first (end, kept, same) = record {
+pub ends : {G : Type 0} (A : Type 0) (guard : Ghosts G) (old between new : G) (Asked : List ℕ → Question → Type 0)
+    (s : State) (input mid now held so_far holds : Option (List ℕ))
+    (first : Underway s (Leaves guard old between s) Asked input mid held so_far)
+    → JudgesNext {A = A} (left_by s first.judges.judged) (Leaves guard between new (left_by s first.judges.judged)) Asked
+    mid now so_far holds (Ok None) → JudgesInput s (Leaves guard old new s) Asked input held holds (Ok tt)
+ends A guard old between new Asked s input mid now held so_far holds first (end, left, same) = record {
   paths = first.paths ++ [];
   lines = subst (λ (ps : List (List ℕ)). IfSome input (λ text. AreLines ps text (Ok tt))) (sym (nil_behind first.paths))
       (all_taken input mid first.paths first.taken end);
-  judges = judged_on between keeps Asked s first.paths [] held so_far holds (Ok tt) first.judges
-      (subst (λ (h : Option (List ℕ)). Judges (left_by s first.judges.judged) keeps Asked [] so_far h (Ok tt)) (sym same)
-      (none_judged keeps Asked (left_by s first.judges.judged) so_far kept));
+  judges = judged_then guard old between new Asked s first.paths [] held so_far holds (Ok tt) first.judges
+      (subst (λ (h : Option (List ℕ)). Judges t (Leaves guard between new t) Asked [] so_far h (Ok tt)) (sym same)
+      (none_judged (Leaves guard between new t) Asked t so_far left));
 }
   where
+    t : State
+    t = left_by s first.judges.judged
+
     nil_behind : (ps : List (List ℕ)) → ps ++ [] ≡ ps
     nil_behind ps = append-nil ps
 
-pub fails : (A : Type 0) (between keeps : State → Type 0) (Asked : List ℕ → Question → Type 0) (s : State)
-    (input mid now held so_far holds : Option (List ℕ)) (e : StationFault)
-    (first : Underway s between Asked input mid held so_far)
-    → JudgesNext {A = A} (left_by s first.judges.judged) keeps Asked mid now so_far holds (Err e)
-    → JudgesInput s keeps Asked input held holds (Err e)
-fails A between keeps Asked s input mid now held so_far holds e first (inl (path, takes, judges)) = record {
+pub fails : {G : Type 0} (A : Type 0) (guard : Ghosts G) (old between new : G) (Asked : List ℕ → Question → Type 0)
+    (s : State) (input mid now held so_far holds : Option (List ℕ)) (e : StationFault)
+    (first : Underway s (Leaves guard old between s) Asked input mid held so_far)
+    → JudgesNext {A = A} (left_by s first.judges.judged) (Leaves guard between new (left_by s first.judges.judged)) Asked
+    mid now so_far holds (Err e) → JudgesInput s (Leaves guard old new s) Asked input held holds (Err e)
+fails A guard old between new Asked s input mid now held so_far holds e first (inl (path, takes, judges)) = record {
   paths = first.paths ++ path ∷ [];
   lines = some_taken input now (first.paths ++ path ∷ []) e
       (one_taken input mid now first.paths path first.taken takes);
-  judges = judged_on between keeps Asked s first.paths (path ∷ []) held so_far holds (Err e) first.judges judges;
+  judges = judged_then guard old between new Asked s first.paths (path ∷ []) held so_far holds (Err e) first.judges judges;
 }
-fails A between keeps Asked s input mid now held so_far holds e first (inr (kept, same)) = record {
+fails A guard old between new Asked s input mid now held so_far holds e first (inr (left, same)) = record {
   paths = first.paths ++ [];
   lines = some_taken input mid (first.paths ++ []) e
       (subst (Taken input mid) (sym (append-nil first.paths)) first.taken);
-  judges = judged_on between keeps Asked s first.paths [] held so_far holds (Err e) first.judges
-      (subst (λ (h : Option (List ℕ)). Judges (left_by s first.judges.judged) keeps Asked [] so_far h (Err e)) (sym same)
-      (fault_first keeps Asked (left_by s first.judges.judged) [] so_far e kept));
+  judges = judged_then guard old between new Asked s first.paths [] held so_far holds (Err e) first.judges
+      (subst (λ (h : Option (List ℕ)). Judges t (Leaves guard between new t) Asked [] so_far h (Err e)) (sym same)
+      (fault_first (Leaves guard between new t) Asked t [] so_far e left));
 }
+  where
+    t : State
+    t = left_by s first.judges.judged
 
 -- the input was never at its end
-pub stops : (keeps : State → Type 0) (Asked : List ℕ → Question → Type 0) (s : State) (input now held holds : Option (List ℕ))
-    (e : StationFault) (first : Underway s keeps Asked input now held holds) → JudgesInput s keeps Asked input held holds (Err e)
-stops keeps Asked s input now held holds e first =
-    fails (Unit {0}) keeps keeps Asked s input now now held holds holds e first (inr (first.judges.left, refl))
+pub stops : {G : Type 0} (guard : Ghosts G) (old new : G) (Asked : List ℕ → Question → Type 0) (s : State)
+    (input now held holds : Option (List ℕ)) (first : Underway s (Leaves guard old new s) Asked input now held holds)
+    → JudgesInput s (Leaves guard old new s) Asked input held holds (Err File)
+stops guard old new Asked s input now held holds first =
+    fails (Unit {0}) guard old new new Asked s input now now held holds holds File first
+    (inr (fails_same guard (Unit {0}) new (left_by s first.judges.judged) File first.judges.left.kept tt, refl))

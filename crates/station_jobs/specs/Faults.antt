@@ -39,6 +39,19 @@ IsOfAFile fault.File = Unit {0}
 IsOfAFile fault.NoMemory = Unit {0}
 IsOfAFile other = ⊥
 
+-- What is met where a body is read and its moment looked up.
+abbrev pub IsOfABody : StationFault → Type 0
+IsOfABody fault.File = Unit {0}
+IsOfABody fault.NoMemory = Unit {0}
+IsOfABody fault.Clock = Unit {0}
+IsOfABody other = ⊥
+
+-- What is met where an answer is printed.
+abbrev pub IsOfAnAnswer : StationFault → Type 0
+IsOfAnAnswer fault.Write = Unit {0}
+IsOfAnAnswer fault.NoMemory = Unit {0}
+IsOfAnAnswer other = ⊥
+
 -- What is met where a policy is read.
 abbrev pub IsOfAPolicy : StationFault → Type 0
 IsOfAPolicy fault.File = Unit {0}

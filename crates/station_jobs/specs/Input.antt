@@ -27,18 +27,20 @@ TakesPath old new path =
     IfSome old (λ text. (text ≢ []) × (path ≡ first_piece 10 text) × (new ≡ Some (drop_through 10 text)))
 
 -- The body at the next path was judged. Or the input is at its end, or has no such path, and then nothing was judged.
-abbrev pub JudgesNext : {A : Type 0} (s : State) (keeps : State → Type 0) (Asked : List ℕ → Question → Type 0)
-    (old new held holds : Option (List ℕ)) → Result (Option A) StationFault → Type 0
-JudgesNext s keeps Asked old new held holds (Ok (Some x)) =
-    (path : List ℕ) × TakesPath old new path × Judges s keeps Asked (path ∷ []) held holds (Ok tt)
-JudgesNext s keeps Asked old new held holds (Ok None) = IsAtEnd old × keeps s × (holds ≡ held)
-JudgesNext s keeps Asked old new held holds (Err e) =
-    ((path : List ℕ) × TakesPath old new path × Judges s keeps Asked (path ∷ []) held holds (Err e))
-    ⊎ (keeps s × (holds ≡ held))
+abbrev pub JudgesNext : {A : Type 0} (s : State) (Left : State → Result (Unit {0}) StationFault → Type 0)
+    (Asked : List ℕ → Question → Type 0) (old new held holds : Option (List ℕ)) → Result (Option A) StationFault
+    → Type 0
+JudgesNext s Left Asked old new held holds (Ok (Some x)) =
+    (path : List ℕ) × TakesPath old new path × Judges s Left Asked (path ∷ []) held holds (Ok tt)
+JudgesNext s Left Asked old new held holds (Ok None) = IsAtEnd old × Left s (Ok tt) × (holds ≡ held)
+JudgesNext s Left Asked old new held holds (Err e) =
+    ((path : List ℕ) × TakesPath old new path × Judges s Left Asked (path ∷ []) held holds (Err e))
+    ⊎ (Left s (Err e) × (holds ≡ held))
 
 -- the bodies at the paths of an input were judged
-pub record JudgesInput (s : State) (keeps : State → Type 0) (Asked : List ℕ → Question → Type 0)
-    (input held holds : Option (List ℕ)) (result : Result (Unit {0}) StationFault) : Type 0 where
+pub record JudgesInput (s : State) (Left : State → Result (Unit {0}) StationFault → Type 0)
+    (Asked : List ℕ → Question → Type 0) (input held holds : Option (List ℕ)) (result : Result (Unit {0}) StationFault)
+    : Type 0 where
   pub paths : List (List ℕ)
   pub lines : IfSome input (λ text. AreLines paths text result)
-  pub judges : Judges s keeps Asked paths held holds result
+  pub judges : Judges s Left Asked paths held holds result

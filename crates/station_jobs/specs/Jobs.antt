@@ -12,7 +12,7 @@ use Rattle.station_jobs.specs.declared.surroundings.Surroundings as surroundings
 use Rattle.station_jobs.specs.declared.station_fault.StationFault.{StationFault}
 use Rattle.station_jobs.specs.declared.station_fault.StationFault.TheVariants.{NoMemory, Write}
 use Rattle.station_jobs.specs.Bodies.{ListsBodies, PrintsBody}
-use Rattle.station_jobs.specs.Whole.{Does, Follows, JudgesIn, MakesIn, Retires, RunsIn, ready_text, retired_text}
+use Rattle.station_jobs.specs.Whole.{Follows, JudgesIn, MakesIn, Retires, RunsIn, ready_text, retired_text}
 
 -- a guard is made of lawful serials
 abbrev pub IsLawful : GuardJob → Type 0
@@ -25,37 +25,33 @@ Prints told held holds (Ok done) = Appends held holds told
 Prints told held holds (Err e) = ((e ≡ Write) ⊎ (e ≡ NoMemory)) × AppendsBeginning held holds told
 
 -- A file is made, opened and closed so. As it was before it is `db`, and as it is afterwards `db'`.
-module _ {D G : Type 0} (file : file.Ghosts D G) (db db' : D) where
+module _ {D G : Type 0} (guard : register.Ghosts G) (file : file.Ghosts D G) (db db' : D) (path : List ℕ) where
   -- the guard was made, and is told of
   pub record InitsIn (scope : Scope) (held holds : Option (List ℕ)) (result : Result (Unit {0}) StationFault)
       : Type 0 where
     pub made : Result (Unit {0}) StationFault
-    pub is_made : MakesIn file db db' scope made
+    pub is_made : MakesIn guard file db db' path scope made
     pub told : Follows (λ _. Prints (ready_text scope) held holds) (holds ≡ held) made result
 
   -- the last serial was lowered, and is told of
-  pub record LowersTo (guard : register.Ghosts G) (last : ℕ) (held holds : Option (List ℕ))
-      (result : Result (Unit {0}) StationFault) : Type 0 where
+  pub record LowersIn (last : ℕ) (held holds : Option (List ℕ)) (result : Result (Unit {0}) StationFault)
+      : Type 0 where
     pub lowered : Result ℕ StationFault
-    pub is_lowered : RunsIn file db db' (Does guard (Retires last)) (Unit {0}) lowered
+    pub is_lowered : RunsIn guard file db db' path (Retires last) (Unit {0}) lowered
     pub told : Follows (λ first. Prints (retired_text first last) held holds) (holds ≡ held) lowered result
-
-abbrev pub LowersIn : {D G : Type 0} → register.Ghosts G → file.Ghosts D G → (db db' : D) → ℕ
-    → (held holds : Option (List ℕ)) → Result (Unit {0}) StationFault → Type 0
-LowersIn guard file db db' last held holds result = LowersTo file db db' guard last held holds result
 
 -- the job was done, whole, with this result
 abbrev pub RunsJob : {E F D G : Type 0} → surroundings.Ghosts E F → E → (remaining : F → Option (List ℕ))
-    → register.Ghosts G → file.Ghosts D G → (db db' : D) → GuardJob → (input held holds : Option (List ℕ))
-    → Result (Unit {0}) StationFault → Type 0
-RunsJob world around remaining guard file db db' (Init scope) input held holds result =
-    InitsIn file db db' scope held holds result
-RunsJob world around remaining guard file db db' (Judge j) input held holds result =
-    JudgesIn world around remaining guard file db db' j.policy.now j.ahead (map string_bytes j.bodies.now) input held
-    holds result
-RunsJob world around remaining guard file db db' Bodies input held holds result =
-    RunsIn file db db' (Does guard (λ s keeps r. OnOk r (ListsBodies s held holds) × keeps s)) (holds ≡ held) result
-RunsJob world around remaining guard file db db' (Body serial) input held holds result =
-    RunsIn file db db' (Does guard (λ s keeps r. PrintsBody s serial held holds r × keeps s)) (holds ≡ held) result
-RunsJob world around remaining guard file db db' (Retire last) input held holds result =
-    LowersIn guard file db db' last held holds result
+    → register.Ghosts G → file.Ghosts D G → (db db' : D) → (path : List ℕ) → GuardJob
+    → (input held holds : Option (List ℕ)) → Result (Unit {0}) StationFault → Type 0
+RunsJob world around remaining guard file db db' path (Init scope) input held holds result =
+    InitsIn guard file db db' path scope held holds result
+RunsJob world around remaining guard file db db' path (Judge j) input held holds result =
+    JudgesIn world around remaining guard file db db' path j.policy.now j.ahead (map string_bytes j.bodies.now) input
+    held holds result
+RunsJob world around remaining guard file db db' path Bodies input held holds result =
+    RunsIn guard file db db' path (λ s Left r. OnOk r (ListsBodies s held holds) × Left s (Ok tt)) (holds ≡ held) result
+RunsJob world around remaining guard file db db' path (Body serial) input held holds result =
+    RunsIn guard file db db' path (λ s Left r. PrintsBody s serial held holds r × Left s (Ok tt)) (holds ≡ held) result
+RunsJob world around remaining guard file db db' path (Retire last) input held holds result =
+    LowersIn guard file db db' path last held holds result

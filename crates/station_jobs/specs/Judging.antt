@@ -21,11 +21,11 @@ module _ {E F : Type 0} (world : Ghosts E F) (around : E) (remaining : F → Opt
     pub found : world.has around path file
     pub read : IfSome (remaining file) (λ bytes. policy_at bytes ≡ Ok policy)
 
-  -- the question is about a file at the path, which is read until it is too long for a body, at a moment of the clock
+  -- the question is about all that a file at the path holds, at a moment of the clock
   pub record Asks (ByPolicy : List Department → Type 0) (ahead : ℕ) (path : List ℕ) (q : Question) : Type 0 where
     pub file : F
     pub found : world.has around path file
-    pub body : IfSome (remaining file) (λ bytes. q.body ≡ take 16385 bytes)
+    pub body : IfSome (remaining file) (λ bytes. q.body ≡ bytes)
     pub policy : ByPolicy q.policy
     pub moment : world.shows around q.moment
     pub ahead_of : q.ahead ≡ ahead
@@ -68,14 +68,15 @@ IsPrinted js held holds (Err e) =
     (whole : List Judgement) × (last : List Judgement) × (count : ℕ) × (js ≡ whole ++ last) × (length last ≤ 1)
     × Appends held holds (lines_of whole ++ take count (lines_of last))
 
--- The bodies at these paths were judged one after the other, from this state on, and printed. What is kept then is what
+-- The bodies at these paths were judged one after the other, from this state on, and printed. What is left then is what
 -- the plain guard keeps, and each body that was answered as signed is among it.
-pub record Judges (s : State) (keeps : State → Type 0) (Asked : List ℕ → Question → Type 0) (paths : List (List ℕ))
-    (held holds : Option (List ℕ)) (result : Result (Unit {0}) StationFault) : Type 0 where
+pub record Judges (s : State) (Left : State → Result (Unit {0}) StationFault → Type 0)
+    (Asked : List ℕ → Question → Type 0) (paths : List (List ℕ)) (held holds : Option (List ℕ))
+    (result : Result (Unit {0}) StationFault) : Type 0 where
   pub judged : List Judgement
   pub asked : All (λ j. Asked j.path j.question) judged
   pub answered : AreAnswered s judged
-  pub left : keeps (left_by s judged)
+  pub left : Left (left_by s judged) result
   pub kept : All (λ j. IsKept j.answer (left_by s judged) j.question.body) judged
   pub in_order : Covers paths (map (λ j. j.path) judged) result
   pub printed : IsPrinted judged held holds result

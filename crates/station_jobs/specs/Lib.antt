@@ -1,5 +1,6 @@
 pub mod Faults
 pub mod KeyFiles
+pub mod Leaving
 pub mod Judging
 pub mod Steps
 pub mod Input

@@ -22,12 +22,12 @@ abbrev pub IsLinePrinted : List ℕ → (held holds : Option (List ℕ)) → Res
 IsLinePrinted line held holds (Ok done) = Appends held holds line
 IsLinePrinted line held holds (Err e) = AppendsBeginning held holds line
 
--- It was answered as the plain guard answers, and what is kept then is what the plain guard keeps.
-pub record Answered (s : State) (keeps : State → Type 0) (q : Question) (held holds : Option (List ℕ))
-    (result : Result (Unit {0}) StationFault) : Type 0 where
+-- It was answered as the plain guard answers, and what is left then is what the plain guard keeps.
+pub record Answered (s : State) (Left : State → Result (Unit {0}) StationFault → Type 0) (q : Question)
+    (held holds : Option (List ℕ)) (result : Result (Unit {0}) StationFault) : Type 0 where
   pub answer : Answer
   pub answers : Answers answer s q
-  pub left : keeps (after s q)
+  pub left : Left (after s q) result
   pub kept : IsKept answer (after s q) q.body
   pub printed : IsLinePrinted (answer_line answer) held holds result
 
@@ -36,11 +36,11 @@ abbrev pub NotOk : Result (Unit {0}) StationFault → Type 0
 NotOk (Ok done) = ⊥
 NotOk (Err e) = Unit {0}
 
--- The question was answered so. Or the register did not answer, keeps what it kept, and nothing is printed.
-abbrev pub AnswersOne : State → (keeps : State → Type 0) → Question → (held holds : Option (List ℕ))
-    → Result (Unit {0}) StationFault → Type 0
-AnswersOne s keeps q held holds result =
-    Answered s keeps q held holds result ⊎ (NotOk result × keeps s × (holds ≡ held))
+-- The question was answered so. Or the register did not answer, what it kept is left, and nothing is printed.
+abbrev pub AnswersOne : State → (Left : State → Result (Unit {0}) StationFault → Type 0) → Question
+    → (held holds : Option (List ℕ)) → Result (Unit {0}) StationFault → Type 0
+AnswersOne s Left q held holds result =
+    Answered s Left q held holds result ⊎ (NotOk result × Left s result × (holds ≡ held))
 
 -- what came of it, whatever it gave
 abbrev pub done_of : {A : Type 0} → Result A StationFault → Result (Unit {0}) StationFault

@@ -1,6 +1,6 @@
 -- Whole jobs, from the opening of a guard's file to its closing.
 use Rattle.std.specs.Prelude.{◌≡◌, ◌⊎◌, ◌<◌, ◌^◌, ◌++◌, ◌∷◌, [], ℕ, List, Bool, false, true, codes, decimal, bytes_eq}
-use Rattle.std.specs.Prelude.{Option, Some, None, IfSome, OnOk, Result, Ok, Err}
+use Rattle.std.specs.Prelude.{Option, Some, None, IfSome, Result, Ok, Err}
 use Rattle.std.specs.Io.KnownBytes.{Appends}
 use Rattle.lines.specs.Digests.{fingerprint_text}
 use Rattle.station_jobs.specs.KeyFiles.{IsKeyText}
@@ -9,7 +9,7 @@ use Rattle.message.specs.declared.department.Department.{Department}
 use Rattle.guard.specs.declared.register.Register as register
 use Rattle.guard.specs.declared.retiring.RetireFault.TheVariants as retiring
 use Rattle.guard.specs.declared.scope.Scope.{Scope}
-use Rattle.guard.specs.Machine.{State, Question}
+use Rattle.guard.specs.Machine.{State, Question, opened}
 use Rattle.guard.specs.Policies.{policy_at}
 use Rattle.guard.specs.Retirement.{retirement}
 use Rattle.guard.specs.Retiring.{with_last}
@@ -23,6 +23,7 @@ use Rattle.station_jobs.specs.Bodies.{ListsBodies, PrintsBody}
 use Rattle.station_jobs.specs.Faults.{IsOfAKey, IsOfAPolicy}
 use Rattle.station_jobs.specs.Input.{JudgesInput}
 use Rattle.station_jobs.specs.Judging.{AsksNow, IsPolicyAt, Judges}
+use Rattle.station_jobs.specs.Leaving.{Leaves, Outlasts}
 
 -- ---- steps
 
@@ -38,41 +39,82 @@ closed (Err e) closing = Err e
 closed (Ok x) (Ok done) = Ok x
 closed (Ok x) (Err e) = Err e
 
+-- ---- what the files of a guard keep
+
+-- an open register keeps this state, and a crash leaves it
+abbrev pub Stores : {G : Type 0} → register.Ghosts G → G → State → Type 0
+Stores guard g s = guard.keeps g s × guard.leaves g s s
+
+module _ {D G : Type 0} (guard : register.Ghosts G) (file : file.Ghosts D G) where
+  -- What is opened is the guard that the files held, and what is made has approved nothing yet. After a good close the
+  -- files hold what was kept, whatever a crash makes of them. If a guard was given up they hold what a crash left. All of
+  -- this is said of a disk that has returned what was written.
+  pub record KeepsFiles : Type 0 where
+    pub opens : (db db' : D) (path : List ℕ) (g : G) → file.opens db path (Ok g) db' → guard.is_honest g
+        → (s : State) → file.held s → Stores guard g s
+    pub makes : (db db' : D) (path : List ℕ) (scope : Scope) (g : G) → file.makes db path scope (Ok g) db'
+        → guard.is_honest g → file.is_blank → Stores guard g (opened scope)
+    pub honest : (db db' : D) (g : G) (r : Result (Unit {0}) StationFault) → file.closes db g r db'
+        → file.is_settled db' g → guard.is_honest g
+    pub closes : (db db' : D) (g : G) → file.closes db g (Ok tt) db' → file.is_settled db' g
+        → (s : State) → guard.keeps g s → file.has db' g s
+    pub gives_up : (db db' : D) (g : G) (e : StationFault) → file.closes db g (Err e) db' → file.is_settled db' g
+        → (s t : State) → guard.keeps g s → guard.leaves g s t → file.has_one db' g s t
+
+  -- After a good close the files hold the guard of this state, whatever a crash makes of them. If the guard was given
+  -- up, they hold that one, or after a fault perhaps one that still has each body of it.
+  abbrev pub LeavesFiles : {A : Type 0} → D → G → (closing : Result (Unit {0}) StationFault) → State
+      → Result A StationFault → Type 0
+  LeavesFiles db' last (Ok done) t outcome = file.has db' last t
+  LeavesFiles db' last (Err e) t outcome = Outlasts (file.has_one db' last) t outcome
+
 -- ---- a guard opened and closed
-
--- A file is made, opened and closed so. As it was before it is `db`, and as it is afterwards `db'`.
-module _ {D G : Type 0} (file : file.Ghosts D G) (db db' : D) where
-  -- this was done over the guard, and what it left was closed
-  pub record RunsOver {A : Type 0} (Did : G → G → Result A StationFault → Type 0) (opened : D) (guard : G)
-      (result : Result A StationFault) : Type 0 where
-    pub outcome : Result A StationFault
-    pub last : G
-    pub did : Did guard last outcome
-    pub closing : Result (Unit {0}) StationFault
-    pub is_closed : file.closes opened last closing db'
-    pub came : result ≡ closed outcome closing
-
-  -- The guard was opened, once, and this was done over it. Or it wasn't opened, and nothing was done.
-  pub record RunsIn {A : Type 0} (Did : G → G → Result A StationFault → Type 0) (Nothing : Type 0)
-      (result : Result A StationFault) : Type 0 where
-    pub found : Result G StationFault
-    pub opened : D
-    pub is_opened : file.opens db found opened
-    pub ran : Follows (RunsOver Did opened) ((db' ≡ opened) × Nothing) found result
-
-  -- a guard of this scope was made, and closed
-  pub record MakesIn (scope : Scope) (result : Result (Unit {0}) StationFault) : Type 0 where
-    pub found : Result G StationFault
-    pub opened : D
-    pub is_made : file.makes db scope found opened
-    pub ran : Follows (λ guard r. file.closes opened guard r db') (db' ≡ opened) found result
 
 -- what is done over a guard, from each state that it keeps: an honest guard was honest before
 abbrev pub Does : {G A : Type 0} → register.Ghosts G
-    → (State → (keeps : State → Type 0) → Result A StationFault → Type 0) → G → G → Result A StationFault → Type 0
+    → (State → (Left : State → Result A StationFault → Type 0) → Result A StationFault → Type 0) → G → G
+    → Result A StationFault → Type 0
 Does guard Did old new result =
     (guard.is_honest new → guard.is_honest old)
-    × (guard.is_honest new → (s : State) → guard.keeps old s → Did s (guard.keeps new) result)
+    × (guard.is_honest new → (s : State) → guard.keeps old s → Did s (Leaves guard old new s) result)
+
+-- A file is made, opened and closed so. As it was before it is `db`, and as it is afterwards `db'`.
+module _ {D G : Type 0} (guard : register.Ghosts G) (file : file.Ghosts D G) (db db' : D) where
+  -- This was done over the guard, and what it left was closed. So it was done from the guard that the files held to the
+  -- one that they hold, if the disk has returned what was written.
+  pub record RunsOver {A : Type 0}
+      (Did : State → (Left : State → Result A StationFault → Type 0) → Result A StationFault → Type 0) (opened : D)
+      (g : G) (result : Result A StationFault) : Type 0 where
+    pub outcome : Result A StationFault
+    pub last : G
+    pub did : Does guard Did g last outcome
+    pub closing : Result (Unit {0}) StationFault
+    pub is_closed : file.closes opened last closing db'
+    pub came : result ≡ closed outcome closing
+    pub files : file.is_settled db' last → (s : State) → file.held s
+        → Did s (LeavesFiles guard file db' last closing) outcome
+
+  -- The guard at the path was opened, once, and this was done over it. Or it wasn't opened, and nothing was done.
+  pub record RunsIn {A : Type 0} (path : List ℕ)
+      (Did : State → (Left : State → Result A StationFault → Type 0) → Result A StationFault → Type 0)
+      (Nothing : Type 0) (result : Result A StationFault) : Type 0 where
+    pub found : Result G StationFault
+    pub opened : D
+    pub is_opened : file.opens db path found opened
+    pub ran : Follows (RunsOver Did opened) ((db' ≡ opened) × Nothing) found result
+
+  -- The guard that was made was closed. If the files held none, they hold it.
+  pub record ClosesNew (scope : Scope) (made : D) (g : G) (result : Result (Unit {0}) StationFault) : Type 0 where
+    pub is_closed : file.closes made g result db'
+    pub files : file.is_settled db' g → file.is_blank
+        → LeavesFiles guard file {A = Unit {0}} db' g result (opened scope) (Ok tt)
+
+  -- a guard of this scope was made at the path, and closed
+  pub record MakesIn (path : List ℕ) (scope : Scope) (result : Result (Unit {0}) StationFault) : Type 0 where
+    pub found : Result G StationFault
+    pub made : D
+    pub is_made : file.makes db path scope found made
+    pub ran : Follows (ClosesNew scope made) (db' ≡ made) found result
 
 -- ---- judging
 
@@ -82,10 +124,11 @@ is_input (body ∷ []) = bytes_eq body (codes "-")
 is_input bodies = false
 
 -- what was judged: the bodies that are named, or those at the paths of the input
-abbrev pub JudgesGiven : Bool → State → (keeps : State → Type 0) → (Asked : List ℕ → Question → Type 0)
-    → (bodies : List (List ℕ)) → (input held holds : Option (List ℕ)) → Result (Unit {0}) StationFault → Type 0
-JudgesGiven true s keeps Asked bodies input held holds r = JudgesInput s keeps Asked input held holds r
-JudgesGiven false s keeps Asked bodies input held holds r = Judges s keeps Asked bodies held holds r
+abbrev pub JudgesGiven : Bool → State → (Left : State → Result (Unit {0}) StationFault → Type 0)
+    → (Asked : List ℕ → Question → Type 0) → (bodies : List (List ℕ)) → (input held holds : Option (List ℕ))
+    → Result (Unit {0}) StationFault → Type 0
+JudgesGiven true s Left Asked bodies input held holds r = JudgesInput s Left Asked input held holds r
+JudgesGiven false s Left Asked bodies input held holds r = Judges s Left Asked bodies held holds r
 
 -- the policy of a file at the path, or why it has none
 abbrev pub IsReadAs : {E F : Type 0} → surroundings.Ghosts E F → E → (remaining : F → Option (List ℕ)) → (path : List ℕ)
@@ -103,30 +146,30 @@ departments_of (Err e) = Err e
 -- The policy was read, and then the guard opened and the bodies judged. Or there is no policy, and then no guard was
 -- looked for or opened, and nothing is printed.
 pub record JudgesIn {E F D G : Type 0} (world : surroundings.Ghosts E F) (around : E) (remaining : F → Option (List ℕ))
-    (guard : register.Ghosts G) (file : file.Ghosts D G) (db db' : D) (policy : List ℕ) (ahead : ℕ)
+    (guard : register.Ghosts G) (file : file.Ghosts D G) (db db' : D) (path policy : List ℕ) (ahead : ℕ)
     (bodies : List (List ℕ)) (input held holds : Option (List ℕ)) (result : Result (Unit {0}) StationFault)
     : Type 0 where
   pub known : Result (List Department) StationFault
   pub read : IsReadAs world around remaining policy known
   pub judged : Follows
-      (λ _. RunsIn file db db'
-      (Does guard (λ s keeps r. JudgesGiven (is_input bodies) s keeps (AsksNow world around remaining policy ahead)
-      bodies input held holds r)) (holds ≡ held))
+      (λ _. RunsIn guard file db db' path
+      (λ s Left r. JudgesGiven (is_input bodies) s Left (AsksNow world around remaining policy ahead) bodies input held
+      holds r) (holds ≡ held))
       ((db' ≡ db) × (holds ≡ held)) known result
 
 -- ---- the last serial
 
--- The last serial was lowered, and the first one answered. Or the guard keeps what it kept.
-abbrev pub RetiresTo : ℕ → State → (keeps : State → Type 0) → Result ℕ StationFault → Type 0
-RetiresTo last s keeps (Ok first) =
-    (retirement s last ≡ Ok (with_last s last)) × keeps (with_last s last) × (first ≡ s.scope.first)
-RetiresTo last s keeps (Err BadSerials) = (retirement s last ≡ Err retiring.BadSerials) × keeps s
-RetiresTo last s keeps (Err SerialApproved) = (retirement s last ≡ Err retiring.SerialApproved) × keeps s
-RetiresTo last s keeps (Err other) = keeps s
+-- The last serial was lowered, and the first one answered. Or what was kept is left.
+abbrev pub RetiresTo : ℕ → State → (Left : State → Type 0) → Result ℕ StationFault → Type 0
+RetiresTo last s Left (Ok first) =
+    (retirement s last ≡ Ok (with_last s last)) × Left (with_last s last) × (first ≡ s.scope.first)
+RetiresTo last s Left (Err BadSerials) = (retirement s last ≡ Err retiring.BadSerials) × Left s
+RetiresTo last s Left (Err SerialApproved) = (retirement s last ≡ Err retiring.SerialApproved) × Left s
+RetiresTo last s Left (Err other) = Left s
 
 -- the serials of a guard are below 2^63
-abbrev pub Retires : ℕ → State → (keeps : State → Type 0) → Result ℕ StationFault → Type 0
-Retires last s keeps result = s.scope.last < 2 ^ 63 → RetiresTo last s keeps result
+abbrev pub Retires : ℕ → State → (Left : State → Result ℕ StationFault → Type 0) → Result ℕ StationFault → Type 0
+Retires last s Left result = s.scope.last < 2 ^ 63 → RetiresTo last s (λ t. Left t result) result
 
 abbrev pub retired_text : ℕ → ℕ → List ℕ
 retired_text first last = codes "retired " ++ (decimal first ++ (32 ∷ (decimal last ++ (10 ∷ []))))

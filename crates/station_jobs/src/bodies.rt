@@ -4,6 +4,7 @@ ghost use Rattle.std.specs.Prelude.{◌≡◌, ◌++◌, ◌∷◌, [], decimal,
 ghost use Rattle.std.specs.Io.KnownBytes.{Appends};
 ghost use Rattle.guard.specs.Machine.{State};
 ghost use Rattle.station_jobs.specs.Bodies.{ListsBodies, PrintsBody, PrintsFrom, named_line, row_line};
+ghost use Rattle.station_jobs.specs.Leaving.{Stays};
 
 use crate::output::print;
 use crate::station_fault::StationFault;
@@ -71,7 +72,8 @@ fn print_from<G: Register, W: Write>(
     ensures honest { G.is_honest register.new → G.is_honest register.old }
     ensures prints { G.is_honest register.new → (s : State) → G.keeps register.old s
         → IfOk result (PrintsFrom s from (W.contents out.old) (W.contents out.new)) }
-    ensures same { G.is_honest register.new → (s : State) → G.keeps register.old s → G.keeps register.new s }
+    ensures stays { G.is_honest register.new → (s : State) → G.keeps register.old s
+        → Stays G.Register register.old register.new s }
 {
     match register.row_from(alloc, from) {
         Ok(Some(row)) => {
@@ -98,7 +100,8 @@ pub fn print_bodies<G: Register, W: Write>(
     ensures honest { G.is_honest register.new → G.is_honest register.old }
     ensures lists { G.is_honest register.new → (s : State) → G.keeps register.old s
         → OnOk result (ListsBodies s (W.contents out.old) (W.contents out.new)) }
-    ensures same { G.is_honest register.new → (s : State) → G.keeps register.old s → G.keeps register.new s }
+    ensures stays { G.is_honest register.new → (s : State) → G.keeps register.old s
+        → Stays G.Register register.old register.new s }
 {
     let mut from = 0;
     for _row in 0..u64::MAX {
@@ -121,7 +124,8 @@ pub fn print_body<G: Register, W: Write>(
     ensures honest { G.is_honest register.new → G.is_honest register.old }
     ensures prints { G.is_honest register.new → (s : State) → G.keeps register.old s
         → PrintsBody s serial (W.contents out.old) (W.contents out.new) result }
-    ensures same { G.is_honest register.new → (s : State) → G.keeps register.old s → G.keeps register.new s }
+    ensures stays { G.is_honest register.new → (s : State) → G.keeps register.old s
+        → Stays G.Register register.old register.new s }
 {
     match register.body_of(alloc, serial)? {
         Some(body) => print(out, body.as_slice()),

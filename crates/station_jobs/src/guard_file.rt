@@ -1,7 +1,8 @@
 //! The file of a guard: made, opened and closed.
 
-ghost use Rattle.std.specs.Prelude.{IsTrue, Result};
+ghost use Rattle.std.specs.Prelude.{ℕ, IsTrue, List, Result};
 ghost use Rattle.office.specs.Openings.{are_serials};
+ghost use Rattle.guard.specs.State.{State};
 ghost use Rattle.guard.specs.declared.scope.Scope.{Scope as Made};
 ghost use Rattle.station_jobs.specs.declared.station_fault.StationFault.{StationFault as Fault};
 
@@ -9,40 +10,59 @@ use crate::station_fault::StationFault;
 use guard::Scope;
 use std::alloc::Global;
 
-/// The file of a guard.
+/// The file of a guard, with the file of its log.
 pub trait GuardFile {
     /// The guard, as it is open.
     type Guard;
 
     // What each call below may give, with the file before it and after it.
-    ghost makes: { Self → Made → Result Self.Guard Fault → Self → Type 0 };
+    ghost makes: { Self → List ℕ → Made → Result Self.Guard Fault → Self → Type 0 };
 
-    ghost opens: { Self → Result Self.Guard Fault → Self → Type 0 };
+    ghost opens: { Self → List ℕ → Result Self.Guard Fault → Self → Type 0 };
 
     ghost closes: { Self → Self.Guard → Result (Unit {0}) Fault → Self → Type 0 };
 
-    /// Makes a guard that has approved nothing yet, and its file if it isn't there.
+    // What the files held before they were opened: the guard of this state, or none.
+    ghost held: { State → Type 0 };
+
+    ghost is_blank: { Type 0 };
+
+    // Of a guard that was closed or given up: the disk had returned what was written, and the log was copied, or nobody
+    // began to copy it.
+    ghost is_settled: { Self → Self.Guard → Type 0 };
+
+    // Whatever a crash makes of the files then, they hold the guard of this state, or that of one of these two.
+    ghost has: { Self → Self.Guard → State → Type 0 };
+
+    ghost has_one: { Self → Self.Guard → State → State → Type 0 };
+
+    /// Makes a guard at a path that has approved nothing yet, and its file if it isn't there.
     ///
     /// # Errors
     ///
     /// Why none was made.
-    fn make(&mut self, alloc: Global, scope: &Scope) -> Result<Self::Guard, StationFault>
+    fn make(
+        &mut self,
+        alloc: Global,
+        path: &str,
+        scope: &Scope,
+    ) -> Result<Self::Guard, StationFault>
         requires { IsTrue (are_serials scope.now.first scope.now.last) }
-        ensures { makes self.old scope.now result self.new };
+        ensures { makes self.old path.now scope.now result self.new };
 
-    /// Opens the guard that the file has.
+    /// Opens the guard that the file at a path has.
     ///
     /// # Errors
     ///
     /// Why it wasn't opened.
-    fn open(&mut self, alloc: Global) -> Result<Self::Guard, StationFault>
-        ensures { opens self.old result self.new };
+    fn open(&mut self, alloc: Global, path: &str) -> Result<Self::Guard, StationFault>
+        ensures { opens self.old path.now result self.new };
 
     /// Closes a guard.
     ///
     /// # Errors
     ///
-    /// Why it can't be closed well. It is closed all the same.
+    /// Why it can't be closed well. It is closed or given up all the same.
     fn close(&mut self, guard: Self::Guard) -> Result<(), StationFault>
         ensures { closes self.old guard result self.new };
 }

@@ -7,6 +7,7 @@ ghost use Rattle.guard.specs.Policies.{policy_at};
 ghost use Rattle.station_jobs.specs.Faults.{IsOfAFile};
 ghost use Rattle.station_jobs.specs.Input.{JudgesInput, JudgesNext, TakesLine};
 ghost use Rattle.station_jobs.specs.Judging.{AsksNow, Judges};
+ghost use Rattle.station_jobs.specs.Leaving.{Leaves};
 ghost use Rattle.station_jobs.specs.Steps.{done_of};
 
 use crate::file_reader::file_fault;
@@ -43,7 +44,8 @@ fn without_end(line: &[u8]) -> &[u8]
 
 /// The path of a line: what stands before its LF, if that is a text.
 fn path_in(line: &[u8]) -> Result<&str, StationFault>
-    ensures { IfOk result (λ path. path.now ≡ strip_last 10 line.now) }
+    ensures path { IfOk result (λ path. path.now ≡ strip_last 10 line.now) }
+    ensures only { IfErr result IsOfAFile }
 {
     match str::from_utf8(without_end(line)) {
         Ok(path) => Ok(path),
@@ -66,7 +68,8 @@ fn judge_now<F: Read + Drop, P: Surroundings<File = F>, G: Register, W: Write>(
     requires { policy_at known.text.items ≡ Ok known.policy }
     ensures honest { G.is_honest register.new → G.is_honest register.old }
     ensures known { IfOk result (λ p. policy_at p.text.items ≡ Ok p.policy) }
-    ensures judges { G.is_honest register.new → (s : State) → G.keeps register.old s → Judges s (G.keeps register.new)
+    ensures judges { G.is_honest register.new → (s : State) → G.keeps register.old s
+        → Judges s (Leaves G.Register register.old register.new s)
         (AsksNow P.Surroundings around.now F.remaining policy.now ahead) (path.now ∷ [])
         (W.contents out.old) (W.contents out.new) (done_of result) }
 {
@@ -95,7 +98,8 @@ fn judge_line<F: Read + Drop, P: Surroundings<File = F>, G: Register, W: Write>(
     requires { policy_at known.text.items ≡ Ok known.policy }
     ensures honest { G.is_honest register.new → G.is_honest register.old }
     ensures known { IfOk result (λ p. policy_at p.text.items ≡ Ok p.policy) }
-    ensures judges { G.is_honest register.new → (s : State) → G.keeps register.old s → Judges s (G.keeps register.new)
+    ensures judges { G.is_honest register.new → (s : State) → G.keeps register.old s
+        → Judges s (Leaves G.Register register.old register.new s)
         (AsksNow P.Surroundings around.now F.remaining policy.now ahead) (strip_last 10 line.now ∷ [])
         (W.contents out.old) (W.contents out.new) (done_of result) }
 {
@@ -123,7 +127,8 @@ fn judge_next<F: Read + Drop, P: Surroundings<File = F>, G: Register, I: BufRead
     ensures honest { G.is_honest register.new → G.is_honest register.old }
     ensures known { IfOk result (λ p. IfSome p (λ p. policy_at p.text.items ≡ Ok p.policy)) }
     ensures judges { G.is_honest register.new → (s : State) → G.keeps register.old s
-        → JudgesNext s (G.keeps register.new) (AsksNow P.Surroundings around.now F.remaining policy.now ahead)
+        → JudgesNext s (Leaves G.Register register.old register.new s)
+        (AsksNow P.Surroundings around.now F.remaining policy.now ahead)
         (I.remaining input.old) (I.remaining input.new) (W.contents out.old) (W.contents out.new) result }
 {
     match next_line(alloc, input) {
@@ -166,7 +171,7 @@ pub fn judge_lines<F: Read + Drop, P: Surroundings<File = F>, G: Register, I: Bu
     requires { policy_at known.text.items ≡ Ok known.policy }
     ensures honest { G.is_honest register.new → G.is_honest register.old }
     ensures judges { G.is_honest register.new → (s : State) → G.keeps register.old s → JudgesInput s
-        (G.keeps register.new) (AsksNow P.Surroundings around.now F.remaining policy.now ahead)
+        (Leaves G.Register register.old register.new s) (AsksNow P.Surroundings around.now F.remaining policy.now ahead)
         (I.remaining input.old) (W.contents out.old) (W.contents out.new) result }
 {
     let mut known = known;

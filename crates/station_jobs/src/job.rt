@@ -3,6 +3,7 @@
 ghost use Rattle.std.specs.Prelude.{◌≡◌, ℕ, List, IfOk, IsTrue};
 ghost use Rattle.office.specs.Openings.{are_serials};
 ghost use Rattle.station_jobs.specs.Jobs.{InitsIn, IsLawful, LowersIn, Prints, RunsJob};
+ghost use Rattle.station_jobs.specs.Whole.{KeepsFiles};
 
 use crate::guard_file::GuardFile;
 use crate::output::print;
@@ -42,16 +43,19 @@ fn tell<W: Write>(text: Result<Vec<u8>, NoMemory>, out: &mut W) -> Result<(), St
 }
 
 /// Makes a guard in a file, and tells of it.
-fn init_in<G, D: GuardFile<Guard = G>, W: Write>(
+fn init_in<G: Register, D: GuardFile<Guard = G>, W: Write>(
     alloc: Global,
     db: &mut D,
+    path: &str,
     scope: &Scope,
     out: &mut W,
 ) -> Result<(), StationFault>
-    requires { IsTrue (are_serials scope.now.first scope.now.last) }
-    ensures { InitsIn D.GuardFile db.old db.new scope.now (W.contents out.old) (W.contents out.new) result }
+    requires lawful { IsTrue (are_serials scope.now.first scope.now.last) }
+    requires keeps { KeepsFiles G.Register D.GuardFile }
+    ensures { InitsIn G.Register D.GuardFile db.old db.new path.now scope.now (W.contents out.old) (W.contents out.new)
+        result }
 {
-    match make_in(alloc, db, scope) {
+    match make_in(alloc, db, path, scope) {
         Ok(()) => tell(ready_text(alloc, scope), out),
         Err(fault) => Err(fault),
     }
@@ -61,18 +65,21 @@ fn init_in<G, D: GuardFile<Guard = G>, W: Write>(
 fn lower_in<G: Register, D: GuardFile<Guard = G>, W: Write>(
     alloc: Global,
     db: &mut D,
+    path: &str,
     last: u64,
     out: &mut W,
 ) -> Result<(), StationFault>
-    ensures { LowersIn G.Register D.GuardFile db.old db.new last (W.contents out.old) (W.contents out.new) result }
+    requires { KeepsFiles G.Register D.GuardFile }
+    ensures { LowersIn G.Register D.GuardFile db.old db.new path.now last (W.contents out.old) (W.contents out.new)
+        result }
 {
-    match retire_in(alloc, db, last) {
+    match retire_in(alloc, db, path, last) {
         Ok(first) => tell(retired_text(alloc, first, last), out),
         Err(fault) => Err(fault),
     }
 }
 
-/// Does what is asked of the guard of a file, from its opening to its closing.
+/// Does what is asked of the guard at a path, from its opening to its closing.
 ///
 /// # Errors
 ///
@@ -88,19 +95,23 @@ pub fn run_in<
     alloc: Global,
     around: &P,
     db: &mut D,
+    path: &str,
     job: &GuardJob<'_>,
     input: &mut I,
     out: &mut W,
 ) -> Result<(), StationFault>
-    requires { IsLawful job.now }
-    ensures { RunsJob P.Surroundings around.now F.remaining G.Register D.GuardFile db.old db.new job.now
+    requires lawful { IsLawful job.now }
+
+    // What is opened is what the files held, and what is closed is what they hold then.
+    requires keeps { KeepsFiles G.Register D.GuardFile }
+    ensures { RunsJob P.Surroundings around.now F.remaining G.Register D.GuardFile db.old db.new path.now job.now
         (I.remaining input.old) (W.contents out.old) (W.contents out.new) result }
 {
     match job {
-        GuardJob::Init(scope) => init_in(alloc, db, scope, out),
-        GuardJob::Judge(judging) => judge_in(alloc, around, db, judging, input, out),
-        GuardJob::Bodies => bodies_in(alloc, db, out),
-        GuardJob::Body(serial) => body_in(alloc, db, *serial, out),
-        GuardJob::Retire(last) => lower_in(alloc, db, *last, out),
+        GuardJob::Init(scope) => init_in(alloc, db, path, scope, out),
+        GuardJob::Judge(judging) => judge_in(alloc, around, db, path, judging, input, out),
+        GuardJob::Bodies => bodies_in(alloc, db, path, out),
+        GuardJob::Body(serial) => body_in(alloc, db, path, *serial, out),
+        GuardJob::Retire(last) => lower_in(alloc, db, path, *last, out),
     }
 }

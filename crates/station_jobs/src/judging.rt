@@ -1,12 +1,14 @@
 //! Bodies judged one after the other, and the line of each printed.
 
-ghost use Rattle.std.specs.Prelude.{◌≡◌, ◌≤◌, ◌∷◌, [], take, map, string_bytes, IfErr, IfOk, IfSome, OnErr, OnOk};
+ghost use Rattle.std.specs.Prelude.{◌≡◌, ◌<◌, ◌≤◌, ◌^◌, ◌∷◌, [], take, map, string_bytes, IfErr, IfOk, IfSome, OnErr, OnOk};
 ghost use Rattle.std.specs.Io.KnownBytes.{Appends};
 ghost use Rattle.wire.specs.Streams.{AppendsBeginning};
 ghost use Rattle.guard.specs.AnswerLines.{answer_line};
 ghost use Rattle.guard.specs.Decided.{question};
 ghost use Rattle.guard.specs.Machine.{State};
+ghost use Rattle.station_jobs.specs.Faults.{IsOfABody, IsOfAnAnswer};
 ghost use Rattle.station_jobs.specs.Judging.{Asks, Judges};
+ghost use Rattle.station_jobs.specs.Leaving.{Leaves};
 ghost use Rattle.station_jobs.specs.Steps.{Answered, AnswersOne, Weighs};
 
 use crate::file_reader::read_body;
@@ -21,13 +23,14 @@ use std::io::{Read, Write};
 fn print_answer<W: Write>(alloc: Global, answer: Answer, out: &mut W) -> Result<(), StationFault>
     ensures ok { OnOk result (Appends (W.contents out.old) (W.contents out.new) (answer_line answer)) }
     ensures err { OnErr result (AppendsBeginning (W.contents out.old) (W.contents out.new) (answer_line answer)) }
+    ensures only { IfErr result IsOfAnAnswer }
 {
     let mut line = Vec::new(alloc);
     put_answer(&mut line, answer)?;
     print(out, line.as_slice())
 }
 
-/// Judges a body, and prints the line of the answer once the register keeps what is signed.
+/// Judges a body, and prints the line of the answer once the register keeps what is signed. The moment is below 2^63.
 fn answer_body<G: Register, W: Write>(
     alloc: Global,
     register: &mut G,
@@ -36,22 +39,28 @@ fn answer_body<G: Register, W: Write>(
     body: &[u8],
     out: &mut W,
 ) -> Result<(), StationFault>
+    requires { window.moment < 2 ^ 63 }
     ensures honest { G.is_honest register.new → G.is_honest register.old }
     ensures answers { G.is_honest register.new → (s : State) → G.keeps register.old s
-        → AnswersOne s (G.keeps register.new) (question policy.now window body.now) (W.contents out.old)
-        (W.contents out.new) result }
+        → AnswersOne s (Leaves G.Register register.old register.new s) (question policy.now window body.now)
+        (W.contents out.old) (W.contents out.new) result }
 {
-    let answer = judge(alloc, register, policy, window, body)?;
-    print_answer(alloc, answer, out)
+    match judge(alloc, register, policy, window, body) {
+        Ok(answer) => print_answer(alloc, answer, out),
+        Err(fault) => Err(StationFault::from(fault)),
+    }
 }
 
 /// The body of a file, and the moment at which it is judged.
+#[tactic(auto, using(crate::proofs::Causes::of_a_body))]
 fn weighed<F: Read + Drop, P: Surroundings<File = F>>(
     alloc: Global,
     around: &P,
     path: &str,
 ) -> Result<(Vec<u8>, u64), StationFault>
-    ensures { IfOk result (λ r. Weighs P.Surroundings around.now F.remaining path.now r.0.items r.1) }
+    ensures weighs { IfOk result (λ r. Weighs P.Surroundings around.now F.remaining path.now r.0.items r.1) }
+    ensures low { IfOk result (λ r. r.1 < 2 ^ 63) }
+    ensures only { IfErr result IsOfABody }
 {
     let file = around.open(path)?;
     let body = read_body(alloc, file)?;
@@ -72,7 +81,8 @@ pub fn judge_file<F: Read + Drop, P: Surroundings<File = F>, G: Register, W: Wri
     out: &mut W,
 ) -> Result<(), StationFault>
     ensures honest { G.is_honest register.new → G.is_honest register.old }
-    ensures judges { G.is_honest register.new → (s : State) → G.keeps register.old s → Judges s (G.keeps register.new)
+    ensures judges { G.is_honest register.new → (s : State) → G.keeps register.old s
+        → Judges s (Leaves G.Register register.old register.new s)
         (Asks P.Surroundings around.now F.remaining (λ p. p ≡ policy.now) ahead) (path.now ∷ []) (W.contents out.old)
         (W.contents out.new) result }
 {
@@ -101,7 +111,8 @@ pub fn judge_files<F: Read + Drop, P: Surroundings<File = F>, G: Register, W: Wr
     out: &mut W,
 ) -> Result<(), StationFault>
     ensures honest { G.is_honest register.new → G.is_honest register.old }
-    ensures judges { G.is_honest register.new → (s : State) → G.keeps register.old s → Judges s (G.keeps register.new)
+    ensures judges { G.is_honest register.new → (s : State) → G.keeps register.old s
+        → Judges s (Leaves G.Register register.old register.new s)
         (Asks P.Surroundings around.now F.remaining (λ p. p ≡ policy.now) ahead) (map string_bytes paths.now)
         (W.contents out.old) (W.contents out.new) result }
 {

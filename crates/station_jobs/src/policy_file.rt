@@ -61,6 +61,7 @@ pub fn read_policy<F: Read + Drop>(alloc: Global, file: F) -> Result<PolicyText,
 }
 
 /// The policy that is in a file now. It is read again only if the file's bytes aren't those that are known.
+#[tactic(auto, using(crate::proofs::Causes::of_a_file))]
 pub fn refreshed<F: Read + Drop, P: Surroundings<File = F>>(
     alloc: Global,
     around: &P,
@@ -70,6 +71,7 @@ pub fn refreshed<F: Read + Drop, P: Surroundings<File = F>>(
     requires { policy_at known.text.items ≡ Ok known.policy }
     ensures text { IfOk result (λ p. policy_at p.text.items ≡ Ok p.policy) }
     ensures read { IfOk result (λ p. IsPolicyAt P.Surroundings around.now F.remaining path.now p.policy) }
+    ensures only { IfErr result IsOfAPolicy }
 {
     let file = around.open(path)?;
     let bytes = policy_bytes(alloc, file)?;

@@ -8,7 +8,8 @@ ghost use Rattle.guard.specs.Machine.{State};
 ghost use Rattle.guard.specs.Policies.{policy_at};
 ghost use Rattle.station_jobs.specs.Bodies.{ListsBodies, PrintsBody};
 ghost use Rattle.station_jobs.specs.Judging.{AsksNow, IsPolicyAt, Judges};
-ghost use Rattle.station_jobs.specs.Whole.{Does, IsReadAs, JudgesGiven, JudgesIn, MakesIn, Retires};
+ghost use Rattle.station_jobs.specs.Leaving.{Leaves};
+ghost use Rattle.station_jobs.specs.Whole.{IsReadAs, JudgesGiven, JudgesIn, KeepsFiles, MakesIn, Retires};
 ghost use Rattle.station_jobs.specs.Whole.{RunsIn, departments_of, is_input};
 
 use crate::bodies::{print_bodies, print_body};
@@ -55,7 +56,8 @@ fn judge_named<F: Read + Drop, P: Surroundings<File = F>, G: Register, W: Write>
 ) -> Result<(), StationFault>
     requires { IsPolicyAt P.Surroundings around.now F.remaining judging.now.policy.now known.policy }
     ensures honest { G.is_honest register.new → G.is_honest register.old }
-    ensures judges { G.is_honest register.new → (s : State) → G.keeps register.old s → Judges s (G.keeps register.new)
+    ensures judges { G.is_honest register.new → (s : State) → G.keeps register.old s
+        → Judges s (Leaves G.Register register.old register.new s)
         (AsksNow P.Surroundings around.now F.remaining judging.now.policy.now judging.now.ahead)
         (map string_bytes judging.now.bodies.now) (W.contents out.old) (W.contents out.new) result }
 {
@@ -79,7 +81,8 @@ fn judge_given<F: Read + Drop, P: Surroundings<File = F>, G: Register, I: BufRea
     requires at { IsPolicyAt P.Surroundings around.now F.remaining judging.now.policy.now known.policy }
     ensures honest { G.is_honest register.new → G.is_honest register.old }
     ensures judges { G.is_honest register.new → (s : State) → G.keeps register.old s
-        → JudgesGiven (is_input (map string_bytes judging.now.bodies.now)) s (G.keeps register.new)
+        → JudgesGiven (is_input (map string_bytes judging.now.bodies.now)) s
+        (Leaves G.Register register.old register.new s)
         (AsksNow P.Surroundings around.now F.remaining judging.now.policy.now judging.now.ahead)
         (map string_bytes judging.now.bodies.now) (I.remaining input.old) (W.contents out.old) (W.contents out.new)
         result }
@@ -106,6 +109,46 @@ fn policy_at<F: Read + Drop, P: Surroundings<File = F>>(
     }
 }
 
+/// Judges bodies over the guard of a file by a policy that was read.
+fn judge_over<
+    F: Read + Drop,
+    P: Surroundings<File = F>,
+    G: Register,
+    D: GuardFile<Guard = G>,
+    I: BufRead,
+    W: Write,
+>(
+    alloc: Global,
+    around: &P,
+    db: &mut D,
+    path: &str,
+    judging: &Judging<'_>,
+    known: PolicyText,
+    input: &mut I,
+    out: &mut W,
+) -> Result<(), StationFault>
+    requires read { policy_at known.text.items ≡ Ok known.policy }
+    requires at { IsPolicyAt P.Surroundings around.now F.remaining judging.now.policy.now known.policy }
+    requires keeps { KeepsFiles G.Register D.GuardFile }
+    ensures { RunsIn G.Register D.GuardFile db.old db.new path.now
+        (λ s Left r. JudgesGiven (is_input (map string_bytes judging.now.bodies.now)) s Left
+        (AsksNow P.Surroundings around.now F.remaining judging.now.policy.now judging.now.ahead)
+        (map string_bytes judging.now.bodies.now) (I.remaining input.old) (W.contents out.old) (W.contents out.new) r)
+        (W.contents out.new ≡ W.contents out.old) result }
+{
+    match db.open(alloc, path) {
+        Ok(guard) => {
+            let mut guard = guard;
+            let done = judge_given(alloc, around, &mut guard, judging, known, input, out);
+            closed(done, db.close(guard))
+        }
+        Err(fault) => {
+            drop(known);
+            Err(fault)
+        }
+    }
+}
+
 /// Judges bodies by a policy over the guard of a file, and prints the line of each. The policy is read before the guard's
 /// file is looked for.
 ///
@@ -124,26 +167,18 @@ pub fn judge_in<
     alloc: Global,
     around: &P,
     db: &mut D,
+    path: &str,
     judging: &Judging<'_>,
     input: &mut I,
     out: &mut W,
 ) -> Result<(), StationFault>
-    ensures { JudgesIn P.Surroundings around.now F.remaining G.Register D.GuardFile db.old db.new judging.now.policy.now
-        judging.now.ahead (map string_bytes judging.now.bodies.now) (I.remaining input.old) (W.contents out.old)
-        (W.contents out.new) result }
+    requires { KeepsFiles G.Register D.GuardFile }
+    ensures { JudgesIn P.Surroundings around.now F.remaining G.Register D.GuardFile db.old db.new path.now
+        judging.now.policy.now judging.now.ahead (map string_bytes judging.now.bodies.now) (I.remaining input.old)
+        (W.contents out.old) (W.contents out.new) result }
 {
     match policy_at(alloc, around, judging.policy) {
-        Ok(known) => match db.open(alloc) {
-            Ok(guard) => {
-                let mut guard = guard;
-                let done = judge_given(alloc, around, &mut guard, judging, known, input, out);
-                closed(done, db.close(guard))
-            }
-            Err(fault) => {
-                drop(known);
-                Err(fault)
-            }
-        },
+        Ok(known) => judge_over(alloc, around, db, path, judging, known, input, out),
         Err(fault) => Err(fault),
     }
 }
@@ -156,13 +191,15 @@ pub fn judge_in<
 pub fn bodies_in<G: Register, D: GuardFile<Guard = G>, W: Write>(
     alloc: Global,
     db: &mut D,
+    path: &str,
     out: &mut W,
 ) -> Result<(), StationFault>
-    ensures { RunsIn D.GuardFile db.old db.new
-        (Does G.Register (λ s keeps r. OnOk r (ListsBodies s (W.contents out.old) (W.contents out.new)) × keeps s))
+    requires { KeepsFiles G.Register D.GuardFile }
+    ensures { RunsIn G.Register D.GuardFile db.old db.new path.now
+        (λ s Left r. OnOk r (ListsBodies s (W.contents out.old) (W.contents out.new)) × Left s (Ok tt))
         (W.contents out.new ≡ W.contents out.old) result }
 {
-    match db.open(alloc) {
+    match db.open(alloc, path) {
         Ok(guard) => {
             let mut guard = guard;
             let done = print_bodies(alloc, &mut guard, out);
@@ -180,14 +217,16 @@ pub fn bodies_in<G: Register, D: GuardFile<Guard = G>, W: Write>(
 pub fn body_in<G: Register, D: GuardFile<Guard = G>, W: Write>(
     alloc: Global,
     db: &mut D,
+    path: &str,
     serial: u64,
     out: &mut W,
 ) -> Result<(), StationFault>
-    ensures { RunsIn D.GuardFile db.old db.new
-        (Does G.Register (λ s keeps r. PrintsBody s serial (W.contents out.old) (W.contents out.new) r × keeps s))
+    requires { KeepsFiles G.Register D.GuardFile }
+    ensures { RunsIn G.Register D.GuardFile db.old db.new path.now
+        (λ s Left r. PrintsBody s serial (W.contents out.old) (W.contents out.new) r × Left s (Ok tt))
         (W.contents out.new ≡ W.contents out.old) result }
 {
-    match db.open(alloc) {
+    match db.open(alloc, path) {
         Ok(guard) => {
             let mut guard = guard;
             let done = print_body(alloc, &mut guard, serial, out);
@@ -201,7 +240,7 @@ pub fn body_in<G: Register, D: GuardFile<Guard = G>, W: Write>(
 fn retire_over<G: Register>(alloc: Global, register: &mut G, last: u64) -> Result<u64, StationFault>
     ensures honest { G.is_honest register.new → G.is_honest register.old }
     ensures retires { G.is_honest register.new → (s : State) → G.keeps register.old s
-        → Retires last s (G.keeps register.new) result }
+        → Retires last s (Leaves G.Register register.old register.new s) result }
 {
     match register.scope() {
         Ok(scope) => match retire(alloc, register, last) {
@@ -220,11 +259,13 @@ fn retire_over<G: Register>(alloc: Global, register: &mut G, last: u64) -> Resul
 pub fn retire_in<G: Register, D: GuardFile<Guard = G>>(
     alloc: Global,
     db: &mut D,
+    path: &str,
     last: u64,
 ) -> Result<u64, StationFault>
-    ensures { RunsIn D.GuardFile db.old db.new (Does G.Register (Retires last)) (Unit {0}) result }
+    requires { KeepsFiles G.Register D.GuardFile }
+    ensures { RunsIn G.Register D.GuardFile db.old db.new path.now (Retires last) (Unit {0}) result }
 {
-    match db.open(alloc) {
+    match db.open(alloc, path) {
         Ok(guard) => {
             let mut guard = guard;
             let done = retire_over(alloc, &mut guard, last);
@@ -239,15 +280,17 @@ pub fn retire_in<G: Register, D: GuardFile<Guard = G>>(
 /// # Errors
 ///
 /// Why none was made, or why its file can't be closed well.
-pub fn make_in<G, D: GuardFile<Guard = G>>(
+pub fn make_in<G: Register, D: GuardFile<Guard = G>>(
     alloc: Global,
     db: &mut D,
+    path: &str,
     scope: &Scope,
 ) -> Result<(), StationFault>
-    requires { IsTrue (are_serials scope.now.first scope.now.last) }
-    ensures { MakesIn D.GuardFile db.old db.new scope.now result }
+    requires lawful { IsTrue (are_serials scope.now.first scope.now.last) }
+    requires keeps { KeepsFiles G.Register D.GuardFile }
+    ensures { MakesIn G.Register D.GuardFile db.old db.new path.now scope.now result }
 {
-    match db.make(alloc, scope) {
+    match db.make(alloc, path, scope) {
         Ok(guard) => db.close(guard),
         Err(fault) => Err(fault),
     }

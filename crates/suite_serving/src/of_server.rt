@@ -2,7 +2,7 @@
 
 use memory_store::PlainStore;
 use office::Opening;
-use server::{ScriptedConnection, ScriptedListener, serve_on};
+use server::{ScriptedConnection, ScriptedListener, serve_keeping, serve_on};
 use std::test::Fail;
 use wire::{Ending, ScriptedNonces};
 
@@ -18,6 +18,25 @@ content-length: 15\r\nconnection: close\r\n\r\ndepartment web\n";
 
 /// A beginning of a head, without its end.
 const HALF: &[u8] = b"GET /v1/k";
+
+/// The issue of the rows, and the certificate that is pending after it.
+const ISSUE: &[u8] = b"POST /v1/callers/ana/requests/i1 HTTP/1.1\r\ncontent-length: 162\r\n\r\n\
+issue web\nkeyid web/alice\nkey ssh-ed25519 \
+AAAAC3NzaC1lZDI1NTE5AAAAICIiIiIiIiIiIiIiIiIiIiIiIiIiIiIiIiIiIiIiIiIi\n\
+principals alice\nafter 1000\nbefore 2000\nextensions\n";
+
+const ONE_PENDING: &[u8] = b"HTTP/1.1 200 OK\r\ncontent-type: text/plain\r\n\
+content-length: 67\r\nconnection: close\r\n\r\n\
+1 82e0c34fe67da3fc3dc1be6682073994ec021449271b641cdd36180e95572e79\n";
+
+const REVOCATION: &[u8] =
+    b"POST /v1/callers/root/requests/r1 HTTP/1.1\r\ncontent-length: 16\r\n\r\n\
+revoke-serial 1\n";
+
+const PENDING: &[u8] = b"GET /v1/pending HTTP/1.1\r\n\r\n";
+
+const NONE_PENDING: &[u8] = b"HTTP/1.1 200 OK\r\ncontent-type: text/plain\r\n\
+content-length: 0\r\nconnection: close\r\n\r\n";
 
 /// An office in which nothing has happened.
 fn new_office(rt: &HostRuntime) -> Result<PlainStore, Fail> {
@@ -71,5 +90,40 @@ fn connections_in_memory_are_met_in_turn(rt: HostRuntime) -> Result<(), Fail> {
     assert!(rt; written[1].starts_with(b"HTTP/1.1 400"));
     assert_eq!(rt; written[2].as_slice(), ACCEPTED);
     assert_eq!(rt; nonces.left, 0);
+    Ok(())
+}
+
+// What is pending is asked for before an issue, twice after it, and after the revocation of its serial.
+#[test]
+fn what_is_pending_is_asked_again(rt: HostRuntime) -> Result<(), Fail> {
+    let sent = [
+        DEPARTMENT, PENDING, ISSUE, PENDING, PENDING, REVOCATION, PENDING,
+    ];
+    let mut all = Vec::new(rt.alloc());
+    for sent in sent {
+        all.push(ScriptedConnection { sent, moment: 1500 })?;
+    }
+    let mut listener = ScriptedListener::new(rt.alloc(), &all)?;
+    let mut nonces = ScriptedNonces::new(0x33, 224, Ending::Ends);
+    let mut out = Vec::new(rt.alloc());
+    let mut err = Vec::new(rt.alloc());
+    let (status, office) = serve_keeping(
+        &rt,
+        &mut listener,
+        new_office(&rt)?,
+        &mut nonces,
+        7,
+        &mut out,
+        &mut err,
+    );
+    drop(office);
+    assert_eq!(rt; status, 0);
+    assert_eq!(rt; err.as_slice(), b"".as_slice());
+    let written = listener.written();
+    assert_eq!(rt; written.len(), 7);
+    assert_eq!(rt; written[1].as_slice(), NONE_PENDING);
+    assert_eq!(rt; written[3].as_slice(), ONE_PENDING);
+    assert_eq!(rt; written[4].as_slice(), ONE_PENDING);
+    assert_eq!(rt; written[6].as_slice(), NONE_PENDING);
     Ok(())
 }

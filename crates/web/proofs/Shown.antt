@@ -8,7 +8,7 @@ use Rattle.office.specs.declared.store_fault.StoreFault.{StoreFault}
 use Rattle.office.specs.declared.store_fault.StoreFault.TheVariants.{AlreadyAnOffice, NotAnOffice, WrongSchema, Damaged}
 use Rattle.office.specs.declared.store_fault.StoreFault.TheVariants.{Device, NoMemory}
 use Rattle.office.specs.Faults.{HasCause, IsOfARegister}
-use Rattle.web.specs.Causes.{FailsWithin}
+use Rattle.office.specs.Registers.{FailsWithin}
 
 -- a response with what is found is one with what the histories show
 pub shows : {X E : Type 0} (r : Result (Vec ℕ Global) E) (text : X → List ℕ) (found : X) (shown : Opening → List Arrival → X)

@@ -1,29 +1,25 @@
--- What a report says of one certificate.
-use Rattle.std.specs.Prelude.{◌≡◌, ◌+◌, ◌++◌, List, [], length, ℕ, Bool, not, ◌&&◌, is_none, if◌then◌else◌}
+-- What the table says of one certificate.
+use Rattle.std.specs.Prelude.{◌≡◌, ◌+◌, ◌++◌, List, length, ℕ, Bool}
 use Rattle.std.specs.List.{flat_map}
 use Rattle.office.specs.declared.certificate.Certificate.{Certificate}
 use Rattle.office.specs.declared.listing.Revocations.{Revocations}
 use Rattle.office.specs.Listing.{is_among}
-use Rattle.office.specs.Publication.{entry_as, pending_row, standing_as}
-use Rattle.web.specs.declared.batches.Report.{Report}
-use Rattle.web.specs.declared.batches.Report.TheVariants.{Pending, Table}
-use Rattle.web.specs.Reports.{entry_line, pending_line, total_line}
+use Rattle.office.specs.Publication.{entry_as, standing_as}
+use Rattle.web.specs.Reports.{entry_line, total_line}
 
--- where it is revoked or not: its line in the table; its line where it waits for a signature
-abbrev pub line_as : Report → Bool → Certificate → List ℕ
-line_as Pending is_revoked c = if is_none c.signature && not is_revoked then pending_line (pending_row c) else []
-line_as Table is_revoked c = entry_line (entry_as (standing_as is_revoked c) c)
+-- where it is revoked or not
+abbrev pub line_as : Bool → Certificate → List ℕ
+line_as is_revoked c = entry_line (entry_as (standing_as is_revoked c) c)
 
 -- where these are revoked
-abbrev pub line_among : Report → Revocations → Certificate → List ℕ
-line_among report revocations c = line_as report (is_among revocations c) c
+abbrev pub line_among : Revocations → Certificate → List ℕ
+line_among revocations c = line_as (is_among revocations c) c
 
 -- the table of these certificates
 abbrev pub table_among : Revocations → List Certificate → (version : ℕ) → List ℕ
-table_among revocations cs version = flat_map (line_among Table revocations) cs ++ total_line (length cs) version
+table_among revocations cs version = flat_map (line_among revocations) cs ++ total_line (length cs) version
 
 -- what it says of certificates that stand from a place to the next was put at the end
-pub record Says (report : Report) (revocations : Revocations) (cs : List Certificate) (place next : ℕ)
-    (old new : List ℕ) : Type 0 where
+pub record Says (revocations : Revocations) (cs : List Certificate) (place next : ℕ) (old new : List ℕ) : Type 0 where
   pub places : next ≡ place + length cs
-  pub lines : new ≡ old ++ flat_map (line_among report revocations) cs
+  pub lines : new ≡ old ++ flat_map (line_among revocations) cs

@@ -6,16 +6,10 @@ use Rattle.office.specs.declared.arrival.Arrival.{Arrival}
 use Rattle.office.specs.declared.ca.TheConstants.{MOST_CAS}
 use Rattle.office.specs.declared.store_fault.StoreFault.{StoreFault}
 use Rattle.office.specs.declared.store_fault.StoreFault.TheVariants.{Damaged, NoMemory}
+use Rattle.office.specs.Registers.{FailsWithin}
 use Rattle.web.specs.Answers.{arrival_by}
 
--- the database failed in a call on a register that meant what it had meant before
-pub record FailsWithin {S : Type 0} (means : S → Opening → List Arrival → Type 0) (fails : S → S → Type 0) (old new : S)
-    : Type 0 where
-  pub before : S
-  pub same : (o : Opening) (l : List Arrival) → means old o l → means before o l
-  pub failed : fails before new
-
--- so it did in answering this request, or its rules refused what was to be kept of the request's arrival
+-- the database failed so in answering this request, or its rules refused what was to be kept of the request's arrival
 abbrev pub StopsAt : {S : Type 0} → (S → Opening → List Arrival → Type 0) → (S → S → Type 0)
     → (S → S → Arrival → Type 0) → (request : List ℕ) → ℕ → (nonce : List ℕ) → S → S → Type 0
 StopsAt means fails stops request moment nonce old new =

@@ -7,12 +7,10 @@ ghost use Rattle.office.specs.State.{body_of};
 ghost use Rattle.office.specs.Publication.{issued_of};
 ghost use Rattle.office.specs.History.{state};
 ghost use Rattle.office.specs.Faults.{HasCause};
-ghost use Rattle.office.specs.Registers.{AnswersBy, FailsAsARegister, MeansTheSame};
+ghost use Rattle.office.specs.Registers.{AnswersBy, FailsAsARegister, FailsWithin, MeansTheSame};
 ghost use Rattle.web.specs.Answers.{body_response, certificate_response, issued_response};
-ghost use Rattle.web.specs.Reports.{pending_line, pending_report};
-ghost use Rattle.web.specs.Causes.{FailsWithin};
+ghost use Rattle.web.specs.Reports.{pending_line, pending_lines, pending_report};
 
-use crate::batches::{Report, put_all};
 use crate::pieces::put_pieces;
 use crate::room::{around, to_body, to_refusal};
 use http_requests::MediaType;
@@ -80,11 +78,21 @@ pub(crate) fn to_certificate<R: Registry>(
 }
 
 /// Puts the line of a certificate that waits for its signature.
-pub(crate) fn put_pending(out: &mut Vec<u8>, row: &Pending) -> Result<(), NoMemory>
+fn put_pending(out: &mut Vec<u8>, row: &Pending) -> Result<(), NoMemory>
     ensures { OnOk result (out.new.items ≡ out.old.items ++ pending_line row.now) }
 {
     put_decimal(out, row.serial)?;
     put_pieces(out, &[b" ".as_slice(), row.digest.as_slice(), b"\n"])
+}
+
+fn pending_lines(alloc: Global, rows: &[Pending]) -> Result<Vec<u8>, NoMemory>
+    ensures { IfOk result (λ v. v.items ≡ pending_lines rows.now) }
+{
+    let mut out = Vec::new(alloc);
+    for row in rows {
+        put_pending(&mut out, row)?;
+    }
+    Ok(out)
 }
 
 /// The response with the certificates that wait for their signatures.
@@ -102,8 +110,7 @@ pub(crate) fn to_pending<R: Registry>(
         (λ e. HasCause e (FailsWithin R.means R.fails registry.old registry.new)) }
     ensures only { R.is_honest registry.new → FailsAsARegister R.means registry.old result }
 {
-    let revocations = registry.revocations(alloc)?;
-    let mut report = Vec::new(alloc);
-    put_all(registry, alloc, Report::Pending, &revocations, &mut report)?;
+    let rows = registry.pending(alloc)?;
+    let report = pending_lines(alloc, &rows)?;
     around(report, MediaType::PlainText)
 }

@@ -7,11 +7,11 @@ ghost use Rattle.http_requests.specs.Responses.{response_text};
 ghost use Rattle.office.specs.Publication.{published_list};
 ghost use Rattle.office.specs.History.{state};
 ghost use Rattle.office.specs.Faults.{HasCause};
-ghost use Rattle.office.specs.Registers.{AnswersBy, FailsAsARegister, MeansTheSame, WhereMeant};
+ghost use Rattle.office.specs.Registers.{AnswersBy, FailsAsARegister, FailsWithin, MeansTheSame, WhereMeant};
 ghost use Rattle.lines.specs.Digests.{fingerprint_text};
 ghost use Rattle.lines.specs.Signers.{signers_text};
 ghost use Rattle.web.specs.Answers.{ListFits};
-ghost use Rattle.web.specs.Causes.{FailsWithin, IsOfAList};
+ghost use Rattle.web.specs.Causes.{IsOfAList};
 ghost use Rattle.web.specs.Reports.{ca_line, ca_lines, ca_report, is_signing, signer_row, signer_rows, signer_rows_of};
 ghost use Rattle.web.specs.Reports.{signers_report};
 

@@ -5,13 +5,12 @@ ghost use Rattle.http_requests.specs.declared.response.MediaType.TheVariants.{Pl
 ghost use Rattle.http_requests.specs.Responses.{response_text};
 ghost use Rattle.office.specs.History.{state};
 ghost use Rattle.office.specs.Faults.{HasCause};
-ghost use Rattle.office.specs.Registers.{AnswersBy, FailsAsARegister, MeansTheSame};
-ghost use Rattle.web.specs.Causes.{FailsWithin};
+ghost use Rattle.office.specs.Registers.{AnswersBy, FailsAsARegister, FailsWithin, MeansTheSame};
 ghost use Rattle.message.specs.Texts.{kind_text};
 ghost use Rattle.web.specs.Reports.{entry_line, gap, moment_places, serial_places, standing_word, table_report, total_line};
 ghost use Rattle.web.specs.Batches.{table_among};
 
-use crate::batches::{Report, put_all};
+use crate::batches::put_all;
 use crate::pieces::{put_column, put_number, put_pieces};
 use crate::room::around;
 use http_requests::MediaType;
@@ -96,7 +95,7 @@ fn table_beside<R: Registry>(
     ensures only { R.is_honest registry.new → FailsAsARegister R.means registry.old result }
 {
     let mut report = Vec::new(alloc);
-    let count = put_all(registry, alloc, Report::Table, revocations, &mut report)?;
+    let count = put_all(registry, alloc, revocations, &mut report)?;
     put_total(&mut report, count, version)?;
     Ok(report)
 }

@@ -6,9 +6,9 @@ ghost use Rattle.http_requests.specs.Asked.{ask_of};
 ghost use Rattle.http_requests.specs.Asks.{Asks};
 ghost use Rattle.office.specs.Faults.{HasCause};
 ghost use Rattle.office.specs.History.{state};
-ghost use Rattle.office.specs.Registers.{AnswersBy, FailsAsARegister, MeansTheSame, WhereMeant};
+ghost use Rattle.office.specs.Registers.{AnswersBy, FailsAsARegister, FailsWithin, MeansTheSame, WhereMeant};
 ghost use Rattle.web.specs.Answers.{IsAnswered, Keeps, ListFits, resource_response};
-ghost use Rattle.web.specs.Causes.{FailsWithin, StopsAt};
+ghost use Rattle.web.specs.Causes.{StopsAt};
 ghost use Rattle.web.specs.Requests.{request_ask};
 
 use crate::answering::to_arrival;

@@ -14,21 +14,26 @@ returns-in_default-string_front c ids others a b = (
 
 pub loop-id-preserved-in-Less : goal.loop-id-preserved-in-Less
 loop-id-preserved-in-Less c ids others a b =
-    let less : slice_cmp nat_cmp c.in-Some-string_front.other.now c.in-Some.id.now ≡ Less = sym c.cmp.ensures ∙ c.in-Less.is in
+    let less : slice_cmp nat_cmp c.in-Some-string_front.other.now c.in-Some.id.now ≡ Less = sym c.cmp.ensures
+    ∙ c.in-Less.is in
     pass_id ids others c.loop-id.wanted.now c.loop-id.left.now c.in-Some.id.now c.in-Some.rest.now
-    (c.loop-id.invariant ids others a b) c.in-Some.ensures.reads c.in-Some-string_front.other.now c.in-Some-string_front.others.now
+    (c.loop-id.invariant ids others a b) c.in-Some.ensures.reads c.in-Some-string_front.other.now
+    c.in-Some-string_front.others.now
     c.in-Some-string_front.ensures.reads less
 
 pub loop-id-preserved : goal.loop-id-preserved
 loop-id-preserved c ids others a b =
-    let same : slice_cmp nat_cmp c.in-Some-string_front.other.now c.in-Some.id.now ≡ Equal = sym c.cmp.ensures ∙ c.in-Equal.is in
+    let same : slice_cmp nat_cmp c.in-Some-string_front.other.now c.in-Some.id.now ≡ Equal = sym c.cmp.ensures
+    ∙ c.in-Equal.is in
     keep_id ids others c.loop-id.wanted.now c.loop-id.left.now c.in-Some.id.now c.in-Some.rest.now
-    (c.loop-id.invariant ids others a b) c.in-Some.ensures.reads c.in-Some-string_front.other.now c.in-Some-string_front.others.now
+    (c.loop-id.invariant ids others a b) c.in-Some.ensures.reads c.in-Some-string_front.other.now
+    c.in-Some-string_front.others.now
     c.in-Some-string_front.ensures.reads same
 
 pub returns-in-Greater : goal.returns-in-Greater
 returns-in-Greater c ids others a b =
-    let more : slice_cmp nat_cmp c.in-Some-string_front.other.now c.in-Some.id.now ≡ Greater = sym c.cmp.ensures ∙ c.in-Greater.is in (
+    let more : slice_cmp nat_cmp c.in-Some-string_front.other.now c.in-Some.id.now ≡ Greater = sym c.cmp.ensures
+    ∙ c.in-Greater.is in (
       λ no. absurd cc,
       λ kept. absurd (lose_id ids others c.loop-id.wanted.now c.loop-id.left.now c.in-Some.id.now c.in-Some.rest.now
           (c.loop-id.invariant ids others a b) c.in-Some.ensures.reads c.in-Some-string_front.other.now
@@ -37,6 +42,7 @@ returns-in-Greater c ids others a b =
 
 pub returns : goal.returns
 returns c ids others a b = (
-  λ all. none_wanted ids others c.loop-id.wanted.now c.loop-id.left.now (c.loop-id.invariant ids others a b) c.in_default.ensures.reads,
+  λ all. none_wanted ids others c.loop-id.wanted.now c.loop-id.left.now
+      (c.loop-id.invariant ids others a b) c.in_default.ensures.reads,
   λ kept. refl,
 )

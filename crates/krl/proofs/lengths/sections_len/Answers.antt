@@ -6,5 +6,6 @@ pub returns : goal.returns
 returns c =
     let all = take_all c.loop-part.part-index c.args.parts.now (omega arith) in (
       rw all at c.loop-part.invariant.fit,
-      c.loop-part.invariant.so_far ∙ ap (λ (cas : List CaPart). 44 + sum_by (section_length c.args.ids.now) cas) all ∙ ap (λ n. 44 + n) (sym (sections_length c.args.parts.now c.args.ids.now)),
+      c.loop-part.invariant.so_far ∙ ap (λ (cas : List CaPart). 44 + sum_by (section_length c.args.ids.now) cas) all
+          ∙ ap (λ n. 44 + n) (sym (sections_length c.args.parts.now c.args.ids.now)),
     )

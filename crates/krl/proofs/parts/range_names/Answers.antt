@@ -7,6 +7,8 @@ returns-clause-found c =
       record { lo = c.in-Some.lo; hi = c.in-Some-u64.hi },
       omega arith,
       omega arith,
-      sym c.new-cursor.ensures ∙ c.in-Some.ensures.found ∙ ap (λ (m : List ℕ). u64_text c.in-Some.lo ++ m) (c.in-Some-u64.ensures.found ∙ ap (λ (r : List ℕ). u64_text c.in-Some-u64.hi ++ r) end),
+      sym c.new-cursor.ensures ∙ c.in-Some.ensures.found
+          ∙ ap (λ (m : List ℕ). u64_text c.in-Some.lo ++ m)
+          (c.in-Some-u64.ensures.found ∙ ap (λ (r : List ℕ). u64_text c.in-Some-u64.hi ++ r) end),
       c.has.ensures,
     )

@@ -12,7 +12,8 @@ returns-in_err-head-clause-exact c = (
   λ some. let bad = sym (ap is_some c.from_residual.ensures) ∙ some in absurd cc,
   λ is.
       let lawful = is.1.lawful in
-      let bad = c.in_err-head.ensures.reads ∙ ap head_at is.1.text ∙ head_again is.0.head _ lawful.version lawful.date in
+      let bad = c.in_err-head.ensures.reads ∙ ap head_at is.1.text
+      ∙ head_again is.0.head _ lawful.version lawful.date in
       absurd cc,
 )
 
@@ -21,7 +22,8 @@ returns-in_err-key_ids-clause-exact c = (
   λ some. let bad = sym (ap is_some c.from_residual-in_err-key_ids.ensures) ∙ some in absurd cc,
   λ is.
       let lawful = is.1.lawful in
-      let head = same_Some _ _ (c.in_ok-head.ensures.reads ∙ ap head_at is.1.text ∙ head_again is.0.head _ lawful.version lawful.date) in
+      let head = same_Some _ _ (c.in_ok-head.ensures.reads ∙ ap head_at is.1.text
+      ∙ head_again is.0.head _ lawful.version lawful.date) in
       let sections = listed_sections is.0 lawful _ (λ i. (head i).1) in
       let bad = c.in_err-key_ids.ensures.only _ is.0.cas sections.whole (ids_if_any is.0 lawful) in
       absurd cc,
@@ -32,10 +34,17 @@ returns-then-not-are_sections-clause-exact c = (
   λ some. absurd cc,
   λ is.
       let lawful = is.1.lawful in
-      let head = same_Some _ _ (c.in_ok-head.ensures.reads ∙ ap head_at is.1.text ∙ head_again is.0.head _ lawful.version lawful.date) in
+      let head = same_Some _ _ (c.in_ok-head.ensures.reads ∙ ap head_at is.1.text
+      ∙ head_again is.0.head _ lawful.version lawful.date) in
       let sections = listed_sections is.0 lawful _ (λ i. (head i).1) in
       let ids = same_Some _ _ (c.in_ok-key_ids.ensures.only _ is.0.cas sections.whole (ids_if_any is.0 lawful)) in
-      let are = c.are_sections.ensures.1 (is.0.cas, is.0.ids, subst (λ b. AreSections c.in_ok-head.sections.now b is.0.cas is.0.ids) (sym ids) sections) in
+      let are =
+      c.are_sections.ensures.1 (
+        is.0.cas,
+        is.0.ids,
+        subst (λ b. AreSections c.in_ok-head.sections.now b is.0.cas is.0.ids)
+            (sym ids) sections,
+      ) in
       absurd (clash c.are_sections.result are c.if-not-are_sections.true),
 )
 
@@ -52,13 +61,16 @@ pub returns-clause-exact : goal.returns-clause-exact
 returns-clause-exact c =
     let found = c.are_sections.ensures.0 c.if-not-are_sections.false in
     let head = c.in_ok-head.head in
-    let listed = listed_found head c.in_ok-head.sections.now c.in_ok-key_ids.key_ids.now found.0 found.1 c.in_ok-head.ensures.version
+    let listed =
+    listed_found head c.in_ok-head.sections.now c.in_ok-key_ids.key_ids.now found.0 found.1
+    c.in_ok-head.ensures.version
     c.in_ok-head.ensures.date found.2 (λ e. same_Some _ _ (c.in_ok-key_ids.ensures.none e)) in (
       λ some. (
         record { head = head; cas = found.0; ids = found.1 },
         record {
           lawful = listed.lawful;
-          text = c.in_ok-head.ensures.found ∙ ap (λ (t : List ℕ). header_text (published_header head) ++ t) listed.sections_are;
+          text = c.in_ok-head.ensures.found
+              ∙ ap (λ (t : List ℕ). header_text (published_header head) ++ t) listed.sections_are;
         },
       ),
       λ is. refl,

@@ -8,8 +8,12 @@ loop-cursor-preserved c =
     let section = c.in_ok-revoked.ensures.found in
     let test = section_revokes c.args.blob.now c.args.serial c.args.key_id.now in
     record {
-      bytes_left = suffix_bytes c.loop-cursor.cursor (section_text section.0) c.read_section.new.cursor c.loop-cursor.invariant.bytes_left section.2;
+      bytes_left =
+          suffix_bytes c.loop-cursor.cursor
+          (section_text section.0) c.read_section.new.cursor c.loop-cursor.invariant.bytes_left section.2;
       so_far =
-          subst (λ (b : Bool). SoFar section_text IsReadSection test c.args.cursor.now c.read_section.new.cursor (c.loop-cursor.revoked || b)) (sym section.3)
-          (so_far_more section_text IsReadSection test c.args.cursor.now c.loop-cursor.cursor c.read_section.new.cursor c.loop-cursor.revoked section.0 c.loop-cursor.invariant.so_far section.1 section.2);
+          subst (λ (b : Bool). SoFar section_text IsReadSection test c.args.cursor.now c.read_section.new.cursor
+          (c.loop-cursor.revoked || b)) (sym section.3)
+          (so_far_more section_text IsReadSection test c.args.cursor.now c.loop-cursor.cursor c.read_section.new.cursor
+          c.loop-cursor.revoked section.0 c.loop-cursor.invariant.so_far section.1 section.2);
     }

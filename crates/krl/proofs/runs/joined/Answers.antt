@@ -9,7 +9,11 @@ made c =
     c.in_ok-push-3.ensures.items ∙ (rw none at c.loop-run.invariant)
 
 pub returns-clause-runs : goal.returns-clause-runs
-returns-clause-runs c = rw (made c) (joined_runs 0 c.args.with.lo c.args.with.hi c.args.runs.now (omega arith) c.requires.order (omega arith) c.requires.runs)
+returns-clause-runs c =
+    rw (made c)
+    (joined_runs 0 c.args.with.lo c.args.with.hi c.args.runs.now (omega arith) c.requires.order
+    (omega arith) c.requires.runs)
 
 pub returns-clause-union : goal.returns-clause-union
-returns-clause-union c n = rw (made c) (contains_joined 0 c.args.with.lo c.args.with.hi n c.args.runs.now c.requires.order c.requires.runs)
+returns-clause-union c n =
+    rw (made c) (contains_joined 0 c.args.with.lo c.args.with.hi n c.args.runs.now c.requires.order c.requires.runs)

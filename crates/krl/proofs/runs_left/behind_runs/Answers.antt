@@ -11,8 +11,10 @@ returns-then-not-may_follow-clause-only c rs after h none split =
 
 pub loop-run-preserved : goal.loop-run-preserved
 loop-run-preserved c =
-    let low : least c.loop-run.last ≤ c.in-Some.run'.lo = grind (arith, c.may_follow.ensures, c.if-not-may_follow.false) in
-    one_more _ _ _ _ _ _ c.loop-run.last c.in-Some.run' c.loop-run.invariant low c.in-Some.ensures.order c.in-Some.ensures.bound
+    let low : least c.loop-run.last ≤ c.in-Some.run'.lo =
+    grind (arith, c.may_follow.ensures, c.if-not-may_follow.false) in
+    one_more _ _ _ _ _ _ c.loop-run.last c.in-Some.run' c.loop-run.invariant low c.in-Some.ensures.order
+    c.in-Some.ensures.bound
     c.in-Some.ensures.listed c.in-Some.ensures.ranges (sym c.in-Some.ensures.reads)
 
 pub returns-then-is_empty-clause-found : goal.returns-then-is_empty-clause-found
@@ -22,9 +24,12 @@ returns-then-is_empty-clause-found c =
 
 pub returns-then-is_empty-clause-only : goal.returns-then-is_empty-clause-only
 returns-then-is_empty-clause-only c rs after h none split =
-    ap Some (read_again _ _ _ _ c.loop-run.last c.loop-run.invariant (sym c.in_default.ensures.reads) rs after h none split).1
+    ap Some (read_again _ _ _ _ c.loop-run.last c.loop-run.invariant
+    (sym c.in_default.ensures.reads) rs after h none split).1
 
 pub returns-else-is_empty-clause-only : goal.returns-else-is_empty-clause-only
 returns-else-is_empty-clause-only c rs after h none split =
-    let empty = (read_again _ _ _ _ c.loop-run.last c.loop-run.invariant (sym c.in_default.ensures.reads) rs after h none split).0 in
+    let empty =
+    (read_again _ _ _ _ c.loop-run.last c.loop-run.invariant
+    (sym c.in_default.ensures.reads) rs after h none split).0 in
     absurd (clash c.is_empty.result (c.is_empty.ensures ∙ rw empty refl) c.if-is_empty.false)

@@ -4,7 +4,8 @@ use Rattle.krl.proofs.sections.are_among.Given as goal
 
 abbrev pub invariant-loop-section : goal.invariant-loop-section
 invariant-loop-section l =
-    (ids : List ℕ) (cas : List CaPart) → AllByRecursion (IsWhole ids) cas → l.fn.sections ≡ flat_map (whole_text ids) cas
+    (ids : List ℕ) (cas : List CaPart) → AllByRecursion (IsWhole ids) cas
+    → l.fn.sections ≡ flat_map (whole_text ids) cas
     → (left : List CaPart) × AllByRecursion (IsWhole ids) left × (l.left ≡ flat_map (whole_text ids) left)
     × (list_all (λ p. list_any (λ k. bytes_eq k p.ca) l.fn.keys) cas
     ≡ list_all (λ p. list_any (λ k. bytes_eq k p.ca) l.fn.keys) left)

@@ -4,7 +4,8 @@ use Rattle.krl.specs.Fronts.{IsWhole, whole_text}
 use Rattle.krl.proofs.Booleans.{clash}
 use Rattle.krl.proofs.WholeSections.{Reads, not_whole, one_whole}
 use Rattle.krl.proofs.sections.are_whole.Goals as goal
-use Rattle.krl.proofs.sections.are_whole.Goals.{then-count-eq-MAX_CAS-via-then-count-eq-MAX_CAS, then-count-eq-MAX_CAS-via-else-count-eq-MAX_CAS+then-not-is_same}
+use Rattle.krl.proofs.sections.are_whole.Goals.{then-count-eq-MAX_CAS-via-then-count-eq-MAX_CAS}
+use Rattle.krl.proofs.sections.are_whole.Goals.{then-count-eq-MAX_CAS-via-else-count-eq-MAX_CAS+then-not-is_same}
 
 pub returns-in_default : goal.returns-in_default
 returns-in_default c =
@@ -35,7 +36,8 @@ loop-left-preserved c =
     let some : c.loop-left.left.now ≢ [] = λ none. clash c.is_empty.result
     (c.is_empty.ensures ∙ ap (λ (x : List ℕ). eqb (length x) 0) none) c.loop-left-test.true in
     let found = c.in-Some.ensures.found in
-    let same : c.in-Some.ids.now ≡ c.args.key_ids.now = (bytes_eq-Decides _ _).0 (sym c.is_same.ensures ∙ c.if-not-is_same.false) in
+    let same : c.in-Some.ids.now ≡ c.args.key_ids.now =
+    (bytes_eq-Decides _ _).0 (sym c.is_same.ensures ∙ c.if-not-is_same.false) in
     one_whole c.args.sections.now c.args.key_ids.now c.loop-left.left.now c.in-Some.rest.now c.loop-left.count found.0
     c.loop-left.invariant some c.if-count-eq-MAX_CAS.false (subst (λ ids. IsWhole ids found.0) same found.1)
     (found.2 ∙ ap (λ ids. whole_text ids found.0 ++ c.in-Some.rest.now) same)

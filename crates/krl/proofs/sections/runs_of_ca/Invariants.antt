@@ -4,7 +4,8 @@ use Rattle.krl.proofs.sections.runs_of_ca.Given as goal
 
 abbrev pub invariant-loop-section : goal.invariant-loop-section
 invariant-loop-section l =
-    (ids : List ℕ) (cas : List CaPart) → AllByRecursion (IsWhole ids) cas → l.fn.sections ≡ flat_map (whole_text ids) cas
+    (ids : List ℕ) (cas : List CaPart) → AllByRecursion (IsWhole ids) cas
+    → l.fn.sections ≡ flat_map (whole_text ids) cas
     → (left : List CaPart) × AllByRecursion (IsWhole ids) left × (l.left ≡ flat_map (whole_text ids) left)
     × (runs_under ids l.fn.ca cas ≡ runs_under ids l.fn.ca left)
 

@@ -4,6 +4,7 @@ use Rattle.krl.proofs.writer.write_sections.Given as goal
 
 abbrev pub invariant-loop-part : goal.invariant-loop-part
 invariant-loop-part g l = record {
-  written : Writes g.W.Sink.taken g.W.Sink.failed g.W.Sink.room l.fn.sink l.sink true (flat_map (sections_text l.ids) (take l.part-index l.parts));
+  written : Writes g.W.Sink.taken g.W.Sink.failed g.W.Sink.room l.fn.sink l.sink true
+      (flat_map (sections_text l.ids) (take l.part-index l.parts));
   lawful : All (λ p. AreRuns p.runs) (take l.part-index l.parts);
 }

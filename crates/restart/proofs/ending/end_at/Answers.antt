@@ -1,4 +1,4 @@
-use Rattle.std.proofs.Common.{Err}
+use Rattle.std.proofs.Common.{Err, Some, ap, sym}
 use Rattle.restart.specs.declared.ending.EndFault.TheVariants.{GivenUp}
 use Rattle.restart.specs.Ending.{AreEnded}
 use Rattle.restart.proofs.HowEnded.{ended_since, ends_runs, given_up_since}
@@ -18,10 +18,11 @@ returns-in-None-clause-runs g c =
 
 pub returns-in-Some-clause-ended : goal.returns-in-Some-clause-ended
 returns-in-Some-clause-ended g c clean =
-    given_up_since c.args.conn c.shut.new.conn c.give_up.result c.shut.ensures.survives (c.give_up.ensures clean)
+    given_up_since c.args.conn c.shut.new.conn c.in-Some.error c.give_up.result c.shut.ensures.survives
+    (λ is. c.shut.ensures.cause is c.in-Some.error c.in-Some.is) (c.give_up.ensures clean)
 
 pub returns-in-Some-clause-runs : goal.returns-in-Some-clause-runs
 returns-in-Some-clause-runs g c =
     ends_runs g.met.D.Disk.seen_may_stay c.args.conn (Err (GivenUp c.in-Some.error)) c.give_up.result
-    (λ clean. given_up_since c.args.conn c.shut.new.conn c.give_up.result c.shut.ensures.survives
-    (c.give_up.ensures clean))
+    (λ clean. given_up_since c.args.conn c.shut.new.conn c.in-Some.error c.give_up.result c.shut.ensures.survives
+    (λ is. c.shut.ensures.cause is c.in-Some.error c.in-Some.is) (c.give_up.ensures clean))

@@ -21,4 +21,5 @@ returns g c honest =
         sound = gives.sound clean;
         fewer = gives.quiet.outcomes;
       };
+      counts = gives.quiet.counts;
     }

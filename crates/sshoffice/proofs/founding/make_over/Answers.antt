@@ -10,7 +10,7 @@ pub returns-in-Err-clause-makes : goal.returns-in-Err-clause-makes
 returns-in-Err-clause-makes g c = λ clean.
     unmade c.in-Err.fault c.from.result c.args.opening.now (state g.S.Store c.args.conn) (state g.S.Store c.in-Err.conn)
     c.from.ensures (c.in-Err.ensures.before clean) (c.in-Err.ensures.blank clean) (c.in-Err.ensures.only clean)
-    c.in-Err.ensures.crash_back
+    (c.in-Err.ensures.told clean) c.in-Err.ensures.crash_back
 
 pub returns-in-Ok-clause-makes : goal.returns-in-Ok-clause-makes
 returns-in-Ok-clause-makes g c = λ honest.

@@ -26,6 +26,7 @@ returns-in-Err-clause-migrates g c = λ clean.
       only = c.in-Err.ensures.only clean;
       before = c.in-Err.ensures.before clean;
       back = c.in-Err.ensures.back clean;
+      tells = c.in-Err.ensures.told clean;
       crash = c.in-Err.ensures.crash_back;
     }))
 

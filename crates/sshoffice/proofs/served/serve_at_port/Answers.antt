@@ -12,7 +12,8 @@ returns-in-Ok-clause-serves g c =
       serves = λ clean. served_of c.args.connections (g.W.File.Read.remaining c.args.nonces) g.W.Incoming.Listener.book
           run.ensures.serves.heard (state g.S.Store c.args.conn) (state g.S.Store c.in-Ok.store.conn)
           (state g.S.Store run.result.1) (g.O.Write.contents c.args.out.now) (g.O.Write.contents run.new.out)
-          run.result.0 (c.in-Ok.ensures.opened (run.ensures.honest clean)).tells (run.ensures.serves.serves clean);
+          run.result.0 (c.in-Ok.ensures.opened (run.ensures.honest clean)).before
+          (c.in-Ok.ensures.opened (run.ensures.honest clean)).tells (run.ensures.serves.serves clean);
     }
 
 pub returns-in-Ok-clause-honest : goal.returns-in-Ok-clause-honest

@@ -13,5 +13,5 @@ returns-in-Ok-print_port-clause-serves g c =
           _ _ (state g.S.Store c.args.store.conn) (state g.S.Store run.result.1) (g.O.Write.contents c.args.out.now)
           (g.O.Write.contents c.print_port.new.out) (g.O.Write.contents run.new.out) c.in-Ok-print_port.ensures.ok
           (ap g.O.Write.contents run.ensures.quiet) c.new-source.ensures.remaining run.ensures.met
-          (run.ensures.served clean) run.ensures.status;
+          (λ failed. ap (state g.S.Store) (run.ensures.unmet failed)) (run.ensures.served clean) run.ensures.status;
     }

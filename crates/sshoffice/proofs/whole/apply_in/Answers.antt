@@ -1,5 +1,6 @@
 use Rattle.std.proofs.Common.{[], Ok, Err, ap, refl, subst}
 use Rattle.sshoffice.specs.Applying.{Applies}
+use Rattle.sshoffice.specs.Asked.{AsksExchanges}
 use Rattle.sshoffice.specs.Finding.{OpensThere}
 use Rattle.sshoffice.specs.Whole.{DoesIn}
 use Rattle.sshoffice.proofs.whole.apply_in.Goals as goal
@@ -9,7 +10,7 @@ returns-in-Ok g c = record {
   exchanges = Ok c.in-Ok.exchanges.items;
   are_of = c.in-Ok.ensures.found;
   applied = subst (λ es. DoesIn g.S.Store g.W.World g.W.Incoming.Listener.book c.args.world.now c.do_in.new.world
-      (OpensThere g.W.World c.args.db.now) (Applies es) [] (g.O.Write.contents c.args.out)
+      (OpensThere g.W.World c.args.db.now) (Applies es) (AsksExchanges es) [] (g.O.Write.contents c.args.out)
       (g.O.Write.contents c.do_in.result.1) c.do_in.result.0) c.as_slice.ensures.value c.do_in.ensures;
 }
 

@@ -1,9 +1,11 @@
 use Rattle.std.proofs.Common.{Ok, Err, ap, refl}
 use Rattle.std.proofs.lemmas.Result.{IfErr-weaker}
 use Rattle.sqlite.specs.Held.{state}
+use Rattle.sshoffice.specs.Asked.{AsksOffice}
 use Rattle.sshoffice.proofs.Additions.{done as added}
 use Rattle.sshoffice.proofs.Ended.{told}
-use Rattle.sshoffice.proofs.Found.{kept, opened_for, ready_for}
+use Rattle.sshoffice.proofs.Doing.{does_asked}
+use Rattle.sshoffice.proofs.Found.{kept, opened_for, ran, ready_for}
 use Rattle.sshoffice.proofs.whole.do_in.Goals as goal
 
 pub returns-in-Ok : goal.returns-in-Ok
@@ -27,9 +29,21 @@ returns-in-Ok g c = record {
           (opened_for g.S.Store g.W.World c.requires.keeps c.args.db.now c.args.job.now c.args.world.now c.in-Ok.conn
           c.open_for.new.world c.in-Ok.ensures)
           c.do_on-outcome.ensures.honest
-          (λ was rest still clean. added (state g.S.Store c.in-Ok.conn) (state g.S.Store c.do_on-outcome.result.conn)
-          was rest still (λ trees may. g.met.S.Store.settled c.do_on-outcome.result.conn.store trees still may)
+          (λ was clean. added (state g.S.Store c.in-Ok.conn) (state g.S.Store c.do_on-outcome.result.conn) was
           c.args.job.now _ _ c.do_on-outcome.result.outcome (c.do_on-outcome.ensures.does clean))
+          c.close_database.ensures;
+      runs = ran g.S.Store g.W.World c.requires.keeps c.args.db.now c.open_for.new.world c.open_for.new.world
+          c.close_database.new.self c.in-Ok.conn c.do_on-outcome.result.conn c.close_database.result
+          (AsksOffice c.args.job.now (g.O.Write.contents c.args.out)
+          (g.O.Write.contents c.do_on-outcome.result.out) c.do_on-outcome.result.outcome)
+          (opened_for g.S.Store g.W.World c.requires.keeps c.args.db.now c.args.job.now c.args.world.now c.in-Ok.conn
+          c.open_for.new.world c.in-Ok.ensures)
+          c.do_on-outcome.ensures.honest
+          (λ clean was. does_asked (state g.S.Store c.in-Ok.conn) (state g.S.Store c.do_on-outcome.result.conn) clean was
+          (λ trees still may. g.met.S.Store.settled c.do_on-outcome.result.conn.store trees still may)
+          c.args.job.now _ _ c.do_on-outcome.result.outcome c.requires.lawful
+          (λ making seen. let none = c.do_on-outcome.ensures.none making seen in (none.0, ap (state g.S.Store) none.1))
+          (c.do_on-outcome.ensures.does clean))
           c.close_database.ensures;
       came = c.closed.ensures;
     };

@@ -1,15 +1,18 @@
-use Rattle.std.proofs.Common.{◌≤◌, ℕ, Result, Ok, Err, refl, subst, sym}
+use Rattle.std.proofs.Common.{◌≤◌, ℕ, Result, Ok, Err, ap, refl, subst, sym}
 use Rattle.std.specs.Prelude.{IfOk}
-use Rattle.sqlite.specs.declared.error.Error.{Error}
+use Rattle.restart.specs.declared.ending.EndFault.{EndFault}
 use Rattle.sqlite.specs.Held.{state}
 use Rattle.sshoffice.specs.Ending.{closed}
 use Rattle.sshoffice.specs.declared.job_fault.JobFault.{JobFault}
 use Rattle.sshoffice.proofs.Additions.{served as added}
-use Rattle.sshoffice.proofs.Found.{kept, opened_there, ready_there}
+use Rattle.sshoffice.specs.Asked.{AsksServing}
+use Rattle.sshoffice.specs.Whole.{heard_of}
+use Rattle.sshoffice.proofs.Doing.{serves_asked}
+use Rattle.sshoffice.proofs.Found.{kept, opened_there, ran, ready_there}
 use Rattle.sshoffice.proofs.whole.serve_in.Goals as goal
 
 -- a status is what it was once the database is closed
-status_kept : (done : Result ℕ JobFault) (closing : Result Unit Error) → IfOk done (λ s. s ≤ 1)
+status_kept : (done : Result ℕ JobFault) (closing : Result Unit EndFault) → IfOk done (λ s. s ≤ 1)
     → IfOk (closed done closing) (λ s. s ≤ 1)
 status_kept (Ok x) (Ok u) small = small
 status_kept (Ok x) (Err e) small = tt
@@ -34,9 +37,22 @@ returns-in-Ok-clause-serves g c = record {
         (opened_there g.S.Store g.W.World c.requires c.args.db.now c.args.world.now c.in-Ok.conn
         c.open_there.new.world c.in-Ok.ensures)
         c.serve_at_port-served.ensures.honest
-        (λ was rest still clean. added (state g.S.Store c.in-Ok.conn) (state g.S.Store c.serve_at_port-served.result.1)
-        was rest still (λ trees may. g.met.S.Store.settled c.serve_at_port-served.result.1.store trees still may)
+        (λ was clean. added (state g.S.Store c.in-Ok.conn) (state g.S.Store c.serve_at_port-served.result.1) was
         c.args.connections _ _ _ _ c.serve_at_port-served.result.0
+        (c.serve_at_port-served.ensures.serves.serves clean))
+        c.close_database.ensures;
+    runs = ran g.S.Store g.W.World c.requires c.args.db.now c.open_there.new.world
+        c.serve_at_port-served.new.world c.close_database.new.self c.in-Ok.conn c.serve_at_port-served.result.1
+        c.close_database.result
+        (AsksServing c.args.connections (g.W.File.Read.remaining c.args.nonces)
+        (heard_of g.W.Incoming.Listener.book c.serve_at_port-served.ensures.serves.heard)
+        c.serve_at_port-served.result.0)
+        (opened_there g.S.Store g.W.World c.requires c.args.db.now c.args.world.now c.in-Ok.conn
+        c.open_there.new.world c.in-Ok.ensures)
+        c.serve_at_port-served.ensures.honest
+        (λ clean was. serves_asked (state g.S.Store c.in-Ok.conn) (state g.S.Store c.serve_at_port-served.result.1) clean
+        c.args.connections _ _ _ _ c.serve_at_port-served.result.0
+        (λ seen. let none = c.serve_at_port-served.ensures.none seen in (none.0, ap (state g.S.Store) none.1))
         (c.serve_at_port-served.ensures.serves.serves clean))
         c.close_database.ensures;
     came = c.closed.ensures;

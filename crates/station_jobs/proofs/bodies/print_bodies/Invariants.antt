@@ -1,4 +1,5 @@
 use Rattle.guard.specs.Machine.{State}
+use Rattle.station_jobs.specs.Leaving.{Stays}
 use Rattle.station_jobs.proofs.Rows.{Listed}
 use Rattle.station_jobs.proofs.bodies.print_bodies.Given as goal
 
@@ -6,8 +7,8 @@ use Rattle.station_jobs.proofs.bodies.print_bodies.Given as goal
 abbrev pub invariant-loop-row : goal.invariant-loop-row
 invariant-loop-row g l = record {
   honest : g.G.Register.is_honest l.register → g.G.Register.is_honest l.fn.register;
-  same : g.G.Register.is_honest l.register → (s : State) → g.G.Register.keeps l.fn.register s
-      → g.G.Register.keeps l.register s;
+  stays : g.G.Register.is_honest l.register → (s : State) → g.G.Register.keeps l.fn.register s
+      → Stays g.G.Register l.fn.register l.register s;
   listed : g.G.Register.is_honest l.register → (s : State) → g.G.Register.keeps l.fn.register s
       → Listed s (g.W.Write.contents l.fn.out) (g.W.Write.contents l.out) l.from;
 }

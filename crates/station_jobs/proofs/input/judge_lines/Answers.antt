@@ -1,8 +1,10 @@
 use Rattle.std.proofs.Common.{◌≡◌, IfSome, Ok, Option, subst}
 use Rattle.guard.specs.Policies.{policy_at}
-use Rattle.station_jobs.specs.Input.{JudgesNext}
 use Rattle.station_jobs.specs.declared.policy_file.PolicyText.{PolicyText}
+use Rattle.station_jobs.specs.Input.{JudgesNext}
 use Rattle.station_jobs.specs.Judging.{AsksNow, left_by}
+use Rattle.station_jobs.specs.Leaving.{Leaves}
+use Rattle.station_jobs.proofs.Leavings.{stays_same}
 use Rattle.station_jobs.proofs.Lines.{ends, fails, goes_on, starts, stops}
 use Rattle.station_jobs.proofs.input.judge_lines.Goals as goal
 
@@ -10,48 +12,51 @@ pub loop-turn-init : goal.loop-turn-init
 loop-turn-init g c = record {
   honest = λ h. h;
   known = c.requires;
-  underway = λ h s kept. starts (g.G.Register.keeps c.args.register.now)
+  underway = λ h s kept. starts (Leaves g.G.Register c.args.register.now c.args.register.now s)
       (AsksNow g.P.Surroundings c.args.around.now g.F.Read.remaining c.args.policy.now c.args.ahead) s
-      (g.I.Read.remaining c.args.input.now) (g.W.Write.contents c.args.out.now) kept;
+      (g.I.Read.remaining c.args.input.now) (g.W.Write.contents c.args.out.now)
+      (stays_same g.G.Register c.args.register.now s kept);
 }
 
 pub loop-turn-preserved : goal.loop-turn-preserved
 loop-turn-preserved g c =
     let inv = c.loop-turn.invariant in
     let Asked = AsksNow g.P.Surroundings c.args.around.now g.F.Read.remaining c.args.policy.now c.args.ahead in
-    let keeps = g.G.Register.keeps c.judge_next.new.register in
+    let old = c.args.register.now in
+    let between = c.loop-turn.register in
+    let new = c.judge_next.new.register in
     record {
       honest = λ h. inv.honest (c.judge_next.ensures.honest h);
       known = subst (λ o. IfSome o (λ p. policy_at p.text.items ≡ Ok p.policy)) c.in-Ok-Some.field-0-is c.in-Ok-Some.ensures.known;
       underway = λ h s kept.
           let first = inv.underway (c.judge_next.ensures.honest h) s kept in
+          let t = left_by s first.judges.judged in
           let Next : Option PolicyText → Type 0 =
-          λ o. JudgesNext (left_by s first.judges.judged) keeps Asked (g.I.Read.remaining c.loop-turn.input)
+          λ o. JudgesNext t (Leaves g.G.Register between new t) Asked (g.I.Read.remaining c.loop-turn.input)
           (g.I.Read.remaining c.judge_next.new.input) (g.W.Write.contents c.loop-turn.out)
           (g.W.Write.contents c.judge_next.new.out) (Ok o) in
-          goes_on {A = PolicyText} (g.G.Register.keeps c.loop-turn.register) keeps Asked s (g.I.Read.remaining c.args.input.now)
+          goes_on {A = PolicyText} g.G.Register old between new Asked s (g.I.Read.remaining c.args.input.now)
           (g.I.Read.remaining c.loop-turn.input) (g.I.Read.remaining c.judge_next.new.input)
           (g.W.Write.contents c.args.out.now) (g.W.Write.contents c.loop-turn.out)
           (g.W.Write.contents c.judge_next.new.out) c.in-Ok-Some.policy first
           (subst (λ (o : Option PolicyText). Next o) c.in-Ok-Some.field-0-is
-          (c.in-Ok-Some.ensures.judges h (left_by s first.judges.judged) first.judges.left));
+          (c.in-Ok-Some.ensures.judges h t first.judges.left.kept));
     }
 
 pub returns-in-Err-clause-judges : goal.returns-in-Err-clause-judges
 returns-in-Err-clause-judges g c h s kept =
     let inv = c.loop-turn.invariant in
     let Asked = AsksNow g.P.Surroundings c.args.around.now g.F.Read.remaining c.args.policy.now c.args.ahead in
-    let keeps = g.G.Register.keeps c.judge_next.new.register in
     let first = inv.underway (c.judge_next.ensures.honest h) s kept in
-    fails PolicyText (g.G.Register.keeps c.loop-turn.register) keeps Asked s (g.I.Read.remaining c.args.input.now)
-    (g.I.Read.remaining c.loop-turn.input) (g.I.Read.remaining c.judge_next.new.input)
-    (g.W.Write.contents c.args.out.now) (g.W.Write.contents c.loop-turn.out)
-    (g.W.Write.contents c.judge_next.new.out) c.in-Err.fault first
-    (c.in-Err.ensures.judges h (left_by s first.judges.judged) first.judges.left)
+    fails PolicyText g.G.Register c.args.register.now c.loop-turn.register c.judge_next.new.register Asked s
+    (g.I.Read.remaining c.args.input.now) (g.I.Read.remaining c.loop-turn.input)
+    (g.I.Read.remaining c.judge_next.new.input) (g.W.Write.contents c.args.out.now)
+    (g.W.Write.contents c.loop-turn.out) (g.W.Write.contents c.judge_next.new.out) c.in-Err.fault first
+    (c.in-Err.ensures.judges h (left_by s first.judges.judged) first.judges.left.kept)
 
 pub returns-clause-judges : goal.returns-clause-judges
 returns-clause-judges g c h s kept =
-    stops (g.G.Register.keeps c.loop-turn.register)
+    stops g.G.Register c.args.register.now c.loop-turn.register
     (AsksNow g.P.Surroundings c.args.around.now g.F.Read.remaining c.args.policy.now c.args.ahead) s
     (g.I.Read.remaining c.args.input.now) (g.I.Read.remaining c.loop-turn.input) (g.W.Write.contents c.args.out.now)
-    (g.W.Write.contents c.loop-turn.out) _ (c.loop-turn.invariant.underway h s kept)
+    (g.W.Write.contents c.loop-turn.out) (c.loop-turn.invariant.underway h s kept)

@@ -1,18 +1,20 @@
 use Rattle.std.proofs.Common.{◌≡◌, refl}
 use Rattle.station_jobs.specs.Judging.{Asks}
-use Rattle.station_jobs.proofs.Judgements.{asks, fault_first, one_judged}
+use Rattle.station_jobs.specs.Leaving.{Leaves}
+use Rattle.station_jobs.proofs.Judgements.{fault_first, one_weighed}
+use Rattle.station_jobs.proofs.Leavings.{body_cause, fails_same}
 use Rattle.station_jobs.proofs.judging.judge_file.Goals as goal
 
 pub returns-in-Err-clause-judges : goal.returns-in-Err-clause-judges
 returns-in-Err-clause-judges g c h s kept =
-    fault_first (g.G.Register.keeps c.args.register.now)
-    (Asks g.P.Surroundings c.args.around.now g.F.Read.remaining (λ p. p ≡ c.args.policy.now) c.args.ahead) s _ _ _ kept
+    let register = c.args.register.now in
+    fault_first (Leaves g.G.Register register register s)
+    (Asks g.P.Surroundings c.args.around.now g.F.Read.remaining (λ p. p ≡ c.args.policy.now) c.args.ahead) s _ _ _
+    (fails_same g.G.Register Unit register s c.in-Err.fault kept
+    (body_cause (g.G.Register.has_failed register) c.in-Err.fault c.in-Err.ensures.only))
 
 pub returns-in-Ok-clause-judges : goal.returns-in-Ok-clause-judges
 returns-in-Ok-clause-judges g c h s kept =
-    one_judged (g.G.Register.keeps c.answer_body.new.register)
-    (Asks g.P.Surroundings c.args.around.now g.F.Read.remaining (λ p. p ≡ c.args.policy.now) c.args.ahead) s
-    c.args.path.now _ _ _ _
-    (asks g.P.Surroundings c.args.around.now g.F.Read.remaining c.args.policy.now c.args.ahead c.args.path.now _ _ _
-    c.as_slice.ensures.value c.in-Ok.ensures)
-    (c.answer_body.ensures.answers h s kept)
+    one_weighed g.P.Surroundings c.args.around.now g.F.Read.remaining c.args.policy.now c.args.ahead c.args.path.now _ _ _
+    c.as_slice.ensures.value c.in-Ok.ensures.weighs (Leaves g.G.Register c.args.register.now c.answer_body.new.register s)
+    s _ _ _ (c.answer_body.ensures.answers h s kept)

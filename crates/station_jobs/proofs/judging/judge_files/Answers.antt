@@ -1,8 +1,18 @@
 use Rattle.std.proofs.Common.{◌≡◌, ◌+◌, ◌++◌, ◌∷◌, [], List, ℕ, Err, Ok, drop, map, string_bytes, subst, take}
-use Rattle.guard.specs.Machine.{State}
 use Rattle.station_jobs.specs.Judging.{Asks, Judges, left_by}
-use Rattle.station_jobs.proofs.Judgements.{given_after, judged_on, more_given, next_path}
+use Rattle.station_jobs.specs.Leaving.{Leaves}
+use Rattle.station_jobs.proofs.Judgements.{given_after, judged_then, more_given, next_path, none_judged}
+use Rattle.station_jobs.proofs.Leavings.{stays_same}
 use Rattle.station_jobs.proofs.judging.judge_files.Goals as goal
+
+pub loop-path-init : goal.loop-path-init
+loop-path-init g c = record {
+  honest = λ h. h;
+  judges = λ h s kept.
+      none_judged (Leaves g.G.Register c.args.register.now c.args.register.now s)
+      (Asks g.P.Surroundings c.args.around.now g.F.Read.remaining (λ p. p ≡ c.args.policy.now) c.args.ahead) s
+      (g.W.Write.contents c.args.out.now) (stays_same g.G.Register c.args.register.now s kept);
+}
 
 pub loop-path-preserved : goal.loop-path-preserved
 loop-path-preserved g c =
@@ -10,19 +20,22 @@ loop-path-preserved g c =
     let i = c.loop-path.path-index in
     let paths = c.args.paths.now in
     let Asked = Asks g.P.Surroundings c.args.around.now g.F.Read.remaining (λ p. p ≡ c.args.policy.now) c.args.ahead in
-    let keeps : State → Type 0 = g.G.Register.keeps c.judge_file.new.register in
+    let old = c.args.register.now in
+    let between = c.loop-path.register in
+    let new = c.judge_file.new.register in
     record {
       honest = λ h. inv.honest (c.judge_file.ensures.honest h);
       judges = λ h s kept.
           let before = inv.judges (c.judge_file.ensures.honest h) s kept in
-          let one = c.judge_file.ensures.judges h (left_by s before.judged) before.left in
-          subst (λ (ps : List (List ℕ)). Judges s keeps Asked ps (g.W.Write.contents c.args.out.now)
-          (g.W.Write.contents c.judge_file.new.out) (Ok tt))
+          let t = left_by s before.judged in
+          let one = c.judge_file.ensures.judges h t before.left.kept in
+          subst (λ (ps : List (List ℕ)). Judges s (Leaves g.G.Register old new s) Asked ps
+          (g.W.Write.contents c.args.out.now) (g.W.Write.contents c.judge_file.new.out) (Ok tt))
           (next_path string_bytes paths i c.path-item.result c.as_str-path.result.now c.loop-path-test.true c.path-item.is
           c.as_str-path.ensures.value)
-          (judged_on (g.G.Register.keeps c.loop-path.register) keeps Asked s (map string_bytes (take i paths))
+          (judged_then g.G.Register old between new Asked s (map string_bytes (take i paths))
           (c.as_str-path.result.now ∷ []) _ (g.W.Write.contents c.loop-path.out) _ (Ok tt) before
-          (subst (λ r. Judges (left_by s before.judged) keeps Asked (c.as_str-path.result.now ∷ [])
+          (subst (λ r. Judges t (Leaves g.G.Register between new t) Asked (c.as_str-path.result.now ∷ [])
           (g.W.Write.contents c.loop-path.out) (g.W.Write.contents c.judge_file.new.out) r) c.in-Ok.is one));
     }
 
@@ -32,19 +45,23 @@ returns-in-Err-clause-judges g c h s kept =
     let i = c.loop-path.path-index in
     let paths = c.args.paths.now in
     let Asked = Asks g.P.Surroundings c.args.around.now g.F.Read.remaining (λ p. p ≡ c.args.policy.now) c.args.ahead in
-    let keeps : State → Type 0 = g.G.Register.keeps c.judge_file.new.register in
+    let old = c.args.register.now in
+    let between = c.loop-path.register in
+    let new = c.judge_file.new.register in
     let before = inv.judges (c.judge_file.ensures.honest h) s kept in
-    let one = c.judge_file.ensures.judges h (left_by s before.judged) before.left in
+    let t = left_by s before.judged in
+    let one = c.judge_file.ensures.judges h t before.left.kept in
     let held = g.W.Write.contents c.args.out.now in
     let holds = g.W.Write.contents c.judge_file.new.out in
     let r = Err c.in-Err.fault in
-    let both = judged_on (g.G.Register.keeps c.loop-path.register) keeps Asked s (map string_bytes (take i paths))
+    let Left = Leaves g.G.Register old new s in
+    let both = judged_then g.G.Register old between new Asked s (map string_bytes (take i paths))
     (c.as_str-path.result.now ∷ []) held (g.W.Write.contents c.loop-path.out) holds r before
-    (subst (λ r. Judges (left_by s before.judged) keeps Asked (c.as_str-path.result.now ∷ [])
+    (subst (λ r. Judges t (Leaves g.G.Register between new t) Asked (c.as_str-path.result.now ∷ [])
     (g.W.Write.contents c.loop-path.out) holds r) c.in-Err.is one) in
-    subst (λ (ps : List (List ℕ)). Judges s keeps Asked ps held holds r) (given_after string_bytes paths (i + 1))
-    (more_given keeps Asked s (map string_bytes (take (i + 1) paths)) (map string_bytes (drop (i + 1) paths)) held holds
+    subst (λ (ps : List (List ℕ)). Judges s Left Asked ps held holds r) (given_after string_bytes paths (i + 1))
+    (more_given Left Asked s (map string_bytes (take (i + 1) paths)) (map string_bytes (drop (i + 1) paths)) held holds
     c.in-Err.fault
-    (subst (λ (ps : List (List ℕ)). Judges s keeps Asked ps held holds r)
+    (subst (λ (ps : List (List ℕ)). Judges s Left Asked ps held holds r)
     (next_path string_bytes paths i c.path-item.result c.as_str-path.result.now c.loop-path-test.true c.path-item.is
     c.as_str-path.ensures.value) both))

@@ -10,7 +10,7 @@ batches-preserved g c = record {
   lines = λ h o l m.
       let before = c.put_batch.ensures.honest h in
       let said = c.batches.invariant.lines before o l m in
-      one_more c.args.report c.args.revocations.now (state o l) c.batches.place c.in_ok-next.next c.args.out.now.items
+      one_more c.args.revocations.now (state o l) c.batches.place c.in_ok-next.next c.args.out.now.items
       c.batches.out.items c.put_batch.new.out.items said.0 said.1
       (c.in_ok-next.ensures.row h o l (c.batches.invariant.same before o l m));
 }
@@ -19,6 +19,6 @@ pub returns-then-next-place-clause-row : goal.returns-then-next-place-clause-row
 returns-then-next-place-clause-row g c h o l m =
     let before = c.put_batch.ensures.honest h in
     let said = c.batches.invariant.lines before o l m in
-    all_said c.args.report c.args.revocations.now (state o l) c.batches.place c.in_ok-next.next c.args.out.now.items
+    all_said c.args.revocations.now (state o l) c.batches.place c.in_ok-next.next c.args.out.now.items
     c.batches.out.items c.put_batch.new.out.items said.0 said.1
     (c.in_ok-next.ensures.row h o l (c.batches.invariant.same before o l m)) c.if-next-place.true

@@ -14,7 +14,7 @@ invariant-batches g l = record {
       → g.R.Registry.means l.registry o h;
   lines : g.R.Registry.is_honest l.registry → (o : Opening) (h : List Arrival) → g.R.Registry.means l.fn.registry o h
       → (l.place ≤ length (state o h).certificates)
-      × (l.out.items ≡ l.fn.out.items ++ flat_map (line_among l.report l.revocations) (take l.place (state o h).certificates));
+      × (l.out.items ≡ l.fn.out.items ++ flat_map (line_among l.revocations) (take l.place (state o h).certificates));
 }
 
 abbrev pub decreases-batches : goal.decreases-batches

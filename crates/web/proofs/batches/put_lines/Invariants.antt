@@ -5,4 +5,4 @@ use Rattle.web.proofs.batches.put_lines.Given as goal
 
 abbrev pub invariant-loop-certificate : goal.invariant-loop-certificate
 invariant-loop-certificate l =
-    l.out.items ≡ l.fn.out.items ++ flat_map (line_among l.report l.revocations) (take l.certificate-index l.certificates)
+    l.out.items ≡ l.fn.out.items ++ flat_map (line_among l.revocations) (take l.certificate-index l.certificates)

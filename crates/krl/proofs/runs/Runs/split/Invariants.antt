@@ -6,5 +6,6 @@ abbrev pub invariant-loop-place : goal.invariant-loop-place
 invariant-loop-place l = record {
   places : vec_len l.parts ≡ l.place;
   runs_so_far : All AreRuns l.parts.items;
-  parts_so_far : (k n : ℕ) → k < l.place → contains (get_or l.parts.items k []) n ≡ (is_last_reached l.since k n && contains l.self n);
+  parts_so_far : (k n : ℕ) → k < l.place
+      → contains (get_or l.parts.items k []) n ≡ (is_last_reached l.since k n && contains l.self n);
 }

@@ -1,0 +1,78 @@
+//! What is asked: the keys of the CAs, and the list.
+
+ghost use Rattle.std.specs.Prelude.{◌≡◌, IfErr, IfOk, map, string_bytes};
+ghost use Rattle.list_jobs.specs.Asking.{AreKeysAt, IsKeyAt, IsListAt};
+ghost use Rattle.station_jobs.specs.Faults.{IsOfAFile, IsOfAKey};
+
+use crate::file_reader::read_whole;
+use list_guard::LONGEST_LIST;
+use station_jobs::{StationFault, Surroundings, scope_from};
+use std::alloc::Global;
+use std::io::Read;
+
+/// A list that is to be judged: the paths of the files with the CAs' key lines, whether this may be the first list, and
+/// the path of the list.
+#[derive(Clone, Copy)]
+pub struct Listing<'a> {
+    /// Paths of the files with the CAs' key lines.
+    pub cas: &'a [String],
+    /// Whether a first list is taken.
+    pub begins: bool,
+    /// Path of the list.
+    pub list: &'a str,
+}
+
+/// The key of the file at a path: that of a scope with it, whose one serial is of no matter.
+fn key_at<F: Read + Drop, P: Surroundings<File = F>>(
+    alloc: Global,
+    around: &P,
+    path: &str,
+) -> Result<[u8; 32], StationFault>
+    ensures key { IfOk result (IsKeyAt P.Surroundings around.now F.remaining path.now) }
+    ensures only { IfErr result IsOfAKey }
+{
+    match around.open(path) {
+        Ok(file) => match scope_from(alloc, file, 1, 1) {
+            Ok(scope) => Ok(scope.ca),
+            Err(fault) => Err(fault),
+        },
+        Err(fault) => Err(fault),
+    }
+}
+
+/// The keys of the files at these paths, in order.
+pub fn keys_at<F: Read + Drop, P: Surroundings<File = F>>(
+    alloc: Global,
+    around: &P,
+    paths: &[String],
+) -> Result<Vec<[u8; 32]>, StationFault>
+    ensures keys { IfOk result (λ keys. AreKeysAt P.Surroundings around.now F.remaining
+        (map string_bytes paths.now) keys.items) }
+    ensures only { IfErr result IsOfAKey }
+{
+    let mut keys = Vec::new(alloc);
+    for path in paths {
+        let path = path.as_str();
+        let key = key_at(alloc, around, path)?;
+        match keys.push(key) {
+            Ok(()) => {}
+            Err(_) => return Err(StationFault::NoMemory),
+        }
+    }
+    Ok(keys)
+}
+
+/// The list of the file at a path. It is a fault of the file if it has more than `LONGEST_LIST` bytes.
+pub fn list_at<F: Read + Drop, P: Surroundings<File = F>>(
+    alloc: Global,
+    around: &P,
+    path: &str,
+) -> Result<Vec<u8>, StationFault>
+    ensures list { IfOk result (λ bytes. IsListAt P.Surroundings around.now F.remaining path.now bytes.items) }
+    ensures only { IfErr result IsOfAFile }
+{
+    match around.open(path) {
+        Ok(file) => read_whole(alloc, file, LONGEST_LIST),
+        Err(fault) => Err(fault),
+    }
+}

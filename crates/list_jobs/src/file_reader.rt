@@ -1,0 +1,38 @@
+//! All that a file holds.
+
+ghost use Rattle.std.specs.Prelude.{◌≡◌, ◌<◌, ◌≤◌, IfErr, IfOk, IfSome, length, take};
+ghost use Rattle.station_jobs.specs.Faults.{IsOfAFile};
+
+use station_jobs::{StationFault, file_fault};
+use std::alloc::Global;
+use std::io::Read;
+
+/// The first bytes that a reader gives, `most` of them where it gives so many.
+fn read_first<R: Read + Drop>(alloc: Global, reader: R, most: u64) -> Result<Vec<u8>, StationFault>
+    ensures first { IfOk result (λ v. IfSome (R.remaining reader) (λ bytes. v.items ≡ take most bytes)) }
+    ensures only { IfErr result IsOfAFile }
+{
+    let mut bytes = Vec::new(alloc);
+    match reader.take(most).read_to_end(&mut bytes) {
+        Ok(_) => Ok(bytes),
+        Err(error) => Err(file_fault(&error)),
+    }
+}
+
+/// All that a reader gives. It is a fault of the file if that is more than `most` bytes.
+pub fn read_whole<R: Read + Drop>(
+    alloc: Global,
+    reader: R,
+    most: u64,
+) -> Result<Vec<u8>, StationFault>
+    requires { most < u64.MAX }
+    ensures size { IfOk result (λ v. length v.items ≤ most) }
+    ensures whole { IfOk result (λ v. IfSome (R.remaining reader) (λ bytes. v.items ≡ bytes)) }
+    ensures only { IfErr result IsOfAFile }
+{
+    let bytes = read_first(alloc, reader, most + 1)?;
+    if most < bytes.len() as u64 {
+        return Err(StationFault::File);
+    }
+    Ok(bytes)
+}

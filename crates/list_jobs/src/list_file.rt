@@ -1,0 +1,44 @@
+//! The file of a list guard: made, opened and closed.
+
+ghost use Rattle.std.specs.Prelude.{ℕ, List, Result};
+ghost use Rattle.station_jobs.specs.declared.station_fault.StationFault.{StationFault as Fault};
+
+use station_jobs::StationFault;
+use std::alloc::Global;
+
+/// The file of a list guard.
+pub trait ListFile {
+    /// The list guard, as it is open.
+    type Guard;
+
+    // What each call below may give, with the file before it and after it.
+    ghost makes: { Self → List ℕ → Result Self.Guard Fault → Self → Type 0 };
+
+    ghost opens: { Self → List ℕ → Result Self.Guard Fault → Self → Type 0 };
+
+    ghost closes: { Self → Self.Guard → Result (Unit {0}) Fault → Self → Type 0 };
+
+    /// Makes a list guard at a path that has approved nothing yet, and its file if it isn't there.
+    ///
+    /// # Errors
+    ///
+    /// Why none was made.
+    fn make(&mut self, alloc: Global, path: &str) -> Result<Self::Guard, StationFault>
+        ensures { makes self.old path.now result self.new };
+
+    /// Opens the list guard that the file at a path has.
+    ///
+    /// # Errors
+    ///
+    /// Why it wasn't opened.
+    fn open(&mut self, alloc: Global, path: &str) -> Result<Self::Guard, StationFault>
+        ensures { opens self.old path.now result self.new };
+
+    /// Closes a list guard.
+    ///
+    /// # Errors
+    ///
+    /// Why it can't be closed well. It is closed all the same.
+    fn close(&mut self, guard: Self::Guard) -> Result<(), StationFault>
+        ensures { closes self.old guard result self.new };
+}

@@ -1,0 +1,61 @@
+-- What the write leads to: the row is that of the table, and the table has room.
+use Rattle.std.proofs.Common.{◌≡◌, ◌≢◌, ℕ, ◌<◌, ◌≤◌, ◌^◌, List, [], ◌∷◌, None, Some, Result, IsTrue, inl, inr, ap}
+use Rattle.std.proofs.Common.{refl, arith, length, sym, ◌∙◌, Bool, true, false}
+use Rattle.std.specs.Prelude.{◌==◌}
+use Rattle.std.proofs.lemmas.Bool.{eqb-true}
+use Rattle.krl.proofs.Booleans.{clash}
+use Rattle.sqlite.specs.Tree.{Trees}
+use Rattle.sqlite.specs.State.{State as Connection}
+use Rattle.krl.specs.Contents.{IsPublished}
+use Rattle.krl.specs.Published.{published_text}
+use Rattle.list_guard.specs.Judged.{IsKeepable}
+use Rattle.list_guard.specs.State.{State, with_last}
+use Rattle.list_sql.specs.Changes.{with_bytes}
+use Rattle.list_sql.specs.Contents.{no_contents}
+use Rattle.list_sql.specs.Keeping.{IsFilled}
+use Rattle.list_sql.specs.Refusals.{RefusesBytes, RefusesList}
+use Rattle.list_sql.specs.Registering.{Leads}
+use Rattle.list_sql.specs.Rows.{list_contents, list_row}
+use Rattle.list_sql.specs.Told.{told}
+use Rattle.list_sql.specs.Transactions.{Whole}
+use Rattle.store_sql.specs.declared.table_fault.Fault.{Fault}
+use Rattle.list_sql.proofs.Answering.{leads_whole}
+
+bytes_same : (list : List ℕ) (s : State) → with_bytes list (list_contents s) ≡ list_contents (with_last list)
+bytes_same list s = refl
+
+bytes_fit : (list : List ℕ) (s : State) → IsKeepable list → RefusesBytes list (list_contents s) → ⊥
+bytes_fit list s room (x, inl same, (one, long)) = let short = room.1 in omega (arith, long, short)
+bytes_fit list s room (x, inr none, why) = absurd none
+
+-- ---- the row of a new list guard
+
+pub opening_fits : RefusesList (list_row None) no_contents → ⊥
+opening_fits (inl (x, none, same)) = none
+opening_fits (inr long) = omega (arith, long)
+
+-- ---- a published list has a byte
+
+pub published_some : IsPublished [] → ⊥
+published_some (c, h) =
+    let same : length {A = ℕ} [] ≡ length (published_text c.head c.cas c.ids) = ap length h.text in omega (arith, same)
+
+-- ---- a list with a byte, and one without
+
+pub none_there : (list : List ℕ) (b : Bool) → b ≡ (length list == 0) → b ≡ true → list ≡ []
+none_there [] b is h = refl
+none_there (x ∷ list) b is h = let e = eqb-true (length (x ∷ list)) 0 (sym is ∙ h) in absurd (omega (arith, e))
+
+pub some_there : (list : List ℕ) (b : Bool) → b ≡ (length list == 0) → b ≡ false → list ≢ []
+some_there list b is h none = clash b (is ∙ ap (λ (l : List ℕ). length l == 0) none) h
+
+-- ---- the call
+
+pub list_kept : (old new : Connection)
+    → ((trees : Trees) → IsTrue new.is_open → new.may_leave trees → trees ≡ new.committed.trees)
+    → (r : Result (Unit {0}) Fault) (list : List ℕ) → list ≢ []
+    → Whole (with_bytes list) (RefusesBytes list) old new r
+    → Leads (IsKeepable list) (with_last list) old new (told (λ x. x) r)
+list_kept old new settled r list some =
+    leads_whole (IsKeepable list) (with_last list) (with_bytes list) (RefusesBytes list) some (bytes_same list)
+    (bytes_fit list) old new settled r

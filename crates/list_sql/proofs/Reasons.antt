@@ -1,0 +1,166 @@
+-- Why one row is not put into the table.
+use Rattle.list_sql.proofs.Words.{All, AllByRecursion, Applies, BadReference, Bool, Check, Datatype, Edit, Enforced}
+use Rattle.list_sql.proofs.Words.{ForeignKey, Has, Index, IsOversized, IsTable, Keeps, List, Mismatch, NoRowid}
+use Rattle.list_sql.proofs.Words.{NotNull, PrimaryKey, Refers, Row, Table, TooDeep, Trees, Unique, Value, Violates}
+use Rattle.list_sql.proofs.Words.{[], agree, all_from, all_has, and_parts, are_typed, arith, cases_Bool, clashes}
+use Rattle.list_sql.proofs.Words.{drop, false, fits_i64, guards, id_in, index_reals, inl, inr, int_cmp, int_is}
+use Rattle.list_sql.proofs.Words.{is_int, is_ne, is_taken, joined, leb-true, left_by, length, list_any, nat_le}
+use Rattle.list_sql.proofs.Words.{nat_lt, not, references_fit, refl, rowid, same_name, some_has, subst, sym}
+use Rattle.list_sql.proofs.Words.{table_reals, tied_itself, true, whole, with_tree, ℤ, ◌&&◌, ◌<◌, ◌^◌, ◌∙◌, ◌∷◌, ◌≡◌}
+use Rattle.list_sql.proofs.Words.{◌≢◌, ◌≤◌, ◌⊎◌}
+use Rattle.std.proofs.Common.{rules}
+use Rattle.std.proofs.lemmas.Bool.{leb-false, not-false}
+use Rattle.std.proofs.lemmas.Cmp.{int_cmp_total}
+use Rattle.sqlite_trees.specs.Tree.{IsAscending}
+use Rattle.sqlite_trees.specs.View.{IsStorable, IsStorableRow}
+use Rattle.sqlite_sql.specs.Catalog.{entry_of}
+use Rattle.sqlite_schema.specs.Rules.{are_present, differ, has_computed, passes_checks}
+use Rattle.sqlite_rules.specs.Edit.{edited, taken_by}
+use Rattle.sqlite_rules.specs.Keys.{are_unique}
+use Rattle.sqlite_rules.proofs.EditLemmas.{turns}
+use Rattle.sqlite_rules.proofs.ListLemmas.{fails_has}
+use Rattle.sqlite_rules.proofs.RuleLemmas.{unique_kept}
+use Rattle.sqlite_rules.proofs.TableLemmas.{put_has}
+use Rattle.store_sql.proofs.Queries.{int_ne_test}
+use Rattle.store_sql.proofs.Reasons.{other_tree, size, the_one, this_tree}
+use Rattle.store_sql.proofs.Stops.{IsHalted}
+
+-- ---- the tables are apart
+
+apart : IsAscending (λ a b. a.tree ≡ b.tree → ⊥) whole.tables
+apart = search (rules, arith)
+
+-- ---- one row
+
+differs_from_itself : (v : Value) → is_int v ≡ true → differ v v ≡ true → ⊥
+differs_from_itself v int h =
+    let id = int_is v int in
+    let test : is_ne (int_cmp (id_in v) (id_in v)) ≡ true =
+    sym (int_ne_test (id_in v) (id_in v)) ∙ subst (λ w. differ w w ≡ true) id h in
+    let same = tied_itself int_cmp_total (id_in v) in
+    let wrong : false ≡ true = subst (λ o. is_ne o ≡ true) same test in cc
+
+-- the tables have no foreign keys, so these fit, whatever an edit adds and takes out
+pub fit : (adds removes : Bool) → AllByRecursion (λ t. references_fit whole t adds removes ≡ true) whole.tables
+unfolding same_name joined
+fit true true = (refl, tt)
+fit true false = (refl, tt)
+fit false true = (refl, tt)
+fit false false = (refl, tt)
+
+-- what is seen of a table and of a row that is put in
+pub record IsPut (table : Table) (new : Row) : Type 0 where
+  pub listed : Has whole.tables table
+  pub formed : ((are_typed table.key 0 table.columns (drop 1 new) && has_computed table new) ≡ true)
+      × (are_present table.key 0 table.columns new ≡ true) × (passes_checks table new ≡ true)
+      × (is_int (rowid new) ≡ true)
+  pub short : size new ≤ 10 ^ 9 → IsStorableRow (table_reals table) new
+  pub entries : size new ≤ 10 ^ 9
+      → AllByRecursion (λ i. i.table ≡ table.tree → IsStorable (index_reals (table_reals table) i.columns) (entry_of i.columns new))
+      whole.indexes
+
+module _ (db : Trees) (table : Table) (gone : List ℤ) (new : Row) where
+  abbrev pub one : Edit
+  one = record { table = table; gone = gone; news = new ∷ [] }
+
+  -- a row of the table has the key of the new one
+  abbrev pub HasClash : Type 0
+  HasClash = (i : Index) × Has whole.indexes i × (guards i table ≡ true) × (other : Row) × Has (left_by db one) other
+      × (agree i.order i.columns other i.columns new ≡ true)
+
+  other_row : (row : Row) → differ (rowid row) (rowid new) ≡ true → is_int (rowid new) ≡ true
+      → (row ≡ new) ⊎ Has (left_by db one) row → Has (left_by db one) row
+  other_row row differs int (inl same) =
+      absurd (differs_from_itself (rowid new) int (subst (λ r. differ (rowid r) (rowid new) ≡ true) same differs))
+  other_row row differs int (inr left) = left
+
+  clash : Has whole.tables table → IsTable (db table.tree) → is_taken (left_by db one) new ≡ false
+      → is_int (rowid new) ≡ true → (after : Trees) → after table.tree ≡ edited db one
+      → AllByRecursion (λ t. t.tree ≢ table.tree → after t.tree ≡ db t.tree) whole.tables
+      → Keeps Unique whole db → (Keeps Unique whole after → ⊥) → HasClash
+  clash listed ordered free int after rows others keeps broken =
+      let turned = turns whole db after one apart listed ordered (rw free refl) rows others in
+      elim (cases_Bool (are_unique whole.indexes after table (new ∷ []))) [
+        | inl fine ↦ absurd (broken (unique_kept whole db after table (left_by db one) (taken_by db one) (new ∷ []) turned fine keeps))
+        | inr fails ↦
+            let index = fails_has
+            (λ i. not (guards i table && list_any (clashes i.order i.columns (after table.tree)) (new ∷ []))) whole.indexes fails in
+            let on : (guards index.0 table && list_any (clashes index.0.order index.0.columns (after table.tree)) (new ∷ [])) ≡ true =
+            not-false
+            (guards index.0 table && list_any (clashes index.0.order index.0.columns (after table.tree)) (new ∷ [])) index.2 in
+            let parts = and_parts (guards index.0 table)
+            (list_any (clashes index.0.order index.0.columns (after table.tree)) (new ∷ [])) on in
+            let row = some_has (clashes index.0.order index.0.columns (after table.tree)) (new ∷ []) parts.1 in
+            let is_new = the_one row.0 new row.1 in
+            let meets = λ (other : Row). agree index.0.order index.0.columns other index.0.columns new && differ (rowid other) (rowid new) in
+            let found = some_has meets (after table.tree)
+            (subst (λ r. clashes index.0.order index.0.columns (after table.tree) r ≡ true) is_new row.2) in
+            let both = and_parts (agree index.0.order index.0.columns found.0 index.0.columns new) (differ (rowid found.0) (rowid new)) found.2 in (
+              index.0,
+              index.1,
+              parts.0,
+              found.0,
+              other_row found.0 both.1 int
+                  (put_has new (left_by db one) found.0 (subst (λ l. Has l found.0) rows found.1)),
+              both.0,
+            )
+      ]
+
+  -- nor has any where no index is on the table
+  pub unclashed : AllByRecursion (λ i. guards i table ≡ true → ⊥) whole.indexes → HasClash → ⊥
+  unclashed none (i, here, on, other, there, same) = all_has (λ j. guards j table ≡ true → ⊥) whole.indexes i none here on
+
+  -- Such a row is kept out by its rowid, which is taken or out of range, by its key, by its size, or for want of a parent.
+  pub halted : {R : Type 0} → IsPut table new → IsTable (db table.tree) → Keeps Unique whole db
+      → (fits_i64 (id_in (rowid new)) ≡ false → R) → (is_taken (left_by db one) new ≡ true → R) → (HasClash → R)
+      → (10 ^ 9 < size new → R)
+      → ((next : Trees) → Applies whole Enforced db one next → (Refers All whole next → ⊥) → R) → IsHalted whole db one → R
+  halted {R} p ordered unique range taken clashes long orphan h = go h
+    where
+      within : size new ≤ 10 ^ 9 → (IsStorableRow (table_reals table) new → ⊥)
+          ⊎ ((i : Index) × Has whole.indexes i × (i.table ≡ table.tree)
+          × (IsStorable (index_reals (table_reals table) i.columns) (entry_of i.columns new) → ⊥)) → ⊥
+      within fits (inl row) = row (p.short fits)
+      within fits (inr (i, here, of, entry)) = entry (all_has
+          (λ j. j.table ≡ table.tree → IsStorable (index_reals (table_reals table) j.columns) (entry_of j.columns new))
+          whole.indexes i (p.entries fits) here of)
+
+      too_long : (IsStorableRow (table_reals table) new → ⊥)
+          ⊎ ((i : Index) × Has whole.indexes i × (i.table ≡ table.tree)
+          × (IsStorable (index_reals (table_reals table) i.columns) (entry_of i.columns new) → ⊥)) → R
+      too_long big = elim (cases_Bool (nat_le (size new) (10 ^ 9))) [
+        | inl fits ↦ absurd (within (leb-true (size new) (10 ^ 9) fits) big)
+        | inr over ↦ long (leb-false (size new) (10 ^ 9) over)
+      ]
+
+      broken : (Keeps Unique whole (with_tree db table.tree (edited db one)) → ⊥) → R
+      broken unkept = elim (cases_Bool (is_taken (left_by db one) new)) [
+        | inl is_taken ↦ taken is_taken
+        | inr free ↦ clashes (clash p.listed ordered free p.formed.3 (with_tree db table.tree (edited db one))
+            (this_tree db table.tree (edited db one))
+            (all_from (λ t. t.tree ≢ table.tree → with_tree db table.tree (edited db one) t.tree ≡ db t.tree) whole.tables
+            (λ t listed. other_tree db table.tree (edited db one) t.tree)) unique unkept)
+      ]
+
+      go : IsHalted whole db one → R
+      go (inl (Violates Datatype, h)) = absurd (let wrong = rw p.formed.0 at h in cc)
+      go (inl (Violates NotNull, h)) = absurd (let wrong = rw p.formed.1 at h in cc)
+      go (inl (Violates Check, h)) = absurd (let wrong = rw p.formed.2 at h in cc)
+      go (inl (Violates PrimaryKey, h)) = elim (cases_Bool (is_taken (left_by db one) new)) [
+        | inl is_taken ↦ taken is_taken
+        | inr free ↦ absurd (let wrong = rw free at h in cc)
+      ]
+      go (inl (Violates Unique, h)) = broken h
+      go (inl (Violates ForeignKey, h)) = absurd h
+      go (inl (Mismatch, h)) = absurd (let wrong = rw p.formed.3 at h in cc)
+      go (inl (NoRowid, h)) = elim (cases_Bool (fits_i64 (id_in (rowid new)))) [
+        | inl fits ↦ absurd (let wrong = rw fits at h in cc)
+        | inr out ↦ range out
+      ]
+      go (inl (BadReference, h)) =
+          let fits = all_has (λ t. references_fit whole t true (nat_lt 0 (length gone)) ≡ true) whole.tables table
+          (fit true (nat_lt 0 (length gone))) p.listed in
+          absurd (let wrong : true ≡ false = sym fits ∙ h in cc)
+      go (inl (TooDeep, h)) = absurd h
+      go (inr (inl (row, here, big))) = too_long (subst (λ r. IsOversized whole table r) (the_one row new here) big)
+      go (inr (inr (next, did, unreferred))) = orphan next did unreferred

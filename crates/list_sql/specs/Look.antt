@@ -1,0 +1,36 @@
+-- What a look at the schema tells.
+use Rattle.std.specs.Prelude.{◌≡◌, refl, true, false, ℕ, Bool, ◌&&◌, ◌==◌, List, [], ◌∷◌, codes, length, bytes_eq}
+use Rattle.std.specs.List.{list_all, list_any, zip}
+use Rattle.sqlite_schema.specs.Names.{same_name}
+use Rattle.sqlite.specs.Table.{Table}
+use Rattle.store_sql.specs.Schema.{no_schema}
+use Rattle.list_sql.specs.Schema.{whole}
+
+-- whether a table has the name of the list's, in any case
+abbrev pub is_list_name : Table → Bool
+is_list_name t = same_name t.name (codes "list")
+
+-- the columns of the table
+abbrev pub list_columns : List (List ℕ)
+list_columns = codes "id" ∷ codes "schema" ∷ codes "bytes" ∷ []
+
+-- whether a table has just the columns of that of the list, by their names
+abbrev pub has_columns : Table → Bool
+has_columns t = (length t.columns == 3) && list_all (λ p. bytes_eq p.0.name p.1) (zip t.columns list_columns)
+
+-- whether a table is that of the list, by its name and the names of its columns
+abbrev pub is_list_table : Table → Bool
+is_list_table t = is_list_name t && has_columns t
+
+-- a list guard is seen
+pub whole_is_list : list_any is_list_table whole.tables ≡ true
+unfolding same_name
+whole_is_list = refl
+
+pub whole_has_table : list_any is_list_name whole.tables ≡ true
+unfolding same_name
+whole_has_table = refl
+
+-- a database with no table is none
+pub none_is_list : list_any is_list_table no_schema.tables ≡ false
+none_is_list = refl

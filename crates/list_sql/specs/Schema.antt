@@ -1,0 +1,19 @@
+-- The table as its CREATE text defines it.
+use Rattle.std.specs.Prelude.{[], ◌∷◌, codes}
+use Rattle.sqlite.specs.Kind.TheVariants.{Integer, Blob}
+use Rattle.sqlite.specs.Table.{Table}
+use Rattle.sqlite.specs.Schema.{Schema}
+use Rattle.sqlite.specs.Change.{created}
+use Rattle.store_sql.specs.Schema.{by_number, no_schema, optional, required}
+
+abbrev pub list : Table
+list = by_number (codes "list") (
+    optional (codes "id") Integer ∷ required (codes "schema") Integer ∷ required (codes "bytes") Blob ∷ [])
+
+-- the one table
+abbrev pub whole : Schema
+whole = created no_schema list
+
+-- the table at its tree
+abbrev pub list_at : Table
+list_at = record list { tree = 0 }

@@ -1,0 +1,76 @@
+//! The table of a list guard that has approved nothing yet.
+
+ghost use Rattle.std.specs.Prelude.{◌≡◌, ◌<◌, ◌^◌, None};
+ghost use Rattle.store_sql.specs.Honest.{On, OutlivesBy};
+ghost use Rattle.list_guard.specs.State.{opened};
+ghost use Rattle.list_sql.specs.Changes.{with_list};
+ghost use Rattle.list_sql.specs.Contents.{no_contents};
+ghost use Rattle.list_sql.specs.Creating.{DoesOnBlank, EndsOnBlank, FailsOnBlank, LeavesOnBlank};
+ghost use Rattle.list_sql.specs.Refusals.{RefusesList};
+ghost use Rattle.list_sql.specs.Rows.{list_contents, list_row};
+
+use crate::creation::create_list;
+use crate::lists::{ListRow, insert_list};
+use crate::transaction::conclude;
+use sqlite::{Alter, Connection};
+use std::alloc::Global;
+use store_sql::{Fault, Number, begin};
+use text::Text;
+
+/// The schema that is made, and the only one that is opened.
+pub(crate) const SCHEMA: u64 = 1;
+
+/// The number as a column holds it.
+fn number(value: u64) -> Number
+    requires { value < 2 ^ 63 }
+    ensures { result ≡ value }
+{
+    let Some(number) = Number::new(value) else {
+        unreachable!();
+    };
+    number
+}
+
+/// The row where no list was approved.
+fn empty_row(alloc: Global) -> ListRow
+    ensures { result ≡ list_row None }
+{
+    ListRow {
+        id: number(1),
+        schema: number(SCHEMA),
+        bytes: Text::new(alloc),
+    }
+}
+
+fn make<S: Alter>(conn: &mut Connection<S>, list: &ListRow) -> Result<(), Fault>
+    ensures { DoesOnBlank S.Store (with_list list.now no_contents) (RefusesList list.now no_contents)
+        conn.old conn.new result }
+{
+    match create_list(conn) {
+        Ok(()) => insert_list(conn, list),
+        Err(fault) => Err(fault),
+    }
+}
+
+fn make_whole<S: Alter>(conn: &mut Connection<S>, list: &ListRow) -> Result<(), Fault>
+    ensures ends { On S.Store (EndsOnBlank (with_list list.now no_contents)) conn.old conn.new result }
+    ensures cause { On S.Store (FailsOnBlank (RefusesList list.now no_contents)) conn.old conn.new result }
+    ensures survives { OutlivesBy S.Store (LeavesOnBlank (with_list list.now no_contents)) conn.old conn.new }
+{
+    match begin(conn) {
+        Ok(()) => {
+            let made = make(conn, list);
+            conclude(conn, made)
+        }
+        Err(fault) => Err(fault),
+    }
+}
+
+/// Makes the table of a list guard in a database without tables, with its row, or nothing.
+pub(crate) fn create<S: Alter>(alloc: Global, conn: &mut Connection<S>) -> Result<(), Fault>
+    ensures ends { On S.Store (EndsOnBlank (list_contents opened)) conn.old conn.new result }
+    ensures cause { On S.Store (FailsOnBlank (RefusesList (list_row None) no_contents)) conn.old conn.new result }
+    ensures survives { OutlivesBy S.Store (LeavesOnBlank (list_contents opened)) conn.old conn.new }
+{
+    make_whole(conn, &empty_row(alloc))
+}

@@ -1,0 +1,44 @@
+-- What is served over a register that keeps what is pending is served over the register below.
+use Rattle.std.proofs.Common.{◌≡◌, ℕ, List, [], ◌++◌, Option, subst, sym}
+use Rattle.office.specs.declared.opening.Opening.{Opening}
+use Rattle.office.specs.declared.arrival.Arrival.{Arrival}
+use Rattle.office.specs.declared.publication.Pending.{Pending}
+use Rattle.office.specs.declared.registry.Registry.{Ghosts}
+use Rattle.office.specs.History.{state}
+use Rattle.waiting.specs.Knowing.{MeansKnown}
+use Rattle.waiting.proofs.Covering.{knows_nothing}
+use Rattle.server.specs.Books.{Book}
+use Rattle.server.specs.Connections.{Extends, Meets}
+
+-- what is added is added
+pub extends_as : (most : ℕ) (before before' after after' : Opening → List Arrival → Type 0)
+    → ((o : Opening) (l : List Arrival) → before' o l → before o l)
+    → ((o : Opening) (l : List Arrival) → after o l → after' o l)
+    → Extends most before after → Extends most before' after'
+extends_as most before before' after after' first last extends o l m =
+    let x = extends o l (first o l m) in
+    record { more = x.more; count = x.count; timely = x.timely; history = last o (l ++ x.more) x.history }
+
+-- before the first ask the register that keeps means what the one below does
+pub known_at_first : {S : Type 0} (means : S → Opening → List Arrival → Type 0) (below register : S) (seen : ℕ)
+    (rows : List Pending) → register ≡ below → seen ≡ 0 → rows ≡ [] → (o : Opening) (l : List Arrival)
+    → means below o l → MeansKnown means register seen rows o l
+known_at_first means below register seen rows same none empty o l m = record {
+  register_means = subst (λ (s : _). means s o l) (sym same) m;
+  knows = knows_nothing (state o l) seen rows none empty;
+}
+
+-- so connections that were met over the one were met over the other
+pub met_as : {S T : Type 0} (n : ℕ) (book book' : Option Book) (nonces nonces' : Option (List ℕ)) (r : Ghosts T)
+    (q : Ghosts S) (a b : T) (c d : S) → ((o : Opening) (l : List Arrival) → q.means c o l → r.means a o l)
+    → ((o : Opening) (l : List Arrival) → r.means b o l → q.means d o l) → (q.is_honest d → r.is_honest b)
+    → (r.is_open b → q.is_open d) → Meets n book book' nonces nonces' r a b → Meets n book book' nonces nonces' q c d
+met_as n book book' from from' r q a b c d first last honest opened x = record {
+  visits = x.visits;
+  all = x.all;
+  told = x.told;
+  drawn = x.drawn;
+  served = λ h o l m.
+      let s = x.served (honest h) o l (first o l m) in
+      (s.0, s.1, last o s.0 s.2, λ answered. let k = s.3 answered in (last o s.0 k.0, opened k.1));
+}

@@ -1,0 +1,344 @@
+-- What a job does is what its run was asked.
+use Rattle.std.proofs.Common.{◌≡◌, ◌≢◌, ℕ, zero, suc, List, [], ◌∷◌, inl, inr, false, arith}
+use Rattle.std.proofs.Common.{Option, None, Result, Ok, Err, refl, sym, subst}
+use Rattle.std.specs.Prelude.{All, IsTrue}
+use Rattle.std.specs.List.{list_any}
+use Rattle.sqlite.specs.State.{State, HasCleanDisk}
+use Rattle.sqlite.specs.Tree.{Trees}
+use Rattle.store_sql.proofs.Words.{Schema}
+use Rattle.office.specs.declared.opening.Opening.{Opening}
+use Rattle.office.specs.declared.arrival.Arrival.{Arrival}
+use Rattle.office.specs.declared.store_fault.StoreFault.{StoreFault}
+use Rattle.office.specs.declared.store_fault.StoreFault.TheVariants.{NotAnOffice}
+use Rattle.office.specs.Openings.{IsOpening}
+use Rattle.store_sql.specs.Contents.{Kept}
+use Rattle.store_sql.specs.Look.{is_office_table, none_is_office}
+use Rattle.store.specs.Rows.{office_contents}
+use Rattle.store.specs.Meaning.{IsBlank, IsHistory, Tells}
+use Rattle.web.specs.declared.exchange.Exchange.{Exchange}
+use Rattle.web.specs.declared.exchange.Given.{Given}
+use Rattle.web.specs.declared.exchange.Given.TheVariants as given
+use Rattle.web.specs.Runs.{AllDue}
+use Rattle.restart.specs.Lives.{Asked}
+use Rattle.restart.specs.Runs.{Does as DoesAsked, IsUnfounded}
+use Rattle.sshoffice.specs.declared.job.OfficeJob.{OfficeJob}
+use Rattle.sshoffice.specs.declared.job.OfficeJob.TheVariants as job
+use Rattle.sshoffice.specs.declared.job_fault.JobFault.{JobFault}
+use Rattle.sshoffice.specs.declared.job_fault.JobFault.TheVariants as fault
+use Rattle.sshoffice.specs.declared.reporting.Report.{Report}
+use Rattle.sshoffice.specs.declared.reporting.Report.TheVariants as report
+use Rattle.sshoffice.specs.Applying.{Applies}
+use Rattle.sshoffice.specs.Asked.{AsksExchanges, AsksOffice, AsksServing, asked_by, founding_asked}
+use Rattle.sshoffice.specs.Asked.{nothing_asked}
+use Rattle.sshoffice.specs.Jobs.{Does, IsLawful, IsMaking}
+use Rattle.sshoffice.specs.Listing.{Lists}
+use Rattle.sshoffice.specs.Making.{IsUnmade, Makes, Migrates}
+use Rattle.sshoffice.specs.Opening.{TellsOn}
+use Rattle.sshoffice.specs.Reporting.{Reports}
+use Rattle.sshoffice.specs.Serving.{Heard, Serves}
+
+-- ---- exchanges that were not run
+
+all_faults : List Exchange → List Given
+all_faults [] = []
+all_faults (x ∷ xs) = given.Fault ∷ all_faults xs
+
+faults_are_due : (o : Opening) (l : List Arrival) (exchanges : List Exchange)
+    → AllDue o l exchanges (all_faults exchanges) l
+unfolding all_faults
+faults_are_due o l [] = refl
+faults_are_due o l (x ∷ xs) = faults_are_due o l xs
+
+none_given : (exchanges : List Exchange) → All (λ g. g ≡ given.Fault) (all_faults exchanges)
+unfolding all_faults
+none_given [] k d within = absurd (omega (arith, within))
+none_given (x ∷ xs) zero d within = refl
+none_given (x ∷ xs) (suc k) d within = none_given xs k d (omega (arith, within))
+
+nothing_given : All (λ (g : Given). g ≡ given.Fault) []
+nothing_given k d within = absurd (omega (arith, within))
+
+-- ---- a database without tables
+
+no_office : (old : State) → IsBlank old → list_any is_office_table old.now.schema.tables ≡ false
+no_office old blank =
+    subst (λ (s : Schema). list_any is_office_table s.tables ≡ false) (sym blank.now.0) none_is_office
+
+same_is_unfounded : (founds : Option Opening) (old new : State) → new ≡ old → IsUnfounded founds old new
+same_is_unfounded founds old new same = subst (λ (s : State). IsUnfounded founds old s) (sym same) (record {
+  before = record { was_open = λ is. is; rest = λ _ rests. rests; same = λ _ _. refl };
+  crash = λ trees may. inl may;
+})
+
+-- an office in which nothing has happened has a history
+first_history : (o : Opening) → IsOpening o → IsHistory o []
+first_history o lawful = record {
+  office = record { opening = lawful; version = omega arith };
+  nonces = tt;
+}
+
+-- ---- each job
+
+-- What a run does: an office that was there stays, with the arrivals of what it was asked. A database without tables is
+-- refused.
+module _ (old new : State) where
+  -- where there is no office it is refused
+  abbrev pub Refuses : {A : Type 0} → Result A JobFault → Type 1
+  Refuses r =
+      list_any is_office_table old.now.schema.tables ≡ false → (r ≡ Err (fault.Store NotAnOffice)) × (new ≡ old)
+
+  stays : {A : Type 0} (r : Result A JobFault) → Refuses r → TellsOn old new → DoesAsked nothing_asked old new
+  stays r refuses tells = record {
+    office = λ o l told. (l, refl, tells o l told);
+    none = λ blank. (nothing_given, inr (same_is_unfounded None old new (refuses (no_office old blank)).1));
+  }
+
+  -- what was done was done in an office
+  not_blank : {A : Type 0} (x : A) → Refuses (Ok x) → (B : Type 0) → IsBlank old → B
+  not_blank x refuses B blank = absurd (let none = (refuses (no_office old blank)).0 in cc)
+
+  not_faulted : {A : Type 0} (e : JobFault) → e ≢ fault.Store NotAnOffice → Refuses {A = A} (Err e) → (B : Type 0)
+      → IsBlank old → B
+  not_faulted e other refuses B blank = absurd (let none = (refuses (no_office old blank)).0 in other cc)
+
+  -- ---- exchanges
+
+  ran : (exchanges : List Exchange) (given : List Given)
+      → ((o : Opening) (l : List Arrival) → Tells old o l → (last : List Arrival) × AllDue o l exchanges given last
+      × Tells new o last)
+      → ((B : Type 0) → IsBlank old → B)
+      → DoesAsked (record { founds = None; exchanges = exchanges; given = given }) old new
+  ran exchanges given served never = record { office = served; none = λ blank. never _ blank }
+
+  unrun : (exchanges : List Exchange) (r : Result (Unit {0}) JobFault) → Refuses r → TellsOn old new
+      → DoesAsked (record { founds = None; exchanges = exchanges; given = all_faults exchanges }) old new
+  unrun exchanges r refuses tells = record {
+    office = λ o l told. (l, faults_are_due o l exchanges, tells o l told);
+    none = λ blank.
+        (none_given exchanges, inr (same_is_unfounded None old new (refuses (no_office old blank)).1));
+  }
+
+  abbrev pub DidApply : List Exchange → (held holds : Option (List ℕ)) → Result (Unit {0}) JobFault → Type 0
+  DidApply exchanges held holds r =
+      (asked : Asked) × AsksExchanges exchanges held holds r asked × DoesAsked asked old new
+
+  applied : (exchanges : List Exchange) (held holds : Option (List ℕ)) (r : Result (Unit {0}) JobFault) → Refuses r
+      → Applies exchanges old new held holds r → DidApply exchanges held holds r
+  applied es held holds (Ok done) refuses h = (
+    record { founds = None; exchanges = es; given = h.prints.given },
+    record { founds = refl; are_its = refl; given = (h.prints.printed, h.prints.faults) },
+    ran es h.prints.given (λ o l told. let s = h.prints.serves o l told in (s.0, s.1, s.2)) (not_blank done refuses),
+  )
+  applied es held holds (Err fault.Fault) refuses h = (
+    record { founds = None; exchanges = es; given = h.prints.given },
+    record { founds = refl; are_its = refl; given = (h.prints.printed, h.prints.faults) },
+    ran es h.prints.given (λ o l told. let s = h.prints.serves o l told in (s.0, s.1, s.2))
+        (not_faulted fault.Fault (λ same. cc) refuses),
+  )
+  applied es held holds (Err fault.Write) refuses h = (
+    record { founds = None; exchanges = es; given = h.0 },
+    record { founds = refl; are_its = refl; given = tt },
+    ran es h.0 (λ o l told. let s = h.1 o l told in (s.0, s.1, s.2))
+        (not_faulted fault.Write (λ same. cc) refuses),
+  )
+  applied es held holds (Err fault.NoMemory) refuses h = (
+    record { founds = None; exchanges = es; given = all_faults es },
+    record { founds = refl; are_its = refl; given = (none_given es, h.1.unprinted) },
+    unrun es (Err fault.NoMemory) refuses h.1.tells,
+  )
+  applied es held holds (Err (fault.Store e)) refuses h = (
+    record { founds = None; exchanges = es; given = all_faults es },
+    record { founds = refl; are_its = refl; given = (none_given es, h.1) },
+    unrun es (Err (fault.Store e)) refuses h.0.tells,
+  )
+  applied es held holds (Err fault.File) refuses h = absurd h
+  applied es held holds (Err fault.Socket) refuses h = absurd h
+  applied es held holds (Err (fault.Connection x)) refuses h = absurd h
+  applied es held holds (Err fault.Mismatch) refuses h = absurd h
+  applied es held holds (Err (fault.BadExchange k)) refuses h = absurd h
+  applied es held holds (Err (fault.Line x)) refuses h = absurd h
+  applied es held holds (Err (fault.Opening x)) refuses h = absurd h
+  applied es held holds (Err (fault.List x)) refuses h = absurd h
+
+  -- ---- readings, whose tables tell what they told
+
+  listed : (held holds : Option (List ℕ)) (r : Result (Unit {0}) JobFault) → Lists old new held holds r → TellsOn old new
+  listed held holds (Ok done) h = λ o l told. (h.1 o l told).3.tells
+  listed held holds (Err fault.Write) h = λ o l told. (h.1 o l told).tells
+  listed held holds (Err fault.NoMemory) h = h.1.tells
+  listed held holds (Err (fault.Store e)) h = h.1.tells
+  listed held holds (Err fault.File) h = absurd h
+  listed held holds (Err fault.Socket) h = absurd h
+  listed held holds (Err (fault.Connection x)) h = absurd h
+  listed held holds (Err fault.Mismatch) h = absurd h
+  listed held holds (Err (fault.BadExchange k)) h = absurd h
+  listed held holds (Err (fault.Line x)) h = absurd h
+  listed held holds (Err (fault.Opening x)) h = absurd h
+  listed held holds (Err (fault.List x)) h = absurd h
+  listed held holds (Err fault.Fault) h = absurd h
+
+  reported : (which : Report) (held holds : Option (List ℕ)) (r : Result (Unit {0}) JobFault)
+      → Reports which old new held holds r → TellsOn old new
+  reported which held holds (Ok done) h = λ o l told. (h o l told).1.tells
+  reported which held holds (Err fault.Write) h = λ o l told. (h o l told).tells
+  reported which held holds (Err fault.NoMemory) h = h.tells
+  reported which held holds (Err (fault.Store e)) h = h.tells
+  reported which held holds (Err fault.File) h = absurd h
+  reported which held holds (Err fault.Socket) h = absurd h
+  reported which held holds (Err (fault.Connection x)) h = absurd h
+  reported which held holds (Err fault.Mismatch) h = absurd h
+  reported which held holds (Err (fault.BadExchange k)) h = absurd h
+  reported which held holds (Err (fault.Line x)) h = absurd h
+  reported which held holds (Err (fault.Opening x)) h = absurd h
+  reported which held holds (Err (fault.List x)) h = absurd h
+  reported which held holds (Err fault.Fault) h = absurd h
+
+  -- ---- tables that are moved
+
+  moved : IsTrue old.is_open → (r : Result (Unit {0}) JobFault) → Migrates old new r → TellsOn old new
+  moved was (Ok done) h = λ o l told. absurd (h.unlike (told.rows was).now.schema)
+  moved was (Err fault.NoMemory) h = h.tells
+  moved was (Err (fault.Store e)) h = h.tells
+  moved was (Err fault.File) h = absurd h
+  moved was (Err fault.Write) h = absurd h
+  moved was (Err fault.Socket) h = absurd h
+  moved was (Err (fault.Connection x)) h = absurd h
+  moved was (Err fault.Mismatch) h = absurd h
+  moved was (Err (fault.BadExchange k)) h = absurd h
+  moved was (Err (fault.Line x)) h = absurd h
+  moved was (Err (fault.Opening x)) h = absurd h
+  moved was (Err (fault.List x)) h = absurd h
+  moved was (Err fault.Fault) h = absurd h
+
+  -- ---- an office that is made
+
+  module _ (clean : HasCleanDisk new) (was : IsTrue old.is_open)
+      (settled : (trees : Trees) → IsTrue new.is_open → new.may_leave trees → trees ≡ new.committed.trees)
+      (opening : Opening) (lawful : IsOpening opening) where
+    unmade : (e : StoreFault) → IsUnmade opening old new e → DoesAsked (founding_asked opening) old new
+    unmade e h = record {
+      office = λ o l told. (l, refl, h.tells o l told);
+      none = λ blank. (
+        nothing_given,
+        inr (record {
+          before = h.before;
+          crash = λ trees may. elim (h.crash.crash clean trees may) [
+            | inl before ↦ inl before
+            | inr whole ↦ inr (opening, refl, first_history opening lawful, whole.1 tt blank)
+          ];
+        }),
+      );
+    }
+
+    founded : (r : Result (Unit {0}) JobFault) → Makes opening old new r → DoesAsked (founding_asked opening) old new
+    founded (Ok done) h = record {
+      office = λ o l told. absurd (h.unlike (told.rows was).now.schema);
+      none = λ blank. (
+        nothing_given,
+        inl (
+          opening,
+          refl,
+          record {
+            tells = h.made blank;
+            is_open = h.is_open;
+            crash = λ trees may. subst (λ (t : Trees). Kept t (office_contents opening []))
+                (sym (settled trees h.is_open may)) ((h.made blank).rows h.is_open).committed.kept;
+          },
+        ),
+      );
+    }
+    founded (Err fault.NoMemory) h = unmade _ h
+    founded (Err (fault.Store e)) h = unmade e h
+    founded (Err fault.File) h = absurd h
+    founded (Err fault.Write) h = absurd h
+    founded (Err fault.Socket) h = absurd h
+    founded (Err (fault.Connection x)) h = absurd h
+    founded (Err fault.Mismatch) h = absurd h
+    founded (Err (fault.BadExchange k)) h = absurd h
+    founded (Err (fault.Line x)) h = absurd h
+    founded (Err (fault.Opening x)) h = absurd h
+    founded (Err (fault.List x)) h = absurd h
+    founded (Err fault.Fault) h = absurd h
+
+  -- ---- any of them
+
+  abbrev pub Did : OfficeJob → (held holds : Option (List ℕ)) → Result (Unit {0}) JobFault → Type 0
+  Did job held holds r = (asked : Asked) × AsksOffice job held holds r asked × DoesAsked asked old new
+
+  module _ (clean : HasCleanDisk new) (was : IsTrue old.is_open)
+      (settled : (trees : Trees) → IsTrue new.is_open → new.may_leave trees → trees ≡ new.committed.trees) where
+    pub does_asked : (job : OfficeJob) (held holds : Option (List ℕ)) (r : Result (Unit {0}) JobFault) → IsLawful job
+        → ((IsMaking job → ⊥) → Refuses r) → Does job old new held holds r → Did job held holds r
+    does_asked (job.Init opening) held holds r lawful refuses h =
+        (founding_asked opening.now, refl, founded clean was settled opening.now lawful r h.0)
+    does_asked (job.Apply exchanges) held holds r lawful refuses h =
+        applied exchanges.now held holds r (refuses (λ making. making)) h
+    does_asked job.Krl held holds r lawful refuses h =
+        (nothing_asked, refl, stays r (refuses (λ making. making)) (listed held holds r h))
+    does_asked job.Signers held holds r lawful refuses h =
+        (nothing_asked, refl, stays r (refuses (λ making. making)) (reported report.Signers held holds r h))
+    does_asked job.Table held holds r lawful refuses h =
+        (nothing_asked, refl, stays r (refuses (λ making. making)) (reported report.Table held holds r h))
+    does_asked job.Migrate held holds r lawful refuses h =
+        (nothing_asked, refl, stays r (refuses (λ making. making)) (moved was r h.0))
+
+  -- ---- a server
+
+  abbrev pub DidServe : (connections : ℕ) → (nonces : Option (List ℕ)) → Heard → Result ℕ JobFault → Type 0
+  DidServe connections nonces heard r =
+      (asked : Asked) × AsksServing connections nonces heard r asked × DoesAsked asked old new
+
+  pub serves_asked : HasCleanDisk new → (connections : ℕ) (nonces : Option (List ℕ)) (heard : Heard)
+      (held holds : Option (List ℕ)) (r : Result ℕ JobFault) → Refuses r
+      → Serves connections nonces heard old new held holds r → DidServe connections nonces heard r
+  serves_asked clean n nonces heard held holds (Ok zero) refuses h =
+      let met = h.4.met refl in
+      let visits = met.2.visits in (
+        asked_by visits,
+        record {
+          book = h.0;
+          port = h.1;
+          at = h.2;
+          met = λ done. record {
+            visits = visits;
+            all = met.2.all;
+            after = met.0;
+            told = met.2.told;
+            left = met.1;
+            drawn = met.2.drawn;
+            are_its = refl;
+          };
+          unmet = λ failed. absurd (omega (arith, failed));
+        },
+        ran (asked_by visits).exchanges (asked_by visits).given
+            (λ o l told. let s = met.2.served clean o l told in (s.0, s.1, s.2)) (not_blank zero refuses),
+      )
+  serves_asked clean n nonces heard held holds (Ok (suc k)) refuses h =
+      let low = h.4.lawful in
+      let one : suc k ≡ 1 = omega (arith, low) in (
+        nothing_asked,
+        record {
+          book = h.0;
+          port = h.1;
+          at = h.2;
+          met = λ done. absurd (omega (arith, done));
+          unmet = λ failed. refl;
+        },
+        stays (Ok (suc k)) refuses (h.4.unmet one).1,
+      )
+  serves_asked clean n nonces heard held holds (Err fault.Socket) refuses h =
+      (nothing_asked, refl, stays {A = ℕ} (Err fault.Socket) refuses h.2)
+  serves_asked clean n nonces heard held holds (Err fault.Write) refuses h =
+      (nothing_asked, refl, stays {A = ℕ} (Err fault.Write) refuses h.2)
+  serves_asked clean n nonces heard held holds (Err fault.NoMemory) refuses h =
+      (nothing_asked, refl, stays {A = ℕ} (Err fault.NoMemory) refuses h.1.tells)
+  serves_asked clean n nonces heard held holds (Err (fault.Store e)) refuses h =
+      (nothing_asked, refl, stays {A = ℕ} (Err (fault.Store e)) refuses h.1.tells)
+  serves_asked clean n nonces heard held holds (Err fault.File) refuses h = absurd h
+  serves_asked clean n nonces heard held holds (Err (fault.Connection x)) refuses h = absurd h
+  serves_asked clean n nonces heard held holds (Err fault.Mismatch) refuses h = absurd h
+  serves_asked clean n nonces heard held holds (Err (fault.BadExchange k)) refuses h = absurd h
+  serves_asked clean n nonces heard held holds (Err (fault.Line x)) refuses h = absurd h
+  serves_asked clean n nonces heard held holds (Err (fault.Opening x)) refuses h = absurd h
+  serves_asked clean n nonces heard held holds (Err (fault.List x)) refuses h = absurd h
+  serves_asked clean n nonces heard held holds (Err fault.Fault) refuses h = absurd h

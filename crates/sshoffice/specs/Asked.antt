@@ -1,0 +1,76 @@
+-- What the run of a job was asked and gave, by its result and by what was printed.
+use Rattle.std.specs.Prelude.{◌≡◌, ℕ, List, [], length, map, flat_map, false, true, Option, Some, None, Result, Ok, Err}
+use Rattle.std.specs.Io.KnownBytes.{Appends, Consumes}
+use Rattle.office.specs.declared.opening.Opening.{Opening}
+use Rattle.web.specs.declared.exchange.Exchange.{Exchange}
+use Rattle.exchanges.specs.Printing.{all_given_text, has_fault}
+use Rattle.server.specs.Books.{Book}
+use Rattle.server.specs.Connections.{TellsAll, Visit, drawn_of, exchange_of, given_of}
+use Rattle.restart.specs.Lives.{Asked, GivesNone}
+use Rattle.sshoffice.specs.declared.job.OfficeJob.{OfficeJob}
+use Rattle.sshoffice.specs.declared.job.OfficeJob.TheVariants.{Apply, Init}
+use Rattle.sshoffice.specs.declared.job_fault.JobFault.{JobFault}
+use Rattle.sshoffice.specs.declared.job_fault.JobFault.TheVariants.{Fault, Write}
+use Rattle.sshoffice.specs.Serving.{Heard}
+
+-- ---- jobs
+
+-- no exchange, and no new office
+abbrev pub nothing_asked : Asked
+nothing_asked = record { founds = None; exchanges = []; given = [] }
+
+-- a new office with this opening
+abbrev pub founding_asked : Opening → Asked
+founding_asked opening = record { founds = Some opening; exchanges = []; given = [] }
+
+-- All that exchanges gave is printed, and one of it is a fault or none. Or the output failed, and no more is said of
+-- what was printed. Or no response was given, and nothing is printed.
+abbrev pub IsGiven : (held holds : Option (List ℕ)) → Result (Unit {0}) JobFault → Asked → Type 0
+IsGiven held holds (Ok done) asked = Appends held holds (all_given_text asked.given) × (has_fault asked.given ≡ false)
+IsGiven held holds (Err Fault) asked = Appends held holds (all_given_text asked.given) × (has_fault asked.given ≡ true)
+IsGiven held holds (Err Write) asked = Unit {0}
+IsGiven held holds (Err other) asked = GivesNone asked × (holds ≡ held)
+
+-- these exchanges were asked, and that was given
+pub record AsksExchanges (exchanges : List Exchange) (held holds : Option (List ℕ)) (r : Result (Unit {0}) JobFault)
+    (asked : Asked) : Type 0 where
+  pub founds : asked.founds ≡ None
+  pub are_its : asked.exchanges ≡ exchanges
+  pub given : IsGiven held holds r asked
+
+-- What a job asks of the office in a database. The list, a report and a move ask nothing that is an exchange.
+abbrev pub AsksOffice : OfficeJob → (held holds : Option (List ℕ)) → Result (Unit {0}) JobFault → Asked → Type 0
+AsksOffice (Init opening) held holds r asked = asked ≡ founding_asked opening.now
+AsksOffice (Apply exchanges) held holds r asked = AsksExchanges exchanges.now held holds r asked
+AsksOffice other held holds r asked = asked ≡ nothing_asked
+
+-- ---- servers
+
+-- what visits asked and were given
+abbrev pub asked_by : List Visit → Asked
+asked_by visits = record { founds = None; exchanges = map exchange_of visits; given = map given_of visits }
+
+-- These were the visits of so many connections, which the listener tells, with the next nonces of the source.
+pub record AreVisited (connections : ℕ) (book : Option Book) (nonces : Option (List ℕ)) (asked : Asked)
+    : Type 0 where
+  pub visits : List Visit
+  pub all : length visits ≡ connections
+  pub after : Option Book
+  pub told : TellsAll visits book after
+  pub left : Option (List ℕ)
+  pub drawn : Consumes nonces left (flat_map drawn_of visits)
+  pub are_its : asked ≡ asked_by visits
+
+-- Connections were served, each of them if the status is 0, and else none.
+pub record AsksServer (connections : ℕ) (nonces : Option (List ℕ)) (heard : Heard) (status : ℕ) (asked : Asked)
+    : Type 0 where
+  pub book : Option Book
+  pub port : ℕ
+  pub at : heard ≡ Some (Ok (book, port))
+  pub met : status ≡ 0 → AreVisited connections book nonces asked
+  pub unmet : status ≡ 1 → asked ≡ nothing_asked
+
+-- What a server was asked. One that couldn't serve was asked nothing.
+abbrev pub AsksServing : ℕ → (nonces : Option (List ℕ)) → Heard → Result ℕ JobFault → Asked → Type 0
+AsksServing connections source heard (Ok status) asked = AsksServer connections source heard status asked
+AsksServing connections source heard (Err e) asked = asked ≡ nothing_asked

@@ -1,0 +1,90 @@
+-- What each job does with the files that it names and with the guard of a database, and what the words are answered
+-- with.
+use Rattle.std.specs.Prelude.{◌≡◌, ◌⊎◌, ◌≢◌, ℕ, List, IfErr, IfSome, OnOk, Option, Result, Ok, Err, map, string_bytes}
+use Rattle.guard.specs.declared.register.Register as register
+use Rattle.guard.specs.declared.scope.Scope.{Scope}
+use Rattle.guard.specs.Policies.{policy_at}
+use Rattle.command_line.specs.declared.words_fault.WordsFault.{WordsFault}
+use Rattle.station_command.specs.declared.job.StationJob.{StationJob}
+use Rattle.station_command.specs.declared.job.StationJob.TheVariants.{Bodies, Body, Init, Judge, Lists}
+use Rattle.station_command.specs.declared.job.StationJob.TheVariants.{List as Listed, Policy, Retire}
+use Rattle.station_command.specs.Answers.{IsFaultOf, Names}
+use Rattle.list_guard.specs.declared.register.ListRegister as lister
+use Rattle.list_jobs.specs.declared.list_file.ListFile as lists
+use Rattle.list_jobs.specs.Jobs.{InitsIn as MakesLists, ListsIn}
+use Rattle.station_jobs.specs.declared.guard_file.GuardFile as file
+use Rattle.station_jobs.specs.declared.station_fault.StationFault.{StationFault}
+use Rattle.station_jobs.specs.declared.station_fault.StationFault.TheVariants.{BadPolicy, Write}
+use Rattle.station_jobs.specs.declared.surroundings.Surroundings as surroundings
+use Rattle.station_jobs.specs.Bodies.{ListsBodies, PrintsBody}
+use Rattle.station_jobs.specs.Faults.{IsOfAFile}
+use Rattle.station_jobs.specs.Jobs.{InitsIn, LowersIn}
+use Rattle.station_jobs.specs.Policy.{PrintsNames}
+use Rattle.station_jobs.specs.Whole.{Begins, Follows, JudgesIn, RunsIn}
+use Rattle.sshstation.specs.Ending.{status}
+
+-- Files are found by their paths, and are left to read so.
+module _ {E F : Type 0} (world : surroundings.Ghosts E F) (around : E) (remaining : F → Option (List ℕ)) where
+  -- the scope with the key of a file at the path, or why there is none
+  abbrev pub BeginsAt : (path : List ℕ) → (first last : ℕ) → Result Scope StationFault → Type 0
+  BeginsAt path first last scope =
+      ((file : F) × world.has around path file × Begins (remaining file) first last scope) ⊎ IfErr scope IsOfAFile
+
+  -- The names of the departments of a file at the path are printed. Or it is no policy, and nothing is printed; only
+  -- where the output fails something may be.
+  pub record PrintsPolicyOf (file : F) (held holds : Option (List ℕ)) (result : Result (Unit {0}) StationFault)
+      : Type 0 where
+    pub ok : OnOk result (IfSome (remaining file) (λ bytes. PrintsNames bytes held holds))
+    pub bad : (line : ℕ) → result ≡ Err (BadPolicy line) → IfSome (remaining file) (λ bytes. policy_at bytes ≡ Err line)
+    pub silent : IfErr result (λ e. e ≢ Write → holds ≡ held)
+
+  abbrev pub PrintsPolicyAt : (path : List ℕ) → (held holds : Option (List ℕ)) → Result (Unit {0}) StationFault → Type 0
+  PrintsPolicyAt path held holds result =
+      ((file : F) × world.has around path file × PrintsPolicyOf file held holds result)
+      ⊎ (IfErr result IsOfAFile × (holds ≡ held))
+
+  -- The database of a guard is made, opened and closed so. As it was before it is `db`, and as it is afterwards `db'`.
+  module _ {D G : Type 0} (guard : register.Ghosts G) (file : file.Ghosts D G) (db db' : D) where
+    -- the guard with the key of the file was made, or the file has none, and then nothing was made or printed
+    pub record InitsAt (path ca : List ℕ) (first last : ℕ) (held holds : Option (List ℕ))
+        (result : Result (Unit {0}) StationFault) : Type 0 where
+      pub scope : Result Scope StationFault
+      pub begins : BeginsAt ca first last scope
+      pub made : Follows (λ scope. InitsIn guard file db db' path scope held holds) ((db' ≡ db) × (holds ≡ held)) scope
+          result
+
+    -- the job was done, whole, with this result
+    abbrev pub DoesJob : StationJob → (input held holds : Option (List ℕ)) → Result (Unit {0}) StationFault → Type 0
+    DoesJob (Init path ca first last) input held holds result =
+        InitsAt (string_bytes path) (string_bytes ca) first last held holds result
+    DoesJob (Judge j) input held holds result =
+        JudgesIn world around remaining guard file db db' (string_bytes j.db) (string_bytes j.policy) j.ahead
+        (map string_bytes j.bodies.items) input held holds result
+    DoesJob (Bodies path) input held holds result =
+        RunsIn guard file db db' (string_bytes path) (λ s Left r. OnOk r (ListsBodies s held holds) × Left s (Ok tt))
+        (holds ≡ held) result
+    DoesJob (Body path serial) input held holds result =
+        RunsIn guard file db db' (string_bytes path) (λ s Left r. PrintsBody s serial held holds r × Left s (Ok tt))
+        (holds ≡ held) result
+    DoesJob (Policy path) input held holds result =
+        PrintsPolicyAt (string_bytes path) held holds result × (db' ≡ db)
+    DoesJob (Retire path last) input held holds result =
+        LowersIn guard file db db' (string_bytes path) last held holds result
+    DoesJob (Lists path) input held holds result = db' ≡ db
+    DoesJob (Listed words) input held holds result = db' ≡ db
+
+    -- So it is of a file for lists, which only the jobs on lists open.
+    module _ {L K : Type 0} (keeper : lister.Ghosts K) (file_of : lists.Ghosts L K) (l l' : L) where
+      abbrev pub DoesList : StationJob → (held holds : Option (List ℕ)) → Result (Unit {0}) StationFault → Type 0
+      DoesList (Lists path) held holds result = MakesLists file_of l l' (string_bytes path) held holds result
+      DoesList (Listed words) held holds result =
+          ListsIn world around remaining keeper file_of l l' (string_bytes words.db) (map string_bytes words.cas.items)
+          words.begins (string_bytes words.list) held holds result
+      DoesList other held holds result = l' ≡ l
+
+      -- The job that the words name was done, and its status is answered. Or they name none, and no database was opened.
+      abbrev pub DoesWords : (words : List (List ℕ)) → (input held holds : Option (List ℕ)) → (answered : ℕ) → Type 0
+      DoesWords words input held holds answered =
+          ((job : StationJob) × (result : Result (Unit {0}) StationFault) × Names words job
+          × DoesJob job input held holds result × DoesList job held holds result × (answered ≡ status result))
+          ⊎ ((fault : WordsFault) × IsFaultOf words fault × (db' ≡ db) × (l' ≡ l))

@@ -1,0 +1,126 @@
+//! List guards in the files of databases: looked for, made, opened and closed.
+
+ghost use Rattle.std.specs.Prelude.{◌≡◌, IfOk, IsSomeAnd};
+ghost use Rattle.sqlite_wal.specs.Files.{image_at};
+ghost use Rattle.sshstation.specs.GuardFiles.{OpensFiles};
+ghost use Rattle.sshstation.specs.ListFiles.{EndsList, FindsList, MakesList};
+
+use crate::guard_database::{FileConnection, looked_for, made, of_ending, open_database};
+use guard_restart::end_path;
+use list_jobs::ListFile;
+use list_sql::{ListStore, OpeningFault};
+use restart::EndFault;
+use sqlite::{FileFrom, FileStore, Files, Start};
+use station_jobs::StationFault;
+use std::alloc::Global;
+
+/// A list guard in the files at a path.
+type FileLists<S> = ListStore<FileStore<FileFrom<S>>>;
+
+/// The fault of a list guard that isn't opened or made.
+fn unopened_fault(fault: OpeningFault) -> StationFault {
+    match fault {
+        OpeningFault::AlreadyAGuard => StationFault::AlreadyAGuard,
+        OpeningFault::NotAGuard => StationFault::NotAGuard,
+        OpeningFault::WrongSchema => StationFault::WrongSchema,
+        OpeningFault::Damaged => StationFault::Damaged,
+        OpeningFault::Device => StationFault::Device,
+        OpeningFault::NoMemory => StationFault::NoMemory,
+    }
+}
+
+/// The list guard in the files of a database, which are opened once.
+#[derive(Drop)]
+pub(crate) struct ListDatabase<'a, S: Start> {
+    rt: &'a HostRuntime,
+    // What stands for what the files hold, until they are opened.
+    start: Option<S>,
+    // How the connection ended, and its files as they were left.
+    left: Option<(Result<(), EndFault>, Files<FileFrom<S>>)>,
+}
+
+impl<'a, S: Start> ListDatabase<'a, S> {
+    /// The list guard in files that hold what `start` stands for, before they are opened.
+    pub(crate) fn new(rt: &'a HostRuntime, start: S) -> ListDatabase<'a, S> {
+        ListDatabase {
+            rt,
+            start: Some(start),
+            left: None,
+        }
+    }
+
+    /// Opens the files at a path, unless they were opened before.
+    fn connect(&mut self, path: &str) -> Result<FileConnection<S>, StationFault>
+        ensures { IfOk result (OpensFiles (image_at S.Start)) }
+    {
+        match self.start.take() {
+            Some(start) => open_database(self.rt, path, start),
+            None => Err(StationFault::Device),
+        }
+    }
+}
+
+/// A list guard over a new connection is made.
+fn make_over<S: Start>(alloc: Global, conn: FileConnection<S>) -> Result<FileLists<S>, StationFault>
+    requires { OpensFiles (image_at S.Start) conn }
+    ensures { IfOk result (MakesList (image_at S.Start)) }
+{
+    match ListStore::init(alloc, conn) {
+        Ok(guard) => Ok(guard),
+        Err((fault, conn)) => {
+            drop(conn);
+            Err(unopened_fault(fault))
+        }
+    }
+}
+
+/// The list guard of a new connection is opened.
+fn open_over<S: Start>(alloc: Global, conn: FileConnection<S>) -> Result<FileLists<S>, StationFault>
+    requires { OpensFiles (image_at S.Start) conn }
+    ensures { IfOk result (FindsList (image_at S.Start)) }
+{
+    match ListStore::open(alloc, conn) {
+        Ok(guard) => Ok(guard),
+        Err((fault, conn)) => {
+            drop(conn);
+            Err(unopened_fault(fault))
+        }
+    }
+}
+
+impl<S: Start> ListFile for ListDatabase<'_, S> {
+    type Guard = FileLists<S>;
+
+    ghost makes = { λ _ _ found _. IfOk found (MakesList (image_at S.Start)) };
+
+    ghost opens = { λ _ _ found _. IfOk found (FindsList (image_at S.Start)) };
+
+    ghost closes = { λ _ guard done db. IsSomeAnd db.left (EndsList guard done) };
+
+    fn make(&mut self, alloc: Global, path: &str) -> Result<FileLists<S>, StationFault> {
+        match made(self.rt, path) {
+            Ok(()) => match self.connect(path) {
+                Ok(conn) => make_over(alloc, conn),
+                Err(fault) => Err(fault),
+            },
+            Err(fault) => Err(fault),
+        }
+    }
+
+    fn open(&mut self, alloc: Global, path: &str) -> Result<FileLists<S>, StationFault> {
+        match looked_for(self.rt, path) {
+            Ok(()) => match self.connect(path) {
+                Ok(conn) => open_over(alloc, conn),
+                Err(fault) => Err(fault),
+            },
+            Err(fault) => Err(fault),
+        }
+    }
+
+    fn close(&mut self, guard: FileLists<S>) -> Result<(), StationFault> {
+        let (ended, files) = end_path(guard.into_connection());
+        let done = of_ending(ended);
+        self.left = Some((ended, files));
+        done
+    }
+}

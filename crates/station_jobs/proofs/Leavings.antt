@@ -1,0 +1,129 @@
+-- What calls over a register leave, one after the other.
+use Rattle.std.proofs.Common.{◌≡◌, ◌<◌, ◌^◌, ◌∷◌, ℕ, List, [], Option, Result, Ok, Err, refl, sym, subst, inl, inr}
+use Rattle.std.specs.Prelude.{IfErr, OnErr, OnOk}
+use Rattle.std.specs.Io.KnownBytes.{Appends}
+use Rattle.std.proofs.lemmas.List.{append-nil}
+use Rattle.wire.specs.Streams.{AppendsBeginning}
+use Rattle.guard.specs.declared.judging.Answer.{Answer}
+use Rattle.guard.specs.declared.register.Register.{Ghosts}
+use Rattle.guard.specs.declared.register.RegisterFault.{RegisterFault}
+use Rattle.guard.specs.declared.register.RegisterFault.TheVariants as register
+use Rattle.guard.specs.declared.scope.Scope.{Scope}
+use Rattle.guard.specs.AnswerLines.{answer_line}
+use Rattle.guard.specs.History.{IsStill}
+use Rattle.guard.specs.Judged.{Answers, IsKept, HasCause as IsRegisters}
+use Rattle.guard.specs.Machine.{State, Question, after, row_of}
+use Rattle.guard.proofs.Allowed.{left_by}
+use Rattle.station_jobs.specs.declared.station_fault.StationFault.{StationFault}
+use Rattle.station_jobs.specs.declared.station_fault.StationFault.TheVariants as fault
+use Rattle.station_jobs.specs.Faults.{IsOfABody, IsOfAFile, IsOfAnAnswer, IsOfAPolicy, of_register}
+use Rattle.station_jobs.specs.Leaving.{HasCause, IsNext, Leaves, Stays}
+use Rattle.station_jobs.specs.Steps.{AnswersOne}
+
+-- ---- faults that no register tells
+
+pub body_cause : (failed : Type 0) (e : StationFault) → IsOfABody e → HasCause failed e
+body_cause failed fault.File h = tt
+body_cause failed fault.NoMemory h = tt
+body_cause failed fault.Clock h = tt
+body_cause failed other h = absurd h
+
+pub file_cause : (failed : Type 0) (e : StationFault) → IsOfAFile e → HasCause failed e
+file_cause failed fault.File h = tt
+file_cause failed fault.NoMemory h = tt
+file_cause failed other h = absurd h
+
+pub policy_cause : (failed : Type 0) (e : StationFault) → IsOfAPolicy e → HasCause failed e
+policy_cause failed fault.File h = tt
+policy_cause failed fault.NoMemory h = tt
+policy_cause failed (fault.BadPolicy line) h = tt
+policy_cause failed other h = absurd h
+
+answer_cause : (failed : Type 0) (e : StationFault) → IsOfAnAnswer e → HasCause failed e
+answer_cause failed fault.Write h = tt
+answer_cause failed fault.NoMemory h = tt
+answer_cause failed other h = absurd h
+
+-- one of a register has its cause
+pub register_cause : (failed : Type 0) (e : RegisterFault) → IsRegisters e failed → HasCause failed (of_register e)
+register_cause failed register.Device h = h
+register_cause failed register.Damaged h = absurd h
+register_cause failed register.NoMemory h = tt
+
+-- ---- what is left
+
+-- each body stays in the next state
+pub next_still : (s next : State) → IsNext s next → IsStill s next
+next_still s next (inl same) = subst (IsStill s) (sym same) ([], sym (append-nil s.approved))
+next_still s next (inr (inl (q, same))) =
+    subst (IsStill s) (sym same)
+    (left_by (IsStill s) s q ([], sym (append-nil s.approved)) (λ c new. (row_of q c ∷ [], refl)))
+next_still s next (inr (inr (last, low, same))) = subst (IsStill s) (sym same) ([], sym (append-nil s.approved))
+
+module _ {G : Type 0} (guard : Ghosts G) where
+  pub stays_same : (g : G) (s : State) → guard.keeps g s → Stays guard g g s
+  stays_same g s kept = record { kept = kept; lasts = λ left. left; cause = λ low. tt }
+
+  pub stays_then : (old between new : G) (s : State) → Stays guard old between s → Stays guard between new s
+      → Stays guard old new s
+  stays_then old between new s first second = record {
+    kept = second.kept;
+    lasts = λ left. second.lasts (first.lasts left);
+    cause = λ low. tt;
+  }
+
+  pub fails_same : (A : Type 0) (g : G) (s : State) (e : StationFault) → guard.keeps g s
+      → HasCause (guard.has_failed g) e → Leaves {A = A} guard g g s s (Err e)
+  fails_same A g s e kept cause = record {
+    kept = kept;
+    lasts = λ left. (s, inl refl, left);
+    cause = λ low. cause;
+  }
+
+  pub leaves_then : {A : Type 0} (old between new : G) (s t u : State) (r : Result A StationFault) → t.scope ≡ s.scope
+      → Leaves {A = Unit {0}} guard old between s t (Ok tt) → Leaves guard between new t u r → Leaves guard old new s u r
+  leaves_then old between new s t u r same first second = record {
+    kept = second.kept;
+    lasts = λ left. second.lasts (first.lasts left);
+    cause = λ low. second.cause (subst (λ (x : Scope). x.last < 2 ^ 63) (sym same) low);
+  }
+
+  -- ---- one body
+
+  pub unanswered : (old new : G) (s : State) (q : Question) (held : Option (List ℕ)) (e : RegisterFault)
+      → guard.keeps new s → (guard.leaves old s s → guard.leaves new s (after s q))
+      → (s.scope.last < 2 ^ 63 → IsRegisters e (guard.has_failed new))
+      → AnswersOne s (Leaves guard old new s) q held held (Err (of_register e))
+  unanswered old new s q held e kept crash cause = inr (
+    tt,
+    record {
+      kept = kept;
+      lasts = λ left. (after s q, inr (inl (q, refl)), crash left);
+      cause = λ low. register_cause (guard.has_failed new) e (cause low);
+    },
+    refl,
+  )
+
+  pub answered : (old new : G) (s : State) (q : Question) (held holds : Option (List ℕ)) (a : Answer)
+      (r : Result (Unit {0}) StationFault) → Answers a s q → guard.keeps new (after s q) → IsKept a (after s q) q.body
+      → (guard.leaves old s s → guard.leaves new (after s q) (after s q)) → OnOk r (Appends held holds (answer_line a))
+      → OnErr r (AppendsBeginning held holds (answer_line a)) → IfErr r IsOfAnAnswer
+      → AnswersOne s (Leaves guard old new s) q held holds r
+  answered old new s q held holds a (Ok done) answers left kept durable ok err only = inl (record {
+    answer = a;
+    answers = answers;
+    left = record { kept = left; lasts = durable; cause = λ low. tt };
+    kept = kept;
+    printed = ok;
+  })
+  answered old new s q held holds a (Err e) answers left kept durable ok err only = inl (record {
+    answer = a;
+    answers = answers;
+    left = record {
+      kept = left;
+      lasts = λ l. (after s q, inl refl, durable l);
+      cause = λ low. answer_cause (guard.has_failed new) e only;
+    };
+    kept = kept;
+    printed = err;
+  })

@@ -1,0 +1,36 @@
+-- What is known of the certificates that wait for their signatures.
+use Rattle.std.specs.Prelude.{◌≡◌, ◌≤◌, ◌⊎◌, ℕ, List, [], ◌∷◌, length, take, filter, Bool, false}
+use Rattle.std.specs.Option.{option_map_or}
+use Rattle.office.specs.declared.opening.Opening.{Opening}
+use Rattle.office.specs.declared.arrival.Arrival.{Arrival}
+use Rattle.office.specs.declared.certificate.Certificate.{Certificate}
+use Rattle.office.specs.declared.publication.Pending.{Pending}
+use Rattle.office.specs.History.{state}
+use Rattle.office.specs.Publication.{is_pending, pending_row}
+use Rattle.office.specs.State.{State, certificate_of}
+
+-- each certificate has its row, in order, or it doesn't wait
+abbrev pub Covers : (waits : Certificate → Bool) → List Certificate → List Pending → Type 0
+Covers waits [] rows = rows ≡ []
+Covers waits (c ∷ cs) rows =
+    ((rest : List Pending) × (rows ≡ pending_row c ∷ rest) × Covers waits cs rest)
+    ⊎ ((waits c ≡ false) × Covers waits cs rows)
+
+-- the rows are of certificates before the place, and those of them that wait have theirs
+pub record Knows (seen : ℕ) (rows : List Pending) (s : State) : Type 0 where
+  pub within : seen ≤ length s.certificates
+  pub covers : Covers (is_pending s) (take seen s.certificates) rows
+
+-- the certificate of the serial waits
+abbrev pub serial_waits : State → (serial : ℕ) → Bool
+serial_waits s serial = option_map_or (is_pending s) (certificate_of s serial) false
+
+-- the rows whose certificates wait
+abbrev pub still_waiting : State → List Pending → List Pending
+still_waiting s rows = filter (λ row. serial_waits s row.serial) rows
+
+-- a register means a history, and what is known is so of the history's state
+pub record MeansKnown {S : Type 0} (means : S → Opening → List Arrival → Type 0) (register : S) (seen : ℕ)
+    (rows : List Pending) (o : Opening) (l : List Arrival) : Type 0 where
+  pub register_means : means register o l
+  pub knows : Knows seen rows (state o l)

@@ -1,0 +1,158 @@
+//! An ask: what waited is looked at again, and then what was issued since.
+
+ghost use Rattle.std.specs.Prelude.{◌≡◌, ◌≤◌, [], ◌∷◌, ◌++◌, ◌&&◌, IfOk, IfErr, OnOk, is_none, length, not, take};
+ghost use Rattle.std.specs.Prelude.{if◌then◌else◌};
+ghost use Rattle.office.specs.Faults.{HasCause};
+ghost use Rattle.office.specs.History.{state};
+ghost use Rattle.office.specs.Listing.{AreRevocations, is_named, waiting_rows};
+ghost use Rattle.office.specs.Publication.{pending_of};
+ghost use Rattle.office.specs.Registers.{AnswersBy, FailsAsARegister, FailsWithin, MeansTheSame};
+ghost use Rattle.waiting.specs.Knowing.{Knows, serial_waits, still_waiting};
+
+use crate::known::Known;
+use office::{Issued, Pending, Registry, Revocations, StoreFault, place_behind};
+use std::alloc::Global;
+use text::NoMemory;
+
+// Whether what is shown of a serial waits, where these are revoked.
+fn lets_wait(revocations: &Revocations, serial: u64, issued: &Issued) -> bool
+    ensures { result ≡ (is_none issued.now.certificate && not (is_named revocations.now serial issued.now.key_id)) }
+{
+    let is_revoked = revocations.names(serial, issued.key_id.as_slice());
+    issued.certificate.is_none() && !is_revoked
+}
+
+/// Whether the certificate of a row waits still, where these are revoked.
+fn waits_still<R: Registry>(
+    register: &mut R,
+    alloc: Global,
+    revocations: &Revocations,
+    serial: u64,
+) -> Result<bool, StoreFault>
+    ensures honest { R.is_honest register.new → R.is_honest register.old }
+    ensures was_open { R.is_honest register.new → R.is_open register.new → R.is_open register.old }
+    ensures row { R.is_honest register.new → AnswersBy R.means register.old result (λ o l is.
+        AreRevocations revocations.now (state o l) → is ≡ serial_waits (state o l) serial) }
+    ensures same { R.is_honest register.new → MeansTheSame R.means register.old register.new }
+    ensures cause { IfErr result (λ e. HasCause e (R.fails register.old register.new)) }
+    ensures only { R.is_honest register.new → FailsAsARegister R.means register.old result }
+{
+    match register.certificate(alloc, serial)? {
+        Some(issued) => Ok(lets_wait(revocations, serial, &issued)),
+        None => Ok(false),
+    }
+}
+
+// Puts a row if its certificate waits.
+fn push_if(rows: &mut Vec<Pending>, row: &Pending, waits: bool) -> Result<(), NoMemory>
+    ensures { OnOk result (rows.new.items ≡ rows.old.items ++ (if waits then row.now ∷ [] else [])) }
+{
+    if waits {
+        rows.push(*row)?;
+    }
+    Ok(())
+}
+
+// Puts a row if its certificate waits still, where these are revoked.
+fn push_waiting<R: Registry>(
+    register: &mut R,
+    alloc: Global,
+    revocations: &Revocations,
+    rows: &mut Vec<Pending>,
+    row: &Pending,
+) -> Result<(), StoreFault>
+    ensures honest { R.is_honest register.new → R.is_honest register.old }
+    ensures was_open { R.is_honest register.new → R.is_open register.new → R.is_open register.old }
+    ensures row { R.is_honest register.new → AnswersBy R.means register.old result (λ o l _.
+        AreRevocations revocations.now (state o l) → rows.new.items ≡ rows.old.items
+        ++ (if serial_waits (state o l) row.now.serial then row.now ∷ [] else [])) }
+    ensures same { R.is_honest register.new → MeansTheSame R.means register.old register.new }
+    ensures cause { IfErr result (λ e. HasCause e (R.fails register.old register.new)) }
+    ensures only { R.is_honest register.new → FailsAsARegister R.means register.old result }
+{
+    let waits = waits_still(register, alloc, revocations, row.serial)?;
+    push_if(rows, row, waits)?;
+    Ok(())
+}
+
+/// The rows whose certificates wait still, where these are revoked.
+fn still_waiting<R: Registry>(
+    register: &mut R,
+    alloc: Global,
+    revocations: &Revocations,
+    rows: &[Pending],
+) -> Result<Vec<Pending>, StoreFault>
+    ensures honest { R.is_honest register.new → R.is_honest register.old }
+    ensures was_open { R.is_honest register.new → R.is_open register.new → R.is_open register.old }
+    ensures row { R.is_honest register.new → AnswersBy R.means register.old result (λ o l kept.
+        AreRevocations revocations.now (state o l) → kept.items ≡ still_waiting (state o l) rows.now) }
+    ensures same { R.is_honest register.new → MeansTheSame R.means register.old register.new }
+    ensures cause { R.is_honest register.new
+        → IfErr result (λ e. HasCause e (FailsWithin R.means R.fails register.old register.new)) }
+    ensures only { R.is_honest register.new → FailsAsARegister R.means register.old result }
+{
+    let mut kept = Vec::new(alloc);
+    for row in rows {
+        push_waiting(register, alloc, revocations, &mut kept, row)?;
+    }
+    Ok(kept)
+}
+
+/// What is known of all certificates, where this is known of those before a place, and these are revoked.
+fn learned<R: Registry>(
+    register: &mut R,
+    alloc: Global,
+    revocations: &Revocations,
+    known: Known,
+) -> Result<Known, StoreFault>
+    ensures honest { R.is_honest register.new → R.is_honest register.old }
+    ensures was_open { R.is_honest register.new → R.is_open register.new → R.is_open register.old }
+    ensures stays_open { R.is_honest register.new → OnOk result (R.is_open register.new) }
+    ensures row { R.is_honest register.new → AnswersBy R.means register.old result (λ o l all.
+        known.seen ≤ length (state o l).certificates
+        → known.rows.items ≡ waiting_rows revocations.now (take known.seen (state o l).certificates)
+        → (all.seen ≡ length (state o l).certificates)
+        × (all.rows.items ≡ waiting_rows revocations.now (state o l).certificates)) }
+    ensures same { R.is_honest register.new → MeansTheSame R.means register.old register.new }
+    ensures cause { R.is_honest register.new
+        → IfErr result (λ e. HasCause e (FailsWithin R.means R.fails register.old register.new)) }
+    ensures only { R.is_honest register.new → FailsAsARegister R.means register.old result }
+{
+    let mut rows = known.rows;
+    let mut place = known.seen;
+    'batches: loop {
+        let batch = register.certificates(alloc, place)?;
+        revocations.push_waiting(&mut rows, &batch)?;
+        let next = place_behind(place, &batch)?;
+        if next == place {
+            return Ok(Known { seen: place, rows });
+        }
+        place = next;
+    }
+}
+
+/// What is known after an ask: the rows are those of the certificates that wait.
+pub(crate) fn asked<R: Registry>(
+    register: &mut R,
+    alloc: Global,
+    known: Known,
+) -> Result<Known, StoreFault>
+    ensures honest { R.is_honest register.new → R.is_honest register.old }
+    ensures was_open { R.is_honest register.new → R.is_open register.new → R.is_open register.old }
+    ensures stays_open { R.is_honest register.new → OnOk result (R.is_open register.new) }
+    ensures row { R.is_honest register.new → AnswersBy R.means register.old result (λ o l all.
+        Knows known.seen known.rows.items (state o l)
+        → Knows all.seen all.rows.items (state o l) × (all.rows.items ≡ pending_of (state o l))) }
+    ensures same { R.is_honest register.new → MeansTheSame R.means register.old register.new }
+    ensures cause { R.is_honest register.new
+        → IfErr result (λ e. HasCause e (FailsWithin R.means R.fails register.old register.new)) }
+    ensures only { R.is_honest register.new → FailsAsARegister R.means register.old result }
+{
+    let revocations = register.revocations(alloc)?;
+    let rows = still_waiting(register, alloc, &revocations, known.rows.as_slice())?;
+    let known = Known {
+        seen: known.seen,
+        rows,
+    };
+    learned(register, alloc, &revocations, known)
+}

@@ -1,0 +1,738 @@
+"""The Debian packages: what ./package makes, and docs/INSTALLING.md typed into machines, as a new administrator would.
+
+Machines are boxes (boxes.py). Over the folder that every box starts from lies another one, in which apt has the
+packages that ours depend on, as it would fetch them: the boxes reach no other machine than each other."""
+import argparse
+import contextlib
+import fcntl
+import gzip
+import hashlib
+import importlib.machinery
+import importlib.util
+import json
+import os
+import pathlib
+import re
+import shutil
+import subprocess
+import time
+
+import pytest
+
+import boxes
+import pages
+from running import TOP, left_out, run
+
+PAGE = TOP / "docs/INSTALLING.md"
+NAMES = ["vethlumi-office", "vethlumi-front", "vethlumi-station", "vethlumi-client"]
+MACHINES = ("station", "office", "server", "client")
+OLDER = "0.9.0"
+# What alice types on the page, and no administrator.
+OF_ALICE = ("ssh-keygen ", "vethlumi request ", "ssh -i alice ", "until ! ssh -i alice ")
+# Servers fetch the list more often than in service, so that tests are sooner done.
+OFTEN = "[Timer]\nOnUnitInactiveSec=5s\nRandomizedDelaySec=0\n"
+# The tests on booted machines, one after the other: each has all four.
+on_boxes = [pytest.mark.boxes, pytest.mark.root, pytest.mark.slow, pytest.mark.timeout(900),
+            pytest.mark.xdist_group("fleet")]
+
+
+def marked(*marks):
+    def mark(test):
+        for it in marks:
+            test = it(test)
+        return test
+    return mark
+
+
+# ---- the packages
+
+@contextlib.contextmanager
+def shared(tmp_path_factory, name):
+    """A folder that tests side by side share, locked: whoever finds it empty fills it."""
+    common = tmp_path_factory.getbasetemp()
+    common = common.parent if os.environ.get("PYTEST_XDIST_WORKER") else common
+    with open(common / f"{name}.lock", "w") as lock:
+        fcntl.flock(lock, fcntl.LOCK_EX)
+        yield common / name
+
+
+def make(out, program, sshstation):
+    if not shutil.which("dh"):
+        left_out("debhelper isn't installed")
+    made = run([TOP / "package", "--out", out, "--sshoffice", program, "--sshstation", sshstation], timeout=800)
+    assert 0 == made.returncode, made.stderr.decode()
+    return [pathlib.Path(it) for it in made.stdout.decode().split()]
+
+
+@pytest.fixture(scope="session")
+def packages(program, sshstation, tmp_path_factory):
+    """The files of the packages, those of a lower version of the same programs among them."""
+    with shared(tmp_path_factory, "packages") as folder:
+        if not folder.exists():
+            new = folder.with_name("packages.new")
+            shutil.rmtree(new, ignore_errors=True)
+            for it in make(new, program, sshstation):
+                make_older(it)
+            new.rename(folder)
+    return folder
+
+
+def make_older(package):
+    """Makes a package of a lower version, which has the same files."""
+    folder = package.with_name("older")
+    run(["dpkg-deb", "-R", package, folder], check=True)
+    control = folder / "DEBIAN/control"
+    control.write_text(control.read_text().replace("\nVersion: 1.0.0\n", f"\nVersion: {OLDER}\n"))
+    run(["dpkg-deb", "-Znone", "-b", folder, package.parent / package.name.replace("1.0.0", OLDER)], check=True)
+    shutil.rmtree(folder)
+
+
+def of(packages, name, version="1.0.0"):
+    found = [*packages.glob(f"{name}_{version}_*.deb")]
+    assert 1 == len(found), f"{name} {version}: {found}"
+    return found[0]
+
+
+@pytest.fixture(scope="session")
+def unpacked(packages, tmp_path_factory):
+    """A folder with the files of all packages."""
+    folder = tmp_path_factory.mktemp("unpacked")
+    for name in NAMES:
+        run(["dpkg-deb", "-x", of(packages, name), folder], check=True)
+    return folder
+
+
+def commands(unpacked):
+    return sorted(it for place in ("usr/bin", "usr/sbin") for it in (unpacked / place).iterdir())
+
+
+@marked(pytest.mark.slow)
+def test_lintian_finds_nothing(packages):
+    """What is overridden has a reason beside it."""
+    if not shutil.which("lintian"):
+        left_out("lintian isn't installed")
+    found = run(["lintian", "--allow-root", "--fail-on", "error,warning", *[of(packages, it) for it in NAMES]])
+    assert (0, "") == (found.returncode, found.stdout.decode())
+    for name in NAMES:
+        lines = (TOP / f"debian/{name}.lintian-overrides").read_text().splitlines()
+        assert lines[0].startswith("# ")
+
+
+@marked(pytest.mark.slow)
+def test_two_builds_of_one_program_give_the_same_bytes(packages, program, sshstation, room):
+    os.umask(0o077)
+    try:
+        again = make(room / "again", program, sshstation)
+    finally:
+        os.umask(0o022)
+    assert {it.name for it in again} == {of(packages, it).name for it in NAMES}
+    digests = {it.name: hashlib.sha256(it.read_bytes()).hexdigest() for it in again}
+    assert digests == {it.name: hashlib.sha256((packages / it.name).read_bytes()).hexdigest() for it in again}
+
+
+def test_the_packages_have_the_programs_as_they_were_built(unpacked, program, sshstation):
+    for path in (program, sshstation):
+        assert path.read_bytes() == (unpacked / "usr/bin" / path.name).read_bytes()
+
+
+def test_each_file_of_the_examples_is_as_it_stands_there(unpacked):
+    """Scripts byte for byte, units but for the place of programs."""
+    for name in ("office-restore", "station", "ca-line", "fetch-list", "fetch-ca-keys", "front/authority"):
+        assert (TOP / "examples" / name).read_bytes() == (unpacked / "usr/bin" / name.rpartition("/")[2]).read_bytes()
+    for unit in (unpacked / "lib/systemd/system").iterdir():
+        text = (TOP / "examples/systemd" / unit.name).read_text().replace("/usr/local/bin/", "/usr/bin/")
+        assert text.replace("/usr/local/share/office/", "/usr/share/vethlumi-front/") == unit.read_text()
+    users = [line for it in (unpacked / "usr/lib/sysusers.d").iterdir() for line in it.read_text().splitlines()]
+    assert sorted(users) == sorted(
+        it for it in (TOP / "examples/systemd/sysusers.conf").read_text().splitlines() if it.startswith("u "))
+
+
+def test_alerts_look_at_metrics_that_there_are():
+    text = (TOP / "client/vethlumi/figures.py").read_text() + (TOP / "client/vethlumi/reports.py").read_text()
+    printed = {f"office_{it}" for it in re.findall(r'"([a-z_]+)", "[A-Z]', text)}
+    rules = re.findall(r"^ +expr: (.*)$", (TOP / "examples/alerts.yml").read_text(), re.M)
+    assert 7 == len(rules) and "office_up" in printed
+    assert set() == {it for rule in rules for it in re.findall(r"\boffice_\w+", rule)} - printed
+
+
+def test_each_program_that_a_unit_names_is_in_a_package(unpacked):
+    named = {it for unit in (unpacked / "lib/systemd/system").iterdir()
+             for it in re.findall(r"/usr/(?:local/)?bin/[\w-]+", unit.read_text())}
+    assert [] == sorted(it for it in named if not (unpacked / it.lstrip("/")).exists())
+
+
+def test_each_command_has_a_manual_page_with_its_options(unpacked):
+    for command in commands(unpacked):
+        found = [*(unpacked / "usr/share/man").glob(f"man*/{command.name}.*.gz")]
+        assert 1 == len(found), command.name
+        told = run(["man", "--warnings", "-E", "UTF-8", "-l", found[0]], env=os.environ | {"MANWIDTH": "200"})
+        assert b"" == told.stderr, command.name
+        text = re.sub(r".\x08", "", told.stdout.decode())
+        assert f"{command.name} - " in text
+        helped = help_of(unpacked, command)
+        options = {*re.findall(r"^ +(?:-\w, )?(--[a-z-]+)", helped, re.M)}
+        assert [] == sorted(it for it in options if it not in text), command.name
+
+
+def help_of(unpacked, command, *words):
+    environment = os.environ | {"PYTHONPATH": str(unpacked / "usr/lib/python3/dist-packages"), "COLUMNS": "80",
+                                "PYTHONDONTWRITEBYTECODE": "1"}
+    return run([command, *words, "--help"], env=environment, check=True).stdout.decode()
+
+
+def test_each_command_of_the_client_has_a_manual_page(unpacked):
+    found = re.search(r"^Commands:\n((?:  .*\n)+)", help_of(unpacked, unpacked / "usr/bin/vethlumi"), re.M)[1]
+    names = re.findall(r"^  ([a-z]+) ", found, re.M)
+    assert {"request", "renew", "revoke", "department", "doctor"} < {*names}
+    for name in [*names, "department-put", "department-show", "department-diff"]:
+        with gzip.open(unpacked / f"usr/share/man/man1/vethlumi-{name}.1.gz", "rt") as it:
+            assert re.search(rf"^vethlumi-{name} \\- [a-z]", it.read(), re.M)
+
+
+COMPLETE = """
+. "$1"
+COMP_WORDS=({words}) COMP_CWORD={last} COMP_LINE='{words}' COMP_TYPE=9
+{function} {name} '' '' >/dev/null 2>&1
+printf '%s\\n' "${{COMPREPLY[@]}}"
+"""
+
+
+@pytest.mark.parametrize("words, due", [
+    ("sshoffice ser", ["serve"]), ("sshoffice init --fir", ["--first"]), ("authority rev", ["revoke"]),
+    ("fetch-list --cac", ["--cacert"]), ("vethlumi-front-setup --au", ["--authority"]), ("sshstation ju", ["judge"]),
+    ("vethlumi depart", ["department"]), ("vethlumi request --princ", ["--principals"]),
+])
+def test_bash_completes(unpacked, words, due):
+    name = words.split()[0]
+    file = unpacked / "usr/share/bash-completion/completions" / name
+    function = re.search(r"-F (\w+)", file.read_text())[1]
+    (unpacked / "bin").mkdir(exist_ok=True)
+    shim = unpacked / "bin/vethlumi"
+    shim.write_text(f'#!/bin/sh\nexec {unpacked}/usr/bin/vethlumi "$@"\n')
+    shim.chmod(0o755)
+    script = COMPLETE.format(words=words, last=len(words.split()) - 1, function=function, name=name)
+    environment = os.environ | {"PYTHONPATH": str(unpacked / "usr/lib/python3/dist-packages"),
+                                "PATH": f"{unpacked}/bin:{os.environ['PATH']}"}
+    assert due == run(["bash", "-c", script, "bash", file], env=environment).stdout.decode().split()
+
+
+def test_there_is_a_completion_of_each_command_for_both_shells(unpacked):
+    names = {it.name for it in commands(unpacked)}
+    assert names == {it.name for it in (unpacked / "usr/share/bash-completion/completions").iterdir()}
+    found = sorted((unpacked / "usr/share/zsh/vendor-completions").iterdir())
+    assert names == {it.name.removeprefix("_") for it in found}
+    for it in found:
+        assert it.read_text().startswith(f"#compdef {it.name[1:]}\n")
+    if not shutil.which("zsh"):
+        left_out("zsh isn't installed")
+    assert b"" == run(["zsh", "-f", "-c", 'for it; do zsh -n "$it"; done', "zsh", *found]).stderr
+
+
+# ---- what set-up commands give to each other
+
+def load(name):
+    """A set-up command as a module."""
+    path = TOP / "setup" / name
+    loader = importlib.machinery.SourceFileLoader(name.replace("-", "_").removesuffix(".py"), str(path))
+    module = importlib.util.module_from_spec(importlib.util.spec_from_loader(loader.name, loader))
+    loader.exec_module(module)
+    return module
+
+
+CA = "ssh-ed25519 AAAAC3NzaC1lZDI1NTE5AAAAI" + "A" * 43
+
+
+def test_a_bundle_is_read_as_it_was_written_behind_keys_of_cas(room):
+    common = load("setting_up.py")
+    text = common.bundle(office="https://a:8443", caller="db", host="", certificate="-----BEGIN X-----\nline\n")
+    (room / "bundle").write_text(f"{CA} the first CA\n{CA}\n{text}")
+    assert {"ca": f"{CA} the first CA\n{CA}\n", "office": "https://a:8443\n", "caller": "db\n",
+            "certificate": "-----BEGIN X-----\nline\n"} == common.read_bundle(str(room / "bundle"))
+
+
+@pytest.mark.parametrize("text, told", [
+    ("", "is empty"), ("[nothing]\n", "it has a part [nothing]"),
+    ("ssh-rsa AAAA\n[office]\nhttps://a\n", "no CA's public key"), (f"{CA}A\n", "no CA's public key"),
+    # What somebody could put there who holds the front: lines for settings, another folder, a CA of their own.
+    ("[office]\nhttps://a:8443\nLIST_FROM=--unsigned\n", "no URL of a front"),
+    ("[office]\nhttps://a\"\n", "no URL of a front"), ("[caller]\n../a\n", "no name of a caller"),
+    ("[caller]\na\n[host]\na\nKEY=b\n", "no name of a host"),
+    (f"[office]\nhttps://a\n[ca]\n{CA}\n", "a part [ca], which only a station makes"),
+    (f"[ca]\n{CA}\n[authority]\nb\n", "a part [ca], which only a station makes"),
+])
+def test_what_is_no_bundle(room, text, told):
+    common = load("setting_up.py")
+    (room / "bundle").write_text(text)
+    with pytest.raises(common.Fault, match=re.escape(told)):
+        common.read_bundle(str(room / "bundle"))
+
+
+def test_a_bundle_adds_no_ca_to_those_that_are_named(room):
+    """A key that stands alone before a bundle is believed by itself, and no other that isn't named or known."""
+    common = load("setting_up.py")
+    for it in ("one", "two"):
+        run(["ssh-keygen", "-q", "-t", "ed25519", "-N", "", "-f", room / it], check=True)
+    one, two = [(room / f"{it}.pub").read_text() for it in ("one", "two")]
+    first, second = [run(["ssh-keygen", "-l", "-f", room / it]).stdout.decode().split()[1] for it in ("one", "two")]
+    assert [] == common.cas_of({}, []) == common.cas_of({}, [first], [second])
+    for due, lines, *named in (([first], one, []), ([first], one + one, []), ([first], one, [first, second]),
+                               ([first], one, [], [first]), ([first, second], one + two, [second], [first]),
+                               ([first, second], one + two, [first, second])):
+        assert due == common.cas_of({"ca": lines}, *named)
+    for lines, *named in ((one + two, []), (one, [second]), (one, [], [second]), (one + two, [first]),
+                          (one + two, [], [second])):
+        with pytest.raises(common.Fault, match="a CA that isn't known"):
+            common.cas_of({"ca": lines}, *named)
+
+
+def clients_of(**given):
+    front = load("vethlumi-front-setup")
+    return front, lambda: front.clients(argparse.Namespace(**{"caller": [], "reader": [], "server": []} | given))
+
+
+def test_each_client_of_a_front_has_a_name_of_its_own():
+    _, found = clients_of(caller=["ana"], reader=["eye"], server=["db.example.org"])
+    assert {"root": ("root", ""), "station": ("station", ""), "admin": ("caller", ""), "watch": ("reader", ""),
+            "ana": ("caller", ""), "eye": ("reader", ""), "db-example-org": ("caller", "db.example.org")} == found()
+    _, found = clients_of(caller=["admin", "ana", "ana"], reader=["watch"])
+    assert 5 == len(found())
+
+
+@pytest.mark.parametrize("given", [
+    # The bundle of a server that is called `station` would have the signing station's private key.
+    {"server": ["station"]}, {"server": ["root"]}, {"server": ["admin"]}, {"server": ["server"]},
+    {"caller": ["server"]}, {"reader": ["admin"]}, {"caller": ["root"]}, {"caller": ["watch"]}, {"caller": ["../a"]},
+    {"reader": [""]},
+    {"caller": ["db"], "server": ["db"]}, {"server": ["db.example.org", "db-example.org"]},
+])
+def test_no_client_gets_the_name_of_another(given):
+    front, found = clients_of(**given)
+    with pytest.raises(front.setting_up.Fault):
+        found()
+
+
+@pytest.mark.parametrize("host, name", [("db.example.org", "db-example-org"), ("DB", "db"), ("a_b", None),
+                                        ("db.some-longer-name.example.org", "db-some-longer-name-example-org"),
+                                        ("db.a-still-longer-name.example.org", None), ("192.0.2.7", "192-0-2-7")])
+def test_the_name_of_a_host(host, name):
+    common = load("setting_up.py")
+    if name:
+        assert name == common.name_of_host(host)
+    else:
+        with pytest.raises(common.Fault):
+            common.name_of_host(host)
+
+
+def test_the_policy_that_a_station_begins_with(sshstation, room):
+    """The guard reads it, and each host may ask for its own name alone."""
+    station, office = load("vethlumi-station-setup"), load("vethlumi-office-setup")
+    words = argparse.Namespace(policy=None, department="people", admins="admin,ana", principals="alice",
+                               host=["db.example.org", "web.example.org"])
+    text = station.policy_of(words)
+    (room / "policy").write_text(text)
+    assert 0 == run([sshstation, "policy", room / "policy"]).returncode
+    departments = office.departments_of(text)
+    assert ["department people\n", "department db-example-org\n", "department web-example-org\n"] == [
+        it.splitlines(True)[0] for it in departments]
+    assert "admins db-example-org\nprincipals db.example.org\n" in departments[1]
+    assert departments == office.departments_of(f"# first\n\n{text}")
+    for bad in (text + "namespaces\n", text.partition("\n")[2]):
+        with pytest.raises(office.Fault):
+            office.departments_of(bad)
+
+
+def test_a_set_up_changes_nothing_that_is_as_it_should_be(room):
+    common = load("setting_up.py")
+    steps = common.Steps(argparse.Namespace(yes=True), "set-up")
+    (room / "file").write_text("one\n")
+    steps.file(room / "file", "one\n")
+    steps.lines(room / "file", ["one"])
+    assert ([], set()) == (steps.steps, steps.changed)
+    steps.lines(room / "file", ["one", "two"])
+    steps.carry_out()
+    assert "one\ntwo\n" == (room / "file").read_text() and 0o644 == (room / "file").stat().st_mode & 0o777
+
+
+def test_a_set_up_asks_or_wants_yes(room):
+    common = load("setting_up.py")
+    steps = common.Steps(argparse.Namespace(yes=False), "set-up")
+    steps.file(room / "file", "one\n")
+    done = run(["/usr/bin/python3", "-B", "-c", SET_UP_ALONE, TOP / "setup", room / "file"])
+    assert (1, False) == (done.returncode, (room / "file").exists())
+    assert b"write" in done.stderr and b"give --yes" in done.stderr
+
+
+SET_UP_ALONE = """
+import argparse, sys
+sys.path.insert(0, sys.argv[1])
+import setting_up
+sys.argv = ["set-up", sys.argv[2]]
+sys.exit(setting_up.main("set-up", "usage: set-up FILE\\n\\nSets up.", lambda parser: parser.add_argument("file"),
+                         lambda given, steps: (steps.file(given.file, "one\\n"), steps.carry_out()), False))
+"""
+
+
+# ---- machines
+
+# What ours depend on, and the folder in which apt has it.
+NEEDED = "python3-click python3-rich nginx curl sqlite3 openssl logrotate openssh-client python3-requests".split()
+FETCH = """set -e
+mount --make-rprivate /
+mount -t tmpfs -o mode=755 room "$2"
+mkdir "$2/up" "$2/work" "$2/root"
+mount -t overlay -o "lowerdir=$1,upperdir=$2/up,workdir=$2/work" box "$2/root"
+cp --remove-destination /etc/resolv.conf "$2/root/etc/resolv.conf"
+chroot "$2/root" apt-get -qq update
+chroot "$2/root" apt-get -qq install --no-install-recommends --download-only -y $4
+rm "$2/root/etc/resolv.conf"
+cp -a "$2/up" "$3"
+"""
+
+
+def fetched(base):
+    """A folder that lies over that of every box, in which apt has what our packages depend on."""
+    stamp = hashlib.sha256(" ".join([boxes.stamp(boxes.PACKAGES), *NEEDED]).encode()).hexdigest()[:16]
+    folder = boxes.FOLDER.with_name(f"{boxes.FOLDER.name}-packages")
+    folder.mkdir(parents=True, exist_ok=True)
+    with open(folder / "lock", "w") as lock:
+        fcntl.flock(lock, fcntl.LOCK_EX)
+        layer, new = folder / stamp, folder / "new"
+        if not layer.exists():
+            for it in (new, folder / "room"):
+                shutil.rmtree(it, ignore_errors=True)
+            (folder / "room").mkdir()
+            environment = boxes.ENVIRONMENT | {"DEBIAN_FRONTEND": "noninteractive"}
+            words = ["unshare", "--mount", "bash", "-c", FETCH, "bash", base, folder / "room", new, " ".join(NEEDED)]
+            made = subprocess.run(words, capture_output=True, text=True, env=environment)
+            if made.returncode:
+                raise boxes.CannotBoot(f"apt can't fetch packages: {(made.stdout + made.stderr)[-800:]}")
+            new.rename(layer)
+    return layer
+
+
+@pytest.fixture(scope="session")
+def base(tmp_path_factory):
+    """What every box lies over. A machine that boots no box at all is left out; if it boots one, every box has to."""
+    try:
+        rack = boxes.Rack(tmp_path_factory.mktemp("probe"))
+        try:
+            rack.add("probe")
+        finally:
+            rack.end()
+        return f"{fetched(rack.base)}:{rack.base}"
+    except boxes.CannotBoot as reason:
+        left_out(reason)
+
+
+class Fleet(boxes.Rack):
+    """Machines into which the commands of the page are typed, one shell for each."""
+
+    def __init__(self, room, base, packages, kept=None):
+        super().__init__(room, base, kept)
+        self.packages, self.shells = packages, {}
+
+    def furnish(self, box):
+        if box.name == "office":
+            box.may_log_in()
+        box.write("etc/systemd/system/office-list.timer.d/often.conf", OFTEN)
+        # On the page the administrator copies them from the office's machine to the others.
+        if box.name == "office" or box.name not in MACHINES:
+            for name in NAMES:
+                shutil.copy(of(self.packages, name), box.files / "root")
+
+    def type(self, text):
+        """Types the blocks of a text, each on its machine, and returns the lines that were printed."""
+        printed = []
+        for block in pages.blocks(text):
+            if block.machine not in self.shells:
+                self.shells[block.machine] = boxes.Shell(self.boxes[block.machine])
+            printed += self.shells[block.machine].run(block.commands).splitlines()
+        return printed
+
+    def end_shells(self):
+        for it in self.shells.values():
+            it.end()
+        self.shells.clear()
+
+    def close(self):
+        self.end_shells()
+        self.end()
+
+
+def typed(text):
+    """The commands of the page: the machine and the command, in order."""
+    return [(block.machine, line) for block in pages.blocks(text)
+            for line in block.commands.replace("\\\n", " ").replace("|\n", "| ").splitlines()]
+
+
+def test_an_administrator_types_at_most_twelve_commands():
+    """Copies among them, and on one screen: up to the refused login the page has at most 66 lines."""
+    text = PAGE.read_text()
+    commands_ = typed(text)
+    assert 12 >= len([it for _, it in commands_ if not it.startswith(OF_ALICE)])
+    assert "ssh -i alice" in commands_[-1][1]
+    assert 66 >= text[:text.index(commands_[-1][1])].count("\n")
+
+
+def install(room, base, packages, kept):
+    """Types the page into empty machines, and keeps them."""
+    fleet = Fleet(room, base, packages)
+    with contextlib.closing(fleet):
+        fleet.add(*MACHINES)
+        # The page says that alice has an account.
+        fleet.boxes["server"].run("useradd --create-home --shell /bin/bash alice")
+        begun = time.monotonic()
+        printed = fleet.type(PAGE.read_text())
+        seconds = time.monotonic() - begun
+        seen = [it for it in printed if it in ("granted", "refused")]
+        assert ("granted", "refused", 1) == (seen[0], seen[-1], seen.count("refused")), "\n".join(printed)
+        assert 600 > seconds
+        print(f"figure: from made packages and booted boxes to a refused login in {seconds:.0f} s")
+        fleet.end_shells()
+        fleet.keep(kept)
+
+
+@pytest.fixture(scope="session")
+def installed(base, packages, tmp_path_factory):
+    """A folder with the machines as the page leaves them."""
+    with shared(tmp_path_factory, "fleet") as kept:
+        if not kept.exists():
+            new = tmp_path_factory.mktemp("fleet")
+            install(tmp_path_factory.mktemp("rack"), base, packages, new)
+            new.rename(kept)
+    return kept
+
+
+@pytest.fixture
+def fleet(base, installed, packages, tmp_path):
+    made = Fleet(tmp_path, base, packages, installed)
+    with contextlib.closing(made):
+        made.add(*MACHINES)
+        boxes.wait_until(lambda: is_up(made), "the office answers")
+        yield made
+
+
+def is_up(fleet):
+    return fleet.boxes["client"].run("vethlumi status", False).returncode == 0
+
+
+def certificates(fleet, key_id):
+    """The certificates of a key id, as the office's table has them."""
+    told = fleet.boxes["client"].says(f"vethlumi certs --json --keyid {key_id}")
+    return [json.loads(it) for it in told.splitlines()]
+
+
+def login(fleet, name):
+    """What a login says that alice tries with a key of hers."""
+    ssh = f"ssh -o BatchMode=yes -o IdentitiesOnly=yes -i {name} alice@server.example.org echo granted"
+    return fleet.boxes["client"].run(ssh, False).stdout.strip()
+
+
+@marked(*on_boxes)
+def test_the_page_leads_to_a_login_that_is_granted_and_refused(installed):
+    assert {*MACHINES} == {it.name for it in installed.iterdir()}
+
+
+def ask(fleet, name):
+    """Begins to ask for a certificate on the client's machine, and waits until the office has it."""
+    client = fleet.boxes["client"]
+    client.run(f"ssh-keygen -q -t ed25519 -N '' -f {name}")
+    client.run(f"systemd-run -q --unit=ask-{name} --setenv=HOME=/root --working-directory=/root "
+               f"vethlumi request people/{name} {name}.pub --principals alice")
+    boxes.wait_until(lambda: certificates(fleet, f"people/{name}"), f"{name} waits for a signature")
+
+
+def has_certificate(fleet, name):
+    """Runs the same command again, and says whether it has the certificate. There is one, and no second."""
+    done = fleet.boxes["client"].run(f"vethlumi --wait 20 request people/{name} {name}.pub --principals alice", False)
+    return done.returncode == 0 and 1 == len(certificates(fleet, f"people/{name}"))
+
+
+@marked(*on_boxes)
+def test_machines_that_are_rebooted_or_killed_in_the_middle_of_an_issue(fleet):
+    """Two at a time, each pair in the middle of an issue: it is asked, and the station can't sign yet."""
+    for it in fleet.boxes.values():
+        it.switch_off()
+    for it in fleet.boxes.values():
+        it.running.wait(60)
+        it.start()
+    for it in fleet.boxes.values():
+        it.wait_until_up()
+    boxes.wait_until(lambda: is_up(fleet), "the office answers after a reboot of all")
+    for number, pair in enumerate((("office", "server"), ("station", "client"))):
+        name = f"alice{number}"
+        fleet.boxes["station"].run("systemctl stop office-station@first")
+        ask(fleet, name)
+        for it in pair:
+            fleet.boxes[it].pull_the_plug()
+        for it in pair:
+            fleet.boxes[it].start()
+        for it in pair:
+            fleet.boxes[it].wait_until_up()
+        fleet.boxes["station"].run("systemctl start office-station@first")
+        boxes.wait_until(lambda: has_certificate(fleet, name), f"{name} has a certificate", 120)
+        boxes.wait_until(lambda: "granted" == login(fleet, name), f"{name} logs in")
+
+
+@marked(*on_boxes)
+def test_a_host_renews_its_certificate_by_its_timer(fleet):
+    """It is valid for two minutes, one of which is over from the beginning: two thirds are over after 20 seconds."""
+    server = fleet.boxes["server"]
+    serial = "ssh-keygen -L -f /var/lib/office-host/host-cert.pub | sed -n 's/^ *Serial: //p'"
+    server.run("sed -i 's/^LIFE=.*/LIFE=2m/' /etc/vethlumi/host.env")
+    server.run("rm /var/lib/office-host/host-cert.pub && systemctl start vethlumi-host")
+    first = server.says(serial)
+    boxes.wait_until(lambda: int(server.says(serial)) > int(first), "the timer has renewed it", 180)
+    assert first == server.says(serial.replace("host-cert.pub", "host-cert.pub.old"))
+    # sshd shows the new one: its end is later than that of the certificate before.
+    offered = fleet.boxes["client"].run("ssh -v -o BatchMode=yes nobody@server.example.org true", False).stdout
+    assert f"serial {server.says(serial)} " in offered, offered
+    # One that sshd can't read gives way to the old one.
+    server.run("cp /var/lib/office-host/host-cert.pub kept; echo damaged >/var/lib/office-host/host-cert.pub")
+    told = server.run("vethlumi-host --reload", False)
+    assert 1 == told.returncode and "the old one is back" in told.stdout
+    assert "active" == server.says("systemctl is-active ssh")
+    # Another name than the host's own is refused.
+    told = server.run("sed -i 's/^PRINCIPALS=.*/PRINCIPALS=office.example.org/' /etc/vethlumi/host.env; "
+                      "env HOME=/var/lib/office-host runuser -u office-host -- vethlumi-host --now", False)
+    assert 1 == told.returncode and "refused 14 NotPermitted" in told.stdout
+
+
+@marked(*on_boxes)
+def test_a_client_refuses_a_host_whose_certificate_was_revoked(fleet):
+    """The host goes on showing it, as somebody would who has taken the host's key. The client is as the page has set it
+    up, for root and then for another user too."""
+    server, client = fleet.boxes["server"], fleet.boxes["client"]
+    bundle = fleet.boxes["office"].says("cat /etc/vethlumi/ca.pub /var/lib/vethlumi-authority/admin.bundle") + "\n"
+    client.run("useradd --create-home bob")
+    for box, user in ((client, "bob"), (server, "alice")):
+        box.write(f"home/{user}/bundle", bundle)
+    set_up = "vethlumi-client-setup --yes --hosts '*.example.org' "
+    told = client.run(f"{set_up} /home/bob/bundle").stdout
+    assert "everything is as it should be\n" == told
+    client.run(f"runuser -u bob -- env HOME=/home/bob {set_up} /home/bob/bundle")
+    told = server.run(f"runuser -u alice -- env HOME=/home/alice {set_up} /home/alice/bundle", False)
+    assert 1 == told.returncode and "first let root run this with --hosts" in told.stdout
+    assert not (server.files / "home/alice/.ssh/known_hosts").exists()
+    server.run("systemctl stop vethlumi-host.timer")
+
+    def said():
+        ssh = "ssh -o BatchMode=yes -o IdentitiesOnly=yes nobody@server.example.org true"
+        return [client.run(it, False).stdout for it in (ssh, f"runuser -u bob -- env HOME=/home/bob {ssh}")]
+    assert ["Permission denied" in it for it in said()] == [True, True], "the host is believed, and nobody isn't"
+    server.run("vethlumi --config /etc/vethlumi/host.toml revoke --yes server-example-org/server.example.org")
+    boxes.wait_until(lambda: all("revoked by file" in it and "Host key verification failed" in it for it in said()),
+                     "the client refuses the host", 180)
+
+
+# ---- upgrades and purges, on one machine that has all packages
+
+def files_of(folder):
+    """The texts of the files below a folder of a box, by their names."""
+    return {str(it.relative_to(folder)): it.read_bytes() for it in sorted(folder.rglob("*")) if it.is_file()}
+
+
+SET_UP = """set -e
+apt-get install -y -qq {debs} >/dev/null
+vethlumi-front-setup --port 80 --yes solo.example.org || true
+vethlumi-front-setup --port 22 --yes solo.example.org || true
+vethlumi-station-setup --principals alice --host solo.example.org --yes
+! vethlumi-station-setup --name second --principals 'alice bob' --yes
+vethlumi-front-setup --port 9443 --server solo.example.org --yes solo.example.org
+echo "ssh-ed25519 AAAAC3NzaC1lZDI1NTE5AAAAI$(printf 'A%.0s' $(seq 43)) of an earlier try" >/etc/vethlumi/ca.pub
+vethlumi-office-setup --yes /etc/vethlumi/station/first.office
+vethlumi-station-setup --yes /var/lib/vethlumi-authority/station.bundle
+cat /etc/vethlumi/ca.pub /var/lib/vethlumi-authority/solo.example.org.bundle | vethlumi-server-setup --yes -
+cat /etc/vethlumi/ca.pub /var/lib/vethlumi-authority/admin.bundle | vethlumi-client-setup --yes --hosts '*.org' -
+install -m 600 -o office-figures /var/lib/vethlumi-authority/watch.pem /etc/vethlumi/figures.pem
+sed 's/host.pem/figures.pem/' /etc/vethlumi/host.toml >/etc/vethlumi/figures.toml
+systemctl enable -q --now vethlumi-figures.timer
+systemctl start vethlumi-figures
+"""
+# What is told of a port that another program has: Debian's own nginx, and sshd.
+CLASHES = ["port 80 is taken by nginx (process", "port 22 is taken by sshd (process"]
+
+
+@marked(*on_boxes)
+def test_an_upgrade_keeps_all_and_a_purge_keeps_databases_and_keys(base, packages, tmp_path):
+    fleet = Fleet(tmp_path, base, packages)
+    with contextlib.closing(fleet):
+        solo, = fleet.add("solo")
+        for name in NAMES:
+            shutil.copy(of(packages, name, OLDER), solo.files / "root")
+        said = solo.run(SET_UP.format(debs=f"./*_{OLDER}_*.deb"), timeout=400).stdout
+        assert CLASHES == re.findall(r"port \d+ is taken by .*?\(process", said)
+        assert "active" == solo.says("systemctl is-active nginx")
+        # What had a fault has left nothing, and what was tried before the office was made isn't its CA.
+        assert "0" == solo.says("ls /etc/vethlumi/station | grep -c second || true")
+        solo.run("cmp /etc/vethlumi/ca.pub /etc/vethlumi/station/first.pub")
+        assert "office_up 1" in solo.says("cat /var/lib/office-figures/office.prom").splitlines()
+        # Configuration of an administrator, as it was kept.
+        for it in sorted((TOP / "tests/data/packages").iterdir()):
+            place = solo.files / "etc" / it.name.replace("@", "/")
+            place.write_bytes(it.read_bytes())
+        solo.run("chown office-station: /etc/vethlumi/station/first.policy && chmod 755 /etc/vethlumi/alert && "
+                 "systemctl restart office office-station@first")
+        request = "ssh-keygen -q -t ed25519 -N '' -f {0}; vethlumi request people/{0} {0}.pub --principals alice"
+        boxes.wait_until(lambda: 0 == solo.run("vethlumi status", False).returncode, "the office answers")
+        solo.run(request.format("before"), timeout=120)
+        config = files_of(solo.files / "etc/vethlumi")
+        assert 2 == config["front/nginx.conf"].count(b"9443")
+        solo.run("apt-get install -y -qq ./*_1.0.0_*.deb >/dev/null", timeout=400)
+        assert config == files_of(solo.files / "etc/vethlumi")
+        assert ["1.0.0"] * 4 == solo.says(f"dpkg-query -W -f '${{Version}}\\n' {' '.join(NAMES)}").split()
+        boxes.wait_until(lambda: 0 == solo.run("vethlumi status", False).returncode, "the office answers again")
+        solo.run(request.format("after"), timeout=120)
+        assert "" == solo.says("systemctl --failed --no-legend --plain")
+        purge(solo)
+
+
+def purge(solo):
+    keys = {name: text for name, text in files_of(solo.files / "etc/vethlumi").items() if b"PRIVATE KEY" in text}
+    assert {"front/server.key", "station/first.key", "station/station.pem", "host.pem", "figures.pem"} == {*keys}
+    solo.run(f"apt-get purge -y -qq {' '.join(NAMES)} >/dev/null", timeout=400)
+    left = files_of(solo.files / "etc/vethlumi")
+    assert keys == {name: text for name, text in left.items() if b"PRIVATE KEY" in text}
+    assert [] == [it for it in left if it not in keys and it != "station/first.pub"]
+    for it in ("var/lib/office/office.db", "var/lib/office-station/first.db", "var/lib/vethlumi-authority/ca.key"):
+        assert (solo.files / it).exists()
+    # Neither ssh nor sshd names anything that is gone.
+    assert "" == solo.says("ls /etc/ssh/sshd_config.d /etc/ssh/ssh_config.d | grep vethlumi || true")
+    assert "active" == solo.says("systemctl is-active ssh")
+    assert [] == solo.run("systemctl list-units --no-legend --plain 'office*' 'vethlumi*'").stdout.split()
+
+
+# ---- without a boot
+
+CHROOT = """set -e
+mount --make-rprivate /
+mount -t tmpfs -o mode=755 room "$2"
+mkdir "$2/up" "$2/work" "$2/root"
+mount -t overlay -o "lowerdir=$1,upperdir=$2/up,workdir=$2/work" box "$2/root"
+mount -t proc proc "$2/root/proc"
+cp "$3"/*_1.0.0_*.deb "$2/root/root"
+printf '#!/bin/sh\\nexit 101\\n' >"$2/root/usr/sbin/policy-rc.d"
+chmod 755 "$2/root/usr/sbin/policy-rc.d"
+enter() { chroot "$ROOT" /bin/sh -ec "cd /root; $1"; }
+ROOT=$2/root
+enter 'apt-get install -y -qq ./*.deb >/dev/null'
+enter 'for it in sshoffice sshstation vethlumi authority station; do $it --help >/dev/null; done'
+enter 'stat -c "%U %a %n" /etc/vethlumi/station /var/lib/office /etc/vethlumi/front'
+enter 'apt-get purge -y -qq vethlumi-office vethlumi-front vethlumi-station vethlumi-client >/dev/null'
+enter 'ls -A /etc/vethlumi 2>/dev/null || true'
+"""
+
+
+@marked(pytest.mark.root, pytest.mark.slow)
+def test_the_packages_are_installed_and_purged_in_a_chroot(packages, tmp_path):
+    try:
+        root = boxes.prepare()
+        layers = f"{fetched(root)}:{root}"
+    except boxes.CannotBoot as reason:
+        left_out(reason)
+    environment = boxes.ENVIRONMENT | {"DEBIAN_FRONTEND": "noninteractive"}
+    done = run(["unshare", "--mount", "--pid", "--fork", "bash", "-c", CHROOT, "bash", layers, tmp_path, packages],
+               env=environment, timeout=400)
+    assert 0 == done.returncode, (done.stdout + done.stderr).decode()[-2000:]
+    assert ["office-station 700 /etc/vethlumi/station", "office 700 /var/lib/office", "root 750 /etc/vethlumi/front",
+            ] == done.stdout.decode().splitlines()

@@ -1,0 +1,621 @@
+"""Lists on their way from the office to servers. The station publishes what its guard states, by the front, and servers
+take nothing else: what a false front, a false office and a station that is killed can do to a list."""
+import base64
+import contextlib
+import getpass
+import os
+import pathlib
+import random
+import re
+import signal
+import time
+
+import pytest
+
+from asking import department
+from fetching import Web, response, script, small_disk
+from publishing import HIGHEST, OTHER_CA, Signer, is_signed, key_line, krl, parted, statement
+from recording import getting, statuses, whole_request
+from running import EXAMPLES, free_port, is_listening, run, until
+from stations import Lists, Station, new_guard, stopped
+
+pytestmark = [pytest.mark.front, pytest.mark.xdist_group("published")]
+
+
+class FalseOffice(Web):
+    """An office of which nothing is known but its list. Nothing is pending."""
+
+    def __init__(self, data):
+        super().__init__()
+        self.list = data
+
+    def finish_request(self, peer, address):
+        came = whole_request(peer)
+        self.requests.append(came)
+        if came:
+            peer.sendall(response({b"/v1/krl": self.list, b"/v1/pending": b""}.get(came.split(b" ")[1], b"")))
+
+
+class Site:
+    """A front before a false office, a station that publishes lists, and a server.
+
+    `key` are the words for the CA's key, `ca` the file of its line. `blob` is the CA, by which lists are made."""
+
+    def __init__(self, room, make_front, sshstation, key, ca, **environment):
+        self.room, self.key, self.ca, self.environment = room, key, pathlib.Path(ca), environment
+        self.blob = blob_in(self.ca)
+        self.old = self.krl(3, [1, 2, 9])
+        self.office = FalseOffice(self.old)
+        self.front = make_front(self.office.port, edits=FRESH)
+        self.allowed = room / "signers"
+        self.allowed.write_text(f'krl namespaces="krl@vethlumi" {self.ca.read_text()}')
+        self.guard = new_guard(sshstation, self, policy=department())
+        self.lists = Lists(sshstation, "lists.db", self.ca)
+        self.file = self.front.state / "published"
+
+    def krl(self, version, revoked=(), **how):
+        return krl(version, revoked, **{"ca": self.blob} | how)
+
+    def gives(self, data):
+        """Has the office give this list, and waits until the front does, which keeps pages for two seconds."""
+        self.office.list = data
+        until(lambda: self.front.session().get(f"{self.front.url}/v1/krl").content == data, 30)
+
+    def begin_with(self, data):
+        (self.room / "first").write_bytes(data)
+        assert self.lists.state("first", "--begin").startswith("list ")
+
+    def station(self):
+        made = Station(self.guard, self.front.url, self.key, certificate=self.front.certificate("station"),
+                       trusted=self.front.authority / "ca.crt", lists=self.lists)
+        made.environment |= self.environment
+        return made
+
+    def fetch(self, *options):
+        """fetch-list of a server: its status, and what it says but for curl's own lines."""
+        words = ["--cacert", self.front.authority / "ca.crt", "--signers", self.allowed, *options]
+        status, _, errors = script("fetch-list", *words, self.front.url, "list")
+        return status, [it.removeprefix("fetch-list: ") for it in errors if not it.startswith("curl: ")]
+
+    def got(self):
+        return (self.room / "list").read_bytes()
+
+
+# No page is kept, so that a list that has changed is there at once.
+FRESH = [("proxy_cache_valid 200 2s;", "proxy_cache_valid 200 1s;")]
+
+
+def blob_in(file):
+    return base64.b64decode(file.read_text().split()[1])
+
+
+def new_pem(name="ca"):
+    """A CA's private key as openssl makes it, and the file of its line."""
+    run(["openssl", "genpkey", "-algorithm", "ed25519", "-out", f"{name}.pem"], check=True)
+    pathlib.Path(f"{name}.pub").write_bytes(run([EXAMPLES / "ca-line", f"{name}.pem"], check=True).stdout)
+    return pathlib.Path(f"{name}.pem").absolute(), pathlib.Path(f"{name}.pub").absolute()
+
+
+@pytest.fixture
+def make_site(room, make_front, sshstation):
+    sites = []
+
+    def make(key=None, ca=None, **environment):
+        if key is None:
+            pem, ca = new_pem()
+            key = ["--key", pem]
+        sites.append(Site(room, make_front, sshstation, key, ca, **environment))
+        return sites[-1]
+
+    yield make
+    for it in sites:
+        it.office.__exit__()
+
+
+@pytest.fixture
+def site(make_site):
+    """A site of which the first list is published, and fetched."""
+    made = make_site()
+    made.begin_with(made.old)
+    assert (0, ["published 3"], []) == made.station().once()
+    assert (0, []) == made.fetch()
+    return made
+
+
+# ---- what is published
+
+def test_a_list_comes_from_the_office_to_a_server(site, room):
+    published = site.file.read_bytes()
+    text, signature, data = parted(published)
+    assert site.old == data == site.got()
+    assert is_signed(text, signature, site.allowed)
+    moment = int(text.split()[-1])
+    assert statement(site.old, moment=moment) == text
+    assert 0 <= time.time() - moment < 100
+    lines = signature.decode().splitlines()
+    assert ({70}, True) == ({len(it) for it in lines[1:-2]}, len(lines[-2]) <= 70)
+    assert published == site.front.session().get(f"{site.front.url}/published").content
+    site.gives(site.krl(4, [1, 2, 5, 9]))
+    assert (0, ["published 4"], []) == site.station().once()
+    assert (0, []) == site.fetch()
+    assert site.office.list == site.got()
+
+
+def new_openssh_key(name):
+    run(["ssh-keygen", "-q", "-t", "ed25519", "-N", "", "-C", name, "-f", name], check=True)
+    return pathlib.Path(name).absolute(), pathlib.Path(f"{name}.pub").absolute()
+
+
+@pytest.fixture
+def agent(programs, room):
+    """An agent that has a key of OpenSSH, which stays in a file for comparison."""
+    key, line = new_openssh_key("ca")
+    programs.begin(["ssh-agent", "-D", "-a", room / "agent"])
+    until((room / "agent").exists)
+    socket = {"SSH_AUTH_SOCK": str(room / "agent")}
+    run(["ssh-add", "-q", "ca"], env=os.environ | socket, check=True)
+    return key, line, socket
+
+
+def test_a_signature_is_byte_for_byte_that_of_ssh_keygen(make_site, agent):
+    """Signatures of Ed25519 have one value, so one by an agent is that of ssh-keygen."""
+    key, line, socket = agent
+    site = make_site(["--agent", line], line, **socket)
+    site.begin_with(site.old)
+    assert (0, ["published 3"], []) == site.station().once()
+    text, signature, data = parted(site.file.read_bytes())
+    words = ["ssh-keygen", "-q", "-Y", "sign", "-f", key, "-n", "krl@vethlumi"]
+    assert run(words, input=text, stdin=None, check=True).stdout == signature
+    assert (0, []) == site.fetch()
+
+
+MODULE = "/usr/lib/softhsm/libsofthsm2.so"
+
+
+def test_a_key_in_a_token_signs_lists(make_site, room):
+    (room / "tokens").mkdir()
+    (room / "softhsm2.conf").write_text(f"directories.tokendir = {room}/tokens\nobjectstore.backend = file\n")
+    environment = {"SOFTHSM2_CONF": str(room / "softhsm2.conf")}
+    how = {"env": os.environ | environment, "check": True}
+    pins = ["--so-pin", "87654321", "--pin", "12345678"]
+    run(["softhsm2-util", "--init-token", "--free", "--label", "ca", *pins], **how)
+    pkcs11 = ["pkcs11-tool", "--module", MODULE, "--login", "--pin", "12345678"]
+    run([*pkcs11, "--keypairgen", "--key-type", "EC:edwards25519", "--label", "ca", "--id", "01"], **how)
+    shown = run([*pkcs11, "--list-objects", "--type", "pubkey"], **how).stdout.decode()
+    point = bytes.fromhex(re.search(r"EC_POINT:\s+0420([0-9a-f]{64})", shown)[1])
+    (room / "ca.pub").write_text(key_line(b"\0\0\0\x0bssh-ed25519\0\0\0\x20" + point))
+    (room / "pin").write_text("12345678\n")
+    key = ["--pkcs11", MODULE, "--id", "01", "--pin-file", room / "pin"]
+    site = make_site(key, room / "ca.pub", **environment)
+    site.begin_with(site.old)
+    assert (0, ["published 3"], []) == site.station().once()
+    assert (0, []) == site.fetch()
+    assert site.old == site.got()
+
+
+@pytest.mark.slow
+def test_it_is_published_again_and_again(site, programs):
+    """With a new moment each time, and said once for each version."""
+    def moment():
+        return int(parted(site.file.read_bytes())[0].split()[-1])
+
+    process = site.station().begin(programs, "--publish-every", "1")
+    first = moment()
+    until(lambda: moment() > first + 1, seconds=60)
+    site.office.list = site.krl(4, [1, 2, 5, 9])
+    until(lambda: parted(site.file.read_bytes())[2] == site.office.list, seconds=60)
+    second = moment()
+    until(lambda: moment() > second + 1, seconds=60)
+    assert (0, ["published 3", "published 4"], []) == stopped(process)
+
+
+# ---- what a false office gives the station
+
+# Lists of a false office while the true one has version 3 with the serials 1, 2 and 9; and the refusal.
+FALSE_LISTS = [
+    ("an empty one of this version", lambda site: site.krl(3), "OtherBytes"),
+    ("an empty one of the next version", lambda site: site.krl(4), "Forgets"),
+    ("one that forgets a serial", lambda site: site.krl(4, [1, 9]), "Forgets"),
+    ("another CA's", lambda site: site.krl(4, [1, 2, 9, 11], ca=OTHER_CA), "OtherCa"),
+    ("an older one", lambda site: site.krl(2, [1, 2]), "OlderVersion"),
+    ("one more, and the same version", lambda site: site.krl(3, [1, 2, 9, 11]), "OtherBytes"),
+    ("the highest version", lambda site: site.krl(HIGHEST, [1, 2, 9]), "VersionJumps"),
+    ("a higher version than any", lambda site: site.krl(2 ** 64 - 1, [1, 2, 9]), "VersionJumps"),
+    ("one more, and two versions", lambda site: site.krl(5, [1, 2, 9, 11]), "VersionJumps"),
+    ("half a list", lambda site: site.old[:60], "NotAList"),
+    ("another page", lambda site: b"<html>sign in to the network</html>\n", "NotAList"),
+    ("nothing", lambda site: b"", "NotAList"),
+    ("sections without an end", lambda site: site.krl(4, [1, 2, 9]) + b"\1\xff\xff\xff\xff\0\0\0\0", "NotAList"),
+]
+
+
+@pytest.mark.slow
+def test_no_list_of_a_false_office_is_published(site, programs):
+    """A station that goes on says why it doesn't publish it. What is published stays, and so does the server's list."""
+    station = site.station()
+    process = station.begin(programs, "--publish-every", "1")
+    os.set_blocking(process.stdout.fileno(), False)
+    until(lambda: process.stdout.readline() == b"published 3\n", seconds=60)
+    for what, made, name in FALSE_LISTS:
+        site.office.list = made(site)
+        line = process.stderr.readline().decode()
+        assert line.startswith(f"station: the list isn't published: refused as {name}"), (what, line)
+        published = site.file.read_bytes()
+        time.sleep(1.1)
+        assert published == site.file.read_bytes() and site.old == parted(published)[2], what
+        assert (0, []) == site.fetch(), what
+        assert site.old == site.got(), what
+        # The true one is published again, so that the next line is said.
+        site.office.list = site.old
+        until(lambda: site.file.read_bytes() != published, seconds=60)
+    site.office.list = site.krl(4, [1, 2, 5, 9])
+    until(lambda: parted(site.file.read_bytes())[2] == site.office.list, seconds=60)
+    assert 0 == stopped(process)[0]
+
+
+def test_a_guard_that_was_not_begun_publishes_nothing(make_site):
+    site = make_site()
+    said = ["station: the list isn't published: refused as NotBegun"]
+    assert (1, [], said) == site.station().once()
+    assert not site.file.exists()
+    status, why = site.fetch()
+    assert (1, f"no list came from {site.front.url}; list is as it was") == (status, why[0])
+
+
+def test_what_the_guard_meets_is_said(site):
+    site.lists.db.rename("elsewhere")
+    said = ["station: the list isn't published: sshstation: NotAGuard"]
+    assert (1, [], said) == site.station().once()
+
+
+def test_the_key_is_one_of_the_cas(site, room):
+    """Another key's statement would be believed by no server, so it isn't published."""
+    before = site.file.read_bytes()
+    site.key = ["--key", new_pem("other")[0]]
+    said = ["station: the list isn't published: the key is none of --list-ca: its signature doesn't verify"]
+    assert (1, [], said) == site.station().once()
+    assert before == site.file.read_bytes()
+
+
+def test_a_list_that_is_not_published_keeps_no_certificate_from_being_signed(site, programs):
+    """And the other way round: see the guards' own tests. Here an office whose list is bad answers what is pending."""
+    site.gives(b"no list")
+    status, out, said = site.station().once()
+    assert (1, [], ["station: the list isn't published: refused as NotAList"]) == (status, out, said)
+    assert any(it.startswith(b"GET /v1/pending ") for it in site.office.requests)
+
+
+# ---- what a false front gives servers
+
+def with_head_of(old, data):
+    text, signature, _ = parted(old)
+    return text + signature + data
+
+
+@pytest.mark.slow
+def test_no_list_of_a_false_front_is_taken(site, room):
+    """Each of the false lists with the true statement, with one of another signer, and with none. The true list stays,
+    and its statement."""
+    true, other = site.file.read_bytes(), Signer("other")
+    kept = (room / "list.statement").read_bytes()
+    for what, made, _ in FALSE_LISTS:
+        data = made(site)
+        for false, name in ((with_head_of(true, data), None), (other.published(data, version=4), "NotSigned"),
+                            (data, "NotStated")):
+            site.file.write_bytes(false)
+            status, why = site.fetch()
+            # A list that is in place isn't fetched: its statement is all that is looked at.
+            if name is None and status == 0:
+                assert parted(false)[0] == parted(true)[0]
+            else:
+                assert (1, True) == (status, why[0].startswith(f"refused as {name or 'OtherDigest'}: ")), (what, why)
+            assert (site.old, kept) == (site.got(), (room / "list.statement").read_bytes()), what
+
+
+@pytest.mark.slow
+def test_a_new_server_takes_no_list_of_a_false_front(site, room):
+    true, other = site.file.read_bytes(), Signer("other")
+    for it in ("list", "list.statement"):
+        (room / it).unlink()
+    for what, made, _ in FALSE_LISTS:
+        data = made(site)
+        for false, name in ((with_head_of(true, data), "OtherDigest"), (other.published(data, version=4), "NotSigned"),
+                            (data, "NotStated")):
+            site.file.write_bytes(false)
+            status, why = site.fetch()
+            assert (1, True) == (status, why[0].startswith(f"refused as {name}: ")), (what, why)
+            assert not (room / "list").exists(), what
+    site.file.write_bytes(true)
+    assert (0, []) == site.fetch()
+
+
+def test_an_old_file_of_the_front_is_not_taken_again(site, room):
+    """What the front had published before, with its true statement."""
+    old = site.file.read_bytes()
+    time.sleep(1.1)
+    site.gives(site.krl(4, [1, 2, 5, 9]))
+    assert 0 == site.station().once()[0]
+    assert (0, []) == site.fetch()
+    site.file.write_bytes(old)
+    assert (1, ["refused as OlderVersion: version 3 came, and 4 is in place; list is as it was"]) == site.fetch()
+    assert site.office.list == site.got()
+
+
+def test_it_takes_the_stations_machine_to_take_a_revocation_back(site, room):
+    """With the CA's key, and with nothing less: such a list is taken if the front gives it."""
+    forger = Signer("forger")
+    false = site.krl(4)
+    site.file.write_bytes(forger.published(false))
+    assert 1 == site.fetch()[0]
+    text = statement(false)
+    site.allowed.write_text(forger.allowed.read_text())
+    site.file.write_bytes(text + forger.sign(text) + false)
+    assert (0, []) == site.fetch()
+    assert false == site.got()
+
+
+def test_a_list_that_a_front_keeps_back_is_seen_within_the_hour(site):
+    """The station publishes, and the front gives what it had."""
+    words = ["--cacert", site.front.authority / "ca.crt", "--signers", site.allowed, "--metrics", "metrics"]
+    done = run(["faketime", "-f", "+61m", EXAMPLES / "fetch-list", *words, site.front.url, "list"])
+    assert 3 == done.returncode
+    assert re.fullmatch(rb"fetch-list: list is stale: its statement is 3\d\d\d seconds old\n", done.stderr), done.stderr
+    assert "office_list_fresh 0\n" in pathlib.Path("metrics").read_text()
+    assert site.old == site.got()
+
+
+# ---- who may publish, and what
+
+def putting(body, *lines, target="/published", method="PUT"):
+    head = [f"{method} {target} HTTP/1.1".encode(), b"Host: localhost", b"Connection: close", *lines]
+    if not any(it.lower().startswith((b"content-length", b"transfer-encoding")) for it in lines):
+        head.append(b"Content-Length: %d" % len(body))
+    return b"\r\n".join(head) + b"\r\n\r\n" + body
+
+
+def folder_of(front):
+    """The files below the front's state but its log, with their bytes."""
+    return {str(it.relative_to(front.state)): it.read_bytes() for it in front.state.rglob("*")
+            if it.is_file() and it.suffix not in (".log", ".pid", ".faults")}
+
+
+NO_RIGHT, NO_METHOD = (403, "only the station may publish"), (405, "what is published is read by GET")
+# What is sent, by whom, and the status with the front's words.
+TRIED = [
+    ("no certificate", None, putting(b"false"), *NO_RIGHT),
+    *[(it, it, putting(b"false"), *NO_RIGHT) for it in ("ana", "root", "watch")],
+    *[(f"{method}, the station", "station", putting(b"", method=method), *NO_METHOD)
+      for method in ("POST", "DELETE", "MKCOL", "PROPFIND", "HEAD", "PATCH", "OPTIONS")],
+    *[(f"{method}, the station", "station", putting(b"", b"Destination: https://localhost/other", method=method),
+       *NO_METHOD) for method in ("COPY", "MOVE")],
+    *[(f"the path {target}", "station", putting(b"false", target=target), 404, "no such path")
+      for target in ("/published/", "//published", "/published?a", "/%70ublished", "/published/../asked.log", "/other",
+                     "/front.pid", "/Published")],
+    ("another page", "station", putting(b"false", target="/v1/krl"), 405, "a page is read by GET"),
+    ("the CAs' keys", "station", putting(b"false", target="/ca-keys"), 405, "a page is read by GET"),
+    ("a part of a file", "station", putting(b"false", b"Content-Range: bytes 0-4/100"), 501, None),
+    ("more than a list", "station", putting(b"false", b"Content-Length: 134225921"), 413, None),
+    ("more than a list, by nobody", None, putting(b"false", b"Content-Length: 134225921"), 413, None),
+    ("no length", "station", putting(b"false", b"Content-Length: -1"), 400, None),
+]
+
+
+def test_who_may_publish(site):
+    before = folder_of(site.front)
+    for what, name, request, status, words in TRIED:
+        answer = site.front.ask(request, name)
+        assert status == answer.status, (what, answer.bytes)
+        assert words is None or what.startswith("HEAD") or f"front: {words}\n" == answer.text, (what, answer.text)
+        assert before == folder_of(site.front), what
+    # The log says who has published, and who has tried to.
+    log = site.front.state / "asked.log"
+    until(lambda: '"PUT /published HTTP/1.1" 403' in log.read_text())
+    assert '"CN=station,OU=office" "station" "PUT /published HTTP/1.1" 201' in log.read_text()
+
+
+@pytest.mark.parametrize("body, lines", [
+    (b"new", []), (b"3\r\nnew\r\n0\r\n\r\n", [b"Transfer-Encoding: chunked"]), (b"new", [b"Expect: 100-continue"])],
+    ids=["with a length", "in chunks", "after a question"])
+def test_the_station_may_publish(site, body, lines):
+    assert 204 in statuses(site.front.ask(putting(body, *lines), "station").bytes)
+    assert b"new" == site.file.read_bytes()
+    answer = site.front.session().get(f"{site.front.url}/published")
+    assert (200, b"new", "nosniff", "no-cache") == (answer.status_code, answer.content, *(
+        answer.headers[it] for it in ("X-Content-Type-Options", "Cache-Control")))
+    # A part of it is no list, so none is given.
+    part = site.front.session().get(f"{site.front.url}/published", headers={"Range": "bytes=1-1"})
+    assert (200, b"new") == (part.status_code, part.content)
+
+
+def test_one_file_at_a_time(site):
+    """So whoever has the station's certificate can't fill the front's disk with files that are under way."""
+    before = site.file.read_bytes()
+    first = site.front.connect("station")
+    whole = putting(bytes(1 << 20))
+    first.sendall(whole[:1 << 19])
+    until(lambda: 429 == site.front.ask(putting(b"second"), "station").status)
+    assert before == site.file.read_bytes()
+    first.sendall(whole[1 << 19:])
+    assert b" 204 " in first.recv(65536)
+    first.close()
+    until(lambda: 204 == site.front.ask(putting(b"third"), "station").status)
+
+
+def test_before_the_first_list_there_is_nothing(make_site):
+    site = make_site()
+    answer = site.front.session().get(f"{site.front.url}/published")
+    assert (404, "front: no such path\n") == (answer.status_code, answer.text)
+    assert 201 == site.front.ask(putting(b"first"), "station").status
+
+
+def test_a_front_before_the_front_gives_the_same(site, make_front):
+    """By what docs/GROWING.md puts in the place of the line that lets the station publish."""
+    settings = ("proxy_pass https://office_pages/published; proxy_ssl_verify on; proxy_ssl_trusted_certificate "
+                f"{site.front.authority}/ca.crt; proxy_ssl_name localhost; proxy_cache pages; proxy_method GET; "
+                'proxy_pass_request_body off; proxy_set_header Content-Length "";')
+    near = site.front
+    site.front = make_front(near.port, edits=[("dav_methods PUT;", settings)])
+    assert site.file.read_bytes() == site.front.session().get(f"{site.front.url}/published").content
+    assert (0, []) == site.fetch()
+    site.front.ask(putting(b"false"), "station")
+    assert site.old == parted(site.file.read_bytes())[2]
+
+
+# ---- half a file
+
+def test_a_request_that_is_cut_off_changes_nothing(site):
+    before = folder_of(site.front)
+    whole = putting(bytes(1 << 20))
+    for length in (len(whole) - 1, len(whole) // 2, 200):
+        peer = site.front.connect("station")
+        peer.sendall(whole[:length])
+        time.sleep(0.2)
+        peer.close()
+        until(lambda: before == folder_of(site.front))
+
+
+@pytest.mark.root
+@pytest.mark.slow
+def test_a_full_disk_keeps_the_old_file(make_site, make_front, room):
+    site = make_site()
+    site.begin_with(site.old)
+    with small_disk(room / "disk", kilobytes=256) as fill:
+        (room / "disk/body").mkdir()
+        front = make_front(site.office.port, edits=[("root .;", f"root {room}/disk;"), (
+            "client_body_temp_path body;", f"client_body_temp_path {room}/disk/body;")])
+        site.front, site.file = front, room / "disk/published"
+        try:
+            assert (0, ["published 3"], []) == site.station().once()
+            old = site.file.read_bytes()
+            site.gives(site.krl(5000, [1, 2, *range(5, 10001, 2)]))
+            for left in (0, 1, 5):
+                fill(left)
+                status, out, said = site.station().once()
+                assert (1, []) == (status, out)
+                assert said[0].startswith("station: the list isn't published: 500 "), said
+                assert old == site.file.read_bytes()
+                assert [] == [it for it in (room / "disk/body").rglob("*") if it.is_file()]
+                assert (0, []) == site.fetch()
+            (room / "disk/filling").unlink()
+            assert (0, ["published 5000"], []) == site.station().once()
+            assert (0, []) == site.fetch()
+            assert site.office.list == site.got()
+        finally:
+            front.end()
+
+
+@pytest.mark.slow
+def test_a_station_that_is_killed_leaves_a_whole_file(site, programs):
+    """At any moment of publishing lists of a megabyte: what the front gives is always a list with its statement."""
+    begun = time.monotonic()
+    assert 0 == site.station().once()[0]
+    usual, versions = time.monotonic() - begun, []
+    for number in range(30):
+        # Serials that are no neighbours, so that each takes eight bytes.
+        revoked = {1, 2, 9, *range(21, 200_021 + 4 * number, 4)}
+        site.office.list = site.krl(4 + number, sorted(revoked))
+        process = site.station().begin(programs, "--publish-every", "1")
+        time.sleep(random.uniform(usual / 10, 2 * usual))
+        with contextlib.suppress(ProcessLookupError):
+            os.killpg(process.pid, signal.SIGKILL)
+        process.wait()
+        text, signature, data = parted(site.front.session().get(f"{site.front.url}/published").content)
+        assert statement(data, moment=int(text.split()[-1])) == text
+        assert is_signed(text, signature, site.allowed)
+        versions.append(int(text.split()[2]))
+    assert sorted(versions) == versions
+    assert len(set(versions)) > 2, "some were killed before they had published, and some after it"
+    site.gives(site.office.list)
+    assert 0 == site.station().once()[0]
+    assert (0, []) == site.fetch()
+    assert site.office.list == site.got()
+
+
+# ---- as fast as the list alone
+
+FETCHES = 10_000
+UNLIMITED = [("zone=addresses:10m rate=100r/s", "zone=addresses:10m rate=100000r/s")]
+
+
+def seconds_of(front, target, wanted, count):
+    """How long so many fetches take, over a connection that stays open."""
+    request = getting(target).replace(b"Connection: close\r\n", b"")
+    with front.connect() as peer:
+        begun = time.monotonic()
+        for _ in range(count):
+            peer.sendall(request)
+            came = b""
+            while b"\r\n\r\n" not in came:
+                came += peer.recv(1 << 18)
+            head, _, body = came.partition(b"\r\n\r\n")
+            length = int(re.search(rb"(?i)content-length: (\d+)", head)[1])
+            pieces = [body]
+            got = len(body)
+            while got < length:
+                pieces.append(peer.recv(1 << 18))
+                got += len(pieces[-1])
+            assert length == wanted
+        return time.monotonic() - begun
+
+
+@pytest.mark.slow
+@pytest.mark.alone
+def test_list_and_statement_are_as_fast_as_the_list_alone(make_site, make_front):
+    """In turns of 500 fetches, so that the machine's load is the same for both. Both are of two records of TLS, which
+    have 16 KiB."""
+    site = make_site()
+    site.old = site.office.list = site.krl(2500, range(1, 5001, 2))
+    site.begin_with(site.old)
+    site.front = make_front(site.office.port, edits=UNLIMITED)
+    assert 0 == site.station().once()[0]
+    published = len((site.front.state / "published").read_bytes())
+    turns = [(seconds_of(site.front, "/v1/krl", len(site.old), 500),
+              seconds_of(site.front, "/published", published, 500)) for _ in range(FETCHES // 500)]
+    alone, together = (sum(it) for it in zip(*turns))
+    ratio = sorted(two / one for one, two in turns)[len(turns) // 2]
+    print(f"{FETCHES} fetches of a list of {len(site.old)} bytes took {alone:.1f} s, and with its statement "
+          f"{together:.1f} s: {ratio:.2f} times, by the median of turns")
+    assert ratio < 1.2
+
+
+# ---- hosts
+
+@pytest.fixture
+def host(agent, programs, room):
+    """An sshd whose host certificate has the serial 11, and what a client says that asks it for a login."""
+    port = free_port()
+    run(["ssh-keygen", "-q", "-t", "ed25519", "-N", "", "-f", "host"], check=True)
+    run(["ssh-keygen", "-q", "-s", "ca", "-h", "-I", "hosts/loopback", "-n", "127.0.0.1", "-z", "11", "host.pub"],
+        check=True)
+    (room / "sshd_config").write_text(
+        f"ListenAddress 127.0.0.1\nPort {port}\nHostKey {room}/host\nHostCertificate {room}/host-cert.pub\n"
+        "AuthorizedKeysFile none\nPasswordAuthentication no\nKbdInteractiveAuthentication no\nPidFile none\n"
+        "StrictModes no\nUsePAM no\n")
+    (room / "known_hosts").write_text(f"@cert-authority [127.0.0.1]:{port} {(room / 'ca.pub').read_text()}")
+    if not os.getuid():
+        pathlib.Path("/run/sshd").mkdir(exist_ok=True)
+    programs.begin(["/usr/sbin/sshd", "-D", "-f", room / "sshd_config", "-E", room / "sshd.log"])
+    until(lambda: is_listening(port))
+    words = ["ssh", "-F", "none", "-o", "UserKnownHostsFile=known_hosts", "-o", "StrictHostKeyChecking=yes", "-o",
+             "BatchMode=yes", "-p", port, f"{getpass.getuser()}@127.0.0.1", "true"]
+    environment = os.environ | {"SSH_AUTH_SOCK": ""}
+    return lambda *more: run([*words[:1], *more, *words[1:]], env=environment).stderr.decode()
+
+
+def test_a_client_refuses_a_host_whose_certificate_is_revoked(make_site, agent, host, room):
+    """By RevokedHostKeys of ssh_config, with the list that fetch-list puts on the client."""
+    _, line, socket = agent
+    site = make_site(["--agent", line], line, **socket)
+    site.begin_with(site.old)
+    by_the_list = ["-o", f"RevokedHostKeys={room}/list"]
+    assert "Could not" not in host() and "Permission denied" in host(), "the host is known, and the user isn't"
+    assert 0 == site.station().once()[0] and (0, []) == site.fetch()
+    assert "Permission denied" in host(*by_the_list)
+    site.gives(site.krl(4, [1, 2, 9, 11]))
+    assert 0 == site.station().once()[0] and (0, []) == site.fetch()
+    said = host(*by_the_list)
+    assert "revoked by file" in said and "Host key verification failed" in said, said
+    assert "Permission denied" in host(), "a client without the list goes on"
+    # As a server's list, one that is missing opens nothing.
+    (room / "list").unlink()
+    assert "Host key verification failed" in host(*by_the_list)
