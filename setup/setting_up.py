@@ -252,7 +252,7 @@ def main(program, doc, options, do, is_for_root=True, passes_on=False):
     parser = argparse.ArgumentParser(prog=program, usage=usage.removeprefix("usage: "), description=description,
                                      formatter_class=argparse.RawDescriptionHelpFormatter, allow_abbrev=not passes_on)
     options(parser)
-    parser.add_argument("--yes", action="store_true", help="don't ask before the steps are done")
+    parser.add_argument("--yes", action="store_true", help="don't ask for confirmation")
     given, given.further = parser.parse_known_args()
     if given.further and not passes_on:
         parser.error(f"unrecognized arguments: {' '.join(given.further)}")
