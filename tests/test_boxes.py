@@ -244,10 +244,13 @@ def test_a_stopped_office_stays_stopped(office):
 
 def test_an_office_that_cannot_serve_ends_failed_and_raises_the_alert(office):
     office.write("etc/vethlumi/alert", "#!/bin/sh\necho \"called for $1 by $(id -un)\"\n", 0o755)
+    begun = time.monotonic()
     office.run("chown root: /var/lib/office/office.db && systemctl kill -s KILL office")
     boxes.wait_until(lambda: ["failed"] == states(office, "office"), "the office has failed", 120)
     starts = int(office.says("systemctl show -P NRestarts office"))
     assert 5 <= starts <= 10
+    # Two seconds lie between a failure and the next start.
+    assert 2 * (starts - 1) <= time.monotonic() - begun
     said = boxes.wait_until(lambda: "called for" in (it := office.says("journalctl -b -t office-alert -o cat")) and it,
                             "the alert is raised")
     assert "office.service has failed and stays down" in office.says("journalctl -b -p alert -o cat")
