@@ -239,6 +239,7 @@ printf '%s\\n' "${{COMPREPLY[@]}}"
     ("sshoffice ser", ["serve"]), ("sshoffice init --fir", ["--first"]), ("authority rev", ["revoke"]),
     ("fetch-list --cac", ["--cacert"]), ("vethlumi-front-setup --au", ["--authority"]), ("sshstation ju", ["judge"]),
     ("vethlumi depart", ["department"]), ("vethlumi request --princ", ["--principals"]),
+    ("vethlumi-install serv", ["server"]), ("vethlumi-install office --stat", ["--station"]),
 ])
 def test_bash_completes(unpacked, words, due):
     name = words.split()[0]
@@ -469,7 +470,8 @@ def test_what_is_installed_on_the_station(installing):
     assert 0 == status, told
     name = "vethlumi-station_1.0.0_amd64.deb"
     assert [(name, "root@s.example.org:"),
-            ("root@s.example.org", "env", "DEBIAN_FRONTEND=noninteractive", "apt-get", "install", "-y", f"./{name}"),
+            ("root@s.example.org", "env", "DEBIAN_FRONTEND=noninteractive", "apt-get", "install", "-y", "-o",
+             "Dpkg::Options::=--force-confold", f"./{name}"),
             ("root@s.example.org", "rm", "-f", f"./{name}"),
             ("root@s.example.org", "vethlumi-station-setup", "--principals", "alice", "--yes")] == said[1:]
 
