@@ -176,20 +176,34 @@ ALERTS = [
 ]
 
 
+@pytest.fixture(scope="session")
+def promtool(tmp_path_factory):
+    """Prometheus' own tool. Its package would start a server if it were installed, so it is only laid out."""
+    with shared(tmp_path_factory, "prometheus") as folder:
+        if not folder.exists():
+            new = folder.with_name("prometheus.new")
+            shutil.rmtree(new, ignore_errors=True)
+            new.mkdir()
+            if run(["apt-get", "download", "prometheus"], cwd=new).returncode:
+                left_out("apt can't fetch the package prometheus")
+            package, = new.glob("*.deb")
+            run(["dpkg-deb", "-x", package, new], check=True)
+            new.rename(folder)
+    return folder / "usr/bin/promtool"
+
+
 @pytest.mark.parametrize("otherwise, due", ALERTS, ids=[" ".join(it[1]) or "none" for it in ALERTS])
-def test_prometheus_raises_the_alerts(room, otherwise, due):
-    """By its own promtool, after 80 minutes."""
-    if not shutil.which("promtool"):
-        left_out("promtool isn't installed")
+def test_prometheus_raises_the_alerts(promtool, room, otherwise, due):
+    """After 80 minutes."""
     rules = TOP / "examples/alerts.yml"
-    assert b"SUCCESS: 9 rules found" in run(["promtool", "check", "rules", rules], check=True).stdout
+    assert b"SUCCESS: 9 rules found" in run([promtool, "check", "rules", rules], check=True).stdout
     raised = {"expr": 'count by (alertname) (ALERTS{alertstate="firing"})', "eval_time": "80m",
               "exp_samples": [{"labels": f'{{alertname="{it}"}}', "value": 1} for it in due]}
     series = [{"series": name, "values": values} for name, values in (HEALTHY | otherwise).items()]
     # What is JSON is YAML.
     (room / "test.yml").write_text(json.dumps({"rule_files": [str(rules)], "evaluation_interval": "1m", "tests": [
         {"interval": "1m", "input_series": series, "promql_expr_test": [raised]}]}))
-    done = run(["promtool", "test", "rules", "test.yml"])
+    done = run([promtool, "test", "rules", "test.yml"])
     assert 0 == done.returncode, (done.stdout + done.stderr).decode()
 
 
