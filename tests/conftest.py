@@ -14,8 +14,8 @@ from running import TOP, Office, Programs
 from stations import new_station
 
 
-# The fixtures of programs that are built.
-BUILT = {"program", "sshstation", "krl_tool"}
+# The fixtures of programs that are built, the last one by the test itself.
+BUILT = {"program", "sshstation", "krl_tool", "bad_lines"}
 
 
 def pytest_addoption(parser):

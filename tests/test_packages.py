@@ -660,6 +660,24 @@ def test_the_page_has_at_most_twelve_commands():
     assert 66 >= text[:text.index(commands_[-1][1])].count("\n")
 
 
+def recording():
+    """What the page shows of what is printed, without the commands and what was cut: lines in their order."""
+    shown, = re.findall(r"^```text\n(.*?)^```$", PAGE.read_text(), re.M | re.S)
+    return [it for it in shown.splitlines() if not it.startswith("root@client# ") and it.strip() != "..."]
+
+
+def test_the_recording_has_the_commands_of_the_page():
+    shown = re.findall(r"^root@client# (.*)$", PAGE.read_text(), re.M)
+    assert [it for _, it in typed(PAGE.read_text())] == shown
+    assert 20 <= len(shown) + len(recording()) <= 40
+
+
+def is_as_shown(shown, printed):
+    """Whether these lines were printed in this order, but for what is of each CA alone."""
+    lines = (re.sub(FINGERPRINT, "SHA256:..", it) for it in printed)
+    return all(re.sub(FINGERPRINT, "SHA256:..", it) in lines for it in shown)
+
+
 def install(room, base, packages, kept):
     """Types the page into empty machines, and keeps them."""
     fleet = Fleet(room, base, packages)
@@ -672,6 +690,7 @@ def install(room, base, packages, kept):
         seconds = time.monotonic() - begun
         seen = [it for it in printed if it in ("granted", "refused")]
         assert ("granted", "refused", 1) == (seen[0], seen[-1], seen.count("refused")), "\n".join(printed)
+        assert is_as_shown(recording(), printed), "\n".join(printed)
         assert 600 > seconds
         print(f"figure: from made packages and booted boxes to a refused login in {seconds:.0f} s")
         fleet.end_shells()
