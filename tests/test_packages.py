@@ -220,7 +220,7 @@ def test_each_command_has_a_manual_page_with_its_options(unpacked):
         told = run(["man", "--warnings", "-E", "UTF-8", "-l", found[0]], env=os.environ | {"MANWIDTH": "200"})
         assert b"" == told.stderr, command.name
         text = re.sub(r".\x08", "", told.stdout.decode())
-        assert f"{command.name} - " in text
+        assert f"{command.name} - " in text and re.search("^SYNOPSIS$", text, re.M)
         helped = help_of(unpacked, command)
         options = {*re.findall(r"^ +(?:-\w, )?(--[a-z-]+)", helped, re.M)}
         assert [] == sorted(it for it in options if it not in text), command.name
