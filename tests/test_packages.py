@@ -12,6 +12,7 @@ import importlib.util
 import json
 import os
 import pathlib
+import pty
 import re
 import shutil
 import subprocess
@@ -413,6 +414,32 @@ def test_a_set_up_asks_or_wants_yes(room):
     done = run(["/usr/bin/python3", "-B", "-c", SET_UP_ALONE, TOP / "setup", room / "file"])
     assert (1, False) == (done.returncode, (room / "file").exists())
     assert b"write" in done.stderr and b"give --yes" in done.stderr
+
+
+@pytest.mark.parametrize("typed_, due", [("y\n", "one\n"), ("\n", None), ("yes\n", "one\n"), ("\x04", None)],
+                         ids=["y", "nothing", "yes", "the end"])
+def test_a_set_up_asks_at_a_terminal(room, typed_, due):
+    ours, theirs = pty.openpty()
+    words = ["/usr/bin/python3", "-B", "-c", SET_UP_ALONE, TOP / "setup", room / "file"]
+    with subprocess.Popen(words, stdin=theirs, stdout=subprocess.PIPE, stderr=subprocess.PIPE) as asking:
+        os.write(ours, typed_.encode())
+        out, told = asking.communicate(timeout=60)
+    for it in (ours, theirs):
+        os.close(it)
+    assert (due is None, due) == (asking.returncode == 1, (room / "file").read_text() if due else None)
+    assert b"set-up will do this:\n  write " in told and b"Go on? [y/N] " in out + told
+
+
+def test_what_nobody_gave_is_asked_at_a_terminal(monkeypatch):
+    common = load("setting_up.py")
+    monkeypatch.setattr("builtins.input", lambda shown: {"Who [ana]: ": "", "Whom: ": " bob "}[shown])
+    monkeypatch.setattr(common.sys.stdin, "isatty", lambda: True, raising=False)
+    assert ("given", "ana", "bob") == (common.answer("Who", "given", "ana"), common.answer("Who", None, "ana"),
+                                       common.answer("Whom", None))
+    monkeypatch.setattr(common.sys.stdin, "isatty", lambda: False)
+    assert "ana" == common.answer("Who", None, "ana")
+    with pytest.raises(common.Fault, match="Nobody answered; --help shows the option for it"):
+        common.answer("Whom", None)
 
 
 SET_UP_ALONE = """
