@@ -724,6 +724,12 @@ def is_as_shown(shown, printed):
     return all(re.sub(FINGERPRINT, "SHA256:..", it) in lines for it in shown)
 
 
+# The private keys that each machine then has, but for those of SSH itself, and for those of the office.
+PRIVATE = {"station": ["/etc/vethlumi/station/first.key", "/etc/vethlumi/station/station.pem"],
+           "server": ["/etc/vethlumi/host.pem"], "client": ["/root/.config/vethlumi/admin.pem", "/root/alice"]}
+FIND_KEYS = "grep -rlE '^-----BEGIN .*PRIVATE KEY' /etc/vethlumi /home /root /srv /tmp /var --exclude-dir=.ssh || true"
+
+
 def install(room, base, packages, kept):
     """Types the page into empty machines, and keeps them."""
     fleet = Fleet(room, base, packages)
@@ -738,6 +744,8 @@ def install(room, base, packages, kept):
         assert ("granted", "refused", 1) == (seen[0], seen[-1], seen.count("refused")), "\n".join(printed)
         assert is_as_shown(recording(), printed), "\n".join(printed)
         assert 600 > seconds
+        found = {name: sorted(fleet.boxes[name].says(f"{FIND_KEYS} 2>/dev/null").split()) for name in PRIVATE}
+        assert PRIVATE == found, "no machine has a key that it doesn't need"
         print(f"figure: from made packages and booted boxes to a refused login in {seconds:.0f} s")
         fleet.end_shells()
         fleet.keep(kept)
