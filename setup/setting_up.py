@@ -252,7 +252,7 @@ def main(program, doc, options, do, is_for_root=True):
     parser = argparse.ArgumentParser(prog=program, usage=usage.removeprefix("usage: "), description=description,
                                      formatter_class=argparse.RawDescriptionHelpFormatter)
     options(parser)
-    parser.add_argument("--yes", action="store_true", help="don't ask before the steps are done")
+    parser.add_argument("--yes", action="store_true", help="don't ask for confirmation")
     given = parser.parse_args()
     try:
         if is_for_root and os.getuid():

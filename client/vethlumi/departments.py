@@ -15,11 +15,11 @@ from vethlumi.settings import BadSettings
 
 @main.group()
 def department():
-    """Look at departments, compare them, and send them to the office."""
+    """Show departments, compare them, and send them to the office."""
 
 
 policy_option = click.option("--policy", metavar="FILE",
-                             help="the departments to compare with, in place of the settings' policy")
+                             help="the departments to compare with [default: the policy of the settings]")
 
 
 def policy_of(job, file):
@@ -34,7 +34,7 @@ def policy_of(job, file):
 @as_json
 @pass_job
 def department_show(job, names, policy, as_json):
-    """Show the departments of the policy."""
+    """Show departments of the policy."""
     known = policy_of(job, policy)
     if missing := [it for it in names if it not in known]:
         raise BadFormat(f"the policy has no department {missing[0]}")
@@ -95,7 +95,7 @@ def chosen_of(file, names):
 @policy_option
 @pass_job
 def department_diff(job, file, names, policy):
-    """Compare the departments of FILE with the policy's, and say which certificates they wouldn't permit."""
+    """Compare the departments in FILE with the policy, and list the certificates that they wouldn't permit."""
     known = policy_of(job, policy)
     differ = [tell_changes(job, known.get(it.name), it) for it in chosen_of(file, names)]
     if not any(differ):
@@ -109,9 +109,9 @@ def department_diff(job, file, names, policy):
 @without_asking
 @pass_job
 def department_put(job, file, names, policy, yes):
-    """Send the departments of FILE to the office, or those named, after showing what changes.
+    """Show what changes, and send the departments in FILE, or those with the given names, to the office.
 
-    FILE has departments as the policy has them: eight lines each, with empty lines and comments between.
+    FILE has the format of the policy: eight lines per department, with empty lines and comments in between.
     """
     known = read_departments(policy) if policy else job.policy()
     chosen = chosen_of(file, names)
@@ -130,7 +130,7 @@ def department_put(job, file, names, policy, yes):
 @without_asking
 @pass_job
 def rollover(job, public, yes):
-    """Make another key the CA. The older CAs stay valid for what they signed."""
+    """Make a new key the CA. What the older CAs have signed stays valid."""
     key = formats.key_line(read_text(public))
     print_ = formats.fingerprint(base64.b64decode(key.split()[1]))
     ask(f"Make {print_} the CA? Servers have to trust it before its first certificate is used.", yes)
