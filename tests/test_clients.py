@@ -224,7 +224,7 @@ def test_a_program_that_is_missing_is_named(room):
 @pytest.mark.parametrize("url", ["ftp://127.0.0.1", "file:///etc", "nonsense", ""])
 def test_figures_ask_an_office_alone(url):
     status, out, errors = script("figures", url)
-    assert (1, "office_up 0", [f"figures: {url}: OFFICE is no URL of http or https"]) \
+    assert (1, "office_up 0", [f"figures: {url}: OFFICE isn't an http or https URL"]) \
         == (status, out.splitlines()[-1], errors)
 
 
