@@ -14,6 +14,10 @@ from running import TOP, Office, Programs
 from stations import new_station
 
 
+# The fixtures of programs that are built, the last one by the test itself.
+BUILT = {"program", "sshstation", "krl_tool", "bad_lines"}
+
+
 def pytest_addoption(parser):
     group = parser.getgroup("office")
     group.addoption("--program", metavar="PATH", type=pathlib.Path, default=TOP / "crates/sshoffice/out/sshoffice",
@@ -59,6 +63,8 @@ def pytest_unconfigure(config):
 def pytest_collection_modifyitems(items):
     """Marks tests by what they use, gives slow ones more time, and leaves out what only root can run."""
     for item in items:
+        if not BUILT & {*getattr(item, "fixturenames", ())}:
+            item.add_marker("early")
         if item.get_closest_marker("slow") and not item.get_closest_marker("timeout"):
             item.add_marker(pytest.mark.timeout(600))
         for name in ("front", "browser"):
