@@ -12,7 +12,7 @@ import tomllib
 
 import pytest
 
-from asking import Response, answers, get, post, write_exchanges
+from asking import Response, answers, exchanges_of, get, post, write_exchanges
 
 TOP = pathlib.Path(__file__).resolve().parent.parent
 EXAMPLES = TOP / "examples"
@@ -22,6 +22,12 @@ ROWS = EXAMPLES / "rows"
 def rows(name):
     """The rows of data/NAME.toml."""
     return tomllib.loads((TOP / f"tests/data/{name}.toml").read_text())
+
+
+def worked(name):
+    """The exchanges of a row of examples/rows, and the answers that are due to them."""
+    asked, due = ((ROWS / f"{name}.{it}").read_bytes() for it in ("exchange", "expected"))
+    return exchanges_of(asked), answers(due)
 
 
 def refusals():
@@ -78,6 +84,35 @@ def run(words, **how):
     return subprocess.run([str(it) for it in words], **how)
 
 
+def said(words, **how):
+    """Status, output and errors of a program that runs to its end."""
+    done = run(words, **how)
+    return done.returncode, done.stdout, done.stderr
+
+
+def sql(file, *texts):
+    """What sqlite3 prints for statements."""
+    _, out, err = said(["sqlite3", file, *texts])
+    return (out + err).decode().rstrip("\n")
+
+
+def new_key(file, comment=None):
+    """Has ssh-keygen make an Ed25519 key in this file, whose name is the comment, and returns the public line."""
+    words = ["-C", pathlib.Path(file).name if comment is None else comment, "-f", file]
+    run(["ssh-keygen", "-q", "-t", "ed25519", "-N", "", *words], check=True)
+    return pathlib.Path(f"{file}.pub").read_text().rstrip("\n")
+
+
+def fingerprint(file):
+    """The fingerprint that ssh-keygen shows of a public key."""
+    return run(["ssh-keygen", "-l", "-f", file], check=True).stdout.split()[1].decode()
+
+
+def is_revoked(krl, certificate):
+    """Whether ssh-keygen finds a certificate revoked by a list."""
+    return {0: False, 1: True}[run(["ssh-keygen", "-Q", "-f", krl, certificate]).returncode]
+
+
 def preloaded(source, folder):
     """Compiles a source of tests/preload to a library, which a program loads first where LD_PRELOAD names it."""
     library = pathlib.Path(folder).absolute() / source.replace(".c", ".so")
@@ -116,6 +151,15 @@ def is_listening(port):
 
 
 # ---- offices
+
+def rest(peer):
+    """All that comes until the peer ends, or cuts the connection."""
+    came = b""
+    with contextlib.suppress(OSError):
+        while piece := peer.recv(65536):
+            came += piece
+    return Response(came)
+
 
 class Served:
     """An office that serves, at `port` of 127.0.0.1. Its program is `process`."""
@@ -158,8 +202,7 @@ class Office:
 
     def run(self, *words, **how):
         """Status, output and errors of the program."""
-        done = run([self.program, *words], **how)
-        return done.returncode, done.stdout, done.stderr
+        return said([self.program, *words], **how)
 
     def must(self, *words):
         """What the program prints, which has to end well."""

@@ -13,11 +13,11 @@ import subprocess
 
 import pytest
 
-from asking import CA, answers, deliver, department, exchange, get, issue, post, revoke_serial, write_exchanges
-from running import Office, Served, preloaded, run
+from asking import (CA, DIGEST, answers, deliver, department, exchange, get, issue, post, revoke_serial,
+                    write_exchanges)
+from running import Office, Served, preloaded, run, said
 
 SPECIFICATION = f"ca: {CA}\nserial: 1\nserial: 3-4\nserial: 10-20\nid: web/alice\n"
-DIGEST = "82e0c34fe67da3fc3dc1be6682073994ec021449271b641cdd36180e95572e79"
 ISSUE = issue("web/alice", after=1000, before=2000)
 EXCHANGES = [
     exchange(post("ana", "i1", ISSUE), 1000, 0x33),
@@ -38,8 +38,7 @@ def refuse(room):
         mark = room / "refused"
         mark.unlink(missing_ok=True)
         how = {"env": {"LD_PRELOAD": str(library), "REFUSED": str(number), "MARK": str(mark)}} if number else {}
-        done = run(words, **how)
-        return (done.returncode, done.stdout, done.stderr), mark.exists()
+        return said(words, **how), mark.exists()
 
     return refused
 

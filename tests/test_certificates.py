@@ -5,13 +5,12 @@ their signatures it shows their lines, and it renews them to the same bytes with
 The last part has ssh-keygen sign certificates for fresh keys at each run.
 """
 import base64
-import hashlib
 
 import pytest
 
-from asking import (CERTIFICATE_NAME, LAST_SERIAL, LATEST, answers, deliver, department, exchange, get, issue,
-                    key_blob, key_line, post, renew, string, write_exchanges)
-from running import run
+from asking import (CERTIFICATE_NAME, EXTENSIONS, LAST_SERIAL, LATEST, OPTIONS, answers, deliver, department, digest_of,
+                    exchange, get, issue, key_blob, key_line, post, renew, string, write_exchanges)
+from running import new_key, run
 
 pytestmark = pytest.mark.rows
 
@@ -59,9 +58,6 @@ HOST = (
 # A certificate is a body, and a string that is a blob of 83 bytes with the signature at its end. In a body stand the
 # nonce from byte 40, the key from byte 76, the serial from byte 108 on, and at its end the CA's key.
 SIGNED = 4 + 83
-OPTIONS = "force-command", "source-address", "verify-required"
-EXTENSIONS = ("no-touch-required", "permit-X11-forwarding", "permit-agent-forwarding", "permit-port-forwarding",
-              "permit-pty", "permit-user-rc")
 DEPARTMENTS = (department("web", principals="alice,*@example.org", options=OPTIONS, extensions=EXTENSIONS,
                           maxlife=LATEST),
                department("db", kind="host", principals="*.example.org", maxlife=LATEST))
@@ -80,7 +76,7 @@ MADE = {
 
 def said(serial, body):
     """The reply to an issue of this body."""
-    return b"issued %d\ndigest %s\n" % (serial, hashlib.sha256(body).hexdigest().encode())
+    return f"issued {serial}\ndigest {digest_of(body)}\n".encode()
 
 
 def applied(program, exchanges):
@@ -120,8 +116,7 @@ class Made:
         return [it.body for it in self.office.apply(exchanges)]
 
     def deliver(self):
-        digest = hashlib.sha256(self.body).hexdigest()
-        return exchange(post("station", "s", deliver(self.serial, digest, self.signature)), 1000, 0)
+        return exchange(post("station", "s", deliver(self.serial, digest_of(self.body), self.signature)), 1000, 0)
 
     def shown(self, serial, what=""):
         return exchange(get(f"/v1/certs/{serial}{what}"), 1000, 0)
@@ -174,14 +169,13 @@ FRESH = [
 @pytest.mark.parametrize(("comment", "key_id", "principals", "options", "extensions"), FRESH)
 def test_the_body_is_that_of_ssh_keygen(program, room, comment, key_id, principals, options, extensions):
     """The trial office's body is that of ssh-keygen's certificate with the same nonce, but for the CA's key."""
-    for name, of in (("ca", ""), ("user", comment)):
-        run(["ssh-keygen", "-q", "-t", "ed25519", "-N", "", "-C", of, "-f", name], check=True)
+    _, key = new_key("ca"), new_key("user", comment)
     words = [word for it in (*options, *extensions) for word in ("-O", it)]
     run(["ssh-keygen", "-q", "-s", "ca", "-I", key_id, "-n", principals, "-z", 1, "-V", "0x3e8:0x7d0", "-O", "clear",
          *words, "user.pub"], check=True)
     certificate = base64.b64decode((room / "user-cert.pub").read_text().split()[1])
     body = certificate[:-SIGNED - 32] + key_blob(0x11)[-32:]
-    message = issue(key_id, key=(room / "user.pub").read_text().rstrip("\n"), principals=principals, after=1000,
-                    before=2000, options=[it.replace("=", " ", 1) for it in options], extensions=extensions)
+    message = issue(key_id, key=key, principals=principals, after=1000, before=2000,
+                    options=[it.replace("=", " ", 1) for it in options], extensions=extensions)
     assert [said(1, body), body] == applied(program, [
         exchange(post("ana", "issue", message), 1000, certificate[40:72]), exchange(get("/v1/certs/1/body"), 1000, 0)])

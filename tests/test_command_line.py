@@ -6,7 +6,7 @@ import subprocess
 import pytest
 
 from asking import CA, OTHER_CA
-from running import ROWS, rows, run
+from running import ROWS, rows, run, said
 
 pytestmark = pytest.mark.rows
 
@@ -125,25 +125,19 @@ MISTAKES = [
 ]
 
 
-def come(program, words, folder):
-    """Status, output and errors."""
-    done = run([program, *words.split()], cwd=folder)
-    return done.returncode, done.stdout, done.stderr
-
-
 @pytest.mark.parametrize(("words", "fault"), FAULTS)
 def test_a_fault_is_named(program, files, words, fault):
-    assert (1, b"", f"sshoffice: {fault}\n".encode()) == come(program, words, files)
+    assert (1, b"", f"sshoffice: {fault}\n".encode()) == said([program, *words.split()], cwd=files)
 
 
 @pytest.mark.parametrize(("words", "output"), PRINTED, ids=[words for words, _ in PRINTED])
 def test_what_is_printed(program, files, words, output):
-    assert (0, output, b"") == come(program, words, files)
+    assert (0, output, b"") == said([program, *words.split()], cwd=files)
 
 
 @pytest.mark.parametrize("words", MISTAKES)
 def test_words_that_are_no_command(program, files, words):
-    status, out, err = come(program, words, files)
+    status, out, err = said([program, *words.split()], cwd=files)
     assert (2, b"", True) == (status, out, len(err) > 0)
 
 

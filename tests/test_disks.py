@@ -18,16 +18,15 @@ import contextlib
 import errno
 import functools
 import hashlib
-import re
 import signal
 import socket
 import subprocess
 
 import pytest
 
-from asking import CA, LAST_SERIAL, answers, exchange, exchanges_of, get, key_blob, post, write_exchanges
+from asking import CA, LAST_SERIAL, Response, answers, exchange, get, key_blob, post, write_exchanges
 from plain_office import PlainOffice
-from running import ROWS, preloaded, run
+from running import preloaded, rest, said, worked
 
 pytestmark = pytest.mark.slow
 
@@ -35,14 +34,9 @@ pytestmark = pytest.mark.slow
 ISSUE, DELIVERY, REVOCATION = 0, 1, 3
 
 
-def of_row(name):
-    """The exchanges of a row, and the responses."""
-    asked, given = ((ROWS / f"{name}.{it}").read_bytes() for it in ("exchange", "expected"))
-    return tuple(exchanges_of(asked)), answers(given)
-
-
-DEPARTMENT, _ = of_row("the-department-of-the-trial-office")
-FIVE, FIVE_DUE = of_row("an-issue-is-signed-repeated-and-revoked")
+DEPARTMENT, _ = worked("the-department-of-the-trial-office")
+FIVE, FIVE_DUE = worked("an-issue-is-signed-repeated-and-revoked")
+FIVE = tuple(FIVE)
 
 
 def at(moment, nonce, *requests):
@@ -96,8 +90,7 @@ class Disk:
 
     def run(self, *words, seed=1, **how):
         """Status, output and errors of the program."""
-        done = run([self.program, *words], env=self.environment(seed, **how))
-        return done.returncode, done.stdout, done.stderr
+        return said([self.program, *words], env=self.environment(seed, **how))
 
     def apply(self, name, seed=2, **how):
         return self.run("apply", "--db", self.db, self.folder / name, seed=seed, **how)
@@ -265,21 +258,11 @@ def test_where_a_long_log_is_copied(disk, long, after, file, call, is_once):
 # ---- processes that are killed while a client asks
 
 def all_of(port, request):
-    """All that comes back for a request, until the connection ends."""
-    came = b""
-    # A server that dies may cut the connection at any place.
+    """All that comes back for a request. A server that dies may cut the connection at any place."""
     with contextlib.suppress(OSError), socket.create_connection(("127.0.0.1", port)) as peer:
         peer.sendall(request)
-        while piece := peer.recv(65536):
-            came += piece
-    return came
-
-
-def whole(answer):
-    """The response, or None where it isn't there whole."""
-    head, _, body = answer.partition(b"\r\n\r\n")
-    length = re.search(rb"\ncontent-length: (\d+)\r\n", head)
-    return answer if length and len(body) == int(length[1]) else None
+        return rest(peer)
+    return Response()
 
 
 @contextlib.contextmanager
@@ -310,7 +293,7 @@ def killed(disk, fail):
     given = []
     with served(disk, len(exchanges), FAIL=fail, SYNCED=f"{disk.folder}/synced") as (process, port):
         for one in exchanges if port else ():
-            given.append(whole(all_of(port, one.request)))
+            given.append(all_of(port, one.request).whole())
             if given[-1] is None:
                 # It is dead already, or else it has closed the connection and waits for the next.
                 process.kill()
@@ -334,9 +317,9 @@ def test_a_server_is_killed(disk, call, how):
 
 # ---- outputs that fail
 
-ISSUED = of_row("repeat-gets-the-kept-reply")[1][0]
+ISSUED = worked("repeat-gets-the-kept-reply")[1][0]
 # The table of one certificate that waits.
-TABLE = of_row("the-table-has-each-certificate")[1][2]
+TABLE = worked("the-table-has-each-certificate")[1][2]
 
 
 def test_a_response_is_cut_at_each_byte_on_a_socket(disk):

@@ -11,7 +11,7 @@ import subprocess
 import pytest
 
 from asking import CA, get
-from running import EXAMPLES, ROWS, TOP, Served, rows, run
+from running import EXAMPLES, ROWS, TOP, Served, rows, run, said
 
 TEXTS = rows("help")
 HELP = {words: it["text"] for it in TEXTS["help"] for words in it["words"]}
@@ -23,15 +23,13 @@ MORE = "\n\nFor more information, try '--help'.\n"
 @pytest.mark.rows
 @pytest.mark.parametrize("words", HELP)
 def test_help_goes_to_the_output(program, words):
-    done = run([program, *words.split()])
-    assert (0, HELP[words].encode(), b"") == (done.returncode, done.stdout, done.stderr)
+    assert (0, HELP[words].encode(), b"") == said([program, *words.split()])
 
 
 @pytest.mark.rows
 @pytest.mark.parametrize("words", MISTAKES)
 def test_a_mistake_is_explained(program, words):
-    done = run([program, *words.split()])
-    assert (2, b"", (MISTAKES[words] + MORE).encode()) == (done.returncode, done.stdout, done.stderr)
+    assert (2, b"", (MISTAKES[words] + MORE).encode()) == said([program, *words.split()])
 
 
 # ---- examples
@@ -49,8 +47,8 @@ def shell(program, room, monkeypatch):
     shutil.copy(EXAMPLES / "first-issue.exchange", "first.exchange")
 
     def line(text):
-        done = run(["bash", "-c", text])
-        return done.returncode, (done.stdout + done.stderr).decode()
+        status, out, err = said(["bash", "-c", text])
+        return status, (out + err).decode()
 
     return line
 
@@ -119,9 +117,8 @@ def test_the_example_of_a_server(founded, example, program, programs):
 
 def test_the_version_names_a_toolchain_that_readme_names(program):
     """Another toolchain on this machine is no failure."""
-    done = run([program, "--version"])
-    assert (0, b"") == (done.returncode, done.stderr)
-    version = re.fullmatch(rb"sshoffice \d+\.\d+\.\d+ \((.*)\)\n", done.stdout)
-    assert version, done.stdout
+    status, out, err = said([program, "--version"])
+    version = re.fullmatch(rb"sshoffice \d+\.\d+\.\d+ \((.*)\)\n", out)
+    assert (0, b"", True) == (status, err, version is not None), out
     assert version[1].decode() in re.findall(r"rattle-kit-\w+", (TOP / "README.md").read_text())
-    assert done.stdout == run([program, "-V"]).stdout
+    assert (0, out, b"") == said([program, "-V"])

@@ -14,15 +14,13 @@ import shutil
 
 import pytest
 
-from asking import KEY, OTHER_CA, answers, exchange, post, string, write_exchanges
-from running import TOP, left_out, run
+from asking import (DIGEST, EXTENSIONS, KEY, LAST_SERIAL, LATEST, OPTIONS, OTHER_CA, answers, exchange, post, string,
+                    write_exchanges)
+from running import TOP, left_out, new_key, run
 
 pytestmark = pytest.mark.rows
 
 OTHER_KEY = OTHER_CA
-DIGEST = "82e0c34fe67da3fc3dc1be6682073994ec021449271b641cdd36180e95572e79"
-
-
 BAD = b"refused 7 BadMessage\n"
 
 
@@ -55,8 +53,7 @@ ROLLOVER = [f"rollover {OTHER_KEY}"]
 
 SIXTEEN = ",".join("abcdefghijklmnop")
 EIGHT = ",".join("abcdefgh")
-LAST, BEHIND = 2 ** 63 - 2, 2 ** 63 - 1
-LATEST = 253402300799
+LAST, BEHIND = LAST_SERIAL, LAST_SERIAL + 1
 
 # Each message with its bytes, as they were counted.
 WORKED = [(USERS, 191), (HOSTS, 100), (ISSUE, 162), (WITH_ALL, 317), (RENEWAL, 31), (DELIVERY, 205), (SERIAL, 16),
@@ -81,10 +78,6 @@ NETWORKS = (["10.0.0.0/8", "0.0.0.0/0", "255.255.255.255/32", "192.168.2.0/23", 
              "10.0.0.0/8/8", "::/0", "", "10.0.0.0/8,", "10.0.0.0/8 ,192.168.2.0/23",
              ",".join(f"{n}.0.0.0/8" for n in range(1, 10))])
 
-# The names that ssh-keygen -L prints.
-OPTIONS = ["force-command", "source-address", "verify-required"]
-EXTENSIONS = ["no-touch-required", "permit-X11-forwarding", "permit-agent-forwarding", "permit-port-forwarding",
-              "permit-pty", "permit-user-rc"]
 UNKNOWN = ["permit-x11-forwarding", "permit-pty@example.org", "permit-x"]
 
 # A message, the place of a line from 0, lines with which the message is one, and lines with which the text is none.
@@ -276,7 +269,7 @@ def by_python(network):
 def keys(tmp_path_factory):
     folder = tmp_path_factory.mktemp("keys")
     for name in ("ca", "user"):
-        run(["ssh-keygen", "-q", "-t", "ed25519", "-N", "", "-f", folder / name], check=True)
+        new_key(folder / name)
     return folder
 
 

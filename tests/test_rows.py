@@ -12,7 +12,7 @@ import re
 import pytest
 
 from asking import CA, LAST_SERIAL, answers, exchange, exchanges_of, get, write_exchanges
-from running import ROWS, Office, run
+from running import ROWS, Office, said, sql
 
 pytestmark = pytest.mark.rows
 
@@ -48,8 +48,7 @@ class Row:
 
 def printed(program, *words):
     """What the program prints, and then its fault."""
-    done = run([program, *words])
-    return done.stdout + done.stderr
+    return b"".join(said([program, *words])[1:])
 
 
 @pytest.mark.parametrize("name", [name for name in NAMES if not Row.read(name).opening])
@@ -84,10 +83,10 @@ def test_reports_as_commands(filed):
 
 def test_again(filed):
     row, office, _ = filed
-    tables = run(["sqlite3", office.db, ".dump"], check=True).stdout
+    tables = sql(office.db, ".dump")
     file = write_exchanges("again", [exchange(one.request, one.moment ^ 1, 0xee) for one in row.exchanges])
     assert row.printed_again() == printed(office.program, "apply", "--db", office.db, file)
-    assert tables == run(["sqlite3", office.db, ".dump"], check=True).stdout, "a repeat changes no table"
+    assert tables == sql(office.db, ".dump"), "a repeat changes no table"
 
 
 def test_the_table_of_rows_names_each_file():

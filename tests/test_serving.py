@@ -16,14 +16,14 @@ import time
 
 import pytest
 
-from asking import LATEST, answers, department, exchanges_of, get, issue, key_line, post, rollover
-from running import ROWS, Office, preloaded, run, until
+from asking import LATEST, department, get, issue, key_line, post, rollover
+from running import ROWS, Office, preloaded, run, said, until, worked
 
 
 def row(name):
     """The requests of a row, each with the response that is due to it."""
-    requests = [it.request for it in exchanges_of((ROWS / f"{name}.exchange").read_bytes())]
-    return list(zip(requests, answers((ROWS / f"{name}.expected").read_bytes()), strict=True))
+    exchanges, due = worked(name)
+    return list(zip([it.request for it in exchanges], due, strict=True))
 
 
 # The list of an office where nothing is revoked.
@@ -154,8 +154,7 @@ class System:
             return [given(peer)], server.ended()
 
     def selftest(self, **strange):
-        done = run([self.program, "selftest"], env=self.environment(strange))
-        return done.returncode, done.stdout, done.stderr
+        return said([self.program, "selftest"], env=self.environment(strange))
 
 
 @pytest.fixture
@@ -252,8 +251,7 @@ def test_a_port_is_printed_and_taken(system, program, offices):
         peer = server.client(LIST)
         shutil.copy(offices / "web.db", "beside.db")
         words = f"serve --db beside.db --port {server.port} --connections 1 --nonces /dev/zero"
-        done = run([program, *words.split()])
-        assert (1, b"", b"sshoffice: Socket\n") == (done.returncode, done.stdout, done.stderr)
+        assert (1, b"", b"sshoffice: Socket\n") == said([program, *words.split()])
         server.go_on()
         assert (NO_LIST, ends()) == (given(peer), server.ended())
 
