@@ -78,6 +78,19 @@ class Programs:
                     pipe.close()
 
 
+@contextlib.contextmanager
+def listening(words, **how):
+    """Begins a server, and gives its process and the line that it prints, or none where it ends before it listens. With
+    the block it ends."""
+    pipes = {"stdout": subprocess.PIPE, "stderr": subprocess.PIPE}
+    process = subprocess.Popen([str(it) for it in words], bufsize=0, **pipes, **how)
+    try:
+        yield process, process.stdout.readline()
+    finally:
+        process.kill()
+        process.communicate()
+
+
 def run(words, **how):
     """Runs a program to its end, with what it prints."""
     how = {"capture_output": True, "timeout": 100, "stdin": subprocess.DEVNULL} | how

@@ -9,13 +9,12 @@ refused, either it fails and has printed nothing, or all is as without a refusal
 it is refused at least twice, and then says NoMemory.
 """
 import contextlib
-import subprocess
 
 import pytest
 
 from asking import (CA, DIGEST, answers, deliver, department, exchange, get, issue, post, revoke_serial,
                     write_exchanges)
-from running import Office, Served, preloaded, run, said
+from running import Office, Served, listening, preloaded, run, said
 
 SPECIFICATION = f"ca: {CA}\nserial: 1\nserial: 3-4\nserial: 10-20\nid: web/alice\n"
 ISSUE = issue("web/alice", after=1000, before=2000)
@@ -143,20 +142,14 @@ class Refusing:
         self.mark.unlink(missing_ok=True)
         words = f"serve --db {self.office.db} --port 0 --connections 3 --nonces /dev/zero".split()
         refused = {"LD_PRELOAD": str(self.library), "REFUSED": str(number), "MARK": str(self.mark)}
-        process = subprocess.Popen([self.office.program, *words], stdout=subprocess.PIPE, stderr=subprocess.PIPE,
-                                   env=refused)
         given = []
-        try:
-            line = process.stdout.readline()
+        with listening([self.office.program, *words], env=refused) as (process, line):
             for request in SERVED if line else ():
                 given.append(b"")
                 # A connection that is closed before all was read is reset.
                 with contextlib.suppress(OSError):
                     given[-1] = Served(self.office, process, int(line.split()[1])).ask(request)
             errors = process.communicate(timeout=60)[1]
-        finally:
-            process.kill()
-            process.wait()
         return line, given, (process.returncode, errors), self.mark.exists()
 
     def first_after_listening(self):

@@ -214,7 +214,6 @@ def wanted_of(office):
     }
 
 
-
 # ---- the browser
 
 LOOK = """(() => {
@@ -238,8 +237,6 @@ LOOK = """(() => {
     title: document.title, hit: typeof window.hit, names,
   };
 })()"""
-
-
 
 
 class Page:

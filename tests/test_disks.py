@@ -20,13 +20,12 @@ import functools
 import hashlib
 import signal
 import socket
-import subprocess
 
 import pytest
 
 from asking import CA, LAST_SERIAL, Response, answers, exchange, get, key_blob, post, write_exchanges
 from plain_office import PlainOffice
-from running import preloaded, rest, said, worked
+from running import listening, preloaded, rest, said, worked
 
 pytestmark = pytest.mark.slow
 
@@ -268,16 +267,10 @@ def all_of(port, request):
 @contextlib.contextmanager
 def served(disk, connections, **how):
     """A server whose clock stands still, and its port, or None where it died before. With the block it ends."""
-    words = ["serve", "--db", disk.db, "--port", "0", "--connections", str(connections), "--nonces",
+    words = [disk.program, "serve", "--db", disk.db, "--port", 0, "--connections", connections, "--nonces",
              disk.folder / "nonces"]
-    environment = disk.environment(2, MOMENT="1000", **how)
-    process = subprocess.Popen([disk.program, *words], env=environment, stdout=subprocess.PIPE, stderr=subprocess.PIPE)
-    try:
-        line = process.stdout.readline()
+    with listening(words, env=disk.environment(2, MOMENT="1000", **how)) as (process, line):
         yield process, int(line.removeprefix(b"listening ")) if line else None
-    finally:
-        process.kill()
-        process.communicate()
 
 
 def ended(process):

@@ -17,7 +17,7 @@ import time
 import pytest
 
 from asking import LATEST, department, get, issue, key_line, post, rollover
-from running import ROWS, Office, preloaded, run, said, until, worked
+from running import ROWS, Office, listening, preloaded, run, said, until, worked
 
 
 def row(name):
@@ -77,9 +77,8 @@ def offices(program, tmp_path_factory):
 class Server:
     """A server that listens, and stands still until it is told to go on."""
 
-    def __init__(self, process):
-        self.process, self.line = process, process.stdout.readline()
-        self.port = int(self.line.removeprefix(b"listening "))
+    def __init__(self, process, line):
+        self.process, self.line, self.port = process, line, int(line.removeprefix(b"listening "))
         self.stop()
 
     def stop(self):
@@ -122,15 +121,10 @@ class System:
         """A server of so many connections, over a copy of an office. It stands still."""
         shutil.copy(self.offices / office, "copy.db")
         words = f"serve --db copy.db --port 0 --connections {connections} --nonces {nonces}".split()
-        process = subprocess.Popen([self.program, *words], stdout=subprocess.PIPE, stderr=subprocess.PIPE, bufsize=0,
-                                   env=self.environment(strange))
-        try:
-            yield Server(process)
-        finally:
-            process.kill()
-            process.communicate()
-            for file in pathlib.Path().glob("copy.db*"):
-                file.unlink()
+        with listening([self.program, *words], env=self.environment(strange)) as begun:
+            yield Server(*begun)
+        for file in pathlib.Path().glob("copy.db*"):
+            file.unlink()
 
     def met(self, *requests, connections=None, **how):
         """What clients are given that send these requests, and how the server ends."""
