@@ -12,6 +12,8 @@ CERTIFICATE_NAME = b"ssh-ed25519-cert-v01@openssh.com"
 OPTIONS = "force-command", "source-address", "verify-required"
 EXTENSIONS = ("no-touch-required", "permit-X11-forwarding", "permit-agent-forwarding", "permit-port-forwarding",
               "permit-pty", "permit-user-rc")
+# What a department permits that permits everything.
+EVERYTHING = {"options": OPTIONS, "extensions": EXTENSIONS, "maxlife": LATEST}
 # The digest of the body that `sshoffice apply` gives the first certificate of the worked rows.
 DIGEST = "82e0c34fe67da3fc3dc1be6682073994ec021449271b641cdd36180e95572e79"
 

@@ -8,8 +8,8 @@ import base64
 
 import pytest
 
-from asking import (CERTIFICATE_NAME, EXTENSIONS, LAST_SERIAL, LATEST, OPTIONS, answers, deliver, department, digest_of,
-                    exchange, get, issue, key_blob, key_line, post, renew, string, write_exchanges)
+from asking import (CERTIFICATE_NAME, EVERYTHING, LAST_SERIAL, LATEST, answers, deliver, department, digest_of, exchange,
+                    get, issue, key_blob, key_line, post, renew, string, write_exchanges)
 from running import new_key, run
 
 pytestmark = pytest.mark.rows
@@ -58,8 +58,7 @@ HOST = (
 # A certificate is a body, and a string that is a blob of 83 bytes with the signature at its end. In a body stand the
 # nonce from byte 40, the key from byte 76, the serial from byte 108 on, and at its end the CA's key.
 SIGNED = 4 + 83
-DEPARTMENTS = (department("web", principals="alice,*@example.org", options=OPTIONS, extensions=EXTENSIONS,
-                          maxlife=LATEST),
+DEPARTMENTS = (department("web", principals="alice,*@example.org", **EVERYTHING),
                department("db", kind="host", principals="*.example.org", maxlife=LATEST))
 # A certificate of ssh-keygen, the issue that asks for the same but for the key, and its line of the table.
 MADE = {

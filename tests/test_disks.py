@@ -18,6 +18,7 @@ import contextlib
 import errno
 import functools
 import hashlib
+import itertools
 import signal
 import socket
 
@@ -137,9 +138,7 @@ def disk(program, tmp_path_factory):
 
 def unanswered(given):
     """The place of the first fault after the last answer."""
-    count = len(given)
-    while count and given[count - 1] is None:
-        count -= 1
+    count = len([*itertools.dropwhile(lambda it: it is None, reversed(given))])
     return count if count < len(given) else None
 
 
@@ -184,13 +183,16 @@ def applied(disk, play, what, fail):
     return failed
 
 
-def in_turn(disk, play, file, call, is_once, how):
-    """Lets each call in turn fail so, until none does."""
-    number = 1
-    while applied(disk, play, f"{'' if is_once else 'from '}call {number}",
-                  f"{file} {call} {number} {number if is_once else 0} {how}"):
-        number += 1
+def each(attempt):
+    """Makes an attempt with the first call, with the second, and so on, until it finds none."""
+    number = next(number for number in itertools.count(1) if not attempt(number))
     assert number > 1, "no call is of this kind"
+
+
+def in_turn(disk, play, file, call, is_once, how):
+    """Lets each call in turn fail so."""
+    each(lambda number: applied(disk, play, f"{'' if is_once else 'from '}call {number}",
+                                f"{file} {call} {number} {number if is_once else 0} {how}"))
 
 
 ONCE, ON = True, False
@@ -302,10 +304,7 @@ def killed(disk, fail):
 @pytest.mark.parametrize(("call", "how"), [("any", "kill"), ("write", "torn")],
                          ids=["before a call", "within a write"])
 def test_a_server_is_killed(disk, call, how):
-    number = 1
-    while killed(disk, f"any {call} {number} {number} {how}"):
-        number += 1
-    assert number > 1
+    each(lambda number: killed(disk, f"any {call} {number} {number} {how}"))
 
 
 # ---- outputs that fail

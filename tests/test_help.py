@@ -61,10 +61,10 @@ def examples(program, command):
 
 @pytest.fixture
 def example(program, shell):
-    """Runs the example of a command: its status, and as much of what it prints as is asked for."""
-    def of(command, count=0):
+    """Runs the example of a command: its status, and whether what it prints begins so."""
+    def of(command, start):
         status, text = shell(examples(program, command)[0])
-        return status, text[:count]
+        return status, text[:len(start)] == start or text
 
     return of
 
@@ -72,9 +72,9 @@ def example(program, shell):
 @pytest.fixture
 def founded(example, shell):
     """Runs the examples that make an office, and puts its department."""
-    assert (0, "office ready 1 1000000\n") == example("init", 23)
+    assert (0, True) == example("init", "office ready 1 1000000\n")
     assert 0 == shell(f"sshoffice apply --db office.db {ROWS}/the-department-of-the-trial-office.exchange")[0]
-    assert (0, "answer ") == example("apply", 7)
+    assert (0, True) == example("apply", "answer ")
 
 
 @pytest.mark.parametrize("command", COMMANDS)
@@ -82,24 +82,23 @@ def test_the_help_of_a_command_has_one_example(program, command):
     assert 1 == len(examples(program, command))
 
 
-@pytest.mark.parametrize(("command", "starts"), [("", "answer "), ("selftest", "selftest ok\n")])
-def test_an_example_without_an_office(example, command, starts):
-    assert (0, starts) == example(command, len(starts))
+@pytest.mark.parametrize(("command", "start"), [("", "answer "), ("selftest", "selftest ok\n")])
+def test_an_example_without_an_office(example, command, start):
+    assert (0, True) == example(command, start)
 
 
-@pytest.mark.parametrize(("command", "starts"), [("krl", ""), ("signers", ""), ("table", " ")])
-def test_an_example_of_an_office(founded, example, command, starts):
-    assert (0, starts) == example(command, len(starts))
+@pytest.mark.parametrize(("command", "start"), [("krl", ""), ("signers", ""), ("table", " ")])
+def test_an_example_of_an_office(founded, example, command, start):
+    assert (0, True) == example(command, start)
 
 
 def test_the_example_of_a_check(founded, example):
-    assert (0, "") == example("krl")
-    assert (0, "clear\n") == example("check", 6)
+    assert [(0, True)] * 2 == [example("krl", ""), example("check", "clear\n")]
 
 
 def test_the_example_of_a_migration(founded, example, shell):
     shell("sqlite3 office.db 'DROP TABLE ca' 'UPDATE office SET schema = 1'")
-    assert (0, "migrated 1 2\n") == example("migrate", 13)
+    assert (0, True) == example("migrate", "migrated 1 2\n")
 
 
 def test_the_example_of_a_server(founded, example, program, programs):
@@ -109,7 +108,7 @@ def test_the_example_of_a_server(founded, example, program, programs):
     server = programs.begin(line.split(), stdout=subprocess.PIPE, stderr=subprocess.PIPE)
     assert b"listening %d\n" % port == server.stdout.readline()
     for command in ("krl", "signers", "table"):
-        assert (1, "sshoffice: Device\n") == example(command, 18), command
+        assert (1, True) == example(command, "sshoffice: Device\n"), command
     served = Served(None, server, port)
     assert [200] * count == [served.ask(get("/v1/krl")).status for _ in range(count)]
     assert (b"", b"", 0) == (*server.communicate(timeout=20), server.returncode)

@@ -8,14 +8,14 @@ import time
 
 import pytest
 
-from asking import EXTENSIONS, LATEST, OPTIONS, department, issue, revoke_keyid, revoke_range, revoke_serial, rollover
+from asking import (EVERYTHING, EXTENSIONS, LATEST, department, issue, revoke_keyid, revoke_range, revoke_serial,
+                    rollover)
 from running import Office, fingerprint, is_revoked, new_key, run, sql
 from stations import Guard, Station
 
 pytestmark = [pytest.mark.slow, pytest.mark.xdist_group("openssh")]
 
-WEB = department("web", principals="*@example.org,alice,bob", options=OPTIONS, extensions=EXTENSIONS, maxlife=LATEST,
-                 namespaces="file,git")
+WEB = department("web", principals="*@example.org,alice,bob", namespaces="file,git", **EVERYTHING)
 DB = department("db", kind="host", admins="", principals="*.example.org")
 NOW = int(time.time())
 HOUR = {"after": NOW - 60, "before": NOW + 3600}

@@ -294,18 +294,14 @@ def test_a_longest_body_is_served(system):
     assert (b"refused 7 BadMessage\n", NO_LIST, ends()) == (refused.partition(b"\r\n\r\n")[2], other, end)
 
 
-def nonce(body):
-    """The nonce of a certificate's body: a string behind the name of the format."""
-    return body[40:72]
-
-
 def nonces_of(office, places, **how):
-    """The nonces of certificates that are issued by one server, in a department that it makes. A connection each."""
+    """The nonces of certificates that are issued by one server, in a department that it makes. A connection each. In a
+    certificate's body the nonce is a string behind the name of the format."""
     with office.serving(**how) as served:
         asked = [served.post("root", f"web{places[0]}", department())]
         asked += [served.post("ana", f"k{it}", issue(f"web/{it}")) for it in places]
         assert [200] * len(asked) == [it.status for it in asked]
-        return [nonce(served.get(f"/v1/certs/{it}/body").body) for it in places]
+        return [served.get(f"/v1/certs/{it}/body").body[40:72] for it in places]
 
 
 def test_each_certificate_has_a_nonce_of_its_own(office):
