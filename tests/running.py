@@ -196,22 +196,26 @@ class Served:
         return self.ask(get(path))
 
 
+def init(db, ca, *, root="root", station="station", first=1, last=100_000):
+    """The words that make an office in a file, of a CA whose public line is in another."""
+    return ["init", "--db", db, "--ca", ca, "--root", root, "--station", station, "--first", first, "--last", last]
+
+
 class Office:
     """An office in a file, made by `init`.
 
     `db` is its file, and `ca` the file with the public line of its CA. `ca_key` is the file with the CA's private half,
     or None where the CA was given as a line of text."""
 
-    def __init__(self, program, db="office.db", *, ca=None, root="root", station="station", first=1, last=100_000):
-        self.program, self.db, self.first, self.last = program, pathlib.Path(db).absolute(), first, last
+    def __init__(self, program, db="office.db", *, ca=None, first=1, **opening):
+        self.program, self.db, self.first = program, pathlib.Path(db).absolute(), first
         self.ca, self.ca_key = self.db.with_suffix(".ca.pub"), None
         if ca is None:
             self.ca_key = self.db.with_suffix(".ca.pem")
             run(["openssl", "genpkey", "-algorithm", "ed25519", "-out", self.ca_key], check=True)
             ca = run([EXAMPLES / "ca-line", self.ca_key], check=True).stdout.decode()
         self.ca.write_text(ca.rstrip("\n") + "\n")
-        self.opened = self.must("init", "--db", self.db, "--ca", self.ca, "--root", root, "--station", station,
-                                "--first", first, "--last", last)
+        self.opened = self.must(*init(self.db, self.ca, first=first, **opening))
 
     def run(self, *words, **how):
         """Status, output and errors of the program."""

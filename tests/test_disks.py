@@ -26,7 +26,7 @@ import pytest
 
 from asking import CA, LAST_SERIAL, Response, answers, exchange, get, key_blob, post, write_exchanges
 from plain_office import PlainOffice
-from running import listening, preloaded, rest, said, worked
+from running import init, listening, preloaded, rest, said, worked
 
 pytestmark = pytest.mark.slow
 
@@ -77,8 +77,7 @@ class Disk:
         (folder / "nonces").write_bytes(b"".join(it.nonce for it in FIVE))
         for name, exchanges in (("department", DEPARTMENT), ("five", FIVE), ("telling", TELLING)):
             write_exchanges(folder / name, exchanges)
-        words = f"--root root --station station --first 1 --last {LAST_SERIAL}".split()
-        for done in (self.run("init", "--db", self.db, "--ca", folder / "ca.pub", *words),
+        for done in (self.run(*init(self.db, folder / "ca.pub", last=LAST_SERIAL)),
                      self.run("apply", "--db", self.db, folder / "department")):
             assert done[0] == 0, done
         self.founded = self.files()

@@ -4,7 +4,7 @@ A key line is given to `check` as that of the CA. The lines of ssh-keygen were m
 """
 import pytest
 
-from running import said
+from running import init, said
 from test_krl import RANGE, checked
 
 pytestmark = pytest.mark.rows
@@ -64,5 +64,5 @@ def test_a_key_line_is_read_or_has_its_fault(program, room, line, answer):
 @pytest.mark.parametrize(("base64", "shown"), MADE, ids=[shown.decode() for _, shown in MADE])
 def test_a_fingerprint_is_ssh_keygens(program, room, base64, shown):
     (room / "ca.pub").write_bytes(b"ssh-ed25519 " + base64 + b"\n")
-    words = "init --db office.db --ca ca.pub --root r --station s --first 1 --last 2"
-    assert (0, b"office ready 1 2\nca " + shown + b"\n", b"") == said([program, *words.split()])
+    wanted = b"office ready 1 2\nca " + shown + b"\n"
+    assert (0, wanted, b"") == said([program, *init("office.db", "ca.pub", last=2)])

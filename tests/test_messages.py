@@ -195,10 +195,7 @@ def test_each_text_is_answered(replies):
 @pytest.mark.parametrize(("place", "number"), [(place, it[2]) for place, it in enumerate(POSTED)],
                          ids=[what for what, _, _ in POSTED])
 def test_a_text_is_a_message_or_none(replies, place, number):
-    if number == 0:
-        assert BAD != replies[place]
-    else:
-        assert BAD == replies[place]
+    assert (number > 0) == (replies[place] == BAD), replies[place]
 
 
 # ---- the first bad line

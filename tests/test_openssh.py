@@ -10,7 +10,7 @@ import pytest
 
 from asking import (EVERYTHING, EXTENSIONS, LATEST, department, issue, revoke_keyid, revoke_range, revoke_serial,
                     rollover)
-from running import Office, fingerprint, is_revoked, new_key, run, sql
+from running import Office, fingerprint, init, is_revoked, new_key, run, sql
 from stations import Guard, Station
 
 pytestmark = [pytest.mark.slow, pytest.mark.xdist_group("openssh")]
@@ -169,13 +169,10 @@ def test_ssh_keygen_and_we_find_just_those_revoked(story, what):
     file = story.folder / name
     key_ids = dict(zip(SERIALS, [it[1] for it in ASKED + LATER]))
     last = SERIALS[-1] if what in ("two CAs", "a range across the rollover") else FIRST + len(ASKED) - 1
-    by_keygen, by_office = set(), set()
-    for serial in range(FIRST, last + 1):
-        if is_revoked(file, story.folder / f"{serial}-cert.pub"):
-            by_keygen.add(serial)
-        verdict = story.office.must("check", "--ca", story.cas[serial], file, str(serial), key_ids[serial])
-        if verdict == b"revoked\n":
-            by_office.add(serial)
+    serials = range(FIRST, last + 1)
+    by_keygen = {it for it in serials if is_revoked(file, story.folder / f"{it}-cert.pub")}
+    by_office = {it for it in serials if b"revoked\n" == story.office.must(
+        "check", "--ca", story.cas[it], file, it, key_ids[it])}
     assert (revoked, revoked) == (by_keygen, by_office)
 
 
@@ -225,8 +222,7 @@ def test_the_commands_print_what_was_served(story):
     office = story.office
     for name, printed in (("krl", office.krl()), ("signers", office.signers()), ("table", office.table())):
         assert (story.folder / name).read_bytes() == printed, name
-    words = "--root root --station station --first 7 --last 1000".split()
-    assert (1, b"", b"sshoffice: AlreadyAnOffice\n") == office.run("init", "--db", office.db, "--ca", office.ca, *words)
+    assert (1, b"", b"sshoffice: AlreadyAnOffice\n") == office.run(*init(office.db, office.ca, first=7, last=1000))
 
 
 @pytest.mark.parametrize(("query", "rows"), [
