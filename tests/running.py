@@ -196,6 +196,11 @@ class Served:
         return self.ask(get(path))
 
 
+def applied(program, exchanges, folder="."):
+    """The responses that the trial office in memory gives."""
+    return answers(run([program, "apply", write_exchanges(f"{folder}/some.exchange", exchanges)]).stdout)
+
+
 def init(db, ca, *, root="root", station="station", first=1, last=100_000):
     """The words that make an office in a file, of a CA whose public line is in another."""
     return ["init", "--db", db, "--ca", ca, "--root", root, "--station", station, "--first", first, "--last", last]

@@ -8,9 +8,9 @@ import base64
 
 import pytest
 
-from asking import (CERTIFICATE_NAME, EVERYTHING, LAST_SERIAL, LATEST, answers, deliver, department, digest_of, exchange,
-                    get, issue, key_blob, key_line, post, renew, string, write_exchanges)
-from running import new_key, run
+from asking import (CERTIFICATE_NAME, EVERYTHING, LAST_SERIAL, LATEST, deliver, department, digest_of, exchange, get,
+                    issue, key_blob, key_line, post, renew, string)
+from running import applied, new_key, run
 
 pytestmark = pytest.mark.rows
 
@@ -78,18 +78,12 @@ def said(serial, body):
     return f"issued {serial}\ndigest {digest_of(body)}\n".encode()
 
 
-def applied(program, exchanges):
-    """What the trial office gives: the body of each response."""
-    file = write_exchanges("some.exchange", exchanges)
-    return [it.body for it in answers(run([program, "apply", file]).stdout)]
-
-
 @pytest.mark.parametrize(("options", "extensions", "body", "size"), WORKED)
 def test_a_body_has_these_bytes(program, room, options, extensions, body, size):
     message = issue("web/alice", after=1000, before=2000, options=options, extensions=extensions)
     assert size == len(body)
-    assert [said(1, body), body] == applied(program, [
-        exchange(post("ana", "i1", message), 1000, 0x33), exchange(get("/v1/certs/1/body"), 1000, 0x33)])
+    assert [said(1, body), body] == [it.body for it in applied(program, [
+        exchange(post("ana", "i1", message), 1000, 0x33), exchange(get("/v1/certs/1/body"), 1000, 0x33)])]
 
 
 # ---- certificates that ssh-keygen made
@@ -176,5 +170,5 @@ def test_the_body_is_that_of_ssh_keygen(program, room, comment, key_id, principa
     body = certificate[:-SIGNED - 32] + key_blob(0x11)[-32:]
     message = issue(key_id, key=key, principals=principals, after=1000, before=2000,
                     options=[it.replace("=", " ", 1) for it in options], extensions=extensions)
-    assert [said(1, body), body] == applied(program, [
-        exchange(post("ana", "issue", message), 1000, certificate[40:72]), exchange(get("/v1/certs/1/body"), 1000, 0)])
+    assert [said(1, body), body] == [it.body for it in applied(program, [
+        exchange(post("ana", "issue", message), 1000, certificate[40:72]), exchange(get("/v1/certs/1/body"), 1000, 0)])]

@@ -14,9 +14,8 @@ import shutil
 
 import pytest
 
-from asking import (DIGEST, EXTENSIONS, KEY, LAST_SERIAL, LATEST, OPTIONS, OTHER_CA, answers, exchange, post, string,
-                    write_exchanges)
-from running import TOP, left_out, new_key, run
+from asking import DIGEST, EXTENSIONS, KEY, LAST_SERIAL, LATEST, OPTIONS, OTHER_CA, exchange, post, string
+from running import TOP, applied, left_out, new_key, run
 
 pytestmark = pytest.mark.rows
 
@@ -177,10 +176,8 @@ POSTED = [*all_rows()]
 @pytest.fixture(scope="module")
 def replies(program, tmp_path_factory):
     """What each text is answered, posted under a key of its own."""
-    file = tmp_path_factory.mktemp("messages") / "messages.exchange"
-    write_exchanges(file, [exchange(post("root", f"m{place}", message), 1000, 0x33)
-                           for place, (_, message, _) in enumerate(POSTED)])
-    return [it.body for it in answers(run([program, "apply", file]).stdout)]
+    exchanges = [exchange(post("root", f"m{place}", it[1]), 1000, 0x33) for place, it in enumerate(POSTED)]
+    return [it.body for it in applied(program, exchanges, tmp_path_factory.mktemp("messages"))]
 
 
 @pytest.mark.parametrize(("lines", "size"), WORKED, ids=[lines[0] for lines, _ in WORKED])
@@ -296,9 +293,8 @@ def some_networks(seed, count):
 def test_python_the_office_and_ssh_keygen_agree_on_other_networks(program, keys, room, request):
     """What the office takes, Python and ssh-keygen take, and what ssh-keygen refuses, the office refuses."""
     networks = [*some_networks(request.config.getoption("hypothesis_seed"), 200)]
-    write_exchanges("networks.exchange", [exchange(post("root", f"n{place}", text(
-        [*ISSUE[:6], f"option source-address {it}", ISSUE[6]])), 1000, 0x33) for place, it in enumerate(networks)])
-    given = [BAD != it.body for it in answers(run([program, "apply", "networks.exchange"]).stdout)]
+    given = [BAD != it.body for it in applied(program, [exchange(post("root", f"n{place}", text(
+        [*ISSUE[:6], f"option source-address {it}", ISSUE[6]])), 1000, 0x33) for place, it in enumerate(networks)])]
     assert dict(zip(networks, map(by_python, networks))) == dict(zip(networks, given))
     assert 40 < sum(given) < 160, "some are networks, and some are none"
     for network, is_taken in zip(networks, given):

@@ -20,10 +20,10 @@ from hypothesis import HealthCheck, Phase, settings
 from hypothesis import strategies as some
 from hypothesis.stateful import RuleBasedStateMachine, initialize, precondition, rule, run_state_machine_as_test
 
-from asking import (CA, LAST_SERIAL, LATEST, answers, deliver, department, exchange, get, issue, key_blob, key_line,
-                    post, renew, revoke_keyid, revoke_range, revoke_serial, rollover, write_exchanges)
+from asking import (CA, LAST_SERIAL, LATEST, deliver, department, exchange, get, issue, key_blob, key_line, post, renew,
+                    revoke_keyid, revoke_range, revoke_serial, rollover)
 from plain_office import PlainOffice
-from running import ROWS, Office, run, worked
+from running import ROWS, Office, applied, worked
 
 # A history has so many steps at most, and twenty or more by the mean.
 MOST_STEPS, MEAN_STEPS = 50, 20
@@ -227,8 +227,7 @@ class Registers(RuleBasedStateMachine):
     def in_memory(self, asked, due):
         """The trial office's lists. It has other serials than an office that may run out of them."""
         if self.last == LAST_SERIAL:
-            file = write_exchanges("some.exchange", asked)
-            assert due == answers(run([self.program, "apply", file]).stdout), "in memory"
+            assert due == applied(self.program, asked), "in memory"
 
     def in_a_file(self, asked, due):
         office = Office(self.program, f"{next(self.count)}.db", ca=CA, last=self.last)

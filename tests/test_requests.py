@@ -5,9 +5,9 @@ status are those of the table in docs/FORMATS.md.
 """
 import pytest
 
-from asking import DIGEST, answers, exchange, get, issue, write_exchanges
+from asking import DIGEST, exchange, get, issue
 from asking import post as posted
-from running import refusals, rows, run
+from running import applied, refusals, rows
 
 pytestmark = pytest.mark.rows
 
@@ -101,9 +101,8 @@ def name_of(row):
 @pytest.fixture(scope="module")
 def given(program, tmp_path_factory):
     """The responses to all requests, for which the trial office is asked one after the other."""
-    file = tmp_path_factory.mktemp("requests") / "requests.exchange"
-    write_exchanges(file, [exchange(request, 1000, 0x33) for _, request, _ in ROWS])
-    return answers(run([program, "apply", file]).stdout)
+    exchanges = [exchange(request, 1000, 0x33) for _, request, _ in ROWS]
+    return applied(program, exchanges, tmp_path_factory.mktemp("requests"))
 
 
 # The status line and the body of each refusal, by its name.
