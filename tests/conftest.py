@@ -27,7 +27,8 @@ def pytest_addoption(parser):
     group.addoption("--sshstation", metavar="PATH", type=pathlib.Path, default=TOP / "crates/sshstation/out/sshstation",
                     help="the sshstation to test")
     group.addoption("--steps", type=int, default=1000, help="how many random exchanges test_registers asks (1000)")
-    group.addoption("--rounds", type=int, default=0, help="how many faults test_three_machines has happen (0: left out)")
+    group.addoption("--rounds", type=int, default=0,
+                    help="how many faults test_three_machines has happen (0: left out)")
     group.addoption("--judgements", type=int, default=100_000,
                     help="how many random bodies test_guard has judged (100000)")
     group.addoption("--pieces", type=int, default=1000, help="how many random requests test_pieces sends (1000)")
