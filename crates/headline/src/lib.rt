@@ -21,6 +21,7 @@ ghost use Rattle.office.specs.declared.opening.Opening.{Opening};
 ghost use Rattle.office.specs.declared.arrival.Arrival.{Arrival};
 ghost use Rattle.office.specs.Faults.{HasCause};
 ghost use Rattle.store.specs.Meaning.{HasFailed, KeepsTelling, StoresWhereOpen};
+ghost use Rattle.web.specs.Answers.{AsksNoChange};
 ghost use Rattle.web.specs.Causes.{IsOfAList};
 ghost use Rattle.office_laws.specs.Counting.{CountsUp};
 ghost use Rattle.headline.specs.Headline.{AnswersDue, AnswersList, BodiesNameTheirSigners, BodiesStay};
@@ -102,6 +103,10 @@ pub fn respond<S: Alter>(
 
     // After a fault they tell what they told.
     ensures fault { On S.Store KeepsTellingOnErr store.old.conn store.new.conn result }
+
+    // A request that is no message leaves the database as it was, whatever its tables mean, while the connection is
+    // open.
+    ensures reads { AsksNoChange request.now → Between S.Store IsAsBeforeWhereOpen store.old.conn store.new.conn }
 
     // Such a fault is want of memory, or the database failed, or refused a row that was due. `Device` is answered only
     // where one of the last two was.

@@ -34,7 +34,7 @@ use Rattle.sshoffice.specs.Jobs.{Does, IsLawful, IsMaking}
 use Rattle.sshoffice.specs.Listing.{Lists}
 use Rattle.sshoffice.specs.Making.{IsUnmade, Makes, Migrates}
 use Rattle.sshoffice.specs.Opening.{TellsOn}
-use Rattle.sshoffice.specs.Reporting.{Reports}
+use Rattle.sshoffice.specs.Reporting.{IsReport}
 use Rattle.sshoffice.specs.Serving.{Heard, Serves}
 
 -- ---- exchanges that were not run
@@ -178,7 +178,7 @@ module _ (old new : State) where
   listed held holds (Err fault.Fault) h = absurd h
 
   reported : (which : Report) (held holds : Option (List ℕ)) (r : Result (Unit {0}) JobFault)
-      → Reports which old new held holds r → TellsOn old new
+      → IsReport which old new held holds r → TellsOn old new
   reported which held holds (Ok done) h = λ o l told. (h o l told).1.tells
   reported which held holds (Err fault.Write) h = λ o l told. (h o l told).tells
   reported which held holds (Err fault.NoMemory) h = h.tells
@@ -276,9 +276,9 @@ module _ (old new : State) where
     does_asked job.Krl held holds r lawful refuses h =
         (nothing_asked, refl, stays r (refuses (λ making. making)) (listed held holds r h))
     does_asked job.Signers held holds r lawful refuses h =
-        (nothing_asked, refl, stays r (refuses (λ making. making)) (reported report.Signers held holds r h))
+        (nothing_asked, refl, stays r (refuses (λ making. making)) (reported report.Signers held holds r h.came))
     does_asked job.Table held holds r lawful refuses h =
-        (nothing_asked, refl, stays r (refuses (λ making. making)) (reported report.Table held holds r h))
+        (nothing_asked, refl, stays r (refuses (λ making. making)) (reported report.Table held holds r h.came))
     does_asked job.Migrate held holds r lawful refuses h =
         (nothing_asked, refl, stays r (refuses (λ making. making)) (moved was r h.0))
 

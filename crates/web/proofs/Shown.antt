@@ -18,6 +18,11 @@ pub shows : {X E : Type 0} (r : Result (Vec ℕ Global) E) (text : X → List �
 shows (Ok v) text found shown means same is = λ o l m. is ∙ ap text (same o l m)
 shows (Err e) text found shown means same is = tt
 
+-- what is so of each fault is so of the one that a call ends with
+pub always_err : {T E : Type 0} (r : Result T E) (P : E → Type 0) → ((e : E) → P e) → IfErr r P
+always_err (Ok x) P is = tt
+always_err (Err e) P is = is e
+
 -- a register may lack memory
 pub memory_only : {T : Type 0} (r : Result T StoreFault) (means : Opening → List Arrival → Type 0) → IfErr r (λ e. e ≡ NoMemory)
     → IfErr r (λ e. (o : Opening) (l : List Arrival) → means o l → IsOfARegister e)
