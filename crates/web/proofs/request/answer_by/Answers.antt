@@ -1,9 +1,7 @@
 use Rattle.std.proofs.Common.{sym, subst}
 use Rattle.http_requests.specs.Asks.{Ask, Asks}
-use Rattle.http_requests.proofs.OneAsk.{one_of}
-use Rattle.web.specs.Answers.{IsNoMessage}
 use Rattle.web.specs.Requests.{request_ask}
-use Rattle.web.proofs.Shown.{always_err}
+use Rattle.web.proofs.Shown.{always_err, is_no_message}
 use Rattle.web.proofs.request.answer_by.Goals as goal
 
 pub returns-clause-answered : goal.returns-clause-answered
@@ -29,6 +27,5 @@ pub returns-clause-reads : goal.returns-clause-reads
 returns-clause-reads g c honest is none =
     let P : Ask → Type 0 = Asks c.args.request.now in
     let asks = subst P (sym c.in_ok-request.ensures) c.asks.ensures.asked in
-    let N : Ask → Type 0 = IsNoMessage in
     c.answer_request.ensures.reads honest is
-    (subst N (one_of c.args.request.now none.0 (request_ask c.in_ok-request.request) none.1 asks) none.2)
+    (is_no_message c.args.request.now (request_ask c.in_ok-request.request) asks none)
