@@ -52,8 +52,8 @@ left mid new held holds e silent tells only = record {
 pub listed : (r : Result Unit PublishFault) (done : Result Unit JobFault) (old mid new : State)
     (held holds : Option (List ℕ))
     → done ≡ publish_result r → IsOpened old mid
-    → OnOk r ((o : Opening) (l : List Arrival) → Tells mid o l
-    → (bytes : List ℕ) × IsList o l bytes × Appends held holds bytes)
+    → OnOk r ((bytes : List ℕ) × Appends held holds bytes
+    × ((o : Opening) (l : List Arrival) → Tells mid o l → IsList o l bytes))
     → TellsOn mid new
     → IfFound r ((o : Opening) (l : List Arrival) → Tells mid o l → Stores new o l)
     → (IsTrue new.is_open → IsAsBefore mid new)
@@ -63,7 +63,7 @@ pub listed : (r : Result Unit PublishFault) (done : Result Unit JobFault) (old m
 listed (Ok x) done old mid new held holds same opened list tells found before silent only =
     subst (λ (d : Result Unit JobFault). Lists old new held holds d) (sym same) (
       before_again old mid new opened.before (before_open mid new before),
-      λ o l m. let is = list o l (opened.tells o l m) in (is.0, is.1, is.2, found o l (opened.tells o l m)),
+      (list.0, list.1, λ o l m. (list.2 o l (opened.tells o l m), found o l (opened.tells o l m))),
     )
 listed (Err publish.Write) done old mid new held holds same opened list tells found before silent only =
     subst (λ (d : Result Unit JobFault). Lists old new held holds d) (sym same) (
@@ -106,7 +106,7 @@ unreported report e f old new held holds same u silent =
 -- what came of the report of an opened office came of the database's
 came_from : (report : Report) (old mid new : State) (held holds : Option (List ℕ)) (r : Result Unit JobFault)
     → IsOpened old mid → IsReport report mid new held holds r → IsReport report old new held holds r
-came_from report old mid new held holds (Ok x) opened is = λ o l m. is o l (opened.tells o l m)
+came_from report old mid new held holds (Ok x) opened is = (is.0, is.1, λ o l m. is.2 o l (opened.tells o l m))
 came_from report old mid new held holds (Err Write) opened is = λ o l m. is o l (opened.tells o l m)
 came_from report old mid new held holds (Err NoMemory) opened is =
     left_from old mid new held holds store.NoMemory opened is

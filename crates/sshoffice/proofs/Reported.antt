@@ -76,12 +76,14 @@ pub reported : (report : Report) (old new : State) (held holds : Option (List �
     → Finds (Some body) looked → OnOk r (Appends held holds body) → IfErr r (λ e. e ≡ Write)
     → IsReport report old new held holds r
 reported report old new held holds request moment nonce response looked body
-    (Ok x) one asks answers same short finds ok only =
-    λ o l m.
-    let is = found_report report old new request moment nonce response looked
-    (Some body) one asks answers same short finds o l m in
-    let text : body ≡ report_text report (state o l) = found_is body (report_text report (state o l)) is.0 in
-    (subst (λ (b : List ℕ). Appends held holds b) text ok, is.1)
+    (Ok x) one asks answers same short finds ok only = (
+      body,
+      ok,
+      λ o l m.
+          let is = found_report report old new request moment nonce response looked
+          (Some body) one asks answers same short finds o l m in
+          (found_is body (report_text report (state o l)) is.0, is.1),
+    )
 reported report old new held holds request moment nonce response looked body
     (Err e) one asks answers same short finds ok only =
     subst (λ (e : JobFault). IsReport report old new held holds (Err e)) (sym only) (λ o l m.

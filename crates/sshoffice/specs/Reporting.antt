@@ -1,5 +1,5 @@
 -- A report of the office in a database, printed.
-use Rattle.std.specs.Prelude.{ℕ, List, Option, Result, Ok, Err}
+use Rattle.std.specs.Prelude.{◌≡◌, ℕ, List, Option, Result, Ok, Err}
 use Rattle.std.specs.Io.KnownBytes.{Appends}
 use Rattle.sqlite.specs.State.{State as Connection}
 use Rattle.http_requests.specs.declared.resource.Resource.{Resource}
@@ -29,10 +29,11 @@ abbrev pub report_text : Report → State → List ℕ
 report_text Signers s = signers_report s
 report_text Table s = table_report s
 
--- the report of the office after the history that the tables tell is printed, and they store that history
+-- what is printed is the report of the office after the history that the tables tell, and they store that history
 abbrev pub IsReported : Report → (old new : Connection) → (held holds : Option (List ℕ)) → Type 0
-IsReported report old new held holds = (o : Opening) (l : List Arrival) → Tells old o l
-    → Appends held holds (report_text report (state o l)) × Stores new o l
+IsReported report old new held holds =
+    (text : List ℕ) × Appends held holds text
+    × ((o : Opening) (l : List Arrival) → Tells old o l → (text ≡ report_text report (state o l)) × Stores new o l)
 
 -- what came of it, if nothing of the tables has changed
 abbrev pub IsReport : Report → (old new : Connection) → (held holds : Option (List ℕ)) → Result (Unit {0}) JobFault
