@@ -1,13 +1,13 @@
 //! The tables are a register.
 
 ghost use Rattle.std.specs.Prelude.{IsTrue};
+ghost use Rattle.std.proofs.Common.{◌∙◌, refl};
 ghost use Rattle.sqlite.specs.Held.{state};
 ghost use Rattle.sqlite.specs.State.{HasCleanDisk};
 ghost use Rattle.office.specs.declared.arrival.Arrival.{Arrival};
 ghost use Rattle.store.specs.Transactions.{IsAsBefore};
 ghost use Rattle.store.specs.Meaning.{HasFailed, Tells};
 ghost use Rattle.store.specs.Arriving.{IsStopped};
-ghost use Rattle.store.proofs.Before.{same_before, through_before};
 
 use crate::listing::{read_batch, read_revocations};
 use crate::publishing::read_revoked;
@@ -68,9 +68,17 @@ impl<S: Alter> Registry for Store<S> {
         told(read_batch(alloc, &mut self.conn, place))
     }
 
-    ghost unasked = { λ s. same_before (state S.Store s.conn) };
+    ghost unasked = { λ _. record {
+      was_open = λ is. is;
+      rest = λ _ rests. rests;
+      same = λ _ _. refl;
+    } };
 
-    ghost through = { λ a b c. through_before (state S.Store a.conn) (state S.Store b.conn) (state S.Store c.conn) };
+    ghost through = { λ _ _ _ first next. record {
+      was_open = λ is. first.was_open (next.was_open is);
+      rest = λ is rests. next.rest is (first.rest (next.was_open is) rests);
+      same = λ is rests. next.same is (first.rest (next.was_open is) rests) ∙ first.same (next.was_open is) rests;
+    } };
 
     ghost lawful = { λ s o l m. m.history.office };
 }
