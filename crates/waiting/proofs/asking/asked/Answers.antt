@@ -21,7 +21,7 @@ returns-clause-row g c h =
 
 pub returns-in_err-rows-clause-before : goal.returns-in_err-rows-clause-before
 returns-in_err-rows-clause-before g c h is =
-    g.met.R.Registry.through c.args.register.now c.revocations.new.register c.still_waiting.new.register
+    g.met.R.Registry.through c.args.register.now c.revocations.new.self c.still_waiting.new.register
     (c.revocations.ensures.before (c.still_waiting.ensures.honest h) (c.still_waiting.ensures.was_open h is))
     (c.still_waiting.ensures.before h is)
 
@@ -30,6 +30,6 @@ returns-clause-before g c h is =
     let honest = c.learned.ensures.honest h in
     let opened = c.learned.ensures.was_open h is in
     g.met.R.Registry.through c.args.register.now c.still_waiting.new.register c.learned.new.register
-    (g.met.R.Registry.through c.args.register.now c.revocations.new.register c.still_waiting.new.register
+    (g.met.R.Registry.through c.args.register.now c.revocations.new.self c.still_waiting.new.register
     (c.revocations.ensures.before (c.still_waiting.ensures.honest honest) (c.still_waiting.ensures.was_open honest opened))
     (c.still_waiting.ensures.before honest opened)) (c.learned.ensures.before h is)

@@ -18,7 +18,7 @@ returns-clause-only g c honest =
 
 pub returns-in_err-room-clause-before : goal.returns-in_err-room-clause-before
 returns-in_err-room-clause-before g c honest is =
-    always_err c.from_residual-in_err-room.result _ (λ e differs. g.met.R.Registry.unasked c.args.registry.now)
+    always_err c.from_residual.result _ (λ e differs. g.met.R.Registry.unasked c.args.registry.now)
 
 pub returns-clause-before : goal.returns-clause-before
 returns-clause-before g c honest is =

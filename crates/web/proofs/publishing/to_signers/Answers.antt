@@ -9,10 +9,10 @@ returns-clause-only g c h = memory_only c.signers_response.result _ c.signers_re
 
 pub returns-in_err-cas-clause-before : goal.returns-in_err-cas-clause-before
 returns-in_err-cas-clause-before g c h is =
-    g.met.R.Registry.through c.args.registry.now c.departments.new.registry c.cas.new.registry
+    g.met.R.Registry.through c.args.registry.now c.departments.new.self c.cas.new.self
     (c.departments.ensures.before (c.cas.ensures.honest h) (c.cas.ensures.was_open h is)) (c.cas.ensures.before h is)
 
 pub returns-clause-before : goal.returns-clause-before
 returns-clause-before g c h is =
-    g.met.R.Registry.through c.args.registry.now c.departments.new.registry c.cas.new.registry
+    g.met.R.Registry.through c.args.registry.now c.departments.new.self c.cas.new.self
     (c.departments.ensures.before (c.cas.ensures.honest h) (c.cas.ensures.was_open h is)) (c.cas.ensures.before h is)
