@@ -13,7 +13,7 @@ import subprocess
 import pytest
 
 from blocks import lines_of, printed_after, transcript
-from running import TOP, free_port, run
+from running import TOP, fingerprint, free_port, run
 
 pytestmark = [pytest.mark.slow, pytest.mark.front, pytest.mark.xdist_group("operating")]
 
@@ -116,8 +116,7 @@ def test_a_command_prints_its_line(commands, line):
 
 
 def test_the_fingerprint_of_the_ca_is_ssh_keygens(commands):
-    shown = run(["ssh-keygen", "-l", "-f", commands.folder / "ca.pub"], check=True).stdout.decode().split()[1]
-    assert f"ca {shown}" in commands.lines()
+    assert f"ca {fingerprint(commands.folder / 'ca.pub')}" in commands.lines()
 
 
 def test_one_login_is_granted_and_the_refusal_is_the_lists(commands):

@@ -37,14 +37,14 @@ class Job:
         try:
             with waiting("waiting for the office's answer") as tell:
                 reply = trying(lambda: self.office.post(kept), self.ends, tell)
+            if not is_reply(reply):
+                raise NoAnswer(f"what came is no answer that an office gives: {' '.join(reply)[:200]}")
         except Refused as refused:
             if refused.number:
                 kept.drop()
             raise
         except NoAnswer as fault:
             raise NoAnswer(f"{fault}\n  the message is kept: run this again, or vethlumi outbox --send") from None
-        if not is_reply(reply):
-            raise NoAnswer(f"what came is no answer that an office gives: {' '.join(reply)[:200]}")
         return kept, reply
 
     def policy(self):
@@ -86,6 +86,8 @@ class Group(click.Group):
             status, why = BAD_WORDS, "a file isn't text"
         except BrokenPipeError:
             raise
+        except KeyboardInterrupt:
+            status, why = NO_ANSWER, "interrupted; a message that was sent is kept: run this again"
         except OSError as fault:
             status, why = BAD_WORDS, f"{fault.filename or 'output'}: {fault.strerror}"
         say(why)

@@ -45,8 +45,7 @@ def status(job, as_json):
 @pass_job
 def list_(job, out, check, as_json):
     """Show the key revocation list (KRL), or fetch it."""
-    data = job.office.list_bytes()
-    found = formats.RevocationList.of(data)
+    data, found = job.office.krl()
     if check:
         is_revoked = found.revokes(Certificate.of_line(read_text(check)))
         print_json({"revoked": is_revoked}) if as_json else click.echo("revoked" if is_revoked else "clear")
@@ -68,7 +67,7 @@ def list_(job, out, check, as_json):
 @pass_job
 def signers(job):
     """Print the allowed signers file for ssh-keygen -Y verify."""
-    click.echo(job.office.text("/v1/signers"), nl=False)
+    click.echo(job.office.page("/v1/signers", bytes.decode), nl=False)
 
 
 @main.command("figures")

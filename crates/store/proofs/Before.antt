@@ -21,6 +21,13 @@ fails_before a b (inr back) = record {
 pub same_before : (a : State) → IsAsBefore a a
 same_before a = record { was_open = λ still. still; rest = λ still rests. rests; same = λ still rests. refl }
 
+pub through_before : (a b c : State) → IsAsBefore a b → IsAsBefore b c → IsAsBefore a c
+through_before a b c x y = record {
+  was_open = λ still. x.was_open (y.was_open still);
+  rest = λ still rests. y.rest still (x.rest (y.was_open still) rests);
+  same = λ still rests. y.same still (x.rest (y.was_open still) rests) ∙ x.same (y.was_open still) rests;
+}
+
 pub reads_before : {X : Type 0} (a b : State) (r : Result X Fault) → OnlyReads a b r → IsAsBefore a b
 reads_before a b (Ok x) same = fails_before a b (inl same)
 reads_before a b (Err f) fails = fails_before a b fails.0

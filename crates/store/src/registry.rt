@@ -7,6 +7,7 @@ ghost use Rattle.office.specs.declared.arrival.Arrival.{Arrival};
 ghost use Rattle.store.specs.Transactions.{IsAsBefore};
 ghost use Rattle.store.specs.Meaning.{HasFailed, Tells};
 ghost use Rattle.store.specs.Arriving.{IsStopped};
+ghost use Rattle.store.proofs.Before.{same_before, through_before};
 
 use crate::listing::{read_batch, read_revocations};
 use crate::publishing::read_revoked;
@@ -66,6 +67,10 @@ impl<S: Alter> Registry for Store<S> {
     fn certificates(&mut self, alloc: Global, place: u64) -> Result<Vec<Certificate>, StoreFault> {
         told(read_batch(alloc, &mut self.conn, place))
     }
+
+    ghost unasked = { λ s. same_before (state S.Store s.conn) };
+
+    ghost through = { λ a b c. through_before (state S.Store a.conn) (state S.Store b.conn) (state S.Store c.conn) };
 
     ghost lawful = { λ s o l m. m.history.office };
 }
