@@ -3,12 +3,10 @@
 ghost use Rattle.std.specs.Prelude.{OnOk};
 ghost use Rattle.std.specs.Io.KnownBytes.{Appends};
 ghost use Rattle.server.specs.Names.{connection_line, no_memory_line};
-ghost use Rattle.wire.specs.Streams.{AppendsBeginning};
 
 use crate::connection_fault::Fault;
 use std::io;
 use std::io::Write;
-use wire::{FromWrite, write_all};
 
 /// Prints the fault of a connection, the connections being counted from 1.
 pub(crate) fn report<E: Write>(err: &mut E, connection: u64, fault: Fault) -> io::Result<()>
@@ -17,10 +15,9 @@ pub(crate) fn report<E: Write>(err: &mut E, connection: u64, fault: Fault) -> io
     writeln!(err, "sshoffice: connection {connection} {fault}")
 }
 
-/// Prints that there was no memory to serve anybody, or a beginning of that line where the output fails.
-pub(crate) fn report_no_memory<E: Write>(err: &mut E)
-    ensures { AppendsBeginning (E.contents err.old) (E.contents err.new) no_memory_line }
+/// Prints that there was no memory to serve anybody.
+pub(crate) fn report_no_memory<E: Write>(err: &mut E) -> io::Result<()>
+    ensures { OnOk result (Appends (E.contents err.old) (E.contents err.new) no_memory_line) }
 {
-    let mut sink = FromWrite::new(err);
-    let _ = write_all(&mut sink, b"sshoffice: NoMemory\n");
+    err.write_all(b"sshoffice: NoMemory\n")
 }

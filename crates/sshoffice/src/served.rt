@@ -7,8 +7,7 @@ ghost use Rattle.sqlite.specs.Held.{state};
 ghost use Rattle.store_sql.specs.Look.{is_office_table};
 ghost use Rattle.store_sql.specs.Honest.{Between, IsOutside, IsUnlimited, StaysClean, tables_of};
 ghost use Rattle.server.specs.Connections.{Extends};
-ghost use Rattle.server.specs.Names.{listening_line, no_memory_line};
-ghost use Rattle.wire.specs.Streams.{AppendsBeginning};
+ghost use Rattle.server.specs.Names.{listening_line};
 ghost use Rattle.store.specs.Meaning.{Tells};
 ghost use Rattle.sshoffice.specs.Jobs.{RefusesNone};
 ghost use Rattle.sshoffice.specs.Serving.{MeetsOver};
@@ -47,7 +46,6 @@ pub fn serve_over<R: AllocGlobal, S: Alter, L: Listener, N: Source, O: Write, E:
     ensures unmet { result.0 ≡ 1 → result.1 ≡ store.conn }
     ensures honest { StaysClean S.Store store.conn result.1 }
     ensures quiet { out.new ≡ out.old }
-    ensures told { result.0 ≡ 1 → AppendsBeginning (E.contents err.old) (E.contents err.new) no_memory_line }
 {
     let (status, office) = serve_keeping(rt, listener, store, nonces, connections, out, err);
     (status, office.into_connection())
