@@ -20,14 +20,12 @@ BUILT = {"program", "sshstation", "krl_tool", "bad_lines"}
 
 def pytest_addoption(parser):
     group = parser.getgroup("office")
-    group.addoption("--program", metavar="PATH", type=pathlib.Path, default=TOP / "crates/sshoffice/out/sshoffice",
-                    help="the sshoffice to test")
-    group.addoption("--krl-tool", metavar="PATH", type=pathlib.Path, default=TOP / "crates/krl_tool/out/krl_tool",
-                    help="the krl_tool to test")
-    group.addoption("--sshstation", metavar="PATH", type=pathlib.Path, default=TOP / "crates/sshstation/out/sshstation",
-                    help="the sshstation to test")
+    for option, name in (("--program", "sshoffice"), ("--krl-tool", "krl_tool"), ("--sshstation", "sshstation")):
+        group.addoption(option, metavar="PATH", type=pathlib.Path, default=TOP / f"crates/{name}/out/{name}",
+                        help=f"the {name} to test")
     group.addoption("--steps", type=int, default=1000, help="how many random exchanges test_registers asks (1000)")
-    group.addoption("--rounds", type=int, default=0, help="how many faults test_three_machines has happen (0: left out)")
+    group.addoption("--rounds", type=int, default=0,
+                    help="how many faults test_three_machines has happen (0: left out)")
     group.addoption("--judgements", type=int, default=100_000,
                     help="how many random bodies test_guard has judged (100000)")
     group.addoption("--pieces", type=int, default=1000, help="how many random requests test_pieces sends (1000)")

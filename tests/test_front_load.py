@@ -13,8 +13,8 @@ import time
 
 import pytest
 
-from recording import Recorder, getting, posting, rest, staying, statuses
-from running import EXAMPLES, run, until
+from recording import Recorder, getting, posting, staying, statuses
+from running import EXAMPLES, rest, run, until
 
 pytestmark = [pytest.mark.front, pytest.mark.xdist_group("front_load")]
 MESSAGE = "/v1/requests/k-1"
