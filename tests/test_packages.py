@@ -917,8 +917,8 @@ def test_an_upgrade_keeps_all_and_a_purge_keeps_databases_and_keys(base, package
     fleet = Fleet(tmp_path, base, packages)
     with contextlib.closing(fleet):
         solo, = fleet.add("solo")
-        for name in NAMES:
-            shutil.copy(of(packages, name, OLDER), solo.files / "root")
+        for it in packages.glob("*.deb"):
+            shutil.copy(it, solo.files / "root")
         said = solo.run(SET_UP.format(debs=f"./*_{OLDER}_*.deb"), timeout=400).stdout
         assert CLASHES == re.findall(r"port \d+ is taken by .*?\(process", said)
         assert "active" == solo.says("systemctl is-active nginx")
