@@ -187,7 +187,7 @@ def test_the_same_command_sends_what_got_no_answer(clients, front, served, stati
     ana = clients["ana"]
     os.kill(served.process.pid, signal.SIGSTOP)
     asking = ana.begin("request", "web/alice", alice, "--life", "1h")
-    [kept] = until(ana.kept)
+    [kept] = until(ana.kept, 60)
     time.sleep(1)
     asking.kill()
     asking.communicate()
@@ -253,7 +253,7 @@ def test_an_interrupt_keeps_the_message(clients, served, alice):
     ana = clients["ana"]
     os.kill(served.process.pid, signal.SIGSTOP)
     asking = ana.begin("revoke", "web/alice", "--yes")
-    [kept] = until(ana.kept)
+    [kept] = until(ana.kept, 60)
     time.sleep(0.5)
     asking.send_signal(signal.SIGINT)
     out, told = asking.communicate(timeout=20)
