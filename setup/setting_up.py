@@ -30,6 +30,10 @@ class Fault(Exception):
     """Why a set-up can't go on."""
 
 
+class BadWords(Fault):
+    """Why the arguments are none."""
+
+
 # ---- bundles
 
 def bundle(**parts):
@@ -104,8 +108,8 @@ def cas_of(parts, named, known=()):
 
 # ---- questions and steps
 
-def answer(question, given, default=None):
-    """What was given, or what the person at the terminal answers. Without a terminal the default counts."""
+def answer(question, given, default=None, option="--help"):
+    """What an option gave, or what the person at the terminal answers. Without a terminal the default counts."""
     if given:
         return given
     if sys.stdin.isatty():
@@ -115,7 +119,7 @@ def answer(question, given, default=None):
             return told or default
     elif default:
         return default
-    raise Fault(f"{question}? Nobody answered; --help shows the option for it")
+    raise BadWords(f"{question}? Nobody answers here: give {option}")
 
 
 def run(words, shown=None, **how):
@@ -123,7 +127,7 @@ def run(words, shown=None, **how):
     done = subprocess.run([str(it) for it in words], text=True, errors="replace",
                           **({"stdin": subprocess.DEVNULL, "capture_output": True} | how))
     if done.returncode:
-        said = f"{done.stdout or ''}{done.stderr or ''}".strip()[-600:] or f"with status {done.returncode}"
+        said = f"{done.stdout or ''}{done.stderr or ''}".strip()[-600:] or f"status {done.returncode}"
         raise Fault(f"{shown or ' '.join(map(str, words))} failed: {said}")
     return done.stdout
 
@@ -197,7 +201,7 @@ class Steps:
             tell(f"  {what}")
         if not self.given.yes:
             if not sys.stdin.isatty():
-                raise Fault("nobody can be asked here: give --yes")
+                raise BadWords("nobody can be asked here: give --yes")
             if input("Go on? [y/N] ").strip().lower() not in ("y", "yes"):
                 raise Fault("nothing was done")
         for what, do in self.steps:
@@ -262,7 +266,7 @@ def main(program, doc, options, do, is_for_root=True, passes_on=False):
         do(given, Steps(given, program))
     except (Fault, EOFError, KeyboardInterrupt) as fault:
         tell(f"{program}: {fault or 'given up'}")
-        return 1
+        return 2 if isinstance(fault, BadWords) else 1
     except (OSError, UnicodeError) as fault:
         tell(f"{program}: {fault}")
         return 1

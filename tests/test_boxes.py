@@ -492,7 +492,8 @@ def test_drill_a_lost_ca(whole_site):
     assert ["refused", "granted"] == of(printed, "granted", "refused")
 
 
-def test_drill_a_taken_front(whole_site):
+def test_drill_a_taken_front_and_then_a_lost_ca(whole_site):
+    """The front may have had the station sign what is in no table, so a lost CA may follow."""
     printed = drill(whole_site, "A taken front")
     assert ["granted", "amiss", "refused", "granted"] == of(printed, "granted", "refused", "amiss")
     assert "other|eve|*e" in printed and "web|ana|alice" in printed
@@ -502,11 +503,6 @@ def test_drill_a_taken_front(whole_site):
     key = whole_site.boxes["station"].says("ssh-keygen -l -f first.pub").split()[1]
     assert [key] == [it.split()[1] for it in whole_site.boxes["server"].says(f"ssh-keygen -l -f {CAS}").splitlines()]
     assert any(it.startswith("front: the certificate is another authority's") for it in printed)
-
-
-def test_a_lost_ca_follows_a_taken_front(whole_site):
-    """The front may have had the station sign what is in no table."""
-    drill(whole_site, "A taken front")
     printed = drill(whole_site, "A lost CA")
     assert ["refused", "granted"] == of(printed, "granted", "refused")
 

@@ -110,7 +110,8 @@ def test_lintian_finds_nothing(packages):
     """What is overridden has a reason beside it."""
     if not shutil.which("lintian"):
         left_out("lintian isn't installed")
-    found = run(["lintian", "--allow-root", "--fail-on", "error,warning", *[of(packages, it) for it in NAMES]])
+    words = ["lintian", "--allow-root", "--fail-on", "error,warning"]
+    found = run([*words, *[of(packages, it) for it in NAMES]], timeout=500)
     assert (0, "") == (found.returncode, found.stdout.decode())
     for name in NAMES:
         lines = (TOP / f"debian/{name}.lintian-overrides").read_text().splitlines()
@@ -412,7 +413,7 @@ def test_a_set_up_asks_or_wants_yes(room):
     steps = common.Steps(argparse.Namespace(yes=False), "set-up")
     steps.file(room / "file", "one\n")
     done = run(["/usr/bin/python3", "-B", "-c", SET_UP_ALONE, TOP / "setup", room / "file"])
-    assert (1, False) == (done.returncode, (room / "file").exists())
+    assert (2, False) == (done.returncode, (room / "file").exists())
     assert b"write" in done.stderr and b"give --yes" in done.stderr
 
 
@@ -438,8 +439,8 @@ def test_what_nobody_gave_is_asked_at_a_terminal(monkeypatch):
                                        common.answer("Whom", None))
     monkeypatch.setattr(common.sys.stdin, "isatty", lambda: False)
     assert "ana" == common.answer("Who", None, "ana")
-    with pytest.raises(common.Fault, match="Nobody answered; --help shows the option for it"):
-        common.answer("Whom", None)
+    with pytest.raises(common.Fault, match="Whom[?] Nobody answers here: give --whom"):
+        common.answer("Whom", None, option="--whom")
 
 
 SET_UP_ALONE = """
@@ -470,6 +471,7 @@ for form, text in json.loads((room / "answers").read_text()).items():
 sys.exit("nothing is known of " + " ".join(words))
 """
 ANSWERS = {
+    r".* test -e \S+ && echo yes \|\| true": "yes\n",
     ".* dpkg .*": "amd64\n", ".* (env DEBIAN_FRONTEND=noninteractive apt-get install|rm -f) .*": "",
     ".*-setup .*|--hosts .*": "", r".*\.deb \S+@\S+:": "", ".*/first.office": "[ca]\nthe line\n",
     ".*/cas.pub": f"{CA} first\n", r".*/(\S+)\.bundle": "[office]\nhttps://office:8443\n",
@@ -521,7 +523,7 @@ def test_what_is_there_is_not_installed_again(installing):
     there = {".* dpkg .*": "amd64\ninstalled vethlumi-office 1.0.0\ninstalled vethlumi-front 0.9.0\n"
                            "config-files vethlumi-station 1.0.0\n"}
     status, told, said = installing("office", "o", "--station", "s", "--yes", **there)
-    assert (0, ("vethlumi-front_1.0.0_all.deb", "root@o:")) == (status, said[1]), told
+    assert (0, ("vethlumi-front_1.0.0_all.deb", "root@o:")) == (status, said[2]), told
     _, _, said = installing("station", "o", "--yes", **there)
     assert ("vethlumi-station_1.0.0_amd64.deb", "root@o:") == said[1]
     # Packages that came from elsewhere need no files.
@@ -548,20 +550,37 @@ def test_what_machines_make_is_carried_to_others(installing):
             ("root@s", "cat", "/etc/vethlumi/station/cas.pub"),
             ("root@o", "cat", "/var/lib/vethlumi-authority/web.example.org.bundle"),
             ("bob@web.example.org", "sudo", "-n", "vethlumi-server-setup", "--yes", "--ca", fingerprint, "-",
-             f"{CA} first\n[office]\nhttps://office:8443\n")] == said[4:]
+             f"{CA} first\n[office]\nhttps://office:8443\n")] == said[6:]
     assert re.fullmatch(FINGERPRINT, fingerprint)
     status, told, said = installing(*CLIENT, "--hosts", "*.org", "--yes")
     assert 0 == status, told
     assert ("--hosts", "*.org", "--yes", "--ca", fingerprint, "-",
             f"{CA} first\n[office]\nhttps://office:8443\n") == said[-1]
-    assert (1, []) == installing(*CLIENT)[::2], "nobody can be asked"
+    status, told, said = installing(*CLIENT)
+    assert (2, True) == (status, "nobody can be asked here" in told)
+    assert [] == [it for it in said if "cat" in it]
+
+
+@pytest.mark.parametrize("words, why", [
+    (["station"], "station needs MACHINE"), (["client", "c"], "no MACHINE here: c"), ([], "arguments are required"),
+    (["stations", "s"], "invalid choice"), (["station", "a b"], "no machine"), (["station", "ana;x@s"], "no machine"),
+    (["station", "s/t"], "no machine"), ([*CLIENT, "--office=-oProxyCommand=x"], "no machine"),
+    (["office", "o"], "give --station too"), (["server", "s", "--station", "s"], "give --office too"),
+])
+def test_bad_words_install_nothing(installing, words, why):
+    status, told, said = installing(*words)
+    assert (2, True, []) == (status, why in told, said), told
+
+
+NOT_THERE = r".* test -e \S+/{} && echo yes \|\| true"
 
 
 @pytest.mark.parametrize("words, answers, why", [
-    (["station"], {}, "station needs MACHINE"), (["client", "c"], {}, "no MACHINE here: c"),
-    (["office", "o"], {}, "give --station too"), (["server", "s", "--station", "s"], {}, "give --office too"),
-    (["station", "a b"], {}, "no machine"), (["station", "ana;x@s"], {}, "no machine"),
-    (["station", "s/t"], {}, "no machine"), ([*CLIENT, "--office=-oProxyCommand=x"], {}, "no machine"),
+    # A machine that isn't set up yet.
+    (["office", "o", "--station", "s", "--yes"], {NOT_THERE.format("first.office"): ""},
+     "s has no /etc/vethlumi/station/first.office: first type vethlumi-install station s"),
+    (["server", "c", *CLIENT[1:], "--yes"], {NOT_THERE.format("station.bundle"): ""},
+     "first type vethlumi-install office o"),
     # A station's machine that gives something else, or an office's that brings a CA of its own.
     ([*CLIENT, "--yes"], {".*/cas.pub": ""}, "something else than CAs' public keys"),
     ([*CLIENT, "--yes"], {".*/cas.pub": f"{CA}\n[office]\n"}, "something else"),
@@ -696,13 +715,19 @@ def recording():
 def test_the_recording_has_the_commands_of_the_page():
     shown = re.findall(r"^root@client# (.*)$", PAGE.read_text(), re.M)
     assert [it for _, it in typed(PAGE.read_text())] == shown
-    assert 20 <= len(shown) + len(recording()) <= 40
+    assert 20 <= len(shown) + len(recording()) <= 25
 
 
 def is_as_shown(shown, printed):
     """Whether these lines were printed in this order, but for what is of each CA alone."""
     lines = (re.sub(FINGERPRINT, "SHA256:..", it) for it in printed)
     return all(re.sub(FINGERPRINT, "SHA256:..", it) in lines for it in shown)
+
+
+# The private keys that each machine then has, but for those of SSH itself, and for those of the office.
+PRIVATE = {"station": ["/etc/vethlumi/station/first.key", "/etc/vethlumi/station/station.pem"],
+           "server": ["/etc/vethlumi/host.pem"], "client": ["/root/.config/vethlumi/admin.pem", "/root/alice"]}
+FIND_KEYS = "grep -rlE '^-----BEGIN .*PRIVATE KEY' /etc/vethlumi /home /root /srv /tmp /var --exclude-dir=.ssh || true"
 
 
 def install(room, base, packages, kept):
@@ -719,6 +744,8 @@ def install(room, base, packages, kept):
         assert ("granted", "refused", 1) == (seen[0], seen[-1], seen.count("refused")), "\n".join(printed)
         assert is_as_shown(recording(), printed), "\n".join(printed)
         assert 600 > seconds
+        found = {name: sorted(fleet.boxes[name].says(f"{FIND_KEYS} 2>/dev/null").split()) for name in PRIVATE}
+        assert PRIVATE == found, "no machine has a key that it doesn't need"
         print(f"figure: from made packages and booted boxes to a refused login in {seconds:.0f} s")
         fleet.end_shells()
         fleet.keep(kept)
