@@ -1,20 +1,19 @@
 use Rattle.std.proofs.Common.{◌∙◌, ap}
 use Rattle.office.specs.History.{state}
 use Rattle.waiting.specs.Knowing.{still_waiting}
-use Rattle.waiting.proofs.Asked.{again, all_known, then_so}
+use Rattle.waiting.proofs.Asked.{again, all_known}
 use Rattle.waiting.proofs.asking.asked.Goals as goal
 
 pub returns-clause-row : goal.returns-clause-row
-returns-clause-row g c h =
+returns-clause-row g c h o l m known kept =
     let second = c.learned.ensures.honest h in
     let first = c.still_waiting.ensures.honest second in
     let r = c.in_ok-revocations.revocations in
-    then_so c.learned.result (g.R.Registry.means c.args.register.now) (g.R.Registry.means c.still_waiting.new.register) _ _
-    (λ o l m. c.still_waiting.ensures.same second o l (c.revocations.ensures.same first o l m))
-    (λ o l all m said known.
-    let are = c.in_ok-revocations.ensures.row first o l m in
-    let kept = c.in_ok-rows.ensures.row second o l (c.revocations.ensures.same first o l m) are in
-    let rest = said known.within (kept ∙ ap (still_waiting (state o l)) c.as_slice.ensures.value
+    let all = c.in_ok-known.known in
+    let are = c.in_ok-revocations.ensures.row first o l m kept in
+    let meant = c.revocations_by.ensures.same first o l m in
+    let rows = c.in_ok-rows.ensures.row second o l meant are in
+    let rest = c.in_ok-known.ensures.row h o l (c.still_waiting.ensures.same second o l meant) known.within
+    (rows ∙ ap (still_waiting (state o l)) c.as_slice.ensures.value
     ∙ again o l r c.args.known.seen c.args.known.rows.items are known) in
-    all_known r (state o l) all.seen all.rows.items are rest.0 rest.1)
-    (c.learned.ensures.row h)
+    let found = all_known r (state o l) all.seen all.rows.items are rest.0 rest.1 in (found.0, found.1, are)
