@@ -20,6 +20,10 @@ def pytest_addoption(parser):
                     help="the sshoffice to test")
     group.addoption("--krl-tool", metavar="PATH", type=pathlib.Path, default=TOP / "crates/krl_tool/out/krl_tool",
                     help="the krl_tool to test")
+    group.addoption("--trial", metavar="PATH", type=pathlib.Path, default=TOP / "crates/trial/out/trial",
+                    help="the trial to test")
+    group.addoption("--heads-tool", metavar="PATH", type=pathlib.Path, default=TOP / "crates/heads_tool/out/heads_tool",
+                    help="the heads_tool to test")
     group.addoption("--sshstation", metavar="PATH", type=pathlib.Path, default=TOP / "crates/sshstation/out/sshstation",
                     help="the sshstation to test")
     group.addoption("--steps", type=int, default=1000, help="how many random exchanges test_registers asks (1000)")
@@ -27,6 +31,7 @@ def pytest_addoption(parser):
     group.addoption("--judgements", type=int, default=100_000,
                     help="how many random bodies test_guard has judged (100000)")
     group.addoption("--pieces", type=int, default=1000, help="how many random requests test_pieces sends (1000)")
+    group.addoption("--heads", type=int, default=100_000, help="how many changed heads test_heads compares (100000)")
     group.addoption("--counts", action="store_true", help="end with the lines of counts that ./check reads")
 
 
@@ -92,6 +97,16 @@ def program(request):
 @pytest.fixture(scope="session")
 def krl_tool(request):
     return built(request.config.getoption("--krl-tool"))
+
+
+@pytest.fixture(scope="session")
+def trial(request):
+    return built(request.config.getoption("--trial"))
+
+
+@pytest.fixture(scope="session")
+def heads_tool(request):
+    return built(request.config.getoption("--heads-tool"))
 
 
 @pytest.fixture(scope="session")
