@@ -10,14 +10,15 @@ import pytest
 from running import EXAMPLES, ROWS, TOP, run
 
 NAMES = sorted(path.stem for path in ROWS.glob("*.exchange") if not path.with_suffix(".office").exists())
-RECORD = (EXAMPLES / "first-issue.exchange").read_bytes()
+# Two records.
+RECORDS = (EXAMPLES / "first-issue.exchange").read_bytes()
 
 # What a file holds, and the fault that is told of it. A fault of a file prints nothing else.
 FAULTS = [
     (b"exchange\n", "BadExchange 1"),
-    (RECORD + b"\n", "BadExchange 2"),
-    (RECORD[:-1], "BadExchange 1"),
-    (b"exchange 1 " + b"3" * 64 + b" 0\n" * 1, None),
+    (RECORDS + b"\n", "BadExchange 3"),
+    (RECORDS[:-1], "BadExchange 2"),
+    (b"exchange 1 " + b"3" * 64 + b" 0\n", None),
     ((b"exchange 1 " + b"3" * 64 + b" 0\n") * 10_001, "BadExchange 10001"),
     (b"", None),
 ]
