@@ -118,13 +118,13 @@ def answer(question, given, default=None):
     raise Fault(f"{question}? Nobody answered; --help shows the option for it")
 
 
-def run(words, **how):
-    """Runs a program; what it prints is part of the fault if it fails."""
-    done = subprocess.run([str(it) for it in words], capture_output=True, text=True, errors="replace",
-                          **({"stdin": subprocess.DEVNULL} | how))
+def run(words, shown=None, **how):
+    """Runs a program; what it prints is part of the fault if it fails. `shown` are the words that the fault names."""
+    done = subprocess.run([str(it) for it in words], text=True, errors="replace",
+                          **({"stdin": subprocess.DEVNULL, "capture_output": True} | how))
     if done.returncode:
-        said = (done.stdout + done.stderr).strip()[-600:]
-        raise Fault(f"{' '.join(map(str, words))} failed: {said or done.returncode}")
+        said = f"{done.stdout or ''}{done.stderr or ''}".strip()[-600:] or f"with status {done.returncode}"
+        raise Fault(f"{shown or ' '.join(map(str, words))} failed: {said}")
     return done.stdout
 
 
@@ -245,15 +245,17 @@ def tell(text):
     print(text, file=sys.stderr, flush=True)
 
 
-def main(program, doc, options, do, is_for_root=True):
+def main(program, doc, options, do, is_for_root=True, passes_on=False):
     """Reads the words of a set-up command, and does it. It ends with 0 if all is done, with 1 if not, and with 2 for
-    bad arguments."""
+    bad arguments. Options that it doesn't know are for another command, if it passes them on."""
     usage, _, description = doc.strip().partition("\n\n")
     parser = argparse.ArgumentParser(prog=program, usage=usage.removeprefix("usage: "), description=description,
-                                     formatter_class=argparse.RawDescriptionHelpFormatter)
+                                     formatter_class=argparse.RawDescriptionHelpFormatter, allow_abbrev=not passes_on)
     options(parser)
-    parser.add_argument("--yes", action="store_true", help="don't ask before the steps are done")
-    given = parser.parse_args()
+    parser.add_argument("--yes", action="store_true", help="don't ask for confirmation")
+    given, given.further = parser.parse_known_args()
+    if given.further and not passes_on:
+        parser.error(f"unrecognized arguments: {' '.join(given.further)}")
     try:
         if is_for_root and os.getuid():
             raise Fault("only root may do this")

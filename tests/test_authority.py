@@ -19,7 +19,7 @@ from running import EXAMPLES, run
 AUTHORITY = EXAMPLES / "front/authority"
 # Run by this interpreter: another python3 on the PATH may take longer to begin than the script's own work.
 RUN = [sys.executable, AUTHORITY]
-REFUSED = "front: the certificate is another authority's, has ended or was taken back\n"
+REFUSED = "front: the certificate is another authority's, has expired or was revoked\n"
 
 
 def authority(*words, **how):
