@@ -115,6 +115,10 @@ class List:
     cas: dict
     ids: list
 
+    def size(self):
+        """The number of sections, and of the serials and key ids in each."""
+        return sum(1 + sum(hi - lo + 1 for lo, hi in runs) + len(self.ids) for runs in self.cas.values())
+
     def forgets_nothing_of(self, old):
         """Whether each pair of a CA and a serial, and of a CA and a key id, that the old list revokes is revoked."""
         return all(ca in self.cas and set(old.ids) <= set(self.ids)
@@ -153,13 +157,15 @@ def refusal(content, cas, begins, last):
     if not set(new.cas) <= set(cas):
         return "OtherCa"
     if last is None:
-        return None if begins else "NotBegun"
+        return "NotBegun" if not begins else "VersionJumps" if new.version > new.size() else None
     old = read_list(last)
     if new.version < old.version:
         return "OlderVersion"
     if new.version == old.version:
         return None if content == last else "OtherBytes"
-    return None if new.forgets_nothing_of(old) else "Forgets"
+    if not new.forgets_nothing_of(old):
+        return "Forgets"
+    return "VersionJumps" if new.version - old.version > new.size() - old.size() else None
 
 
 def answer(content, cas, begins, last, moment):

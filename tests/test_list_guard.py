@@ -18,7 +18,7 @@ import pytest
 import plain_lists
 from asking import key_line
 from running import run
-from test_lists import ALICE, BOB, LAST, grown, header, published, section, single
+from test_lists import ALICE, BOB, LAST, grown, header, key_ids, published, ranged, section, single
 
 ONE = ((0x11, {1, 2, 5}),)
 MORE = ((0x11, {1, 2, 5, 9}),)
@@ -76,8 +76,11 @@ AFTER_ONE = [
     ("the same again", published(ONE, {ALICE}, 5), 5),
     ("the same, where a first list is said", published(ONE, {ALICE}, 5), 5),
     ("a serial more", published(MORE, {ALICE}, 6), 6),
-    ("the greatest version", published(MORE, {ALICE}, LAST), LAST),
     ("a CA more", published((*ONE, (0x12, {7})), {ALICE}, 6), 6),
+    ("a CA more, and as many versions as that is", published((*ONE, (0x12, {7})), {ALICE}, 8), 8),
+    ("2^63 serials, and as many versions as that is", header(2 ** 63 + 2) + section(0x11, ranged(1, 2 ** 63), key_ids(ALICE)),
+     2 ** 63 + 2),
+    ("every serial, and the greatest version", header(LAST) + section(0x11, ranged(0, LAST), key_ids(ALICE)), LAST),
     ("no list", b"list", "NotAList"),
     ("nothing", b"", "NotAList"),
     ("a byte more", published(MORE, {ALICE}, 6) + b"\0", "NotAList"),
@@ -90,6 +93,14 @@ AFTER_ONE = [
     ("a serial forgotten", published(((0x11, {1, 2}),), {ALICE}, 6), "Forgets"),
     ("a key id forgotten", published(MORE, {BOB}, 6), "Forgets"),
     ("its CA forgotten", published(((0x12, {1, 2, 5}),), {ALICE}, 6), "Forgets"),
+    ("a serial more, and two versions", published(MORE, {ALICE}, 7), "VersionJumps"),
+    ("the same, and one version", published(ONE, {ALICE}, 6), "VersionJumps"),
+    ("a CA more, and a version more than that is", published((*ONE, (0x12, {7})), {ALICE}, 9), "VersionJumps"),
+    ("the greatest version", published(MORE, {ALICE}, LAST), "VersionJumps"),
+    ("2^63 serials, and a version more than that is",
+     header(2 ** 63 + 3) + section(0x11, ranged(1, 2 ** 63), key_ids(ALICE)), "VersionJumps"),
+    ("the greatest version of an office", published(MORE, {ALICE}, 2 ** 63 - 1), "VersionJumps"),
+    ("one that forgets, and the greatest version", published((), set(), LAST), "Forgets"),
 ]
 
 
@@ -114,6 +125,22 @@ def test_a_first_list_is_taken_only_where_that_is_said(lists):
     assert "NotAList" == lists.judge(b"", "--begin")
     assert 5 == lists.judge(content, "--begin")
     assert content == lists.kept()
+
+
+@pytest.mark.rows
+@pytest.mark.parametrize(("what", "content", "wanted"), [
+    ("nothing yet", header(0), 0),
+    ("nothing, and a version", header(1), "VersionJumps"),
+    ("as many as its section and serials", published(ONE, set(), 4), 4),
+    ("one more than these", published(ONE, set(), 5), "VersionJumps"),
+    ("a key id in two sections", published((*ONE, (0x12, set())), {ALICE}, 7), 7),
+    ("one more than these", published((*ONE, (0x12, set())), {ALICE}, 8), "VersionJumps"),
+    ("the greatest", published(ONE, set(), LAST), "VersionJumps"),
+])
+def test_the_version_of_a_first_list(lists, what, content, wanted):
+    assert wanted == lists.judge(content, "--begin")
+    assert wanted == (plain_lists.refusal(content, [bytes([it]) * 32 for it in CAS], True, None)
+                      or plain_lists.read_list(content).version)
 
 
 @pytest.mark.rows
@@ -247,4 +274,5 @@ def test_random_histories_beside_plain_sets(lists, room, request):
         assert kept == lists.kept()
         name = "approved" if isinstance(answer, int) else answer
         counts[name] = counts.get(name, 0) + 1
-    assert {"approved", "NotAList", "OtherCa", "OlderVersion", "OtherBytes", "Forgets"} <= {*counts}, counts
+    wanted = {"approved", "NotAList", "OtherCa", "OlderVersion", "OtherBytes", "Forgets", "VersionJumps"}
+    assert wanted <= {*counts}, counts

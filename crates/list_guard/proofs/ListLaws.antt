@@ -1,6 +1,6 @@
 -- Lists that are approved one after the other.
 use Rattle.std.proofs.Common.{◌≡◌, ℕ, List, [], ◌∷◌, Option, None, Some, refl, sym, ap}
-use Rattle.std.proofs.Common.{subst, ◌∙◌, inl, inr, arith}
+use Rattle.std.proofs.Common.{subst, ◌∙◌, ◌≤◌, inl, inr, arith}
 use Rattle.std.specs.List.{AllByRecursion}
 use Rattle.krl.specs.Contents.{Contents, ForgetsNothing, IsPublished, Publishes, are_cas_among, list_of}
 use Rattle.krl.proofs.Booleans.{clash}
@@ -13,13 +13,16 @@ use Rattle.list_guard.specs.declared.refusal.Refusal.TheVariants.{
   OtherBytes,
   Forgets,
   NotBegun,
+  VersionJumps,
 }
 use Rattle.list_guard.specs.Machine.{State, Question, ComesAfter, IsApproved, IsLawful, IsNext, IsNotNext, IsOfCas}
 use Rattle.list_guard.specs.Machine.{IsRefused, with_last}
 use Rattle.list_guard.specs.declared.verdict.Verdict.{Verdict}
 use Rattle.list_guard.specs.declared.verdict.Verdict.TheVariants as verdict
 use Rattle.list_guard.specs.Judged.{Decided, DecidedAfter}
-use Rattle.list_guard.specs.History.{Approves, Call, Comes, ComesLater, Grow, IsLater, Lives, before, stated}
+use Rattle.list_guard.specs.History.{Approves, Call, Comes, ComesLater, Grow, IsAccountedFor, IsLater, Lives, before}
+use Rattle.list_guard.specs.History.{stated}
+use Rattle.list_guard.specs.Sizes.{list_size}
 
 -- ---- lists that grow
 
@@ -115,6 +118,31 @@ live [] s t h = (λ kept is. tt, tt)
 live (call ∷ calls) s t (u, comes, rest) =
     one_call s u call.asked call.told (stated calls) comes (live calls u t rest)
 
+-- ---- versions that are accounted for
+
+-- what is approved is accounted for, if what was kept is
+next_accounted : (o : Option (List ℕ)) (q : Question) (c : Contents)
+    → ((kept : List ℕ) → o ≡ Some kept → IsAccountedFor kept) → IsOfCas q c → IsNext o q c → IsAccountedFor q.list
+next_accounted None q c was of next x published =
+    subst (λ (y : Contents). y.head.version ≤ list_size (list_of y)) (one_list q.list c x of.published published) next.1
+next_accounted (Some kept) q c was of (d, comes) x published =
+    let before = was kept refl d comes.published in
+    let grown = comes.accounted in
+    let now : c.head.version ≤ list_size (list_of c) = omega arith in
+    subst (λ (y : Contents). y.head.version ≤ list_size (list_of y)) (one_list q.list c x of.published published) now
+
+pub accounted : (qs : List Question) (s : State) (lists : List (List ℕ)) (t : State) → Approves s qs lists t
+    → ((kept : List ℕ) → s.last ≡ Some kept → IsAccountedFor kept) → AllByRecursion IsAccountedFor lists
+accounted [] s lists t h was = subst (AllByRecursion IsAccountedFor) (sym h.0) tt
+accounted (q ∷ qs) s lists t (inl (others, (c, of, next), same, rest)) was =
+    let here = next_accounted s.last q c was of next in
+    subst (AllByRecursion IsAccountedFor) (sym same)
+    (here, accounted qs (with_last q.list) others t rest (λ kept is. subst IsAccountedFor (some_one q.list kept is) here))
+  where
+    some_one : (a b : List ℕ) → Some a ≡ Some b → a ≡ b
+    some_one a b is = cc
+accounted (q ∷ qs) s lists t (inr left) was = accounted qs s lists t left.1 was
+
 -- ---- one question
 
 -- a list comes after itself
@@ -124,6 +152,7 @@ after_itself list c published = record {
   version = omega arith;
   bytes = λ e. refl;
   kept_revoked = λ blob serial key_id is. is;
+  accounted = omega arith;
 }
 
 pub again : (s : State) (q : Question) → IsApproved s q → IsApproved (with_last q.list) q
@@ -132,8 +161,14 @@ again s q (c, of, next) = (c, of, (c, after_itself q.list c of.published))
 -- what comes after a list isn't refused after it
 not_after : (q : Question) (o : Option (List ℕ)) (c : Contents) → IsNext o q c
     → (IsNotNext OlderVersion o q c → ⊥) × (IsNotNext OtherBytes o q c → ⊥) × (IsNotNext Forgets o q c → ⊥)
-    × (IsNotNext NotBegun o q c → ⊥)
-not_after q None c next = (λ h. h, λ h. h, λ h. h, λ h. clash q.begins next h)
+    × (IsNotNext NotBegun o q c → ⊥) × (IsNotNext VersionJumps o q c → ⊥)
+not_after q None c next = (
+  λ h. h,
+  λ h. h,
+  λ h. h,
+  λ h. clash q.begins next.0 h,
+  λ h. let up = next.1 in let down = h.1 in omega arith,
+)
 not_after q (Some kept) c (d, comes) = (
   λ h.
       let same = ap (λ (x : Contents). x.head.version) (old h.0 h.1) in
@@ -145,6 +180,13 @@ not_after q (Some kept) c (d, comes) = (
       h.2.1 (comes.bytes (ap (λ (x : Contents). x.head.version) same ∙ sym h.2.0)),
   λ h. h.2.1 (subst (λ x. ForgetsNothing (list_of x) (list_of c)) (old h.0 h.1) comes.kept_revoked),
   λ h. h.2,
+  λ h.
+      let same = old h.0 h.1 in
+      let version = ap (λ (x : Contents). x.head.version) same in
+      let size = ap (λ (x : Contents). list_size (list_of x)) same in
+      let up = comes.accounted in
+      let down = h.2.2 in
+      omega arith,
 )
   where
     old : (x : Contents) → Publishes kept x → d ≡ x
@@ -163,6 +205,8 @@ not_refused s q Forgets (c, of, next) (x, is, h) =
     (not_after q s.last x (subst (IsNext s.last q) (one_list q.list c x of.published is.published) next)).2 h
 not_refused s q NotBegun (c, of, next) (x, is, h) =
     (not_after q s.last x (subst (IsNext s.last q) (one_list q.list c x of.published is.published) next)).3 h
+not_refused s q VersionJumps (c, of, next) (x, is, h) =
+    (not_after q s.last x (subst (IsNext s.last q) (one_list q.list c x of.published is.published) next)).4 h
 
 -- ---- verdicts
 
@@ -181,3 +225,5 @@ decided_after (verdict.Refuse OtherBytes) s q c kept d of is published h =
 decided_after (verdict.Refuse Forgets) s q c kept d of is published h =
     (c, of, subst (λ o. IsNotNext Forgets o q c) (sym is) (d, published, h))
 decided_after (verdict.Refuse NotBegun) s q c kept d of is published h = absurd h
+decided_after (verdict.Refuse VersionJumps) s q c kept d of is published h =
+    (c, of, subst (λ o. IsNotNext VersionJumps o q c) (sym is) (d, published, h))

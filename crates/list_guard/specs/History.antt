@@ -3,6 +3,7 @@ use Rattle.std.specs.Prelude.{◌≡◌, ◌≤◌, ◌⊎◌, ℕ, List, [], �
 use Rattle.std.specs.List.{AllByRecursion}
 use Rattle.krl.specs.Contents.{Contents, ForgetsNothing, Publishes, list_of}
 use Rattle.list_guard.specs.Machine.{State, Question, IsApproved, with_last}
+use Rattle.list_guard.specs.Sizes.{list_size}
 
 -- The questions approve these lists in this order, and leave this state.
 abbrev pub Approves : State → List Question → List (List ℕ) → State → Type 0
@@ -24,6 +25,10 @@ ComesLater a b = (c d : Contents) → Publishes a c → Publishes b d → IsLate
 abbrev pub Grow : List (List ℕ) → Type 0
 Grow [] = Unit {0}
 Grow (a ∷ lists) = AllByRecursion (ComesLater a) lists × Grow lists
+
+-- the version of a list is no higher than its size
+abbrev pub IsAccountedFor : List ℕ → Type 0
+IsAccountedFor list = (c : Contents) → Publishes list c → c.head.version ≤ list_size (list_of c)
 
 -- ---- calls that fail, and crashes
 

@@ -1,5 +1,6 @@
 pub mod Refusals
 pub mod State
+pub mod Sizes
 pub mod Machine
 pub mod History
 pub mod Judged

@@ -1,5 +1,5 @@
 -- The plain list guard: one question at a time.
-use Rattle.std.specs.Prelude.{◌≡◌, ◌≢◌, ◌<◌, ◌≤◌, ℕ, List, true, false, Option, Some, None}
+use Rattle.std.specs.Prelude.{◌≡◌, ◌≢◌, ◌<◌, ◌≤◌, ◌+◌, ℕ, List, true, false, Option, Some, None}
 use Rattle.krl.specs.Contents.{Contents, ForgetsNothing, IsPublished, Publishes, are_cas_among, list_of}
 use Rattle.list_guard.specs.declared.refusal.Refusal.{Refusal}
 use Rattle.list_guard.specs.declared.refusal.Refusal.TheVariants.{
@@ -9,8 +9,10 @@ use Rattle.list_guard.specs.declared.refusal.Refusal.TheVariants.{
   OtherBytes,
   Forgets,
   NotBegun,
+  VersionJumps,
 }
 pub use Rattle.list_guard.specs.State.{State, Question, opened, with_last, IsLawful}
+use Rattle.list_guard.specs.Sizes.{list_size}
 
 -- the bytes publish this, of the CAs that are permitted alone
 pub record IsOfCas (q : Question) (c : Contents) : Type 0 where
@@ -19,16 +21,18 @@ pub record IsOfCas (q : Question) (c : Contents) : Type 0 where
 
 -- ---- what is approved
 
--- a version that is no lower, the same bytes where it is the same, and nothing forgotten
+-- a version that is no lower, the same bytes if it is the same, nothing forgotten, and a version that grows by no more
+-- than the list does
 pub record ComesAfter (list : List ℕ) (c : Contents) (kept : List ℕ) (d : Contents) : Type 0 where
   pub published : Publishes kept d
   pub version : d.head.version ≤ c.head.version
   pub bytes : d.head.version ≡ c.head.version → list ≡ kept
   pub kept_revoked : ForgetsNothing (list_of d) (list_of c)
+  pub accounted : c.head.version + list_size (list_of d) ≤ d.head.version + list_size (list_of c)
 
--- a first list is taken only where the question says so; another comes after the one that was approved last
+-- a first list is taken only if the question says so; another comes after the one that was approved last
 abbrev pub IsNext : Option (List ℕ) → Question → Contents → Type 0
-IsNext None q c = q.begins ≡ true
+IsNext None q c = (q.begins ≡ true) × (c.head.version ≤ list_size (list_of c))
 IsNext (Some kept) q c = (d : Contents) × ComesAfter q.list c kept d
 
 abbrev pub IsApproved : State → Question → Type 0
@@ -42,11 +46,15 @@ IsRefusedAfter OlderVersion list c kept d = c.head.version < d.head.version
 IsRefusedAfter OtherBytes list c kept d = (c.head.version ≡ d.head.version) × (list ≢ kept)
 IsRefusedAfter Forgets list c kept d =
     (d.head.version < c.head.version) × (ForgetsNothing (list_of d) (list_of c) → ⊥)
+IsRefusedAfter VersionJumps list c kept d =
+    (d.head.version < c.head.version) × ForgetsNothing (list_of d) (list_of c)
+    × (d.head.version + list_size (list_of c) < c.head.version + list_size (list_of d))
 IsRefusedAfter _ list c kept d = ⊥
 
 -- why a list isn't the next one
 abbrev pub IsNotNext : Refusal → Option (List ℕ) → Question → Contents → Type 0
 IsNotNext NotBegun None q c = q.begins ≡ false
+IsNotNext VersionJumps None q c = (q.begins ≡ true) × (list_size (list_of c) < c.head.version)
 IsNotNext r None q c = ⊥
 IsNotNext r (Some kept) q c = (d : Contents) × Publishes kept d × IsRefusedAfter r q.list c kept d
 
@@ -58,3 +66,4 @@ IsRefused OlderVersion s q = (c : Contents) × IsOfCas q c × IsNotNext OlderVer
 IsRefused OtherBytes s q = (c : Contents) × IsOfCas q c × IsNotNext OtherBytes s.last q c
 IsRefused Forgets s q = (c : Contents) × IsOfCas q c × IsNotNext Forgets s.last q c
 IsRefused NotBegun s q = (c : Contents) × IsOfCas q c × IsNotNext NotBegun s.last q c
+IsRefused VersionJumps s q = (c : Contents) × IsOfCas q c × IsNotNext VersionJumps s.last q c

@@ -8,6 +8,7 @@ use Rattle.list_guard.specs.declared.refusal.Refusal.TheVariants.{
   OtherBytes,
   Forgets,
   NotBegun,
+  VersionJumps,
 }
 
 -- number and name
@@ -18,6 +19,7 @@ refusal_row OlderVersion = (42, codes "OlderVersion")
 refusal_row OtherBytes = (43, codes "OtherBytes")
 refusal_row Forgets = (44, codes "Forgets")
 refusal_row NotBegun = (45, codes "NotBegun")
+refusal_row VersionJumps = (46, codes "VersionJumps")
 
 abbrev pub refusal_number : Refusal → ℕ
 refusal_number r = (refusal_row r).0

@@ -1,17 +1,19 @@
 //! Lists judged, one after the other.
 
-ghost use Rattle.std.specs.Prelude.{◌≡◌, ◌≢◌, ◌⊎◌, IfErr, IfOk, IfSome, IsOk, IsSome, OnErr, OnOk, option_copied};
-ghost use Rattle.krl.specs.Contents.{Contents, Publishes};
-ghost use Rattle.list_guard.specs.Machine.{IsApproved, IsLawful, Question, State, with_last};
+ghost use Rattle.std.specs.Prelude.{◌≡◌, ◌≢◌, ◌⊎◌, ◌+◌, nat_lt, IfErr, IfOk, IfSome, IsOk, IsSome, None, OnErr, OnOk};
+ghost use Rattle.std.specs.Prelude.{option_copied};
+ghost use Rattle.krl.specs.Contents.{Contents, Publishes, list_of};
+ghost use Rattle.list_guard.specs.Machine.{IsApproved, IsLawful, IsOfCas, Question, State, with_last};
+ghost use Rattle.list_guard.specs.Sizes.{list_size};
 ghost use Rattle.list_guard.specs.Judged.{Answers, Decided, DecidedAfter, HasCause, IsShort, left_by};
 ghost use Rattle.list_guard.specs.Judged.{question, settled};
 
+use crate::counting::list_size;
 use crate::refusal::Refusal;
 use crate::register::{ListRegister, RegisterFault};
 use crate::verdict::Verdict;
 use krl::{PublishedList, forgets_nothing, read_published};
 use lines::body_digest;
-use std::alloc::Global;
 use text::Text;
 
 /// What is answered of a list.
@@ -27,10 +29,48 @@ pub enum Answer {
     Refuse(Refusal),
 }
 
-/// The verdict on a list that isn't the one that was approved last, but may come after it.
-fn verdict_after(new: &PublishedList<'_>, old: &PublishedList<'_>) -> Verdict
-    ensures { (c d : Contents) → Publishes new.now c → Publishes old.now d → new.now ≢ old.now
-        → DecidedAfter result new.now c old.now d }
+/// Whether the version of a list, from that of another one, grows by more than the list does.
+fn jumps(version: u64, list: &[u8], before: u64, kept: &[u8]) -> bool
+    ensures { (c d : Contents) → Publishes list.now c → Publishes kept.now d → version ≡ c.head.version
+        → before ≡ d.head.version
+        → result ≡ nat_lt (d.head.version + list_size (list_of c)) (c.head.version + list_size (list_of d)) }
+{
+    before as u128 + list_size(list) < version as u128 + list_size(kept)
+}
+
+/// Whether the version of a list is higher than its size.
+fn jumps_first(version: u64, list: &[u8]) -> bool
+    ensures { (c : Contents) → Publishes list.now c → version ≡ c.head.version
+        → result ≡ nat_lt (list_size (list_of c)) c.head.version }
+{
+    list_size(list) < version as u128
+}
+
+/// The verdict on a list where none was approved.
+fn first_verdict(new: &PublishedList<'_>, list: &[u8], begins: bool) -> Verdict
+    ensures { (c : Contents) (s : State) (q : Question) → Publishes new.now c → list.now ≡ new.now → s.last ≡ None
+        → q.begins ≡ begins → IsOfCas q c → Decided result s q }
+{
+    let version = new.head().version;
+    if !begins {
+        return Verdict::Refuse(Refusal::NotBegun);
+    }
+    if jumps_first(version, list) {
+        return Verdict::Refuse(Refusal::VersionJumps);
+    }
+    Verdict::Approve(version)
+}
+
+/// The verdict on a list that isn't the one that was approved last, but may come after it. Both are given with their
+/// bytes.
+fn verdict_after(
+    new: &PublishedList<'_>,
+    list: &[u8],
+    old: &PublishedList<'_>,
+    kept: &[u8],
+) -> Verdict
+    ensures { (c d : Contents) → Publishes new.now c → Publishes old.now d → list.now ≡ new.now → kept.now ≡ old.now
+        → new.now ≢ old.now → DecidedAfter result new.now c old.now d }
 {
     let version = new.head().version;
     let before = old.head().version;
@@ -42,6 +82,9 @@ fn verdict_after(new: &PublishedList<'_>, old: &PublishedList<'_>) -> Verdict
     }
     if !forgets_nothing(old, new) {
         return Verdict::Refuse(Refusal::Forgets);
+    }
+    if jumps(version, list, before, kept) {
+        return Verdict::Refuse(Refusal::VersionJumps);
     }
     Verdict::Approve(version)
 }
@@ -59,47 +102,45 @@ fn decide(kept: Option<&[u8]>, keys: &[[u8; 32]], begins: bool, list: &[u8]) -> 
         return Some(Verdict::Refuse(Refusal::OtherCa));
     }
     let Some(kept) = kept else {
-        return Some(if begins {
-            Verdict::Approve(new.head().version)
-        } else {
-            Verdict::Refuse(Refusal::NotBegun)
-        });
+        return Some(first_verdict(&new, list, begins));
     };
     let old = read_published(kept)?;
     if list == kept {
         return Some(Verdict::Again(new.head().version));
     }
-    Some(verdict_after(&new, &old))
+    Some(verdict_after(&new, list, &old, kept))
 }
 
 /// Keeps a list by this verdict.
 fn settle<R: ListRegister>(
-    alloc: Global,
     register: &mut R,
-    list: &[u8],
+    list: Text,
     verdict: Verdict,
 ) -> Result<(), RegisterFault>
     ensures honest { R.is_honest register.new → R.is_honest register.old }
-    ensures next { R.is_honest register.new → (s : State) → R.keeps register.old s → (q : Question) → q.list ≡ list.now
+    ensures next { R.is_honest register.new → (s : State) → R.keeps register.old s → (q : Question) → q.list ≡ list
         → Decided verdict s q → OnOk result (R.keeps register.new (settled verdict s q)) }
     ensures fault { R.is_honest register.new → (s : State) → R.keeps register.old s
         → OnErr result (R.keeps register.new s) }
     ensures durable { R.is_honest register.new → (s : State) → R.keeps register.old s → R.leaves register.old s s
-        → (q : Question) → q.list ≡ list.now → Decided verdict s q
+        → (q : Question) → q.list ≡ list → Decided verdict s q
         → OnOk result (R.leaves register.new (settled verdict s q) (settled verdict s q)) }
     ensures crash { R.is_honest register.new → (s : State) → R.keeps register.old s → R.leaves register.old s s
-        → (q : Question) → q.list ≡ list.now → Decided verdict s q → R.leaves register.new s (settled verdict s q) }
+        → (q : Question) → q.list ≡ list → Decided verdict s q → R.leaves register.new s (settled verdict s q) }
     ensures cause { R.is_honest register.new → (s : State) → R.keeps register.old s → (q : Question)
-        → q.list ≡ list.now → Decided verdict s q → IsLawful s → IsShort list.now
+        → q.list ≡ list → Decided verdict s q → IsLawful s → IsShort list
         → IfErr result (λ e. HasCause e (R.has_failed register.new)) }
 {
     match verdict {
-        Verdict::Approve(_) => {
-            let list = Text::from_slice(alloc, list)?;
-            register.keep(list)
+        Verdict::Approve(_) => register.keep(list),
+        Verdict::Again(_) => {
+            drop(list);
+            Ok(())
         }
-        Verdict::Again(_) => Ok(()),
-        Verdict::Refuse(_) => Ok(()),
+        Verdict::Refuse(_) => {
+            drop(list);
+            Ok(())
+        }
     }
 }
 
@@ -140,27 +181,27 @@ fn verdict_on<R: ListRegister>(
 }
 
 /// Judges a list: whether it is the next one of the CAs of these keys, after the one that was approved last. A first
-/// list is taken only where the question begins. What is approved is kept before it is answered.
+/// list is taken only if the question begins. What is approved is kept before it is answered, and the register takes its
+/// bytes: none is copied.
 ///
 /// # Errors
 ///
-/// Where the register fails or memory is refused, the register keeps what it kept before.
+/// If the register fails, it keeps what it kept before.
 pub fn judge_list<R: ListRegister>(
-    alloc: Global,
     register: &mut R,
     keys: &[[u8; 32]],
     begins: bool,
-    list: &[u8],
+    list: Text,
 ) -> Result<Answer, RegisterFault>
     ensures honest { R.is_honest register.new → R.is_honest register.old }
 
     // The answer is the plain guard's.
     ensures answered { R.is_honest register.new → (s : State) → R.keeps register.old s
-        → IfOk result (λ a. Answers a s (question keys.now begins list.now)) }
+        → IfOk result (λ a. Answers a s (question keys.now begins list)) }
 
     // Then the register keeps what the plain guard does.
     ensures next { R.is_honest register.new → (s : State) → R.keeps register.old s
-        → IfOk result (λ a. R.keeps register.new (left_by a s (question keys.now begins list.now))) }
+        → IfOk result (λ a. R.keeps register.new (left_by a s (question keys.now begins list))) }
 
     // After a fault it keeps what it kept.
     ensures fault { R.is_honest register.new → (s : State) → R.keeps register.old s
@@ -168,19 +209,20 @@ pub fn judge_list<R: ListRegister>(
 
     // What is approved outlives a crash.
     ensures durable { R.is_honest register.new → (s : State) → R.keeps register.old s → R.leaves register.old s s
-        → IfOk result (λ a. R.leaves register.new (left_by a s (question keys.now begins list.now))
-        (left_by a s (question keys.now begins list.now))) }
+        → IfOk result (λ a. R.leaves register.new (left_by a s (question keys.now begins list))
+        (left_by a s (question keys.now begins list))) }
 
     // A crash in the midst leaves what was kept, or the list if it is approved.
     ensures crash { R.is_honest register.new → (s : State) → R.keeps register.old s → R.leaves register.old s s
-        → R.leaves register.new s s ⊎ (IsApproved s (question keys.now begins list.now)
-        × R.leaves register.new s (with_last list.now)) }
+        → R.leaves register.new s s ⊎ (IsApproved s (question keys.now begins list)
+        × R.leaves register.new s (with_last list)) }
 
     // The register is said to have failed only if its database has, and to be damaged only if it is.
-    ensures cause { R.is_honest register.new → (s : State) → R.keeps register.old s → IsLawful s → IsShort list.now
+    ensures cause { R.is_honest register.new → (s : State) → R.keeps register.old s → IsLawful s → IsShort list
         → IfErr result (λ e. HasCause e (R.has_failed register.new)) }
 {
-    let verdict = verdict_on(register, keys, begins, list)?;
-    settle(alloc, register, list, verdict)?;
-    Ok(answer_of(list, verdict))
+    let verdict = verdict_on(register, keys, begins, list.as_slice())?;
+    let answer = answer_of(list.as_slice(), verdict);
+    settle(register, list, verdict)?;
+    Ok(answer)
 }

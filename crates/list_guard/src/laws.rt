@@ -3,7 +3,8 @@
 ghost use Rattle.std.specs.Prelude.{◌≡◌, List, ℕ};
 ghost use Rattle.list_guard.specs.declared.refusal.Refusal.{Refusal};
 ghost use Rattle.list_guard.specs.Machine.{IsApproved, IsLawful, IsRefused, Question, State, opened, with_last};
-ghost use Rattle.list_guard.specs.History.{Approves, Call, Grow, Lives, stated};
+ghost use Rattle.std.specs.List.{AllByRecursion};
+ghost use Rattle.list_guard.specs.History.{Approves, Call, Grow, IsAccountedFor, Lives, stated};
 
 /// Over any list of questions the lists that are approved only grow in what they revoke, no version goes back, and two
 /// lists of one version are equal, byte by byte.
@@ -15,6 +16,12 @@ pub fn approved_lists_only_grow()
 /// cut off by a crash.
 pub fn stated_lists_only_grow()
     ensures { (calls : List Call) (t : State) → Lives opened calls t → Grow (stated calls) }
+{}
+
+/// Over any list of questions no list is approved whose version is higher than its size.
+pub fn versions_are_accounted_for()
+    ensures { (qs : List Question) (lists : List (List ℕ)) (t : State) → Approves opened qs lists t
+        → AllByRecursion IsAccountedFor lists }
 {}
 
 /// What a guard keeps is a published list, whatever it was asked.

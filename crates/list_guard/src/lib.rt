@@ -1,10 +1,12 @@
 //! The guard of published lists: which list is the office's next one.
 //!
 //! A list guard keeps the list that it approved last, and approves no list after it that has a lower version, other bytes
-//! under the same version, or that doesn't revoke what that list revokes. The plain guard (`specs/`) says which refusal
+//! under the same version, that doesn't revoke what that list revokes, or whose version is higher than what it revokes in
+//! addition accounts for. The plain guard (`specs/`) says which refusal
 //! applies to a list; `judge_list` answers the same over what keeps the guard.
 #![tactic(auto)]
 
+mod counting;
 mod judging;
 mod laws;
 mod memory;
@@ -18,7 +20,7 @@ mod verdict;
 pub use judging::{Answer, judge_list};
 pub use laws::{
     a_published_list_is_kept, an_approved_list_is_stated_again, approved_lists_only_grow,
-    stated_lists_only_grow, what_is_approved_is_not_refused,
+    stated_lists_only_grow, versions_are_accounted_for, what_is_approved_is_not_refused,
 };
 pub use memory::MemoryListGuard;
 pub use refusal::Refusal;

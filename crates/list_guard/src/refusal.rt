@@ -18,6 +18,8 @@ pub enum Refusal {
     Forgets,
     /// No list was approved yet, and the question doesn't say that this is to be the first.
     NotBegun,
+    /// The version is higher than what the list revokes in addition accounts for.
+    VersionJumps,
 }
 
 /// What a refusal is called: its number and its name.
@@ -35,10 +37,11 @@ impl Refusal {
             Refusal::OtherBytes => Row(43, "OtherBytes"),
             Refusal::Forgets => Row(44, "Forgets"),
             Refusal::NotBegun => Row(45, "NotBegun"),
+            Refusal::VersionJumps => Row(46, "VersionJumps"),
         }
     }
 
-    /// The number, 40 to 45: the place in the order in which refusals are looked for.
+    /// The number, 40 to 46: the place in the order in which refusals are looked for.
     pub fn number(self) -> u8
         ensures { result ≡ refusal_number self }
     {

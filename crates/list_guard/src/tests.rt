@@ -6,6 +6,7 @@ ghost use Rattle.std.specs.Prelude.{◌<◌};
 
 use crate::{Answer, MemoryListGuard, Refusal, judge_list, put_answer};
 use std::alloc::Global;
+use text::Text;
 
 /// The list of version 1 that revokes the serial 1 of the CA of 32 bytes 0x11.
 const ONE: &[u8; 121] =
@@ -37,7 +38,10 @@ fn answer_to(
     begins: bool,
     list: &[u8],
 ) -> Option<Answer> {
-    let answer = judge_list(alloc, guard, &[[0x11; 32]], begins, list);
+    let Ok(list) = Text::from_slice(alloc, list) else {
+        return None;
+    };
+    let answer = judge_list(guard, &[[0x11; 32]], begins, list);
     answer.ok()
 }
 
@@ -83,8 +87,17 @@ fn lists_come_one_after_the_other(rt: HostRuntime) {
     assert_eq!(rt; refusal_of(other), Some(Refusal::OtherBytes));
     let forgetful = answer_to(rt.alloc(), &mut guard, true, THREE);
     assert_eq!(rt; refusal_of(forgetful), Some(Refusal::Forgets));
-    let next = answer_to(rt.alloc(), &mut guard, false, &one_but(VERSION, 2));
-    assert_eq!(rt; version_of(next), Some(2));
+    let jump = answer_to(rt.alloc(), &mut guard, false, &one_but(VERSION, 2));
+    assert_eq!(rt; refusal_of(jump), Some(Refusal::VersionJumps));
+}
+
+#[test]
+fn a_first_version_is_no_higher_than_the_size(rt: HostRuntime) {
+    let mut guard = MemoryListGuard::new();
+    let jump = answer_to(rt.alloc(), &mut guard, true, &one_but(VERSION, 3));
+    assert_eq!(rt; refusal_of(jump), Some(Refusal::VersionJumps));
+    let first = answer_to(rt.alloc(), &mut guard, true, &one_but(VERSION, 2));
+    assert_eq!(rt; version_of(first), Some(2));
     let back = answer_to(rt.alloc(), &mut guard, true, ONE);
     assert_eq!(rt; refusal_of(back), Some(Refusal::OlderVersion));
 }
@@ -96,7 +109,8 @@ fn other_bytes_and_other_cas_are_refused(rt: HostRuntime) {
     assert_eq!(rt; refusal_of(cut), Some(Refusal::NotAList));
     let flags = answer_to(rt.alloc(), &mut guard, true, &one_but(DATE + 8, 1));
     assert_eq!(rt; refusal_of(flags), Some(Refusal::NotAList));
-    let other = judge_list(rt.alloc(), &mut guard, &[[0x12; 32]], true, ONE);
+    let list = Text::from_slice(rt.alloc(), ONE).expect(&rt, "memory suffices");
+    let other = judge_list(&mut guard, &[[0x12; 32]], true, list);
     assert_eq!(rt; refusal_of(other.ok()), Some(Refusal::OtherCa));
 }
 
@@ -111,5 +125,5 @@ fn an_answer_is_a_line(rt: HostRuntime) {
     put_answer(&mut out, Answer::Refuse(Refusal::Forgets), 5000).expect(&rt, "memory suffices");
     assert!(rt; out.as_slice() == b"refuse Forgets\n".as_slice());
     assert_eq!(rt; Refusal::NotAList.number(), 40);
-    assert_eq!(rt; Refusal::NotBegun.number(), 45);
+    assert_eq!(rt; Refusal::VersionJumps.number(), 46);
 }

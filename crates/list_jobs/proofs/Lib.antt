@@ -1,1 +1,2 @@
 pub mod KeysRead
+pub mod Statings

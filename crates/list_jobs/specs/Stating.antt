@@ -1,45 +1,63 @@
 -- One list judged, and the line of the answer printed.
-use Rattle.std.specs.Prelude.{◌≡◌, ◌⊎◌, ℕ, List, Option, Result, Ok, Err, IfErr}
+use Rattle.std.specs.Prelude.{◌≡◌, ◌⊎◌, ℕ, List, Option, None, Some, Result, Ok, Err, IfErr}
 use Rattle.std.specs.Io.KnownBytes.{Appends}
 use Rattle.wire.specs.Streams.{AppendsBeginning}
 use Rattle.list_guard.specs.declared.judging.Answer.{Answer}
+use Rattle.list_guard.specs.declared.judging.Answer.TheVariants as answer
 use Rattle.list_guard.specs.declared.register.ListRegister as register
 use Rattle.list_guard.specs.declared.register.RegisterFault.{RegisterFault}
 use Rattle.list_guard.specs.declared.register.RegisterFault.TheVariants as list
-use Rattle.list_guard.specs.Judged.{Answers, left_by}
-use Rattle.list_guard.specs.Machine.{State, Question, IsApproved, with_last}
+use Rattle.list_guard.specs.Judged.{Answers, IsShort, left_by}
+use Rattle.list_guard.specs.Machine.{State, Question, IsApproved, IsLawful, with_last}
 use Rattle.list_guard.specs.Statements.{answer_line}
 use Rattle.station_jobs.specs.declared.surroundings.Surroundings as surroundings
 use Rattle.station_jobs.specs.declared.station_fault.StationFault.{StationFault}
 use Rattle.station_jobs.specs.declared.station_fault.StationFault.TheVariants as fault
+use Rattle.station_jobs.specs.Faults.{IsOfAnAnswer}
 
 -- how a text was printed: whole, or after a fault a beginning of it
 abbrev pub IsPrinted : List ℕ → (held holds : Option (List ℕ)) → Result (Unit {0}) StationFault → Type 0
 IsPrinted text held holds (Ok done) = Appends held holds text
 IsPrinted text held holds (Err e) = AppendsBeginning held holds text
 
--- it is a fault
-abbrev pub NotOk : Result (Unit {0}) StationFault → Type 0
-NotOk (Ok done) = ⊥
-NotOk (Err e) = Unit {0}
+-- the list that an answer states: the one that it approves, or none
+abbrev pub stated_by : Answer → Question → Option (List ℕ)
+stated_by (answer.Approve digest version) q = Some q.list
+stated_by (answer.Refuse r) q = None
 
--- It was answered as the plain guard answers, at a moment of the clock. What is kept then is what the plain guard keeps,
--- a crash leaves just that, and the line of the answer was printed.
-pub record Stated (s : State) (keeps : State → Type 0) (leaves : State → State → Type 0) (shows : ℕ → Type 0)
-    (q : Question) (held holds : Option (List ℕ)) (result : Result (Unit {0}) StationFault) : Type 0 where
+-- It was answered as the plain guard answers, at a moment of the clock. By what was stated this is left, and the line of
+-- the answer was printed.
+pub record Stated (s : State) (Left : Option (List ℕ) → State → Type 0) (shows : ℕ → Type 0) (q : Question)
+    (held holds : Option (List ℕ)) (result : Result (Unit {0}) StationFault) : Type 0 where
   pub answer : Answer
   pub moment : ℕ
   pub shown : shows moment
   pub answers : Answers answer s q
-  pub left : keeps (left_by answer s q)
-  pub durable : leaves (left_by answer s q) (left_by answer s q)
+  pub left : Left (stated_by answer q) (left_by answer s q)
   pub printed : IsPrinted (answer_line answer moment) held holds result
+  pub only : IfErr result IsOfAnAnswer
 
--- The question was answered so. Or it is a fault: the register keeps what it kept, and nothing is printed.
-abbrev pub StatesOne : State → (keeps : State → Type 0) → (leaves : State → State → Type 0) → (shows : ℕ → Type 0)
-    → Question → (held holds : Option (List ℕ)) → Result (Unit {0}) StationFault → Type 0
-StatesOne s keeps leaves shows q held holds result =
-    Stated s keeps leaves shows q held holds result ⊎ (NotOk result × keeps s × (holds ≡ held))
+-- The question was answered so. Or it is a fault, by which this is left, and nothing is printed.
+abbrev pub StatesOne : State → (Left : Option (List ℕ) → State → Type 0) → (Lost : StationFault → Type 0)
+    → (shows : ℕ → Type 0) → Question → (held holds : Option (List ℕ)) → Result (Unit {0}) StationFault → Type 0
+StatesOne s Left Lost shows q held holds result =
+    Stated s Left shows q held holds result
+    ⊎ ((e : StationFault) × (result ≡ Err e) × Lost e × (holds ≡ held))
+
+-- why a list isn't judged: the clock shows no moment, memory was refused, or the database has failed
+abbrev pub IsUnjudged : (failed : Type 0) → StationFault → Type 0
+IsUnjudged failed fault.Clock = Unit {0}
+IsUnjudged failed fault.NoMemory = Unit {0}
+IsUnjudged failed fault.Device = failed
+IsUnjudged failed other = ⊥
+
+-- A register keeps this state, and a crash leaves just that.
+abbrev pub Stores : {G : Type 0} → register.Ghosts G → G → State → Type 0
+Stores guard g s = guard.keeps g s × guard.leaves g s s
+
+-- It keeps what it kept. The fault has its cause if that is a published list, or none, and the list isn't too long.
+abbrev pub Loses : {G : Type 0} → register.Ghosts G → G → State → Question → StationFault → Type 0
+Loses guard g s q e = guard.keeps g s × (IsLawful s → IsShort q.list → IsUnjudged (guard.has_failed g) e)
 
 -- what a crash leaves: what was kept, or the list, if it is approved
 abbrev pub LeavesOne : State → (leaves : State → State → Type 0) → Question → Type 0
@@ -51,11 +69,10 @@ pub record States {E F G : Type 0} (world : surroundings.Ghosts E F) (around : E
     : Type 0 where
   -- an honest register was honest before
   pub honest : guard.is_honest new → guard.is_honest old
-  pub states : guard.is_honest new → (s : State) → guard.keeps old s → guard.leaves old s s
-      → StatesOne s (guard.keeps new) (guard.leaves new) (world.shows around) q held holds result
+  pub states : guard.is_honest new → (s : State) → Stores guard old s
+      → StatesOne s (λ _ t. Stores guard new t) (Loses guard new s q) (world.shows around) q held holds result
   -- a crash, also in the midst of it
-  pub crash : guard.is_honest new → (s : State) → guard.keeps old s → guard.leaves old s s
-      → LeavesOne s (guard.leaves new) q
+  pub crash : guard.is_honest new → (s : State) → Stores guard old s → LeavesOne s (guard.leaves new) q
 
 -- the fault of a register that didn't answer
 abbrev pub register_fault : RegisterFault → StationFault

@@ -13,6 +13,7 @@ use list_guard::ListRegister;
 use station_jobs::{StationFault, Surroundings, print};
 use std::alloc::Global;
 use std::io::{Read, Write};
+use text::Text;
 
 /// What is asked of the list guard of a file.
 #[derive(Clone, Copy)]
@@ -66,11 +67,11 @@ fn state_in<
     path: &str,
     keys: &[[u8; 32]],
     begins: bool,
-    list: &[u8],
+    list: Text,
     out: &mut W,
 ) -> Result<(), StationFault>
     ensures { RunsIn D.ListFile db.old db.new path.now (States P.Surroundings around.now G.ListRegister
-        (question keys.now begins list.now) (W.contents out.old) (W.contents out.new))
+        (question keys.now begins list) (W.contents out.old) (W.contents out.new))
         (W.contents out.new ≡ W.contents out.old) result }
 {
     match db.open(alloc, path) {
@@ -79,7 +80,10 @@ fn state_in<
             let done = state_list(alloc, around, &mut guard, keys, begins, list, out);
             closed(done, db.close(guard))
         }
-        Err(fault) => Err(fault),
+        Err(fault) => {
+            drop(list);
+            Err(fault)
+        }
     }
 }
 
@@ -107,7 +111,7 @@ fn list_in<
         Ok(keys) => match list_at(alloc, around, listing.list) {
             Ok(list) => {
                 let begins = listing.begins;
-                let (keys, list) = (keys.as_slice(), list.as_slice());
+                let (keys, list) = (keys.as_slice(), Text::from_vec(list));
                 state_in(alloc, around, db, path, keys, begins, list, out)
             }
             Err(fault) => Err(fault),

@@ -6,11 +6,13 @@ ghost use Rattle.wire.specs.Streams.{AppendsBeginning};
 ghost use Rattle.list_guard.specs.Judged.{question};
 ghost use Rattle.list_guard.specs.Statements.{answer_line};
 ghost use Rattle.list_jobs.specs.Stating.{States, register_fault};
+ghost use Rattle.station_jobs.specs.Faults.{IsOfAnAnswer};
 
 use list_guard::{Answer, ListRegister, RegisterFault, judge_list, put_answer};
 use station_jobs::{StationFault, Surroundings, print};
 use std::alloc::Global;
 use std::io::{Read, Write};
+use text::Text;
 
 /// The fault of a register that didn't answer.
 fn register_fault(fault: RegisterFault) -> StationFault
@@ -33,6 +35,7 @@ fn print_answer<W: Write>(
     ensures ok { OnOk result (Appends (W.contents out.old) (W.contents out.new) (answer_line answer moment)) }
     ensures err { OnErr result (AppendsBeginning (W.contents out.old) (W.contents out.new)
         (answer_line answer moment)) }
+    ensures only { IfErr result IsOfAnAnswer }
 {
     let mut line = Vec::new(alloc);
     match put_answer(&mut line, answer, moment) {
@@ -48,16 +51,17 @@ pub fn state_list<F: Read + Drop, P: Surroundings<File = F>, G: ListRegister, W:
     register: &mut G,
     keys: &[[u8; 32]],
     begins: bool,
-    list: &[u8],
+    list: Text,
     out: &mut W,
 ) -> Result<(), StationFault>
-    ensures { States P.Surroundings around.now G.ListRegister (question keys.now begins list.now)
+    ensures { States P.Surroundings around.now G.ListRegister (question keys.now begins list)
         (W.contents out.old) (W.contents out.new) register.old register.new result }
 {
     let Some(moment) = around.moment() else {
+        drop(list);
         return Err(StationFault::Clock);
     };
-    match judge_list(alloc, register, keys, begins, list) {
+    match judge_list(register, keys, begins, list) {
         Ok(answer) => print_answer(alloc, answer, moment, out),
         Err(fault) => Err(register_fault(fault)),
     }

@@ -24,7 +24,7 @@ returns-clause-decided c s last =
       cas = sym (c.has_only.ensures is.0 shown) ∙ c.if-not-has_only.false;
     } in
     let apart : list ≢ kept = λ same. clash c.eq.result (c.eq.ensures ∙ (bytes_eq-Decides list kept).1 same) c.if-eq.false in
-    let after = c.verdict_after.ensures is.0 was.0 shown held (λ same. apart (sym new ∙ same ∙ old)) in
+    let after = c.verdict_after.ensures is.0 was.0 shown held (sym new) (sym old) (λ same. apart (sym new ∙ same ∙ old)) in
     let verdict = c.verdict_after.result in
     let behind = subst (λ b. DecidedAfter verdict c.in-Some.new is.0 b was.0) old after in
     decided_after verdict s q is.0 kept was.0 of (last ∙ ap option_copied c.in-Some-kept.is) was.1

@@ -6,13 +6,13 @@ use Rattle.list_jobs.proofs.job.list_in.Goals as goal
 
 pub returns-in-Ok-list_at : goal.returns-in-Ok-list_at
 returns-in-Ok-list_at g c = record {
-  asked = Ok (question c.as_slice-keys.result.now c.args.listing.now.begins c.as_slice-list.result.now);
+  asked = Ok (question c.as_slice-keys.result.now c.args.listing.now.begins c.from_vec-list.result);
   read = record {
     keys = subst
         (AreKeysAt g.P.Surroundings c.args.around.now g.F.Read.remaining (map string_bytes c.args.listing.now.cas.now))
         (sym c.as_slice-keys.ensures.value) c.in-Ok.ensures.keys;
     list = subst (IsListAt g.P.Surroundings c.args.around.now g.F.Read.remaining c.args.listing.now.list.now)
-        (sym c.as_slice-list.ensures.value) c.in-Ok-list_at.ensures.list;
+        (sym c.from_vec-list.ensures) c.in-Ok-list_at.ensures.list;
     begins_is = refl;
   };
   judged = c.state_in.ensures;
