@@ -1,6 +1,9 @@
-"""For the scripts beside it: a department, issues, new offices, and a server that ends with its block."""
+"""For the scripts in this folder: a department, issues, new and filled offices, and a server that ends with its block."""
 import contextlib
+import hashlib
 import os
+import sqlite3
+import struct
 import subprocess
 import sys
 
@@ -9,7 +12,7 @@ import asking
 from asking import post
 from asking import write_exchanges as written
 
-__all__ = ["DEPARTMENT", "issue", "new_office", "post", "served", "written"]
+__all__ = ["DEPARTMENT", "filled_office", "issue", "named", "new_office", "post", "served", "written"]
 
 DEPARTMENT = asking.department()
 
@@ -27,10 +30,35 @@ def new_office(program, db, last):
     subprocess.run([program, *words.split()], check=True, stdout=subprocess.DEVNULL)
 
 
+def named(serial, number):
+    """The part of a user certificate's body with its serial, its kind and its key ID."""
+    key_id = f"web/{number}".encode()
+    return struct.pack(f">QII{len(key_id)}s", serial, 1, len(key_id), key_id)
+
+
+def filled_office(program, db, count):
+    """Makes a file of an office with this many certificates, and a request for each, as it is after as many issues. The
+    program issues the first, and sqlite3 inserts the others."""
+    new_office(program, db, 9223372036854775806)
+    written("first", [post("root", "web", DEPARTMENT), post("ana", "i0", issue(0))])
+    subprocess.run([program, "apply", "--db", db, "first"], check=True, stdout=subprocess.DEVNULL)
+    connection = sqlite3.connect(db)
+    body = connection.execute("SELECT body FROM cert WHERE serial = 1").fetchone()[0]
+    for serial in range(2, count + 1):
+        its = body.replace(named(1, 0), named(serial, serial))
+        reply = f"issued {serial}\ndigest {hashlib.sha256(its).hexdigest()}\n"
+        connection.execute("INSERT INTO cert VALUES (?, ?, ?, ?, NULL)", (serial, "web", f"web/{serial}", its))
+        connection.execute("INSERT INTO request VALUES (?, ?, ?, ?)",
+                           ("ana", f"i{serial}", issue(serial).encode(), reply))
+    connection.execute("UPDATE office SET next = ?", (count + 1,))
+    connection.commit()
+    connection.close()
+
+
 @contextlib.contextmanager
 def served(program, db, connections=1_000_000, before=()):
-    """A server of so many connections that listens, and its port. Where the block ends, however it ends, so has the
-    server. `before` are words before the program, such as `strace`."""
+    """A server for this many connections that listens, and its port. It ends with the block, however that ends.
+    `before` are words before the program, for example `strace`."""
     words = f"serve --db {db} --port 0 --connections {connections} --nonces /dev/urandom"
     process = subprocess.Popen([*before, program, *words.split()], stdout=subprocess.PIPE, stderr=subprocess.PIPE)
     try:

@@ -30,6 +30,10 @@ class Fault(Exception):
     """Why a set-up can't go on."""
 
 
+class BadWords(Fault):
+    """Why the arguments are none."""
+
+
 # ---- bundles
 
 def bundle(**parts):
@@ -104,8 +108,8 @@ def cas_of(parts, named, known=()):
 
 # ---- questions and steps
 
-def answer(question, given, default=None):
-    """What was given, or what the person at the terminal answers. Without a terminal the default counts."""
+def answer(question, given, default=None, option="--help"):
+    """What an option gave, or what the person at the terminal answers. Without a terminal the default counts."""
     if given:
         return given
     if sys.stdin.isatty():
@@ -115,16 +119,16 @@ def answer(question, given, default=None):
             return told or default
     elif default:
         return default
-    raise Fault(f"{question}? Nobody answered; --help shows the option for it")
+    raise BadWords(f"{question}? Nobody answers here: give {option}")
 
 
-def run(words, **how):
-    """Runs a program; what it prints is part of the fault if it fails."""
-    done = subprocess.run([str(it) for it in words], capture_output=True, text=True, errors="replace",
-                          **({"stdin": subprocess.DEVNULL} | how))
+def run(words, shown=None, **how):
+    """Runs a program; what it prints is part of the fault if it fails. `shown` are the words that the fault names."""
+    done = subprocess.run([str(it) for it in words], text=True, errors="replace",
+                          **({"stdin": subprocess.DEVNULL, "capture_output": True} | how))
     if done.returncode:
-        said = (done.stdout + done.stderr).strip()[-600:]
-        raise Fault(f"{' '.join(map(str, words))} failed: {said or done.returncode}")
+        said = f"{done.stdout or ''}{done.stderr or ''}".strip()[-600:] or f"status {done.returncode}"
+        raise Fault(f"{shown or ' '.join(map(str, words))} failed: {said}")
     return done.stdout
 
 
@@ -197,7 +201,7 @@ class Steps:
             tell(f"  {what}")
         if not self.given.yes:
             if not sys.stdin.isatty():
-                raise Fault("nobody can be asked here: give --yes")
+                raise BadWords("nobody can be asked here: give --yes")
             if input("Go on? [y/N] ").strip().lower() not in ("y", "yes"):
                 raise Fault("nothing was done")
         for what, do in self.steps:
@@ -245,22 +249,24 @@ def tell(text):
     print(text, file=sys.stderr, flush=True)
 
 
-def main(program, doc, options, do, is_for_root=True):
+def main(program, doc, options, do, is_for_root=True, passes_on=False):
     """Reads the words of a set-up command, and does it. It ends with 0 if all is done, with 1 if not, and with 2 for
-    bad arguments."""
+    bad arguments. Options that it doesn't know are for another command, if it passes them on."""
     usage, _, description = doc.strip().partition("\n\n")
     parser = argparse.ArgumentParser(prog=program, usage=usage.removeprefix("usage: "), description=description,
-                                     formatter_class=argparse.RawDescriptionHelpFormatter)
+                                     formatter_class=argparse.RawDescriptionHelpFormatter, allow_abbrev=not passes_on)
     options(parser)
-    parser.add_argument("--yes", action="store_true", help="don't ask before the steps are done")
-    given = parser.parse_args()
+    parser.add_argument("--yes", action="store_true", help="don't ask for confirmation")
+    given, given.further = parser.parse_known_args()
+    if given.further and not passes_on:
+        parser.error(f"unrecognized arguments: {' '.join(given.further)}")
     try:
         if is_for_root and os.getuid():
             raise Fault("only root may do this")
         do(given, Steps(given, program))
     except (Fault, EOFError, KeyboardInterrupt) as fault:
         tell(f"{program}: {fault or 'given up'}")
-        return 1
+        return 2 if isinstance(fault, BadWords) else 1
     except (OSError, UnicodeError) as fault:
         tell(f"{program}: {fault}")
         return 1

@@ -8,6 +8,14 @@ import time
 LATEST = 253402300799
 LAST_SERIAL = 2 ** 63 - 2
 CERTIFICATE_NAME = b"ssh-ed25519-cert-v01@openssh.com"
+# The names that `ssh-keygen -L` prints.
+OPTIONS = "force-command", "source-address", "verify-required"
+EXTENSIONS = ("no-touch-required", "permit-X11-forwarding", "permit-agent-forwarding", "permit-port-forwarding",
+              "permit-pty", "permit-user-rc")
+# What a department permits that permits everything.
+EVERYTHING = {"options": OPTIONS, "extensions": EXTENSIONS, "maxlife": LATEST}
+# The digest of the body that `sshoffice apply` gives the first certificate of the worked rows.
+DIGEST = "82e0c34fe67da3fc3dc1be6682073994ec021449271b641cdd36180e95572e79"
 
 
 # ---- keys and signatures
@@ -164,6 +172,11 @@ class Response(bytes):
     @property
     def text(self):
         return self.body.decode()
+
+    def whole(self):
+        """The response, or None where its body isn't as long as its head says, or no head is there."""
+        lengths = [it[16:] for it in self.head.split(b"\r\n") if it.startswith(b"content-length: ")]
+        return self if b"\r\n\r\n" in self and lengths and len(self.body) == int(lengths[0]) else None
 
 
 # ---- exchange files

@@ -14,16 +14,18 @@ from running import TOP, Office, Programs
 from stations import new_station
 
 
+# The fixtures of programs that are built, the last one by the test itself.
+BUILT = {"program", "sshstation", "krl_tool", "bad_lines"}
+
+
 def pytest_addoption(parser):
     group = parser.getgroup("office")
-    group.addoption("--program", metavar="PATH", type=pathlib.Path, default=TOP / "crates/sshoffice/out/sshoffice",
-                    help="the sshoffice to test")
-    group.addoption("--krl-tool", metavar="PATH", type=pathlib.Path, default=TOP / "crates/krl_tool/out/krl_tool",
-                    help="the krl_tool to test")
-    group.addoption("--sshstation", metavar="PATH", type=pathlib.Path, default=TOP / "crates/sshstation/out/sshstation",
-                    help="the sshstation to test")
+    for option, name in (("--program", "sshoffice"), ("--krl-tool", "krl_tool"), ("--sshstation", "sshstation")):
+        group.addoption(option, metavar="PATH", type=pathlib.Path, default=TOP / f"crates/{name}/out/{name}",
+                        help=f"the {name} to test")
     group.addoption("--steps", type=int, default=1000, help="how many random exchanges test_registers asks (1000)")
-    group.addoption("--rounds", type=int, default=0, help="how many faults test_three_machines has happen (0: left out)")
+    group.addoption("--rounds", type=int, default=0,
+                    help="how many faults test_three_machines has happen (0: left out)")
     group.addoption("--judgements", type=int, default=100_000,
                     help="how many random bodies test_guard has judged (100000)")
     group.addoption("--pieces", type=int, default=1000, help="how many random requests test_pieces sends (1000)")
@@ -59,6 +61,8 @@ def pytest_unconfigure(config):
 def pytest_collection_modifyitems(items):
     """Marks tests by what they use, gives slow ones more time, and leaves out what only root can run."""
     for item in items:
+        if not BUILT & {*getattr(item, "fixturenames", ())}:
+            item.add_marker("early")
         if item.get_closest_marker("slow") and not item.get_closest_marker("timeout"):
             item.add_marker(pytest.mark.timeout(600))
         for name in ("front", "browser"):

@@ -11,8 +11,7 @@ import ssl
 
 import requests
 
-from asking import Response
-from running import EXAMPLES, end, free_port, is_listening, run, until
+from running import EXAMPLES, end, free_port, is_listening, rest, run, until
 
 # The clients of whom `front` has a certificate.
 CLIENTS = (("caller", "ana"), ("root",), ("station",), ("reader", "watch"))
@@ -124,10 +123,6 @@ class Front:
 
     def ask(self, request, name=None):
         """All that comes back for these bytes, until the connection ends."""
-        came = b""
         with self.connect(name) as peer:
             peer.sendall(request)
-            with contextlib.suppress(OSError):
-                while piece := peer.recv(65536):
-                    came += piece
-        return Response(came)
+            return rest(peer)

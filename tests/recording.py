@@ -1,5 +1,4 @@
 """An office that records what it is sent, and the bytes of requests to a front."""
-import contextlib
 import re
 import socketserver
 import threading
@@ -91,12 +90,3 @@ def staying(request):
 def statuses(answer):
     """The status of each of the responses."""
     return [int(status) for status in re.findall(rb"^HTTP/1\.1 (\d{3}) ", answer, re.MULTILINE)]
-
-
-def rest(peer):
-    """All that comes until the peer ends."""
-    came = b""
-    with contextlib.suppress(OSError):
-        while piece := peer.recv(65536):
-            came += piece
-    return came

@@ -12,7 +12,7 @@ import tomllib
 
 import pytest
 
-from asking import Response, answers, get, post, write_exchanges
+from asking import Response, answers, exchanges_of, get, post, write_exchanges
 
 TOP = pathlib.Path(__file__).resolve().parent.parent
 EXAMPLES = TOP / "examples"
@@ -22,6 +22,12 @@ ROWS = EXAMPLES / "rows"
 def rows(name):
     """The rows of data/NAME.toml."""
     return tomllib.loads((TOP / f"tests/data/{name}.toml").read_text())
+
+
+def worked(name):
+    """The exchanges of a row of examples/rows, and the answers that are due to them."""
+    asked, due = ((ROWS / f"{name}.{it}").read_bytes() for it in ("exchange", "expected"))
+    return exchanges_of(asked), answers(due)
 
 
 def refusals():
@@ -72,10 +78,52 @@ class Programs:
                     pipe.close()
 
 
+@contextlib.contextmanager
+def listening(words, **how):
+    """Begins a server, and gives its process and the line that it prints, or none where it ends before it listens. With
+    the block it ends."""
+    pipes = {"stdout": subprocess.PIPE, "stderr": subprocess.PIPE}
+    process = subprocess.Popen([str(it) for it in words], bufsize=0, **pipes, **how)
+    try:
+        yield process, process.stdout.readline()
+    finally:
+        process.kill()
+        process.communicate()
+
+
 def run(words, **how):
     """Runs a program to its end, with what it prints."""
     how = {"capture_output": True, "timeout": 100, "stdin": subprocess.DEVNULL} | how
     return subprocess.run([str(it) for it in words], **how)
+
+
+def said(words, **how):
+    """Status, output and errors of a program that runs to its end."""
+    done = run(words, **how)
+    return done.returncode, done.stdout, done.stderr
+
+
+def sql(file, *texts):
+    """What sqlite3 prints for statements."""
+    _, out, err = said(["sqlite3", file, *texts])
+    return (out + err).decode().rstrip("\n")
+
+
+def new_key(file, comment=None):
+    """Has ssh-keygen make an Ed25519 key in this file, whose name is the comment, and returns the public line."""
+    words = ["-C", pathlib.Path(file).name if comment is None else comment, "-f", file]
+    run(["ssh-keygen", "-q", "-t", "ed25519", "-N", "", *words], check=True)
+    return pathlib.Path(f"{file}.pub").read_text().rstrip("\n")
+
+
+def fingerprint(file):
+    """The fingerprint that ssh-keygen shows of a public key."""
+    return run(["ssh-keygen", "-l", "-f", file], check=True).stdout.split()[1].decode()
+
+
+def is_revoked(krl, certificate):
+    """Whether ssh-keygen finds a certificate revoked by a list."""
+    return {0: False, 1: True}[run(["ssh-keygen", "-Q", "-f", krl, certificate]).returncode]
 
 
 def preloaded(source, folder):
@@ -117,6 +165,15 @@ def is_listening(port):
 
 # ---- offices
 
+def rest(peer):
+    """All that comes until the peer ends, or cuts the connection."""
+    came = b""
+    with contextlib.suppress(OSError):
+        while piece := peer.recv(65536):
+            came += piece
+    return Response(came)
+
+
 class Served:
     """An office that serves, at `port` of 127.0.0.1. Its program is `process`."""
 
@@ -139,27 +196,35 @@ class Served:
         return self.ask(get(path))
 
 
+def applied(program, exchanges, folder="."):
+    """The responses that the trial office in memory gives."""
+    return answers(run([program, "apply", write_exchanges(f"{folder}/some.exchange", exchanges)]).stdout)
+
+
+def init(db, ca, *, root="root", station="station", first=1, last=100_000):
+    """The words that make an office in a file, of a CA whose public line is in another."""
+    return ["init", "--db", db, "--ca", ca, "--root", root, "--station", station, "--first", first, "--last", last]
+
+
 class Office:
     """An office in a file, made by `init`.
 
     `db` is its file, and `ca` the file with the public line of its CA. `ca_key` is the file with the CA's private half,
     or None where the CA was given as a line of text."""
 
-    def __init__(self, program, db="office.db", *, ca=None, root="root", station="station", first=1, last=100_000):
-        self.program, self.db, self.first, self.last = program, pathlib.Path(db).absolute(), first, last
+    def __init__(self, program, db="office.db", *, ca=None, first=1, **opening):
+        self.program, self.db, self.first = program, pathlib.Path(db).absolute(), first
         self.ca, self.ca_key = self.db.with_suffix(".ca.pub"), None
         if ca is None:
             self.ca_key = self.db.with_suffix(".ca.pem")
             run(["openssl", "genpkey", "-algorithm", "ed25519", "-out", self.ca_key], check=True)
             ca = run([EXAMPLES / "ca-line", self.ca_key], check=True).stdout.decode()
         self.ca.write_text(ca.rstrip("\n") + "\n")
-        self.opened = self.must("init", "--db", self.db, "--ca", self.ca, "--root", root, "--station", station,
-                                "--first", first, "--last", last)
+        self.opened = self.must(*init(self.db, self.ca, first=first, **opening))
 
     def run(self, *words, **how):
         """Status, output and errors of the program."""
-        done = run([self.program, *words], **how)
-        return done.returncode, done.stdout, done.stderr
+        return said([self.program, *words], **how)
 
     def must(self, *words):
         """What the program prints, which has to end well."""

@@ -9,15 +9,14 @@ refused, either it fails and has printed nothing, or all is as without a refusal
 it is refused at least twice, and then says NoMemory.
 """
 import contextlib
-import subprocess
 
 import pytest
 
-from asking import CA, answers, deliver, department, exchange, get, issue, post, revoke_serial, write_exchanges
-from running import Office, Served, preloaded, run
+from asking import (CA, DIGEST, answers, deliver, department, exchange, get, issue, post, revoke_serial,
+                    write_exchanges)
+from running import Office, Served, listening, preloaded, run, said
 
 SPECIFICATION = f"ca: {CA}\nserial: 1\nserial: 3-4\nserial: 10-20\nid: web/alice\n"
-DIGEST = "82e0c34fe67da3fc3dc1be6682073994ec021449271b641cdd36180e95572e79"
 ISSUE = issue("web/alice", after=1000, before=2000)
 EXCHANGES = [
     exchange(post("ana", "i1", ISSUE), 1000, 0x33),
@@ -38,8 +37,7 @@ def refuse(room):
         mark = room / "refused"
         mark.unlink(missing_ok=True)
         how = {"env": {"LD_PRELOAD": str(library), "REFUSED": str(number), "MARK": str(mark)}} if number else {}
-        done = run(words, **how)
-        return (done.returncode, done.stdout, done.stderr), mark.exists()
+        return said(words, **how), mark.exists()
 
     return refused
 
@@ -144,20 +142,14 @@ class Refusing:
         self.mark.unlink(missing_ok=True)
         words = f"serve --db {self.office.db} --port 0 --connections 3 --nonces /dev/zero".split()
         refused = {"LD_PRELOAD": str(self.library), "REFUSED": str(number), "MARK": str(self.mark)}
-        process = subprocess.Popen([self.office.program, *words], stdout=subprocess.PIPE, stderr=subprocess.PIPE,
-                                   env=refused)
         given = []
-        try:
-            line = process.stdout.readline()
+        with listening([self.office.program, *words], env=refused) as (process, line):
             for request in SERVED if line else ():
                 given.append(b"")
                 # A connection that is closed before all was read is reset.
                 with contextlib.suppress(OSError):
                     given[-1] = Served(self.office, process, int(line.split()[1])).ask(request)
             errors = process.communicate(timeout=60)[1]
-        finally:
-            process.kill()
-            process.wait()
         return line, given, (process.returncode, errors), self.mark.exists()
 
     def first_after_listening(self):

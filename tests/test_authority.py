@@ -19,7 +19,7 @@ from running import EXAMPLES, run
 AUTHORITY = EXAMPLES / "front/authority"
 # Run by this interpreter: another python3 on the PATH may take longer to begin than the script's own work.
 RUN = [sys.executable, AUTHORITY]
-REFUSED = "front: the certificate is another authority's, has ended or was taken back\n"
+REFUSED = "front: the certificate is another authority's, has expired or was revoked\n"
 
 
 def authority(*words, **how):
@@ -81,10 +81,11 @@ def look(folder):
     for path in [folder / "server.crt", *folder.glob("*.pem")]:
         if path.name == "crl.pem":
             continue
-        assert serial_of(path) in serials
+        serial, _, public = of_certificate(path, "-serial", "-pubkey").removeprefix("serial=").partition("\n")
+        assert serial in serials
         key = path if path.suffix == ".pem" else path.with_suffix(".key")
         if b"PRIVATE KEY" in key.read_bytes():
-            assert of_certificate(path, "-pubkey") == openssl("pkey", "-in", key, "-pubout").strip()
+            assert public == openssl("pkey", "-in", key, "-pubout").strip()
     assert [] == [it for it in folder.rglob("*") if it.is_file() and it.stat().st_mode & 0o777 != 0o600]
     known = {"ca.key", "ca.crt", "server.key", "server.crt", "index", "issued", ".lock"}
     assert [] == [it.name for it in folder.iterdir() if it.name not in known and it.suffix != ".pem"]
@@ -188,8 +189,9 @@ def killed_then_next(made, copy, line, words):
     must("ends", copy, "0")
     after = files_of(copy)
     look(copy)
-    must(words[0], copy, *words[1:]) if before == after or words[0] == "renew" else None
-    look(copy)
+    if before == after or words[0] == "renew":
+        must(words[0], copy, *words[1:])
+        look(copy)
     shutil.rmtree(copy)
     return before != after
 

@@ -6,6 +6,7 @@ elements. A relay carries the browser's requests to the front with a reader's ce
 import base64
 import calendar
 import collections
+import contextlib
 import datetime
 import hashlib
 import re
@@ -64,7 +65,8 @@ class Shown:
     """An office in a file, to which messages are applied at moments that are chosen, and that is served at a port."""
 
     def __init__(self, program, folder, name, port):
-        self.office, self.port, self.keys, self.served = Office(program, folder / f"{name}.db", ca=CA), port, 0, None
+        self.office, self.port, self.keys = Office(program, folder / f"{name}.db", ca=CA), port, 0
+        self.serving = contextlib.ExitStack()
 
     def apply(self, messages):
         """Applies (caller, message, moment) while the office isn't served. Each has to be accepted."""
@@ -76,13 +78,10 @@ class Shown:
         assert [200] * len(asked) == [it.status for it in given], given[-1]
 
     def begin(self):
-        self.serving = self.office.serving(port=self.port)
-        self.served = self.serving.__enter__()
+        self.served = self.serving.enter_context(self.office.serving(port=self.port))
 
     def end(self):
-        if self.served:
-            self.serving.__exit__(None, None, None)
-            self.served = None
+        self.serving.close()
 
     def get(self, route):
         return self.served.get(f"/v1/{route}").body
@@ -214,7 +213,6 @@ def wanted_of(office):
     }
 
 
-
 # ---- the browser
 
 LOOK = """(() => {
@@ -238,8 +236,6 @@ LOOK = """(() => {
     title: document.title, hit: typeof window.hit, names,
   };
 })()"""
-
-
 
 
 class Page:

@@ -5,13 +5,12 @@ their signatures it shows their lines, and it renews them to the same bytes with
 The last part has ssh-keygen sign certificates for fresh keys at each run.
 """
 import base64
-import hashlib
 
 import pytest
 
-from asking import (CERTIFICATE_NAME, LAST_SERIAL, LATEST, answers, deliver, department, exchange, get, issue,
-                    key_blob, key_line, post, renew, string, write_exchanges)
-from running import run
+from asking import (CERTIFICATE_NAME, EVERYTHING, LAST_SERIAL, LATEST, deliver, department, digest_of, exchange, get,
+                    issue, key_blob, key_line, post, renew, string)
+from running import applied, new_key, run
 
 pytestmark = pytest.mark.rows
 
@@ -59,11 +58,7 @@ HOST = (
 # A certificate is a body, and a string that is a blob of 83 bytes with the signature at its end. In a body stand the
 # nonce from byte 40, the key from byte 76, the serial from byte 108 on, and at its end the CA's key.
 SIGNED = 4 + 83
-OPTIONS = "force-command", "source-address", "verify-required"
-EXTENSIONS = ("no-touch-required", "permit-X11-forwarding", "permit-agent-forwarding", "permit-port-forwarding",
-              "permit-pty", "permit-user-rc")
-DEPARTMENTS = (department("web", principals="alice,*@example.org", options=OPTIONS, extensions=EXTENSIONS,
-                          maxlife=LATEST),
+DEPARTMENTS = (department("web", principals="alice,*@example.org", **EVERYTHING),
                department("db", kind="host", principals="*.example.org", maxlife=LATEST))
 # A certificate of ssh-keygen, the issue that asks for the same but for the key, and its line of the table.
 MADE = {
@@ -80,21 +75,15 @@ MADE = {
 
 def said(serial, body):
     """The reply to an issue of this body."""
-    return b"issued %d\ndigest %s\n" % (serial, hashlib.sha256(body).hexdigest().encode())
-
-
-def applied(program, exchanges):
-    """What the trial office gives: the body of each response."""
-    file = write_exchanges("some.exchange", exchanges)
-    return [it.body for it in answers(run([program, "apply", file]).stdout)]
+    return f"issued {serial}\ndigest {digest_of(body)}\n".encode()
 
 
 @pytest.mark.parametrize(("options", "extensions", "body", "size"), WORKED)
 def test_a_body_has_these_bytes(program, room, options, extensions, body, size):
     message = issue("web/alice", after=1000, before=2000, options=options, extensions=extensions)
     assert size == len(body)
-    assert [said(1, body), body] == applied(program, [
-        exchange(post("ana", "i1", message), 1000, 0x33), exchange(get("/v1/certs/1/body"), 1000, 0x33)])
+    assert [said(1, body), body] == [it.body for it in applied(program, [
+        exchange(post("ana", "i1", message), 1000, 0x33), exchange(get("/v1/certs/1/body"), 1000, 0x33)])]
 
 
 # ---- certificates that ssh-keygen made
@@ -120,8 +109,7 @@ class Made:
         return [it.body for it in self.office.apply(exchanges)]
 
     def deliver(self):
-        digest = hashlib.sha256(self.body).hexdigest()
-        return exchange(post("station", "s", deliver(self.serial, digest, self.signature)), 1000, 0)
+        return exchange(post("station", "s", deliver(self.serial, digest_of(self.body), self.signature)), 1000, 0)
 
     def shown(self, serial, what=""):
         return exchange(get(f"/v1/certs/{serial}{what}"), 1000, 0)
@@ -174,14 +162,13 @@ FRESH = [
 @pytest.mark.parametrize(("comment", "key_id", "principals", "options", "extensions"), FRESH)
 def test_the_body_is_that_of_ssh_keygen(program, room, comment, key_id, principals, options, extensions):
     """The trial office's body is that of ssh-keygen's certificate with the same nonce, but for the CA's key."""
-    for name, of in (("ca", ""), ("user", comment)):
-        run(["ssh-keygen", "-q", "-t", "ed25519", "-N", "", "-C", of, "-f", name], check=True)
+    _, key = new_key("ca"), new_key("user", comment)
     words = [word for it in (*options, *extensions) for word in ("-O", it)]
     run(["ssh-keygen", "-q", "-s", "ca", "-I", key_id, "-n", principals, "-z", 1, "-V", "0x3e8:0x7d0", "-O", "clear",
          *words, "user.pub"], check=True)
     certificate = base64.b64decode((room / "user-cert.pub").read_text().split()[1])
     body = certificate[:-SIGNED - 32] + key_blob(0x11)[-32:]
-    message = issue(key_id, key=(room / "user.pub").read_text().rstrip("\n"), principals=principals, after=1000,
-                    before=2000, options=[it.replace("=", " ", 1) for it in options], extensions=extensions)
-    assert [said(1, body), body] == applied(program, [
-        exchange(post("ana", "issue", message), 1000, certificate[40:72]), exchange(get("/v1/certs/1/body"), 1000, 0)])
+    message = issue(key_id, key=key, principals=principals, after=1000, before=2000,
+                    options=[it.replace("=", " ", 1) for it in options], extensions=extensions)
+    assert [said(1, body), body] == [it.body for it in applied(program, [
+        exchange(post("ana", "issue", message), 1000, certificate[40:72]), exchange(get("/v1/certs/1/body"), 1000, 0)])]

@@ -10,7 +10,7 @@ import pytest
 
 from asking import department
 from fetching import Web, response, script, small_disk
-from running import EXAMPLES, run, until
+from running import EXAMPLES, new_key, run, until
 from stations import new_station
 
 CALLS = "calls"
@@ -26,11 +26,6 @@ def watched(room, monkeypatch):
         file.chmod(0o755)
     monkeypatch.setenv("PATH", f"{room}/bin:{os.environ['PATH']}")
     return room / CALLS
-
-
-def new_key(name="alice"):
-    run(["ssh-keygen", "-q", "-t", "ed25519", "-N", "", "-C", name, "-f", name], check=True)
-    return pathlib.Path(f"{name}.pub").read_text().strip()
 
 
 @pytest.fixture
@@ -53,7 +48,7 @@ def calls_of(watched, name):
 # ---- what programs are told
 
 def test_each_request_has_a_time_limit_and_its_url_is_taken_as_it_is(asked, watched):
-    new_key()
+    new_key("alice")
     assert 1 == request(asked)[0]
     assert [1] == asked.station.sign(PATH=f"{asked.station.folder}:{os.environ['PATH']}")
     assert 0 == request(asked)[0]
@@ -67,7 +62,7 @@ def test_each_request_has_a_time_limit_and_its_url_is_taken_as_it_is(asked, watc
 
 
 def test_no_secret_is_an_argument(asked, watched):
-    new_key()
+    new_key("alice")
     assert 1 == request(asked)[0]
     assert [1] == asked.station.sign(PATH=f"{asked.station.folder}:{os.environ['PATH']}")
     text = watched.read_text()
@@ -82,7 +77,7 @@ def test_no_secret_is_an_argument(asked, watched):
     ("request", ["--caller", "ana", "--wait", "1", "{url}/{{a,b}}[1-3]", "web", "web/a", "alice.pub", "alice", "1h"]),
 ], ids=lambda it: it if isinstance(it, str) else "")
 def test_braces_of_a_url_are_no_pattern(room, name, words):
-    new_key()
+    new_key("alice")
     with Web(response(b"no", "404 Not Found")) as web:
         script(name, *[it.format(url=web.url) for it in words])
         assert 1 == len(web.requests)
@@ -92,7 +87,7 @@ def test_braces_of_a_url_are_no_pattern(room, name, words):
 # ---- request
 
 def test_two_at_once_get_one_certificate(asked):
-    new_key()
+    new_key("alice")
     with concurrent.futures.ThreadPoolExecutor(4) as threads:
         done = list(threads.map(lambda _: request(asked, wait=2), range(4)))
     assert {1} == {it[0] for it in done}
@@ -102,7 +97,7 @@ def test_two_at_once_get_one_certificate(asked):
 
 
 def test_a_command_that_was_killed_may_be_run_again_at_once(asked):
-    new_key()
+    new_key("alice")
     words = [EXAMPLES / "request", "--caller", "ana", asked.url, "web", "web/alice", "alice.pub", "alice", "1h"]
     with subprocess.Popen(words, stderr=subprocess.DEVNULL, start_new_session=True) as process:
         until(lambda: b"total 1 " in asked.get("/v1/table").body)
@@ -113,7 +108,7 @@ def test_a_command_that_was_killed_may_be_run_again_at_once(asked):
 
 @pytest.mark.parametrize("name", ["with space", "-dash", "a$b`c", "a*[b]"])
 def test_a_key_may_have_any_name(asked, name, room):
-    new_key()
+    new_key("alice")
     for end in ("", ".pub"):
         (room / f"alice{end}").rename(room / f"{name}{end}")
     assert 1 == request(asked, name)[0]
@@ -127,7 +122,7 @@ def test_a_key_may_have_any_name(asked, name, room):
 @pytest.mark.parametrize("name", ["a:b.pem", "a\\b.pem", "with space.pem"])
 def test_a_clients_certificate_may_have_any_name(front, name, room):
     front.session("root").post(f"{front.url}/v1/requests/web", data=department())
-    new_key()
+    new_key("alice")
     shutil.copy(front.certificate("ana"), room / name)
     words = ["--cert", name, "--cacert", front.authority / "ca.crt", "--wait", 1, front.url, "web", "web/alice"]
     status, _, errors = script("request", *words, "alice.pub", "alice", "1h")
@@ -136,7 +131,7 @@ def test_a_clients_certificate_may_have_any_name(front, name, room):
 
 
 def test_half_an_answer_is_none(room):
-    new_key()
+    new_key("alice")
     with Web(response(b"issued 1", length=500)) as web:
         status, out, errors = request(web)
     assert (1, "") == (status, out)
@@ -145,7 +140,7 @@ def test_half_an_answer_is_none(room):
 
 
 def test_an_endless_answer_ends(room):
-    new_key()
+    new_key("alice")
     with Web(response(b"", length="")) as web:
         web.endless = bytes(1 << 16)
         status, _, errors = request(web)
@@ -153,7 +148,7 @@ def test_an_endless_answer_ends(room):
 
 
 def test_a_folder_in_place_of_the_certificate(asked, room):
-    new_key()
+    new_key("alice")
     (room / "alice-cert.pub").mkdir()
     request(asked)
     asked.station.sign()
@@ -164,7 +159,7 @@ def test_a_folder_in_place_of_the_certificate(asked, room):
 
 
 def test_what_is_kept_is_the_users_alone(asked, room):
-    new_key()
+    new_key("alice")
     (room / "alice.request.new").write_text("left of a kill\n")
     (room / "alice.request.new").chmod(0o666)
     done = run([EXAMPLES / "request", "--caller", "ana", "--wait", "1", asked.url, "web", "web/alice", "alice.pub",
@@ -204,14 +199,14 @@ BAD_WORDS = [
 
 @pytest.mark.parametrize("words, url, why", BAD_WORDS, ids=str)
 def test_bad_words_send_nothing(room, words, url, why):
-    new_key()
+    new_key("alice")
     status, out, errors = script("request", *words, url, "web", "web/alice", "alice.pub", "alice", "1h")
     assert (True, "", [f"request: {why}"]) == (status in (1, 2), out, errors)
     assert not (room / "alice.request").exists()
 
 
 def test_a_program_that_is_missing_is_named(room):
-    new_key()
+    new_key("alice")
     (room / "bin").mkdir()
     for program in ("env", "bash"):
         (room / "bin" / program).symlink_to(f"/usr/bin/{program}")
@@ -224,7 +219,7 @@ def test_a_program_that_is_missing_is_named(room):
 @pytest.mark.parametrize("url", ["ftp://127.0.0.1", "file:///etc", "nonsense", ""])
 def test_figures_ask_an_office_alone(url):
     status, out, errors = script("figures", url)
-    assert (1, "office_up 0", [f"figures: {url}: OFFICE is no URL of http or https"]) \
+    assert (1, "office_up 0", [f"figures: {url}: OFFICE isn't an http or https URL"]) \
         == (status, out.splitlines()[-1], errors)
 
 

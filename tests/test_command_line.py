@@ -6,19 +6,16 @@ import subprocess
 import pytest
 
 from asking import CA, OTHER_CA
-from running import ROWS, rows, run
+from running import ROWS, rows, run, said
+from test_krl import RANGE, header, longer
 
 pytestmark = pytest.mark.rows
 
 NONCE = b"33" * 32
 READY = b"office ready 1 9223372036854775806\nca SHA256:SQfC+vTbLURn9cTkVxIS8fGQ3FKNAJWeB0o139+gV4M\n"
 
-# Lists, by their fields: nothing is revoked; the serials 5 to 7; and faulty ones.
-NO_LIST = "5353484b524c0a00 00000001 0000000000000000 0000000000000000 0000000000000000 00000000 00000000"
-HEAD = "5353484b524c0a00 00000001 0000000000000003 0000000000000bbe 0000000000000000 00000000 00000000"
-BLOB = "00000033 0000000b 7373682d65643235353139 00000020" + "11" * 32 + "00000000"
-LIST = f"{HEAD} 01 00000050 {BLOB} 21 00000010 0000000000000005 0000000000000007"
-SHORT_RANGE = f"{HEAD} 01 0000004c {BLOB} 21 0000000c 0000000000000005 00000007"
+# A list where nothing is revoked.
+NO_LIST = header(0, 0)
 
 BAD_HEAD = (b"answer 111\nHTTP/1.1 400 Bad Request\r\ncontent-type: text/plain\r\ncontent-length: 18\r\n"
             b"connection: close\r\n\r\nrefused 1 BadHead\n")
@@ -61,11 +58,11 @@ FILES = {
     "rsa.pub": b"ssh-rsa AAAA",
     "most.pub": f"{CA} ".encode().ljust(8192, b"a"),
     "longer.pub": f"{CA} ".encode().ljust(8193, b"a"),
-    "list.krl": bytes.fromhex(LIST),
-    "longer.krl": bytes.fromhex(LIST) + b"\0",
-    "cut.krl": bytes.fromhex(LIST)[:120],
-    "other.krl": bytes.fromhex(NO_LIST + "0200000000"),
-    "short.krl": bytes.fromhex(SHORT_RANGE),
+    "list.krl": RANGE,
+    "longer.krl": RANGE + b"\0",
+    "cut.krl": RANGE[:120],
+    "other.krl": NO_LIST + bytes.fromhex("0200000000"),
+    "short.krl": longer(12),
     "most.exchange": record(b"0", NONCE, b"65536", b"a" * 65536),
     "longer.exchange": record(b"0", NONCE, b"65537", b"a" * 65537),
     "10000.exchange": record(b"0", NONCE, b"0", b"") * 10000,
@@ -97,7 +94,7 @@ FAULTS = rows("commands")["faults"].items()
 PRINTED = [
     (init("new.db"), READY),
     ("table --db kept.db", b"total 0 version 0\n"),
-    ("krl --db kept.db", bytes.fromhex(NO_LIST)),
+    ("krl --db kept.db", NO_LIST),
     ("signers --db kept.db", b""),
     # A list is asked about a certificate.
     *[(f"check --ca ca.pub list.krl {serial} web/x", b"revoked\n") for serial in (5, 6, 7)],
@@ -125,25 +122,19 @@ MISTAKES = [
 ]
 
 
-def come(program, words, folder):
-    """Status, output and errors."""
-    done = run([program, *words.split()], cwd=folder)
-    return done.returncode, done.stdout, done.stderr
-
-
 @pytest.mark.parametrize(("words", "fault"), FAULTS)
 def test_a_fault_is_named(program, files, words, fault):
-    assert (1, b"", f"sshoffice: {fault}\n".encode()) == come(program, words, files)
+    assert (1, b"", f"sshoffice: {fault}\n".encode()) == said([program, *words.split()], cwd=files)
 
 
 @pytest.mark.parametrize(("words", "output"), PRINTED, ids=[words for words, _ in PRINTED])
 def test_what_is_printed(program, files, words, output):
-    assert (0, output, b"") == come(program, words, files)
+    assert (0, output, b"") == said([program, *words.split()], cwd=files)
 
 
 @pytest.mark.parametrize("words", MISTAKES)
 def test_words_that_are_no_command(program, files, words):
-    status, out, err = come(program, words, files)
+    status, out, err = said([program, *words.split()], cwd=files)
     assert (2, b"", True) == (status, out, len(err) > 0)
 
 

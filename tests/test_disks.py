@@ -18,16 +18,15 @@ import contextlib
 import errno
 import functools
 import hashlib
-import re
+import itertools
 import signal
 import socket
-import subprocess
 
 import pytest
 
-from asking import CA, LAST_SERIAL, answers, exchange, exchanges_of, get, key_blob, post, write_exchanges
+from asking import CA, LAST_SERIAL, Response, answers, exchange, get, key_blob, post, write_exchanges
 from plain_office import PlainOffice
-from running import ROWS, preloaded, run
+from running import init, listening, preloaded, rest, said, worked
 
 pytestmark = pytest.mark.slow
 
@@ -35,14 +34,9 @@ pytestmark = pytest.mark.slow
 ISSUE, DELIVERY, REVOCATION = 0, 1, 3
 
 
-def of_row(name):
-    """The exchanges of a row, and the responses."""
-    asked, given = ((ROWS / f"{name}.{it}").read_bytes() for it in ("exchange", "expected"))
-    return tuple(exchanges_of(asked)), answers(given)
-
-
-DEPARTMENT, _ = of_row("the-department-of-the-trial-office")
-FIVE, FIVE_DUE = of_row("an-issue-is-signed-repeated-and-revoked")
+DEPARTMENT, _ = worked("the-department-of-the-trial-office")
+FIVE, FIVE_DUE = worked("an-issue-is-signed-repeated-and-revoked")
+FIVE = tuple(FIVE)
 
 
 def at(moment, nonce, *requests):
@@ -83,8 +77,7 @@ class Disk:
         (folder / "nonces").write_bytes(b"".join(it.nonce for it in FIVE))
         for name, exchanges in (("department", DEPARTMENT), ("five", FIVE), ("telling", TELLING)):
             write_exchanges(folder / name, exchanges)
-        words = f"--root root --station station --first 1 --last {LAST_SERIAL}".split()
-        for done in (self.run("init", "--db", self.db, "--ca", folder / "ca.pub", *words),
+        for done in (self.run(*init(self.db, folder / "ca.pub", last=LAST_SERIAL)),
                      self.run("apply", "--db", self.db, folder / "department")):
             assert done[0] == 0, done
         self.founded = self.files()
@@ -96,8 +89,7 @@ class Disk:
 
     def run(self, *words, seed=1, **how):
         """Status, output and errors of the program."""
-        done = run([self.program, *words], env=self.environment(seed, **how))
-        return done.returncode, done.stdout, done.stderr
+        return said([self.program, *words], env=self.environment(seed, **how))
 
     def apply(self, name, seed=2, **how):
         return self.run("apply", "--db", self.db, self.folder / name, seed=seed, **how)
@@ -145,9 +137,7 @@ def disk(program, tmp_path_factory):
 
 def unanswered(given):
     """The place of the first fault after the last answer."""
-    count = len(given)
-    while count and given[count - 1] is None:
-        count -= 1
+    count = len([*itertools.dropwhile(lambda it: it is None, reversed(given))])
     return count if count < len(given) else None
 
 
@@ -192,13 +182,16 @@ def applied(disk, play, what, fail):
     return failed
 
 
-def in_turn(disk, play, file, call, is_once, how):
-    """Lets each call in turn fail so, until none does."""
-    number = 1
-    while applied(disk, play, f"{'' if is_once else 'from '}call {number}",
-                  f"{file} {call} {number} {number if is_once else 0} {how}"):
-        number += 1
+def each(attempt):
+    """Makes an attempt with the first call, with the second, and so on, until it finds none."""
+    number = next(number for number in itertools.count(1) if not attempt(number))
     assert number > 1, "no call is of this kind"
+
+
+def in_turn(disk, play, file, call, is_once, how):
+    """Lets each call in turn fail so."""
+    each(lambda number: applied(disk, play, f"{'' if is_once else 'from '}call {number}",
+                                f"{file} {call} {number} {number if is_once else 0} {how}"))
 
 
 ONCE, ON = True, False
@@ -265,36 +258,20 @@ def test_where_a_long_log_is_copied(disk, long, after, file, call, is_once):
 # ---- processes that are killed while a client asks
 
 def all_of(port, request):
-    """All that comes back for a request, until the connection ends."""
-    came = b""
-    # A server that dies may cut the connection at any place.
+    """All that comes back for a request. A server that dies may cut the connection at any place."""
     with contextlib.suppress(OSError), socket.create_connection(("127.0.0.1", port)) as peer:
         peer.sendall(request)
-        while piece := peer.recv(65536):
-            came += piece
-    return came
-
-
-def whole(answer):
-    """The response, or None where it isn't there whole."""
-    head, _, body = answer.partition(b"\r\n\r\n")
-    length = re.search(rb"\ncontent-length: (\d+)\r\n", head)
-    return answer if length and len(body) == int(length[1]) else None
+        return rest(peer)
+    return Response()
 
 
 @contextlib.contextmanager
 def served(disk, connections, **how):
     """A server whose clock stands still, and its port, or None where it died before. With the block it ends."""
-    words = ["serve", "--db", disk.db, "--port", "0", "--connections", str(connections), "--nonces",
+    words = [disk.program, "serve", "--db", disk.db, "--port", 0, "--connections", connections, "--nonces",
              disk.folder / "nonces"]
-    environment = disk.environment(2, MOMENT="1000", **how)
-    process = subprocess.Popen([disk.program, *words], env=environment, stdout=subprocess.PIPE, stderr=subprocess.PIPE)
-    try:
-        line = process.stdout.readline()
+    with listening(words, env=disk.environment(2, MOMENT="1000", **how)) as (process, line):
         yield process, int(line.removeprefix(b"listening ")) if line else None
-    finally:
-        process.kill()
-        process.communicate()
 
 
 def ended(process):
@@ -310,7 +287,7 @@ def killed(disk, fail):
     given = []
     with served(disk, len(exchanges), FAIL=fail, SYNCED=f"{disk.folder}/synced") as (process, port):
         for one in exchanges if port else ():
-            given.append(whole(all_of(port, one.request)))
+            given.append(all_of(port, one.request).whole())
             if given[-1] is None:
                 # It is dead already, or else it has closed the connection and waits for the next.
                 process.kill()
@@ -326,17 +303,14 @@ def killed(disk, fail):
 @pytest.mark.parametrize(("call", "how"), [("any", "kill"), ("write", "torn")],
                          ids=["before a call", "within a write"])
 def test_a_server_is_killed(disk, call, how):
-    number = 1
-    while killed(disk, f"any {call} {number} {number} {how}"):
-        number += 1
-    assert number > 1
+    each(lambda number: killed(disk, f"any {call} {number} {number} {how}"))
 
 
 # ---- outputs that fail
 
-ISSUED = of_row("repeat-gets-the-kept-reply")[1][0]
+ISSUED = worked("repeat-gets-the-kept-reply")[1][0]
 # The table of one certificate that waits.
-TABLE = of_row("the-table-has-each-certificate")[1][2]
+TABLE = worked("the-table-has-each-certificate")[1][2]
 
 
 def test_a_response_is_cut_at_each_byte_on_a_socket(disk):

@@ -1,6 +1,6 @@
 """That the fixtures give what tests/README.md says, with an office, a front, a station and a browser."""
 from asking import department, exchange, issue, lasting, post
-from running import run
+from running import new_key, run
 
 
 def test_an_office_in_a_file(office):
@@ -18,8 +18,7 @@ def test_an_office_that_serves(served):
 def test_a_certificate_through_the_front(front, station, room):
     ana, root = front.session("ana"), front.session("root")
     assert 200 == root.post(f"{front.url}/v1/requests/web", data=department()).status_code
-    run(["ssh-keygen", "-q", "-t", "ed25519", "-N", "", "-f", "alice"], check=True)
-    asked = issue("web/alice", key=(room / "alice.pub").read_text().strip(), **lasting(3600))
+    asked = issue("web/alice", key=new_key("alice"), **lasting(3600))
     assert 200 == ana.post(f"{front.url}/v1/requests/alice", data=asked).status_code
     assert 403 == front.session().get(f"{front.url}/v1/table").status_code
     assert [1] == station.sign()

@@ -334,7 +334,7 @@ REFUSALS = [
     ("no path", None, getting("/favicon.ico"), "no such path"),
     ("a body of 16385 bytes", "ana", posting(MESSAGE, 16385 * b"x"), "a message has at most 16384 bytes"),
     ("a certificate that was taken back", "bob", getting("/v1/krl"),
-     "the certificate is another authority's, has ended or was taken back"),
+     "the certificate is another authority's, has expired or was revoked"),
 ]
 
 
@@ -431,7 +431,7 @@ def test_the_key_lines_are_those_of_the_file(recorded):
 
 def test_without_the_file_the_front_says_so(make_front, recorded):
     answer = make_front(recorded.recorder.port).ask(getting("/ca-keys"))
-    assert (404, "front: there is no file ca-keys beside the front's nginx.conf\n") == (answer.status, answer.text)
+    assert (404, "front: there is no file ca-keys next to the front's nginx.conf\n") == (answer.status, answer.text)
 
 
 # ---- what TLS permits

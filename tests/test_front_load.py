@@ -13,10 +13,10 @@ import time
 
 import pytest
 
-from recording import Recorder, getting, posting, rest, staying, statuses
-from running import EXAMPLES, run, until
+from recording import Recorder, getting, posting, staying, statuses
+from running import EXAMPLES, rest, run, until
 
-pytestmark = [pytest.mark.front, pytest.mark.xdist_group("front_load"), pytest.mark.alone]
+pytestmark = [pytest.mark.front, pytest.mark.xdist_group("front_load")]
 MESSAGE = "/v1/requests/k-1"
 
 
@@ -34,6 +34,7 @@ def side_by_side(jobs, count=32):
 
 # ---- one client's pace
 
+@pytest.mark.alone
 def test_a_client_that_sends_too_much_waits_alone(make_front, recorder):
     """Ana sends 300 requests at once, and in the two seconds after that root sends one."""
     front = make_front(recorder.port)
@@ -63,6 +64,7 @@ def answer_so_far(peer):
     return []
 
 
+@pytest.mark.alone
 def test_the_station_waits_for_no_limit(make_front, recorder):
     front = make_front(recorder.port)
     begun = time.monotonic()
@@ -89,6 +91,7 @@ def asked_together(front, path, count, name=None, patience=90):
     return got
 
 
+@pytest.mark.alone
 @pytest.mark.slow
 @pytest.mark.parametrize("path, name", [("/v1/krl", None), ("/v1/pending", "watch")])
 def test_a_slow_office_is_asked_once_for_each_ten_seconds(make_front, path, name):
@@ -106,6 +109,7 @@ def test_a_slow_office_is_asked_once_for_each_ten_seconds(make_front, path, name
         assert 1 <= len(recorder.requests) <= most
 
 
+@pytest.mark.alone
 @pytest.mark.slow
 def test_an_office_that_stands_still_is_not_asked_by_all_who_have_waited(make_front):
     """After a minute, here six seconds, those who wait ask the office themselves: eight may, and the others are
@@ -118,6 +122,7 @@ def test_an_office_that_stands_still_is_not_asked_by_all_who_have_waited(make_fr
         assert ({502, 504}, True) == ({status for one in got for status in one}, 1 <= len(recorder.requests) <= 10)
 
 
+@pytest.mark.alone
 def test_a_reader_has_eight_tables_under_way(make_front):
     with Recorder(seconds=3) as recorder:
         edits = [("limit_req zone=reports burst=20 delay=2;", "limit_req zone=reports burst=100 nodelay;")]
@@ -139,8 +144,8 @@ def sent_on_each(front, request, count, connections, name=None):
 
 
 def logged(front):
-    """The bytes of the front's logs, once nothing comes any more."""
-    time.sleep(1.5)
+    """The bytes of the front's logs. The front ends, and writes what it has left."""
+    front.end()
     return sum(file.stat().st_size for pattern in ("*.log", "nginx.faults") for file in front.state.glob(pattern))
 
 
@@ -168,9 +173,8 @@ FLOODS = [
 def test_a_stranger_fills_no_disk_by_the_logs(make_front, recorder, request_bytes, count, connections, most):
     front = make_front(recorder.port)
     (front.conf / "ca-keys").write_text("ssh-ed25519 AAAA a\n")
-    before = logged(front)
     answers = sent_on_each(front, request_bytes, count, connections)
-    came = logged(front) - before
+    came = logged(front)
     print(f"{answers} answers, {came} bytes of log")
     assert (True, True) == (answers >= connections, came <= most), f"{answers} answers, {came} bytes of log"
 
@@ -185,9 +189,8 @@ def test_a_certificate_of_ones_own_fills_no_disk_by_its_subject(make_front, reco
         for half in ("wide.key", "wide.crt"):
             with open(half, "rb") as it:
                 file.write(it.read())
-    before = logged(front)
     assert 20 == sent_on_each(front, getting("/v1/krl"), 1, 20, "wide")
-    assert logged(front) - before <= 20 * 300
+    assert 0 < logged(front) <= 20 * 300
 
 
 def test_a_flood_of_paths_that_do_not_exist_is_refused(make_front, recorder):

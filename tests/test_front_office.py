@@ -11,8 +11,8 @@ import pytest
 
 from asking import department, issue, lasting
 from fronts import Front
-from recording import getting, posting, rest, statuses, whole_request
-from running import EXAMPLES, Programs, is_listening, left_out, run, until
+from recording import getting, posting, statuses, whole_request
+from running import EXAMPLES, Programs, is_listening, left_out, new_key, rest, run, until
 from stations import new_station
 
 pytestmark = [pytest.mark.front, pytest.mark.xdist_group("front_office")]
@@ -79,7 +79,7 @@ class Relay(socketserver.ThreadingTCPServer):
 
 def asking_for(front, name):
     """The words that ask for a certificate of a new key of this name."""
-    run(["ssh-keygen", "-q", "-t", "ed25519", "-N", "", "-f", name], check=True)
+    new_key(name)
     return [EXAMPLES / "request", "--cert", front.certificate("ana"), "--cacert", front.authority / "ca.crt",
             "--wait", 30, front.url, "web", f"web/{name}", f"{name}.pub", "alice", "1h"]
 

@@ -15,8 +15,8 @@ import time
 import pytest
 
 from asking import department, issue, lasting, post, revoke_serial
-from recording import getting, posting, rest, staying, statuses
-from running import until
+from recording import getting, posting, staying, statuses
+from running import rest
 
 pytestmark = [pytest.mark.front, pytest.mark.xdist_group("front_readers"), pytest.mark.alone]
 PROCESSORS = len(os.sched_getaffinity(0))

@@ -10,7 +10,7 @@ import time
 import pytest
 
 from asking import department, issue, lasting, revoke_serial
-from running import left_out, run, until
+from running import fingerprint, is_revoked, left_out, new_key, run, until
 from stations import new_station
 
 # ---- a copy while the office serves
@@ -101,19 +101,15 @@ def test_a_snapshot_of_a_frozen_file_system_has_each_answer_before_it(program, m
 def office_with_a_list(sshstation, make_office, room, name):
     """An office whose certificate NAME-cert.pub, of serial 1, is revoked in NAME.krl; and its CA's fingerprint."""
     office = make_office(f"{name}.db")
-    run(["ssh-keygen", "-q", "-t", "ed25519", "-N", "", "-f", name], check=True)
+    key = new_key(name)
     with office.serving() as served:
         served.post("root", "web", department())
-        served.post("ana", "one", issue("web/x", key=(room / f"{name}.pub").read_text().strip(), **lasting(3600)))
+        served.post("ana", "one", issue("web/x", key=key, **lasting(3600)))
         assert [1] == new_station(sshstation, office, served.url, f"{name}-guard.db").sign()
         (room / f"{name}-cert.pub").write_bytes(served.get("/v1/certs/1").body)
         served.post("ana", "gone", revoke_serial(1))
         (room / f"{name}.krl").write_bytes(served.get("/v1/krl").body)
-    return run(["ssh-keygen", "-l", "-f", office.ca], check=True).stdout.decode().split()[1]
-
-
-def is_revoked(krl, certificate):
-    return {0: False, 1: True}[run(["ssh-keygen", "-Q", "-f", krl, certificate]).returncode]
+    return fingerprint(office.ca)
 
 
 def test_two_lists_that_are_joined_revoke_under_both_cas(sshstation, make_office, room):

@@ -4,8 +4,8 @@ A key line is given to `check` as that of the CA. The lines of ssh-keygen were m
 """
 import pytest
 
-from running import run
-from test_krl import RANGE
+from running import init, said
+from test_krl import RANGE, checked
 
 pytestmark = pytest.mark.rows
 
@@ -58,17 +58,11 @@ LINES = [
 
 @pytest.mark.parametrize(("line", "answer"), LINES, ids=[f"{line[:30]!r}.. of {len(line)} bytes" for line, _ in LINES])
 def test_a_key_line_is_read_or_has_its_fault(program, room, line, answer):
-    (room / "ca.pub").write_bytes(line)
-    (room / "list.krl").write_bytes(RANGE)
-    is_verdict = answer in ("revoked", "clear")
-    wanted = (0, f"{answer}\n".encode(), b"") if is_verdict else (1, b"", f"sshoffice: {answer}\n".encode())
-    done = run([program, "check", "--ca", "ca.pub", "list.krl", 6, "x"])
-    assert wanted == (done.returncode, done.stdout, done.stderr)
+    assert answer == checked(program, line, RANGE, 6, "x")
 
 
 @pytest.mark.parametrize(("base64", "shown"), MADE, ids=[shown.decode() for _, shown in MADE])
 def test_a_fingerprint_is_ssh_keygens(program, room, base64, shown):
     (room / "ca.pub").write_bytes(b"ssh-ed25519 " + base64 + b"\n")
-    words = "init --db office.db --ca ca.pub --root r --station s --first 1 --last 2"
-    done = run([program, *words.split()])
-    assert (0, b"ca " + shown) == (done.returncode, done.stdout.splitlines()[-1])
+    wanted = b"office ready 1 2\nca " + shown + b"\n"
+    assert (0, wanted, b"") == said([program, *init("office.db", "ca.pub", last=2)])

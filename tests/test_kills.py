@@ -4,6 +4,7 @@ After each kill the same message is sent again under the same key. If the killed
 come again byte by byte; and in any case one certificate, and no second one, has to come of the message. At the end the
 file has to be sound, and to have one certificate and one kept request for each message.
 """
+import contextlib
 import os
 import random
 import signal
@@ -13,7 +14,7 @@ import time
 import pytest
 
 from asking import answers, department, issue, post, write_exchanges
-from running import run
+from running import sql
 
 pytestmark = pytest.mark.slow
 
@@ -36,12 +37,10 @@ def is_issued(answer):
 
 def is_one_each(office, count):
     """The file is sound, with one certificate and one kept request for each message, and that of the department."""
-    def query(text):
-        return run(["sqlite3", office.db, text], check=True).stdout.decode().split()
-
-    assert [str(serial) for serial in range(1, count + 1)] == query("SELECT serial FROM cert ORDER BY serial")
-    assert [str(count + 1)] == query("SELECT count(*) FROM request")
-    assert ["ok"] == query("PRAGMA integrity_check")
+    serials = [str(serial) for serial in range(1, count + 1)]
+    assert serials == sql(office.db, "SELECT serial FROM cert ORDER BY serial").splitlines()
+    assert [str(count + 1), "ok"] == sql(
+        office.db, "SELECT count(*) FROM request", "PRAGMA integrity_check").splitlines()
 
 
 def first_answer(printed):
@@ -67,18 +66,15 @@ def test_commands_are_killed(used):
         second, = used.apply([request])
         assert is_issued(second), f"command {number} after a kill: {second}"
         assert first in (None, second), f"command {number} is answered as before the kill"
-    run(["sqlite3", used.db, "DELETE FROM request WHERE key = 'again'"], check=True)
+    assert "" == sql(used.db, "DELETE FROM request WHERE key = 'again'")
     is_one_each(used, ROUNDS)
 
 
 def whole(served, request):
     """The whole response, or None where the connection failed."""
-    try:
-        answer = served.ask(request, timeout=5)
-    except OSError:
-        return None
-    length = [line for line in answer.head.split(b"\r\n") if line.startswith(b"content-length: ")]
-    return answer if length and len(answer.body) == int(length[0][16:]) else None
+    with contextlib.suppress(OSError):
+        return served.ask(request, timeout=5).whole()
+    return None
 
 
 def kill_soon(process):

@@ -5,18 +5,15 @@ krl_tool makes lists of specifications. The lists of ssh-keygen that stand here 
 last part has ssh-keygen make new ones at each run.
 """
 import contextlib
+import pathlib
 import sqlite3
 
 import pytest
 
 from asking import key_blob, key_line, string
-from running import run
+from running import new_key, run, said
 
 FIRST, OTHER = key_line(0x11), key_line(0x12)
-
-
-def said(done):
-    return done.returncode, done.stdout, done.stderr
 
 
 # ---- lists that krl_tool makes
@@ -111,9 +108,8 @@ GATHERED = [
 
 def specified(krl_tool, specification, version, date):
     """Status, output and errors of krl_tool, which makes a list of a specification."""
-    with open("specification", "w") as file:
-        file.write(specification)
-    return said(run([krl_tool, "list", "specification", version, date]))
+    pathlib.Path("specification").write_text(specification)
+    return said([krl_tool, "list", "specification", version, date])
 
 
 def name_of(specification):
@@ -139,13 +135,13 @@ def test_no_list_is_made(krl_tool, room, specification, why):
 def test_a_list_is_asked(krl_tool, room, ca, serial, wanted):
     (room / "list").write_bytes(specified(krl_tool, ONES + serials(2) + TWOS + serials(3), 1, 3000)[1])
     (room / "ca.pub").write_text(ca.removeprefix("ca: "))
-    assert (0, wanted, b"") == said(run([krl_tool, "check", "list", "ca.pub", serial, "x"]))
+    assert (0, wanted, b"") == said([krl_tool, "check", "list", "ca.pub", serial, "x"])
 
 
 @pytest.mark.rows
 @pytest.mark.parametrize(("given", "wanted"), GATHERED)
 def test_serials_are_gathered_into_ranges(krl_tool, given, wanted):
-    assert (0, wanted, b"") == said(run([krl_tool, "gather", *given]))
+    assert (0, wanted, b"") == said([krl_tool, "gather", *given])
 
 
 # ---- lists that the program reads
@@ -220,15 +216,21 @@ CHECKED = [
 ]
 
 
+def checked(program, ca, content, serial, key_id):
+    """The verdict of `check`, or its fault, with this public line and this list."""
+    pathlib.Path("ca.pub").write_bytes(ca)
+    pathlib.Path("list.krl").write_bytes(content)
+    status, out, err = said([program, "check", "--ca", "ca.pub", "list.krl", serial, key_id])
+    verdict = out if out in (b"revoked\n", b"clear\n") else err.removeprefix(b"sshoffice: ")
+    assert (status, out, err) in ((0, verdict, b""), (1, b"", b"sshoffice: " + verdict))
+    return verdict.decode().rstrip("\n")
+
+
 @pytest.mark.rows
 @pytest.mark.parametrize(("content", "what", "ca", "serial", "key_id", "answer"), CHECKED,
                          ids=[f"{it[1]}: {it[3]} {it[4]} under {it[2][-4:]}: {it[5]}" for it in CHECKED])
 def test_the_verdict_of_a_list(program, room, content, what, ca, serial, key_id, answer):
-    (room / "ca.pub").write_text(ca)
-    (room / "list.krl").write_bytes(content)
-    is_verdict = answer in ("revoked", "clear")
-    wanted = (0, f"{answer}\n".encode(), b"") if is_verdict else (1, b"", f"sshoffice: {answer}\n".encode())
-    assert wanted == said(run([program, "check", "--ca", "ca.pub", "list.krl", serial, key_id]))
+    assert answer == checked(program, ca.encode(), content, serial, key_id)
 
 
 # ---- certificate by certificate, beside ssh-keygen
@@ -244,7 +246,7 @@ def certificates(tmp_path_factory):
     """A folder with the two CAs, and the certificates, by names CA.SERIAL."""
     folder = tmp_path_factory.mktemp("certificates")
     for name in ("user", "old", "new"):
-        run(["ssh-keygen", "-q", "-t", "ed25519", "-N", "", "-C", name, "-f", folder / name], check=True)
+        new_key(folder / name)
     for ca in ("old", "new"):
         for serial, key_id in KEY_IDS.items():
             public = folder / f"{ca}.{serial}.pub"
@@ -260,9 +262,9 @@ def lists(certificates, krl_tool, monkeypatch):
     monkeypatch.setenv("TZ", "UTC")
 
     def by_keygen():
-        said = run(["ssh-keygen", "-Q", "-f", "list", *[f"{name}-cert.pub" for name in NAMES]]).stdout.decode()
-        assert len(NAMES) == len(said.splitlines()), said
-        return [name for name, line in zip(NAMES, said.splitlines()) if line.endswith("): REVOKED")]
+        lines = run(["ssh-keygen", "-Q", "-f", "list", *[f"{name}-cert.pub" for name in NAMES]]).stdout.splitlines()
+        assert len(NAMES) == len(lines), lines
+        return [name for name, line in zip(NAMES, lines) if line.endswith(b"): REVOKED")]
 
     def by_reader():
         verdicts = {}
@@ -359,11 +361,9 @@ def long_list(count):
 def test_a_list_of_over_a_megabyte_is_read(program, room):
     ranges, content = long_list(50_000)
     assert len(content) > 1_000_000
-    (room / "list.krl").write_bytes(content)
-    (room / "ca.pub").write_text(FIRST)
     low, high = ranges[-1]
-    for serial, verdict in ((low - 1, b"clear\n"), (low, b"revoked\n"), (high, b"revoked\n"), (high + 1, b"clear\n")):
-        assert (0, verdict, b"") == said(run([program, "check", "--ca", "ca.pub", "list.krl", serial, "web/x"]))
+    assert ["clear", "revoked", "revoked", "clear"] == [
+        checked(program, FIRST.encode(), content, serial, "web/x") for serial in (low - 1, low, high, high + 1)]
 
 
 def test_a_list_of_over_64_kilobytes_is_served(make_office):

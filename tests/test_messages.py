@@ -14,15 +14,12 @@ import shutil
 
 import pytest
 
-from asking import KEY, OTHER_CA, answers, exchange, post, string, write_exchanges
-from running import TOP, left_out, run
+from asking import DIGEST, EXTENSIONS, KEY, LAST_SERIAL, LATEST, OPTIONS, OTHER_CA, exchange, post, string
+from running import TOP, applied, left_out, new_key, run
 
 pytestmark = pytest.mark.rows
 
 OTHER_KEY = OTHER_CA
-DIGEST = "82e0c34fe67da3fc3dc1be6682073994ec021449271b641cdd36180e95572e79"
-
-
 BAD = b"refused 7 BadMessage\n"
 
 
@@ -55,8 +52,7 @@ ROLLOVER = [f"rollover {OTHER_KEY}"]
 
 SIXTEEN = ",".join("abcdefghijklmnop")
 EIGHT = ",".join("abcdefgh")
-LAST, BEHIND = 2 ** 63 - 2, 2 ** 63 - 1
-LATEST = 253402300799
+LAST, BEHIND = LAST_SERIAL, LAST_SERIAL + 1
 
 # Each message with its bytes, as they were counted.
 WORKED = [(USERS, 191), (HOSTS, 100), (ISSUE, 162), (WITH_ALL, 317), (RENEWAL, 31), (DELIVERY, 205), (SERIAL, 16),
@@ -81,10 +77,6 @@ NETWORKS = (["10.0.0.0/8", "0.0.0.0/0", "255.255.255.255/32", "192.168.2.0/23", 
              "10.0.0.0/8/8", "::/0", "", "10.0.0.0/8,", "10.0.0.0/8 ,192.168.2.0/23",
              ",".join(f"{n}.0.0.0/8" for n in range(1, 10))])
 
-# The names that ssh-keygen -L prints.
-OPTIONS = ["force-command", "source-address", "verify-required"]
-EXTENSIONS = ["no-touch-required", "permit-X11-forwarding", "permit-agent-forwarding", "permit-port-forwarding",
-              "permit-pty", "permit-user-rc"]
 UNKNOWN = ["permit-x11-forwarding", "permit-pty@example.org", "permit-x"]
 
 # A message, the place of a line from 0, lines with which the message is one, and lines with which the text is none.
@@ -184,10 +176,8 @@ POSTED = [*all_rows()]
 @pytest.fixture(scope="module")
 def replies(program, tmp_path_factory):
     """What each text is answered, posted under a key of its own."""
-    file = tmp_path_factory.mktemp("messages") / "messages.exchange"
-    write_exchanges(file, [exchange(post("root", f"m{place}", message), 1000, 0x33)
-                           for place, (_, message, _) in enumerate(POSTED)])
-    return [it.body for it in answers(run([program, "apply", file]).stdout)]
+    exchanges = [exchange(post("root", f"m{place}", it[1]), 1000, 0x33) for place, it in enumerate(POSTED)]
+    return [it.body for it in applied(program, exchanges, tmp_path_factory.mktemp("messages"))]
 
 
 @pytest.mark.parametrize(("lines", "size"), WORKED, ids=[lines[0] for lines, _ in WORKED])
@@ -202,10 +192,7 @@ def test_each_text_is_answered(replies):
 @pytest.mark.parametrize(("place", "number"), [(place, it[2]) for place, it in enumerate(POSTED)],
                          ids=[what for what, _, _ in POSTED])
 def test_a_text_is_a_message_or_none(replies, place, number):
-    if number == 0:
-        assert BAD != replies[place]
-    else:
-        assert BAD == replies[place]
+    assert (number > 0) == (replies[place] == BAD), replies[place]
 
 
 # ---- the first bad line
@@ -276,7 +263,7 @@ def by_python(network):
 def keys(tmp_path_factory):
     folder = tmp_path_factory.mktemp("keys")
     for name in ("ca", "user"):
-        run(["ssh-keygen", "-q", "-t", "ed25519", "-N", "", "-f", folder / name], check=True)
+        new_key(folder / name)
     return folder
 
 
@@ -306,9 +293,8 @@ def some_networks(seed, count):
 def test_python_the_office_and_ssh_keygen_agree_on_other_networks(program, keys, room, request):
     """What the office takes, Python and ssh-keygen take, and what ssh-keygen refuses, the office refuses."""
     networks = [*some_networks(request.config.getoption("hypothesis_seed"), 200)]
-    write_exchanges("networks.exchange", [exchange(post("root", f"n{place}", text(
-        [*ISSUE[:6], f"option source-address {it}", ISSUE[6]])), 1000, 0x33) for place, it in enumerate(networks)])
-    given = [BAD != it.body for it in answers(run([program, "apply", "networks.exchange"]).stdout)]
+    given = [BAD != it.body for it in applied(program, [exchange(post("root", f"n{place}", text(
+        [*ISSUE[:6], f"option source-address {it}", ISSUE[6]])), 1000, 0x33) for place, it in enumerate(networks)])]
     assert dict(zip(networks, map(by_python, networks))) == dict(zip(networks, given))
     assert 40 < sum(given) < 160, "some are networks, and some are none"
     for network, is_taken in zip(networks, given):

@@ -2,7 +2,8 @@
 import pytest
 
 from asking import CA, department, exchange, issue, post, revoke_range
-from test_tables import fault, sql
+from running import sql
+from test_tables import fault
 
 ISSUES = [post("ana", f"i{n}", issue(f"web/i{n}", after=3000, before=4000)) for n in range(1, 5)]
 ASKED = [exchange(it, 3000) for it in (

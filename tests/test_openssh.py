@@ -8,17 +8,14 @@ import time
 
 import pytest
 
-from asking import LATEST, department, issue, revoke_keyid, revoke_range, revoke_serial, rollover
-from running import Office, run
+from asking import (EVERYTHING, EXTENSIONS, LATEST, department, issue, revoke_keyid, revoke_range, revoke_serial,
+                    rollover)
+from running import Office, fingerprint, init, is_revoked, new_key, run, sql
 from stations import Guard, Station
 
 pytestmark = [pytest.mark.slow, pytest.mark.xdist_group("openssh")]
 
-OPTIONS = "force-command", "source-address", "verify-required"
-EVERYTHING = ("no-touch-required", "permit-X11-forwarding", "permit-agent-forwarding", "permit-port-forwarding",
-              "permit-pty", "permit-user-rc")
-WEB = department("web", principals="*@example.org,alice,bob", options=OPTIONS, extensions=EVERYTHING, maxlife=LATEST,
-                 namespaces="file,git")
+WEB = department("web", principals="*@example.org,alice,bob", namespaces="file,git", **EVERYTHING)
 DB = department("db", kind="host", admins="", principals="*.example.org")
 NOW = int(time.time())
 HOUR = {"after": NOW - 60, "before": NOW + 3600}
@@ -28,13 +25,13 @@ FIRST = 7
 ASKED = [
     ("ana", "web/alice", "alice", HOUR, (), ()),
     ("ana", "web/bob", "bob", HOUR, (), ("permit-pty",)),
-    ("root", "web/both", "alice,bob,x@example.org", {"after": 1000, "before": NOW + 2000}, (), EVERYTHING),
+    ("root", "web/both", "alice,bob,x@example.org", {"after": 1000, "before": NOW + 2000}, (), EXTENSIONS),
     ("root", 'web/~!"#', "alice", {"after": 0, "before": NOW + 2000}, ("force-command /usr/bin/uptime -p",),
      ("permit-user-rc",)),
     ("ana", "web/net", "bob", {"after": 1000, "before": LATEST}, ("source-address 10.0.0.0/8,192.0.2.7/32",), ()),
     ("ana", "web/fido", "bob", {"after": 1, "before": 4102444800}, ("verify-required",), ("no-touch-required",)),
     ("ana", "web/all", "alice", {"after": 1000, "before": NOW + 2000},
-     ("verify-required", "source-address 0.0.0.0/0", "force-command /bin/true"), EVERYTHING),
+     ("verify-required", "source-address 0.0.0.0/0", "force-command /bin/true"), EXTENSIONS),
     ("root", "db/host", "a.example.org,b.example.org", HOUR, (), ()),
     ("ana", "web/alice", "alice", {"after": NOW + 1000, "before": NOW + 4000}, (), ()),
 ]
@@ -45,10 +42,6 @@ LATER = [
     ("ana", "web/bob", "bob", HOUR, (), ()),
 ]
 SERIALS = range(FIRST, FIRST + len(ASKED) + len(LATER))
-
-
-def fingerprint(public):
-    return run(["ssh-keygen", "-l", "-f", public], check=True).stdout.split()[1].decode()
 
 
 @dataclasses.dataclass
@@ -72,9 +65,7 @@ class Story:
 
     def ask_for(self, first, rows):
         for serial, (caller, key_id, principals, validity, options, extensions) in enumerate(rows, first):
-            name = self.folder / str(serial)
-            run(["ssh-keygen", "-q", "-t", "ed25519", "-N", "", "-C", f"key {serial}", "-f", name], check=True)
-            key = name.with_suffix(".pub").read_text().strip()
+            key = new_key(self.folder / str(serial), f"key {serial}")
             reply = self.send(caller, f"issue-{serial}", issue(
                 key_id, key=key, principals=principals, options=options, extensions=extensions, **validity))
             assert f"issued {serial}" == reply[0]
@@ -178,13 +169,10 @@ def test_ssh_keygen_and_we_find_just_those_revoked(story, what):
     file = story.folder / name
     key_ids = dict(zip(SERIALS, [it[1] for it in ASKED + LATER]))
     last = SERIALS[-1] if what in ("two CAs", "a range across the rollover") else FIRST + len(ASKED) - 1
-    by_keygen, by_office = set(), set()
-    for serial in range(FIRST, last + 1):
-        if run(["ssh-keygen", "-Q", "-f", file, story.folder / f"{serial}-cert.pub"]).returncode:
-            by_keygen.add(serial)
-        verdict = story.office.must("check", "--ca", story.cas[serial], file, str(serial), key_ids[serial])
-        if verdict == b"revoked\n":
-            by_office.add(serial)
+    serials = range(FIRST, last + 1)
+    by_keygen = {it for it in serials if is_revoked(file, story.folder / f"{it}-cert.pub")}
+    by_office = {it for it in serials if b"revoked\n" == story.office.must(
+        "check", "--ca", story.cas[it], file, it, key_ids[it])}
     assert (revoked, revoked) == (by_keygen, by_office)
 
 
@@ -234,8 +222,7 @@ def test_the_commands_print_what_was_served(story):
     office = story.office
     for name, printed in (("krl", office.krl()), ("signers", office.signers()), ("table", office.table())):
         assert (story.folder / name).read_bytes() == printed, name
-    words = "--root root --station station --first 7 --last 1000".split()
-    assert (1, b"", b"sshoffice: AlreadyAnOffice\n") == office.run("init", "--db", office.db, "--ca", office.ca, *words)
+    assert (1, b"", b"sshoffice: AlreadyAnOffice\n") == office.run(*init(office.db, office.ca, first=7, last=1000))
 
 
 @pytest.mark.parametrize(("query", "rows"), [
@@ -246,4 +233,4 @@ def test_the_commands_print_what_was_served(story):
     ("SELECT keyid FROM revoked_keyid", "web/alice"),
     ("SELECT name, kind, admins FROM department ORDER BY name", "db|2|\nweb|1|ana")])
 def test_sqlite3_finds_the_rows(story, query, rows):
-    assert rows == run(["sqlite3", story.office.db, query], check=True).stdout.decode().rstrip("\n")
+    assert rows == sql(story.office.db, query)

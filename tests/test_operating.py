@@ -13,7 +13,7 @@ import subprocess
 import pytest
 
 from blocks import lines_of, printed_after, transcript
-from running import TOP, free_port, run
+from running import TOP, fingerprint, free_port, run
 
 pytestmark = [pytest.mark.slow, pytest.mark.front, pytest.mark.xdist_group("operating")]
 
@@ -52,7 +52,7 @@ LINES = [
     ("and the metrics say which version that is", "office_list_version 2"),
     ("and that its statement is new", "office_list_fresh 1"),
     ("a certificate of the front that was taken back is refused",
-     "front: the certificate is another authority's, has ended or was taken back"),
+     "front: the certificate is another authority's, has expired or was revoked"),
     ("the front gives the page for browsers", "<title>SSH certificate office</title>"),
     ("the figures say that the office answers", "office_up 1"),
 ]
@@ -116,8 +116,7 @@ def test_a_command_prints_its_line(commands, line):
 
 
 def test_the_fingerprint_of_the_ca_is_ssh_keygens(commands):
-    shown = run(["ssh-keygen", "-l", "-f", commands.folder / "ca.pub"], check=True).stdout.decode().split()[1]
-    assert f"ca {shown}" in commands.lines()
+    assert f"ca {fingerprint(commands.folder / 'ca.pub')}" in commands.lines()
 
 
 def test_one_login_is_granted_and_the_refusal_is_the_lists(commands):

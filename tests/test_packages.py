@@ -12,6 +12,7 @@ import importlib.util
 import json
 import os
 import pathlib
+import pty
 import re
 import shutil
 import subprocess
@@ -27,8 +28,6 @@ PAGE = TOP / "docs/INSTALLING.md"
 NAMES = ["vethlumi-office", "vethlumi-front", "vethlumi-station", "vethlumi-client"]
 MACHINES = ("station", "office", "server", "client")
 OLDER = "0.9.0"
-# What alice types on the page, and no administrator.
-OF_ALICE = ("ssh-keygen ", "vethlumi request ", "ssh -i alice ", "until ! ssh -i alice ")
 # Servers fetch the list more often than in service, so that tests are sooner done.
 OFTEN = "[Timer]\nOnUnitInactiveSec=5s\nRandomizedDelaySec=0\n"
 # The tests on booted machines, one after the other: each has all four.
@@ -111,7 +110,8 @@ def test_lintian_finds_nothing(packages):
     """What is overridden has a reason beside it."""
     if not shutil.which("lintian"):
         left_out("lintian isn't installed")
-    found = run(["lintian", "--allow-root", "--fail-on", "error,warning", *[of(packages, it) for it in NAMES]])
+    words = ["lintian", "--allow-root", "--fail-on", "error,warning"]
+    found = run([*words, *[of(packages, it) for it in NAMES]], timeout=500)
     assert (0, "") == (found.returncode, found.stdout.decode())
     for name in NAMES:
         lines = (TOP / f"debian/{name}.lintian-overrides").read_text().splitlines()
@@ -150,9 +150,63 @@ def test_each_file_of_the_examples_is_as_it_stands_there(unpacked):
 def test_alerts_look_at_metrics_that_there_are():
     text = (TOP / "client/vethlumi/figures.py").read_text() + (TOP / "client/vethlumi/reports.py").read_text()
     printed = {f"office_{it}" for it in re.findall(r'"([a-z_]+)", "[A-Z]', text)}
+    printed |= {*re.findall(r"^# TYPE (\w+) gauge$", (TOP / "examples/fetch-list").read_text(), re.M)}
     rules = re.findall(r"^ +expr: (.*)$", (TOP / "examples/alerts.yml").read_text(), re.M)
-    assert 7 == len(rules) and "office_up" in printed
+    assert 9 == len(rules) and {"office_up", "office_list_taken"} < printed
     assert set() == {it for rule in rules for it in re.findall(r"\boffice_\w+", rule)} - printed
+
+
+# The metrics of an office and a server that are as they should be, in promtool's form for series: the value at time 0,
+# what it grows by in each minute, and for how many minutes.
+HEALTHY = {
+    "office_up": "1+0x90", "office_pending_since_seconds": "60+0x90", "office_serials_left": "1000000+0x90",
+    "office_cas": "6+0x90", "office_list_versions_left": "1000000+0x90", "office_answer_seconds": "0.1+0x90",
+    'node_textfile_mtime_seconds{file="/var/lib/prometheus/node-exporter/office.prom"}': "0+60x90",
+    'node_textfile_mtime_seconds{file="/var/lib/prometheus/node-exporter/other.prom"}': "0+0x90",
+    "office_list_stated_timestamp_seconds": "0+60x90", "office_list_taken": "1+0x90",
+}
+MTIME = 'node_textfile_mtime_seconds{file="/var/lib/prometheus/node-exporter/office.prom"}'
+# What is otherwise, and which alerts are raised.
+ALERTS = [
+    ({}, []), ({"office_up": "0+0x90"}, ["OfficeAway"]), ({"office_up": "_x90"}, ["OfficeUnseen"]),
+    ({MTIME: "0+0x90"}, ["OfficeUnseen"]), ({"office_pending_since_seconds": "0+60x90"}, ["NobodySigns"]),
+    ({"office_serials_left": "99999+0x90"}, ["FewSerialsLeft"]), ({"office_cas": "7+0x90"}, ["ManyCAs"]),
+    ({"office_list_versions_left": "99999+0x90"}, ["FewListVersionsLeft"]),
+    ({"office_answer_seconds": "11+0x90"}, ["SlowOffice"]),
+    ({"office_list_stated_timestamp_seconds": "0+0x90"}, ["StaleList"]),
+    ({"office_list_taken": "0+0x90"}, ["RefusedList"]),
+]
+
+
+@pytest.fixture(scope="session")
+def promtool(tmp_path_factory):
+    """Prometheus' own tool. Its package would start a server if it were installed, so it is only laid out."""
+    with shared(tmp_path_factory, "prometheus") as folder:
+        if not folder.exists():
+            new = folder.with_name("prometheus.new")
+            shutil.rmtree(new, ignore_errors=True)
+            new.mkdir()
+            if run(["apt-get", "download", "prometheus"], cwd=new).returncode:
+                left_out("apt can't fetch the package prometheus")
+            package, = new.glob("*.deb")
+            run(["dpkg-deb", "-x", package, new], check=True)
+            new.rename(folder)
+    return folder / "usr/bin/promtool"
+
+
+@pytest.mark.parametrize("otherwise, due", ALERTS, ids=[" ".join(it[1]) or "none" for it in ALERTS])
+def test_prometheus_raises_the_alerts(promtool, room, otherwise, due):
+    """After 80 minutes."""
+    rules = TOP / "examples/alerts.yml"
+    assert b"SUCCESS: 9 rules found" in run([promtool, "check", "rules", rules], check=True).stdout
+    raised = {"expr": 'count by (alertname) (ALERTS{alertstate="firing"})', "eval_time": "80m",
+              "exp_samples": [{"labels": f'{{alertname="{it}"}}', "value": 1} for it in due]}
+    series = [{"series": name, "values": values} for name, values in (HEALTHY | otherwise).items()]
+    # What is JSON is YAML.
+    (room / "test.yml").write_text(json.dumps({"rule_files": [str(rules)], "evaluation_interval": "1m", "tests": [
+        {"interval": "1m", "input_series": series, "promql_expr_test": [raised]}]}))
+    done = run([promtool, "test", "rules", "test.yml"])
+    assert 0 == done.returncode, (done.stdout + done.stderr).decode()
 
 
 def test_each_program_that_a_unit_names_is_in_a_package(unpacked):
@@ -168,7 +222,7 @@ def test_each_command_has_a_manual_page_with_its_options(unpacked):
         told = run(["man", "--warnings", "-E", "UTF-8", "-l", found[0]], env=os.environ | {"MANWIDTH": "200"})
         assert b"" == told.stderr, command.name
         text = re.sub(r".\x08", "", told.stdout.decode())
-        assert f"{command.name} - " in text
+        assert f"{command.name} - " in text and re.search("^SYNOPSIS$", text, re.M)
         helped = help_of(unpacked, command)
         options = {*re.findall(r"^ +(?:-\w, )?(--[a-z-]+)", helped, re.M)}
         assert [] == sorted(it for it in options if it not in text), command.name
@@ -201,6 +255,7 @@ printf '%s\\n' "${{COMPREPLY[@]}}"
     ("sshoffice ser", ["serve"]), ("sshoffice init --fir", ["--first"]), ("authority rev", ["revoke"]),
     ("fetch-list --cac", ["--cacert"]), ("vethlumi-front-setup --au", ["--authority"]), ("sshstation ju", ["judge"]),
     ("vethlumi depart", ["department"]), ("vethlumi request --princ", ["--principals"]),
+    ("vethlumi-install serv", ["server"]), ("vethlumi-install office --stat", ["--station"]),
 ])
 def test_bash_completes(unpacked, words, due):
     name = words.split()[0]
@@ -358,8 +413,34 @@ def test_a_set_up_asks_or_wants_yes(room):
     steps = common.Steps(argparse.Namespace(yes=False), "set-up")
     steps.file(room / "file", "one\n")
     done = run(["/usr/bin/python3", "-B", "-c", SET_UP_ALONE, TOP / "setup", room / "file"])
-    assert (1, False) == (done.returncode, (room / "file").exists())
+    assert (2, False) == (done.returncode, (room / "file").exists())
     assert b"write" in done.stderr and b"give --yes" in done.stderr
+
+
+@pytest.mark.parametrize("typed_, due", [("y\n", "one\n"), ("\n", None), ("yes\n", "one\n"), ("\x04", None)],
+                         ids=["y", "nothing", "yes", "the end"])
+def test_a_set_up_asks_at_a_terminal(room, typed_, due):
+    ours, theirs = pty.openpty()
+    words = ["/usr/bin/python3", "-B", "-c", SET_UP_ALONE, TOP / "setup", room / "file"]
+    with subprocess.Popen(words, stdin=theirs, stdout=subprocess.PIPE, stderr=subprocess.PIPE) as asking:
+        os.write(ours, typed_.encode())
+        out, told = asking.communicate(timeout=60)
+    for it in (ours, theirs):
+        os.close(it)
+    assert (due is None, due) == (asking.returncode == 1, (room / "file").read_text() if due else None)
+    assert b"set-up will do this:\n  write " in told and b"Go on? [y/N] " in out + told
+
+
+def test_what_nobody_gave_is_asked_at_a_terminal(monkeypatch):
+    common = load("setting_up.py")
+    monkeypatch.setattr("builtins.input", lambda shown: {"Who [ana]: ": "", "Whom: ": " bob "}[shown])
+    monkeypatch.setattr(common.sys.stdin, "isatty", lambda: True, raising=False)
+    assert ("given", "ana", "bob") == (common.answer("Who", "given", "ana"), common.answer("Who", None, "ana"),
+                                       common.answer("Whom", None))
+    monkeypatch.setattr(common.sys.stdin, "isatty", lambda: False)
+    assert "ana" == common.answer("Who", None, "ana")
+    with pytest.raises(common.Fault, match="Whom[?] Nobody answers here: give --whom"):
+        common.answer("Whom", None, option="--whom")
 
 
 SET_UP_ALONE = """
@@ -370,6 +451,146 @@ sys.argv = ["set-up", sys.argv[2]]
 sys.exit(setting_up.main("set-up", "usage: set-up FILE\\n\\nSets up.", lambda parser: parser.add_argument("file"),
                          lambda given, steps: (steps.file(given.file, "one\\n"), steps.carry_out()), False))
 """
+
+
+# ---- one machine that installs the others
+
+# Stands for ssh, scp and the set-up command of this machine: writes down what it is told, and gives what it has.
+STAND_IN = """#!/usr/bin/python3 -B
+import json, pathlib, re, shlex, sys
+name, room = pathlib.Path(sys.argv[0]).name, pathlib.Path(__file__).parent.parent
+words = [it for it in sys.argv[1:] if not re.search("^(-o|-q|Connect.*|Server.*)$", it)]
+if name == "ssh":
+    words = [words[0], *shlex.split(words[1])]
+with open(room / "said", "a") as it:
+    it.write(json.dumps([name, words, sys.stdin.read()]) + chr(10))
+for form, text in json.loads((room / "answers").read_text()).items():
+    if re.fullmatch(form, " ".join(words)):
+        print(text, end="")
+        sys.exit()
+sys.exit("nothing is known of " + " ".join(words))
+"""
+ANSWERS = {
+    r".* test -e \S+ && echo yes \|\| true": "yes\n",
+    ".* dpkg .*": "amd64\n", ".* (env DEBIAN_FRONTEND=noninteractive apt-get install|rm -f) .*": "",
+    ".*-setup .*|--hosts .*": "", r".*\.deb \S+@\S+:": "", ".*/first.office": "[ca]\nthe line\n",
+    ".*/cas.pub": f"{CA} first\n", r".*/(\S+)\.bundle": "[office]\nhttps://office:8443\n",
+}
+FINGERPRINT = "SHA256:" + 43 * "."
+CLIENT = ["client", "--office", "o", "--station", "s"]
+
+
+class Installing:
+    """`vethlumi-install` in a room of its own, with stand-ins for the programs that it runs."""
+
+    def __init__(self, room):
+        self.room = room
+        (room / "bin").mkdir()
+        for it in ("ssh", "scp", "vethlumi-client-setup"):
+            (room / "bin" / it).write_text(STAND_IN)
+            (room / "bin" / it).chmod(0o755)
+        for name in NAMES:
+            (room / f"{name}_1.0.0_{'all' if name in ('vethlumi-front', 'vethlumi-client') else 'amd64'}.deb").touch()
+
+    def __call__(self, *words, **answers):
+        """The status, what was told, and what the programs were told: the program, its words, its input."""
+        answers |= {form: it for form, it in ANSWERS.items() if form not in answers}
+        (self.room / "answers").write_text(json.dumps(answers))
+        (self.room / "said").write_text("")
+        done = run([TOP / "setup/vethlumi-install", *words], cwd=self.room,
+                   env=os.environ | {"PATH": f"{self.room}/bin:{os.environ['PATH']}"})
+        said = [json.loads(it) for it in (self.room / "said").read_text().splitlines()]
+        return done.returncode, done.stderr.decode(), [(*it[1], *([it[2]] if it[2] else [])) for it in said]
+
+
+@pytest.fixture
+def installing(room):
+    return Installing(room)
+
+
+def test_what_is_installed_on_the_station(installing):
+    status, told, said = installing("station", "s.example.org", "--principals", "alice", "--yes")
+    assert 0 == status, told
+    name = "vethlumi-station_1.0.0_amd64.deb"
+    assert [(name, "root@s.example.org:"),
+            ("root@s.example.org", "env", "DEBIAN_FRONTEND=noninteractive", "apt-get", "install", "-y", "-o",
+             "Dpkg::Options::=--force-confold", f"./{name}"),
+            ("root@s.example.org", "rm", "-f", f"./{name}"),
+            ("root@s.example.org", "vethlumi-station-setup", "--principals", "alice", "--yes")] == said[1:]
+
+
+def test_what_is_there_is_not_installed_again(installing):
+    there = {".* dpkg .*": "amd64\ninstalled vethlumi-office 1.0.0\ninstalled vethlumi-front 0.9.0\n"
+                           "config-files vethlumi-station 1.0.0\n"}
+    status, told, said = installing("office", "o", "--station", "s", "--yes", **there)
+    assert (0, ("vethlumi-front_1.0.0_all.deb", "root@o:")) == (status, said[2]), told
+    _, _, said = installing("station", "o", "--yes", **there)
+    assert ("vethlumi-station_1.0.0_amd64.deb", "root@o:") == said[1]
+    # Packages that came from elsewhere need no files.
+    for it in installing.room.glob("*.deb"):
+        it.unlink()
+    assert 0 == installing("office", "o", "--station", "s", "--yes", **there)[0]
+    assert (1, True) == (lambda it: (it[0], "has no vethlumi-station_" in it[1]))(installing("station", "o", **there))
+
+
+def test_what_machines_make_is_carried_to_others(installing):
+    """As a user who isn't root on two of them."""
+    status, told, said = installing("office", "o", "--station", "ana@s", "--port", "443", "--yes")
+    assert 0 == status, told
+    assert [("root@o", "vethlumi-front-setup", "--port", "443", "--yes", "o"),
+            ("ana@s", "sudo", "-n", "cat", "/etc/vethlumi/station/first.office"),
+            ("root@o", "vethlumi-office-setup", "--yes", "-", "[ca]\nthe line\n"),
+            ("root@o", "cat", "/var/lib/vethlumi-authority/station.bundle"),
+            ("ana@s", "sudo", "-n", "vethlumi-station-setup", "--yes", "-", "[office]\nhttps://office:8443\n"),
+            ] == [it for it in said if re.search("setup|cat", " ".join(it))]
+    status, told, said = installing("server", "bob@web.example.org", "--office", "o", "--station", "s", "--yes")
+    assert 0 == status, told
+    fingerprint = said[-1][-3]
+    assert [("root@o", "vethlumi-front-setup", "--server", "web.example.org", "--yes"),
+            ("root@s", "cat", "/etc/vethlumi/station/cas.pub"),
+            ("root@o", "cat", "/var/lib/vethlumi-authority/web.example.org.bundle"),
+            ("bob@web.example.org", "sudo", "-n", "vethlumi-server-setup", "--yes", "--ca", fingerprint, "-",
+             f"{CA} first\n[office]\nhttps://office:8443\n")] == said[6:]
+    assert re.fullmatch(FINGERPRINT, fingerprint)
+    status, told, said = installing(*CLIENT, "--hosts", "*.org", "--yes")
+    assert 0 == status, told
+    assert ("--hosts", "*.org", "--yes", "--ca", fingerprint, "-",
+            f"{CA} first\n[office]\nhttps://office:8443\n") == said[-1]
+    status, told, said = installing(*CLIENT)
+    assert (2, True) == (status, "nobody can be asked here" in told)
+    assert [] == [it for it in said if "cat" in it]
+
+
+@pytest.mark.parametrize("words, why", [
+    (["station"], "station needs MACHINE"), (["client", "c"], "no MACHINE here: c"), ([], "arguments are required"),
+    (["stations", "s"], "invalid choice"), (["station", "a b"], "no machine"), (["station", "ana;x@s"], "no machine"),
+    (["station", "s/t"], "no machine"), ([*CLIENT, "--office=-oProxyCommand=x"], "no machine"),
+    (["office", "o"], "give --station too"), (["server", "s", "--station", "s"], "give --office too"),
+])
+def test_bad_words_install_nothing(installing, words, why):
+    status, told, said = installing(*words)
+    assert (2, True, []) == (status, why in told, said), told
+
+
+NOT_THERE = r".* test -e \S+/{} && echo yes \|\| true"
+
+
+@pytest.mark.parametrize("words, answers, why", [
+    # A machine that isn't set up yet.
+    (["office", "o", "--station", "s", "--yes"], {NOT_THERE.format("first.office"): ""},
+     "s has no /etc/vethlumi/station/first.office: first type vethlumi-install station s"),
+    (["server", "c", *CLIENT[1:], "--yes"], {NOT_THERE.format("station.bundle"): ""},
+     "first type vethlumi-install office o"),
+    # A station's machine that gives something else, or an office's that brings a CA of its own.
+    ([*CLIENT, "--yes"], {".*/cas.pub": ""}, "something else than CAs' public keys"),
+    ([*CLIENT, "--yes"], {".*/cas.pub": f"{CA}\n[office]\n"}, "something else"),
+    ([*CLIENT, "--yes"], {r".*/admin\.bundle": f"{CA}\n[office]\n"}, "has no bundle"),
+    (["station", "s", "--yes"], {".* dpkg .*": "s390x\n"}, "has no vethlumi-station_.._s390x.deb"),
+])
+def test_what_is_not_installed(installing, words, answers, why):
+    status, told, said = installing(*words, **answers)
+    assert (1, True) == (status, why in told), told
+    assert [] == [it for it in said if re.search("setup|apt-get", " ".join(it))]
 
 
 # ---- machines
@@ -432,13 +653,21 @@ class Fleet(boxes.Rack):
         self.packages, self.shells = packages, {}
 
     def furnish(self, box):
-        if box.name == "office":
-            box.may_log_in()
         box.write("etc/systemd/system/office-list.timer.d/often.conf", OFTEN)
-        # On the page the administrator copies them from the office's machine to the others.
-        if box.name == "office" or box.name not in MACHINES:
-            for name in NAMES:
-                shutil.copy(of(self.packages, name), box.files / "root")
+        if box.name == "client":
+            self.furnish_client(box)
+
+    def furnish_client(self, box):
+        """What the page says of the machine from which the others are administered: it has the packages, may log in to
+        the others, and knows their keys."""
+        for name in NAMES:
+            shutil.copy(of(self.packages, name), box.files / "root")
+        box.write("root/.ssh/id_ed25519", self.key, 0o600)
+        box.write("root/.ssh/config", "StrictHostKeyChecking yes\n", 0o600)
+        if not self.kept:
+            key = (box.files / "etc/ssh/ssh_host_ed25519_key.pub").read_text()
+            others = ",".join(f"{it}.{boxes.DOMAIN}" for it in MACHINES if it != box.name)
+            box.write("root/.ssh/known_hosts", f"{others} {key}", 0o600)
 
     def type(self, text):
         """Types the blocks of a text, each on its machine, and returns the lines that were printed."""
@@ -465,13 +694,40 @@ def typed(text):
             for line in block.commands.replace("\\\n", " ").replace("|\n", "| ").splitlines()]
 
 
-def test_an_administrator_types_at_most_twelve_commands():
-    """Copies among them, and on one screen: up to the refused login the page has at most 66 lines."""
+def test_the_page_has_at_most_twelve_commands():
+    """Alice's among them, and the copy of the packages to the machine on which all are typed. None is made of several
+    but the last, which waits. Up to the refused login the page is one screen: at most 66 lines."""
     text = PAGE.read_text()
     commands_ = typed(text)
-    assert 12 >= len([it for _, it in commands_ if not it.startswith(OF_ALICE)])
+    assert {"client"} == {machine for machine, _ in commands_}
+    assert 12 >= len(commands_) + 1
+    assert [] == [it for _, it in commands_[:-1] if re.search(r"[;|&<>]|^(for|until|while) ", it)]
     assert "ssh -i alice" in commands_[-1][1]
     assert 66 >= text[:text.index(commands_[-1][1])].count("\n")
+
+
+def recording():
+    """What the page shows of what is printed, without the commands and what was cut: lines in their order."""
+    shown, = re.findall(r"^```text\n(.*?)^```$", PAGE.read_text(), re.M | re.S)
+    return [it for it in shown.splitlines() if not it.startswith("root@client# ") and it.strip() != "..."]
+
+
+def test_the_recording_has_the_commands_of_the_page():
+    shown = re.findall(r"^root@client# (.*)$", PAGE.read_text(), re.M)
+    assert [it for _, it in typed(PAGE.read_text())] == shown
+    assert 20 <= len(shown) + len(recording()) <= 25
+
+
+def is_as_shown(shown, printed):
+    """Whether these lines were printed in this order, but for what is of each CA alone."""
+    lines = (re.sub(FINGERPRINT, "SHA256:..", it) for it in printed)
+    return all(re.sub(FINGERPRINT, "SHA256:..", it) in lines for it in shown)
+
+
+# The private keys that each machine then has, but for those of SSH itself, and for those of the office.
+PRIVATE = {"station": ["/etc/vethlumi/station/first.key", "/etc/vethlumi/station/station.pem"],
+           "server": ["/etc/vethlumi/host.pem"], "client": ["/root/.config/vethlumi/admin.pem", "/root/alice"]}
+FIND_KEYS = "grep -rlE '^-----BEGIN .*PRIVATE KEY' /etc/vethlumi /home /root /srv /tmp /var --exclude-dir=.ssh || true"
 
 
 def install(room, base, packages, kept):
@@ -486,7 +742,10 @@ def install(room, base, packages, kept):
         seconds = time.monotonic() - begun
         seen = [it for it in printed if it in ("granted", "refused")]
         assert ("granted", "refused", 1) == (seen[0], seen[-1], seen.count("refused")), "\n".join(printed)
+        assert is_as_shown(recording(), printed), "\n".join(printed)
         assert 600 > seconds
+        found = {name: sorted(fleet.boxes[name].says(f"{FIND_KEYS} 2>/dev/null").split()) for name in PRIVATE}
+        assert PRIVATE == found, "no machine has a key that it doesn't need"
         print(f"figure: from made packages and booted boxes to a refused login in {seconds:.0f} s")
         fleet.end_shells()
         fleet.keep(kept)

@@ -16,15 +16,12 @@ import pytest
 from cryptography.exceptions import InvalidSignature
 from cryptography.hazmat.primitives import serialization
 
-from asking import LATEST, department, issue, post, revoke_keyid, revoke_serial
-from running import TOP, Office, run
+from asking import EVERYTHING, EXTENSIONS, LATEST, OPTIONS, department, issue, post, revoke_keyid, revoke_serial
+from running import TOP, Office, new_key, run
 from stations import Guard, Station
 
 pytestmark = pytest.mark.xdist_group("peers")
 
-OPTIONS = "force-command", "source-address", "verify-required"
-EXTENSIONS = ("no-touch-required", "permit-X11-forwarding", "permit-agent-forwarding", "permit-port-forwarding",
-              "permit-pty", "permit-user-rc")
 NOW = int(time.time())
 HOUR = {"after": NOW - 60, "before": NOW + 7200}
 USER, HOST = 1, 2
@@ -63,16 +60,14 @@ def made(program, sshstation, tmp_path_factory):
     folder = tmp_path_factory.mktemp("peers")
     office, other = (Office(program, folder / f"{it}.db") for it in ("office", "other"))
     lines = {}
-    web = department("web", principals="alice,bob,*@example.org", options=OPTIONS, extensions=EXTENSIONS,
-                     maxlife=LATEST)
+    web = department("web", principals="alice,bob,*@example.org", **EVERYTHING)
     db = department("db", kind="host", principals="localhost,*.example.org")
     guard = Guard(sshstation, folder / "guard.db", office.ca, web + db)
     with office.serving() as served:
         for name, message in (("web", web), ("db", db)):
             assert 200 == served.post("root", name, message).status
         for name, words in ASKED.items():
-            run(["ssh-keygen", "-q", "-t", "ed25519", "-N", "", "-C", name, "-f", folder / name], check=True)
-            key = (folder / f"{name}.pub").read_text().strip()
+            key = new_key(folder / name)
             assert f"issued {SERIALS[name]}" == served.post("root", name, issue(key=key, **words)).text.split("\n")[0]
         assert [*SERIALS.values()] == Station(guard, served.url, ["--key", office.ca_key]).sign()
         for name, serial in SERIALS.items():

@@ -20,15 +20,14 @@ from hypothesis import HealthCheck, Phase, settings
 from hypothesis import strategies as some
 from hypothesis.stateful import RuleBasedStateMachine, initialize, precondition, rule, run_state_machine_as_test
 
-from asking import (CA, LAST_SERIAL, LATEST, answers, deliver, department, exchange, exchanges_of, get, issue,
-                    key_blob, key_line, post, renew, revoke_keyid, revoke_range, revoke_serial, rollover,
-                    write_exchanges)
+from asking import (CA, LAST_SERIAL, LATEST, deliver, department, exchange, get, issue, key_blob, key_line, post, renew,
+                    revoke_keyid, revoke_range, revoke_serial, rollover)
 from plain_office import PlainOffice
-from running import ROWS, Office, run
+from running import ROWS, Office, applied, worked
 
 # A history has so many steps at most, and twenty or more by the mean.
 MOST_STEPS, MEAN_STEPS = 50, 20
-DEPARTMENT = exchanges_of((ROWS / "the-department-of-the-trial-office.exchange").read_bytes())
+DEPARTMENT, _ = worked("the-department-of-the-trial-office")
 
 # Rows whose requests have heads that are no good ones. The office in Python reads none of these.
 OTHER_HEADS = {"a-cut-request-is-refused", "a-head-is-judged-before-its-body", "records-are-read-whole"}
@@ -45,8 +44,8 @@ def test_the_office_in_python_gives_the_rows(name):
     office = plain_office(*map(int, opening.read_text().split()[1::2])) if opening.exists() else plain_office()
     for one in [] if opening.exists() else DEPARTMENT:
         office.answer(*one)
-    wanted = answers((ROWS / f"{name}.expected").read_bytes())
-    assert wanted == [office.answer(*one) for one in exchanges_of((ROWS / f"{name}.exchange").read_bytes())]
+    exchanges, due = worked(name)
+    assert due == [office.answer(*one) for one in exchanges]
 
 
 # ---- what is asked
@@ -228,8 +227,7 @@ class Registers(RuleBasedStateMachine):
     def in_memory(self, asked, due):
         """The trial office's lists. It has other serials than an office that may run out of them."""
         if self.last == LAST_SERIAL:
-            file = write_exchanges("some.exchange", asked)
-            assert due == answers(run([self.program, "apply", file]).stdout), "in memory"
+            assert due == applied(self.program, asked), "in memory"
 
     def in_a_file(self, asked, due):
         office = Office(self.program, f"{next(self.count)}.db", ca=CA, last=self.last)

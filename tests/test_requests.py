@@ -5,9 +5,9 @@ status are those of the table in docs/FORMATS.md.
 """
 import pytest
 
-from asking import answers, exchange, get, issue, write_exchanges
+from asking import DIGEST, exchange, get, issue
 from asking import post as posted
-from running import refusals, rows, run
+from running import applied, refusals, rows
 
 pytestmark = pytest.mark.rows
 
@@ -16,7 +16,7 @@ HEAD = posted("ana", "i1", MESSAGE).removesuffix(MESSAGE)
 LONGEST_NAME = b"abcdefghijklmnopqrstuvwxyz012345"
 
 # Each row is a request, and the name of its refusal, or what the response's head and body begin with.
-ISSUED = b"HTTP/1.1 200 OK\r\n", b"issued 1\ndigest 82e0c34fe67da3fc3dc1be6682073994ec021449271b641cdd36180e95572e79\n"
+ISSUED = b"HTTP/1.1 200 OK\r\n", f"issued 1\ndigest {DIGEST}\n".encode()
 OK = b"HTTP/1.1 200 OK\r\n", b""
 
 
@@ -55,7 +55,7 @@ LIMITS = [(b"GET /v1/krl HTTP/1.1\r\n" + lines + b"\r\n", wanted) for lines, wan
 
 # What each resource begins with in the trial office once `POSTS` were sent.
 RESOURCES = [
-    (b"/v1/pending", b"1 82e0c34fe67da3fc3dc1be6682073994ec021449271b641cdd36180e95572e79\n"),
+    (b"/v1/pending", f"1 {DIGEST}\n".encode()),
     (b"/v1/certs/1/body", b"\0\0\0\x20ssh-ed25519-cert-v01@openssh.com"),
     (b"/v1/krl", b"SSHKRL\n\0"),
     (b"/v1/signers", b""),
@@ -101,9 +101,8 @@ def name_of(row):
 @pytest.fixture(scope="module")
 def given(program, tmp_path_factory):
     """The responses to all requests, for which the trial office is asked one after the other."""
-    file = tmp_path_factory.mktemp("requests") / "requests.exchange"
-    write_exchanges(file, [exchange(request, 1000, 0x33) for _, request, _ in ROWS])
-    return answers(run([program, "apply", file]).stdout)
+    exchanges = [exchange(request, 1000, 0x33) for _, request, _ in ROWS]
+    return applied(program, exchanges, tmp_path_factory.mktemp("requests"))
 
 
 # The status line and the body of each refusal, by its name.

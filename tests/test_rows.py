@@ -6,13 +6,12 @@ the last answer that it was given before, so that an accepted message gets its k
 change. What else the repeat has to print stands in NAME.again. An office with other serials than the trial office's, or
 without its department, has the words of its opening in NAME.office, and is run in a file alone.
 """
-import dataclasses
 import re
 
 import pytest
 
 from asking import CA, LAST_SERIAL, answers, exchange, exchanges_of, get, write_exchanges
-from running import ROWS, Office, run
+from running import ROWS, Office, said, sql
 
 pytestmark = pytest.mark.rows
 
@@ -20,19 +19,13 @@ NAMES = sorted(path.stem for path in ROWS.glob("*.exchange"))
 DEPARTMENT = ROWS / "the-department-of-the-trial-office.exchange"
 
 
-@dataclasses.dataclass
 class Row:
     """The files of a row: requests, what is printed, and perhaps the opening and what the repeat prints."""
-    exchanges: list
-    expected: bytes
-    opening: list
-    again: bytes
 
-    @classmethod
-    def read(cls, name):
+    def __init__(self, name):
         parts = {path.suffix: path.read_bytes() for path in ROWS.glob(f"{name}.*")}
-        opening = list(map(int, re.findall(rb"\d+", parts.get(".office", b""))))
-        return cls(exchanges_of(parts[".exchange"]), parts[".expected"], opening, parts.get(".again"))
+        self.exchanges, self.expected = exchanges_of(parts[".exchange"]), parts[".expected"]
+        self.opening, self.again = [*map(int, re.findall(rb"\d+", parts.get(".office", b"")))], parts.get(".again")
 
     def last_answers(self):
         """To each request the last answer that it was given."""
@@ -48,20 +41,19 @@ class Row:
 
 def printed(program, *words):
     """What the program prints, and then its fault."""
-    done = run([program, *words])
-    return done.stdout + done.stderr
+    return b"".join(said([program, *words])[1:])
 
 
-@pytest.mark.parametrize("name", [name for name in NAMES if not Row.read(name).opening])
+@pytest.mark.parametrize("name", [name for name in NAMES if not Row(name).opening])
 def test_in_memory(name, program):
-    assert Row.read(name).expected == printed(program, "apply", ROWS / f"{name}.exchange")
+    assert Row(name).expected == printed(program, "apply", ROWS / f"{name}.exchange")
 
 
 @pytest.fixture(params=NAMES)
 def filed(request, program, room):
     """A row, an office in a file of its opening, and what the row's requests print of it."""
     name = request.param
-    row = Row.read(name)
+    row = Row(name)
     first, last = row.opening or (1, LAST_SERIAL)
     office = Office(program, ca=CA, first=first, last=last)
     if not row.opening:
@@ -84,10 +76,10 @@ def test_reports_as_commands(filed):
 
 def test_again(filed):
     row, office, _ = filed
-    tables = run(["sqlite3", office.db, ".dump"], check=True).stdout
+    tables = sql(office.db, ".dump")
     file = write_exchanges("again", [exchange(one.request, one.moment ^ 1, 0xee) for one in row.exchanges])
     assert row.printed_again() == printed(office.program, "apply", "--db", office.db, file)
-    assert tables == run(["sqlite3", office.db, ".dump"], check=True).stdout, "a repeat changes no table"
+    assert tables == sql(office.db, ".dump"), "a repeat changes no table"
 
 
 def test_the_table_of_rows_names_each_file():

@@ -11,7 +11,7 @@ import time
 import pytest
 
 from asking import department, post, revoke_serial
-from running import EXAMPLES, free_port, run, until
+from running import EXAMPLES, free_port, is_revoked, new_key, run, until
 
 pytestmark = pytest.mark.xdist_group("scripts")
 
@@ -23,17 +23,9 @@ def script(name, *words, **environment):
     return done.returncode, done.stdout.decode(), errors[-1] if errors else ""
 
 
-def new_key(name):
-    run(["ssh-keygen", "-q", "-t", "ed25519", "-N", "", "-C", name, "-f", name], check=True)
-
-
 def shown(certificate):
     """What ssh-keygen shows of a certificate, as lines without spaces around them."""
     return [it.strip() for it in run(["ssh-keygen", "-L", "-f", certificate], check=True).stdout.decode().splitlines()]
-
-
-def is_revoked(krl, certificate):
-    return {0: False, 1: True}[run(["ssh-keygen", "-Q", "-f", krl, certificate]).returncode]
 
 
 @pytest.mark.parametrize("name", ["front/authority", "request", "ca-line", "list-of-table", "figures", "fetch-list"])

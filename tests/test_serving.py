@@ -16,14 +16,14 @@ import time
 
 import pytest
 
-from asking import LATEST, answers, department, exchanges_of, get, issue, key_line, post, rollover
-from running import ROWS, Office, preloaded, run, until
+from asking import LATEST, department, get, issue, key_line, post, rollover
+from running import ROWS, Office, listening, preloaded, run, said, until, worked
 
 
 def row(name):
     """The requests of a row, each with the response that is due to it."""
-    requests = [it.request for it in exchanges_of((ROWS / f"{name}.exchange").read_bytes())]
-    return list(zip(requests, answers((ROWS / f"{name}.expected").read_bytes()), strict=True))
+    exchanges, due = worked(name)
+    return list(zip([it.request for it in exchanges], due, strict=True))
 
 
 # The list of an office where nothing is revoked.
@@ -77,9 +77,8 @@ def offices(program, tmp_path_factory):
 class Server:
     """A server that listens, and stands still until it is told to go on."""
 
-    def __init__(self, process):
-        self.process, self.line = process, process.stdout.readline()
-        self.port = int(self.line.removeprefix(b"listening "))
+    def __init__(self, process, line):
+        self.process, self.line, self.port = process, line, int(line.removeprefix(b"listening "))
         self.stop()
 
     def stop(self):
@@ -122,15 +121,10 @@ class System:
         """A server of so many connections, over a copy of an office. It stands still."""
         shutil.copy(self.offices / office, "copy.db")
         words = f"serve --db copy.db --port 0 --connections {connections} --nonces {nonces}".split()
-        process = subprocess.Popen([self.program, *words], stdout=subprocess.PIPE, stderr=subprocess.PIPE, bufsize=0,
-                                   env=self.environment(strange))
-        try:
-            yield Server(process)
-        finally:
-            process.kill()
-            process.communicate()
-            for file in pathlib.Path().glob("copy.db*"):
-                file.unlink()
+        with listening([self.program, *words], env=self.environment(strange)) as begun:
+            yield Server(*begun)
+        for file in pathlib.Path().glob("copy.db*"):
+            file.unlink()
 
     def met(self, *requests, connections=None, **how):
         """What clients are given that send these requests, and how the server ends."""
@@ -154,8 +148,7 @@ class System:
             return [given(peer)], server.ended()
 
     def selftest(self, **strange):
-        done = run([self.program, "selftest"], env=self.environment(strange))
-        return done.returncode, done.stdout, done.stderr
+        return said([self.program, "selftest"], env=self.environment(strange))
 
 
 @pytest.fixture
@@ -252,8 +245,7 @@ def test_a_port_is_printed_and_taken(system, program, offices):
         peer = server.client(LIST)
         shutil.copy(offices / "web.db", "beside.db")
         words = f"serve --db beside.db --port {server.port} --connections 1 --nonces /dev/zero"
-        done = run([program, *words.split()])
-        assert (1, b"", b"sshoffice: Socket\n") == (done.returncode, done.stdout, done.stderr)
+        assert (1, b"", b"sshoffice: Socket\n") == said([program, *words.split()])
         server.go_on()
         assert (NO_LIST, ends()) == (given(peer), server.ended())
 
@@ -302,18 +294,14 @@ def test_a_longest_body_is_served(system):
     assert (b"refused 7 BadMessage\n", NO_LIST, ends()) == (refused.partition(b"\r\n\r\n")[2], other, end)
 
 
-def nonce(body):
-    """The nonce of a certificate's body: a string behind the name of the format."""
-    return body[40:72]
-
-
 def nonces_of(office, places, **how):
-    """The nonces of certificates that are issued by one server, in a department that it makes. A connection each."""
+    """The nonces of certificates that are issued by one server, in a department that it makes. A connection each. In a
+    certificate's body the nonce is a string behind the name of the format."""
     with office.serving(**how) as served:
         asked = [served.post("root", f"web{places[0]}", department())]
         asked += [served.post("ana", f"k{it}", issue(f"web/{it}")) for it in places]
         assert [200] * len(asked) == [it.status for it in asked]
-        return [nonce(served.get(f"/v1/certs/{it}/body").body) for it in places]
+        return [served.get(f"/v1/certs/{it}/body").body[40:72] for it in places]
 
 
 def test_each_certificate_has_a_nonce_of_its_own(office):

@@ -22,86 +22,87 @@ FINGERPRINT = "SHA256:SQfC+vTbLURn9cTkVxIS8fGQ3FKNAJWeB0o139+gV4M"
 MOST = 2 ** 64 - 1
 
 HELP = """\
-Says which SSH certificates a CA's key may sign
+Decides which SSH certificates a CA's key may sign
 
 Usage: sshstation <COMMAND>
 
 Commands:
-  init    Makes a guard in a new database
-  judge   Says of each body whether it may be signed, and keeps it if it may
-  bodies  Prints a line for each body that is approved
-  body    Prints the bytes of the body that is approved under a serial
-  policy  Prints the names of a policy's departments, or where it can't be read
+  init    Creates a guard in a new database
+  judge   Decides whether unsigned certificates may be signed, and records those that may
+  bodies  Prints one line per approved certificate
+  body    Prints the unsigned certificate that was approved under a serial
+  policy  Checks a policy and prints the names of its departments
   retire  Lowers the last serial
-  lists   Makes a file for lists, which has approved none yet
-  list    Says whether a list is the office's next one, and keeps it if it is
+  lists   Creates a guard of lists, which has approved no KRL yet
+  list    Decides whether a KRL may follow the last approved one, and records it if it may
   help    Print this message or the help of the given subcommand(s)
 
 Options:
   -h, --help     Print help
   -V, --version  Print version
 
-In this order:
-  1. init makes a guard in a new database, beside the CA's key.
-  2. policy says whether a policy can be read.
-  3. judge says of each certificate body whether it may be signed, and keeps it first.
-  4. lists makes a file for lists of what is revoked, and list says which is the next one.
+Typical order:
+  1. init creates a guard in a new database, on the machine with the CA's key.
+  2. policy checks a policy.
+  3. judge decides for each unsigned certificate (BODY) whether it may be signed. What it
+     approves is recorded before it is printed.
+  4. lists creates a guard of lists, and list decides whether a KRL may follow the last one.
 
-Status:
-  0  it is done
-  1  there was a fault, and its name stands on the standard error
-  2  the words are no command
+Exit status:
+  0  success
+  1  a fault, named on standard error
+  2  invalid arguments
 
 Example:
   sshstation judge --db guard.db --policy policy body
 
-Each command has its own help, as sshstation init --help.
-A value that begins with '-' is written --name=-value, and a word that begins with '-' comes after --.
+Each command has its own help, for example sshstation init --help.
+Write a value that begins with '-' as --OPTION=VALUE. Arguments that begin with '-' go after --.
 """
 
 HELP_OF_JUDGE = """\
-Says of each body whether it may be signed, and keeps it if it may
+Decides whether unsigned certificates may be signed, and records those that may
 
 Usage: sshstation judge [OPTIONS] --db <PATH> --policy <PATH> <BODY>...
 
 Arguments:
-  <BODY>...  The files of the bodies, or - for paths from the standard input
+  <BODY>...  The files of unsigned certificates, or - to read paths from standard input
 
 Options:
-      --db <PATH>        The guard's database, which init has made
-      --policy <PATH>    The file of the departments that may be signed for
-      --ahead <SECONDS>  How many seconds from now a certificate may begin; 3600 if left out
+      --db <PATH>        The guard's database, created by init
+      --policy <PATH>    The file with the policy: the departments that may be signed for
+      --ahead <SECONDS>  How many seconds from now a certificate's validity may begin [default: 3600]
   -h, --help             Print help
 
 Example:
   sshstation judge --db guard.db --policy policy body
 
-It prints a line for each body, in order: sign SERIAL DIGEST or refuse NAME.
-With - as its only BODY it reads paths from the standard input, one a line, and answers each
-before it reads the next. It then reads the policy's file again before each body.
+It prints one line per BODY, in order: sign SERIAL DIGEST or refuse NAME.
+If the only BODY is -, it reads paths from standard input, one per line, and answers each before it
+reads the next. It then reads the policy again before each BODY.
 """
 
 
 HELP_OF_LIST = """\
-Says whether a list is the office's next one, and keeps it if it is
+Decides whether a KRL may follow the last approved one, and records it if it may
 
 Usage: sshstation list [OPTIONS] --db <PATH> --ca <PATH> <LIST>
 
 Arguments:
-  <LIST>  The file of the list
+  <LIST>  The file with the KRL
 
 Options:
-      --db <PATH>  The file for lists, which lists --init has made
-      --ca <PATH>  The file with the public key line of a CA that the list may speak of; again for each
-      --begin      Takes a first list, where none was approved yet
+      --db <PATH>  The database of the guard of lists, created by lists --init
+      --ca <PATH>  The file with the public-key line of a CA whose certificates the KRL may revoke; one --ca per CA
+      --begin      Allows a first KRL; without effect once one is approved
   -h, --help       Print help
 
 Example:
   sshstation list --db lists.db --ca ca.pub krl
 
-It prints one line: list SHA256 VERSION MOMENT or refuse NAME.
-A list that is older than the one approved last, that has other bytes under the same version, or
-that doesn't revoke all that this one revokes, is refused. The first list wants --begin.
+It prints one line: list SHA256 VERSION TIME or refuse NAME.
+A KRL is refused if it is older than the last approved one, has the same version but other bytes, or
+takes a revocation back. Approving the first KRL requires --begin.
 """
 
 

@@ -1,23 +1,15 @@
 """An office's file: the rows that sqlite3 finds in it after messages, and what the program says of rows that sqlite3
 has changed."""
-import hashlib
-
 import pytest
 
-from asking import (CA, LAST_SERIAL, OTHER_CA, deliver, department, exchange, get, issue, key_blob, key_line, post,
+from asking import (CA, LAST_SERIAL, OTHER_CA, deliver, department, digest_of, exchange, get, issue, key_blob, key_line, post,
                     renew, revoke_keyid, revoke_range, revoke_serial, rollover)
-from running import run
+from running import init, sql
 from test_krl import header, section, single
 
 pytestmark = pytest.mark.rows
 
 FIRST, SECOND = 9223372036854775805, 9223372036854775806
-
-
-def sql(file, *texts):
-    """What sqlite3 prints for statements."""
-    done = run(["sqlite3", file, *texts])
-    return (done.stdout + done.stderr).decode().rstrip("\n")
 
 
 def said(office, *requests):
@@ -194,7 +186,7 @@ def filled(new):
 
 def delivery(office, serial):
     body = bytes.fromhex(sql(office.db, f"SELECT hex(body) FROM cert WHERE serial = {serial}"))
-    return body, post("station", "d", deliver(serial, hashlib.sha256(body).hexdigest()))
+    return body, post("station", "d", deliver(serial, digest_of(body)))
 
 
 @pytest.mark.parametrize("command", ["krl", "migrate"])
@@ -210,8 +202,7 @@ def test_init_makes_all_tables_and_one_office(new):
     assert "1|2|root|station|7|100|7|0|0" == sql(new.db, f"SELECT {columns} FROM office")
     assert "1|7|1" == sql(new.db, "SELECT number, since, ca.ca = office.ca FROM ca, office")
     assert key_blob(0x11).hex().upper() == sql(new.db, "SELECT hex(ca) FROM office")
-    words = "--root root --station station --first 7 --last 100".split()
-    assert "AlreadyAnOffice" == fault(new, "init", "--db", new.db, "--ca", new.ca, *words)
+    assert "AlreadyAnOffice" == fault(new, *init(new.db, new.ca, first=7, last=100))
 
 
 def test_a_department_takes_the_place_of_another_of_its_name(filled):

@@ -249,16 +249,53 @@ def test_a_refusal_of_the_front_is_said(clients, alice):
     assert 1 == status and "front: the certificate names no caller, or there is none" in told
 
 
-@pytest.mark.parametrize("answer", [
-    response(b"issued one\ndigest x\n"), response(b""), response(b"refused 99 Nothing\n", "409 Conflict"),
-    response(b"issued 1\n")[:-3], b"HTTP/1.1 200 OK\r\ncontent-length: 70000\r\n\r\n" + 70000 * b"x", b"nothing",
-], ids=["no number", "empty", "another refusal", "cut off", "too long", "no HTTP"])
+def test_an_interrupt_keeps_the_message(clients, served, alice):
+    ana = clients["ana"]
+    os.kill(served.process.pid, signal.SIGSTOP)
+    asking = ana.begin("revoke", "web/alice", "--yes")
+    [kept] = until(ana.kept)
+    time.sleep(0.5)
+    asking.send_signal(signal.SIGINT)
+    out, told = asking.communicate(timeout=20)
+    os.kill(served.process.pid, signal.SIGCONT)
+    assert (3, "", "vethlumi: interrupted; a message that was sent is kept: run this again\n") == (
+        asking.returncode, out, told)
+    assert [kept] == ana.kept()
+
+
+# Answers that break off or are none.
+BROKEN = {
+    "empty": response(b""), "cut off": response(b"issued 1\n")[:-3], "no HTTP": b"nothing",
+    "too long": b"HTTP/1.1 200 OK\r\ncontent-length: 70000\r\n\r\n" + 70000 * b"x",
+    "broken chunks": b"HTTP/1.1 200 OK\r\ntransfer-encoding: chunked\r\n\r\nzz\r\n",
+    "another page": response(b"hello\n"),
+}
+
+
+@pytest.mark.parametrize("answer", [*BROKEN.values(), response(b"issued one\ndigest x\n")], ids=[*BROKEN, "no number"])
 def test_what_no_office_answers_is_no_answer(room, alice, answer):
     with Web(answer) as web:
         status, out, told = Client(room / "home", web.url, caller="ana")(
             "--wait", "1", "request", "web/alice", alice)
-    assert status in (1, 3) and "" == out
+    assert (3, "") == (status, out) and "the message is kept" in told
     assert 1 == len(list((room / "home/.local/state/vethlumi").iterdir())), told
+
+
+def test_a_refusal_that_no_office_gives_keeps_the_message(room, alice):
+    with Web(response(b"refused 99 Nothing \x1b[2J\n", "409 Conflict")) as web:
+        status, _, told = Client(room / "home", web.url, caller="ana")("request", "web/alice", alice)
+    # What came can't steer the terminal.
+    assert (1, "vethlumi: refused: refused 99 Nothing ?[2J\n") == (status, told)
+    assert 1 == len(list((room / "home/.local/state/vethlumi").iterdir())), told
+
+
+@pytest.mark.parametrize("answer", BROKEN.values(), ids=BROKEN)
+@pytest.mark.parametrize("words", ["status", "list", "certs", "show 1", "figures", "revoke 1"])
+def test_a_page_that_no_office_gives_is_no_answer(room, words, answer):
+    with Web(answer) as web:
+        status, out, told = Client(room / "home", web.url, caller="ana")(*words.split())
+    assert (3, "office_up 0" in out if words == "figures" else "" == out) == (status, True), told
+    assert told.startswith("vethlumi: ")
 
 
 def test_a_certificate_for_another_key_is_not_taken(clients, station, signed, room):
@@ -421,11 +458,13 @@ def test_doctor_looks_at_the_settings_of_sshd(clients, settings, due):
     (["request", "web/alice", "none.pub"], "does not exist"),
     (["request", "web/alice", "alice"], "has to end with .pub"),
     (["request", "web/alice", "policy", "--out", "cert"], "no Ed25519 public key"),
+    (["rollover", "damaged.pub", "--yes"], "no Ed25519 public key"),
     (["request", "web/alice", "alice.pub", "--life", "1y"], "no length of time"), (["get", "0"], "not in the range"),
     (["revoke", "alice", "--yes"], "has no line of an Ed25519 certificate"), (["revoke", "zoe", "--yes"], "no serial"),
     (["--wait", "soon", "status"], "no length of time"), (["show", "none"], "No such file"),
 ])
 def test_bad_words_end_with_2(clients, alice, words, told):
+    pathlib.Path("damaged.pub").write_text("ssh-ed25519 AAAAC3NzaC1lZDI1NTE5AAAAIA alice\n")
     status, out, said = clients["ana"](*words)
     assert (2, "") == (status, out) and told in said
     assert [] == clients["ana"].kept()

@@ -45,18 +45,18 @@ def comma_list(context, option, text):
 @main.command()
 @click.argument("key_id", metavar="KEYID")
 @click.argument("public", metavar="KEY.pub", type=click.Path(exists=True, dir_okay=False))
-@click.option("--principals", metavar="LIST", callback=comma_list, help="joined by commas [what follows KEYID's slash]")
+@click.option("--principals", metavar="LIST", callback=comma_list, help="separated by commas [default: NAME of KEYID]")
 @click.option("--life", metavar="TIME", default="8h", show_default=True, help="how long the certificate is valid")
 @click.option("--extensions", metavar="LIST", callback=comma_list,
-              help="such as permit-pty,permit-user-rc [all that the policy's department lists]")
+              help="separated by commas [default: all that the policy's department lists]")
 @click.option("--option", "options", metavar="TEXT", multiple=True,
-              help="a critical option, such as 'force-command /bin/true'")
-@click.option("--out", metavar="FILE", help="where the certificate goes [KEY-cert.pub]")
+              help="a critical option, for example 'force-command /bin/true'")
+@click.option("--out", metavar="FILE", help="the file for the certificate [default: KEY-cert.pub]")
 @pass_job
 def request(job, key_id, public, principals, life, extensions, options, out):
-    """Ask for a certificate, and wait until it is signed.
+    """Request a certificate, and wait until it is signed.
 
-    KEYID is DEPARTMENT/NAME. A minute of the validity lies in the past, for servers whose clocks are late.
+    KEYID is DEPARTMENT/NAME. The validity begins a minute in the past, for servers whose clocks are slow.
     """
     if not formats.KEY_ID.fullmatch(key_id):
         raise BadFormat(f"{key_id!r} is no key ID of the form DEPARTMENT/NAME")
@@ -75,11 +75,11 @@ def request(job, key_id, public, principals, life, extensions, options, out):
 
 @main.command()
 @click.argument("what", metavar="SERIAL|FILE")
-@click.option("--life", metavar="TIME", help="how long the new certificate is valid [as long as the old one]")
-@click.option("--out", metavar="FILE", help="where the certificate goes [FILE; standard output for a SERIAL]")
+@click.option("--life", metavar="TIME", help="how long the new certificate is valid [default: as the old one]")
+@click.option("--out", metavar="FILE", help="the file for the certificate [default: FILE, or standard output]")
 @pass_job
 def renew(job, what, life, out):
-    """Ask for a certificate again, with a new validity."""
+    """Request a certificate again, with a new validity."""
     if what.isdecimal():
         old = job.office.body(int(what))
     else:
@@ -92,7 +92,7 @@ def renew(job, what, life, out):
 
 @main.command()
 @click.argument("serial", type=click.IntRange(1, formats.LAST_SERIAL))
-@click.option("--out", metavar="FILE", help="a file in place of standard output")
+@click.option("--out", metavar="FILE", help="the file for the certificate [default: standard output]")
 @pass_job
 def get(job, serial, out):
     """Print a certificate."""
@@ -108,7 +108,7 @@ def get(job, serial, out):
 @as_json
 @pass_job
 def show(job, what, as_json):
-    """Show what a certificate says, and whether it is signed or revoked."""
+    """Show a certificate's fields, and whether it is signed or revoked."""
     certificate = job.office.body(int(what)) if what.isdecimal() else Certificate.of_line(read_text(what))
     rows, _ = job.office.table()
     row = next((it for it in rows if it.serial == certificate.serial and it.key_id == certificate.key_id), None)
@@ -120,9 +120,9 @@ def show(job, what, as_json):
 @click.option("--state", type=click.Choice(STATES))
 @click.option("--kind", type=click.Choice(("user", "host")))
 @click.option("--department", metavar="NAME")
-@click.option("--keyid", metavar="PATTERN", help="a key ID, in which * stands for any text")
-@click.option("--valid", is_flag=True, help="signed, not revoked, and valid now")
-@click.option("--ends-within", metavar="TIME", help="valid now, and no longer after this time")
+@click.option("--keyid", metavar="PATTERN", help="a key ID; * matches any text")
+@click.option("--valid", is_flag=True, help="only those that are signed, not revoked, and valid now")
+@click.option("--ends-within", metavar="TIME", help="only those that are valid now and expire within this time")
 @as_json
 @pass_job
 def certs(job, state, kind, department, keyid, valid, ends_within, as_json):

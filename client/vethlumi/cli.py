@@ -37,14 +37,14 @@ class Job:
         try:
             with waiting("waiting for the office's answer") as tell:
                 reply = trying(lambda: self.office.post(kept), self.ends, tell)
+            if not is_reply(reply):
+                raise NoAnswer(f"what came is no answer that an office gives: {' '.join(reply)[:200]}")
         except Refused as refused:
             if refused.number:
                 kept.drop()
             raise
         except NoAnswer as fault:
             raise NoAnswer(f"{fault}\n  the message is kept: run this again, or vethlumi outbox --send") from None
-        if not is_reply(reply):
-            raise NoAnswer(f"what came is no answer that an office gives: {' '.join(reply)[:200]}")
         return kept, reply
 
     def policy(self):
@@ -86,6 +86,8 @@ class Group(click.Group):
             status, why = BAD_WORDS, "a file isn't text"
         except BrokenPipeError:
             raise
+        except KeyboardInterrupt:
+            status, why = NO_ANSWER, "interrupted; a message that was sent is kept: run this again"
         except OSError as fault:
             status, why = BAD_WORDS, f"{fault.filename or 'output'}: {fault.strerror}"
         say(why)
@@ -94,28 +96,28 @@ class Group(click.Group):
 
 @click.group(cls=Group, context_settings={"help_option_names": ["-h", "--help"], "auto_envvar_prefix": "VETHLUMI"})
 @click.version_option(__version__, message="vethlumi %(version)s")
-@click.option("--config", metavar="FILE", help=f"settings, in place of {FILES[0]} or {FILES[1]}")
-@click.option("--office", metavar="URL", help="the front, such as https://office.example.org:8443")
-@click.option("--certificate", metavar="FILE", help="a client's key and certificate in one PEM file")
-@click.option("--cacert", metavar="FILE", help="the authority of the front's certificate, a PEM file")
-@click.option("--policy", metavar="FILE", help="the departments, as the guard beside the CA's key has them")
-@click.option("--caller", metavar="NAME", help="who asks, if URL is an office without a front")
-@click.option("--wait", metavar="TIME", default="10m", show_default=True, help="the longest wait for an answer")
+@click.option("--config", metavar="FILE", help=f"the settings file [default: {FILES[0]} or {FILES[1]}]")
+@click.option("--office", metavar="URL", help="the front's URL, for example https://office.example.org:8443")
+@click.option("--certificate", metavar="FILE", help="the client's key and certificate in one PEM file")
+@click.option("--cacert", metavar="FILE", help="the authority that issued the front's certificate (PEM)")
+@click.option("--policy", metavar="FILE", help="the departments: the policy of the CA's guard")
+@click.option("--caller", metavar="NAME", help="the caller's name, if URL is an office without a front")
+@click.option("--wait", metavar="TIME", default="10m", show_default=True, help="how long to wait for an answer")
 @click.pass_context
 def main(context, config, wait, **given):
-    """Asks an SSH certificate office for certificates, revokes them, and shows what the office has.
+    """Request SSH certificates from an office, revoke them, and show what the office has.
 
-    A message that got no answer is kept on disk: run the same command again, and nothing happens twice. Times are
-    written 90 (seconds), 15m, 8h, 30d or 4w.
+    A message that got no answer is kept on disk: run the same command again, and nothing happens twice. A TIME is for
+    example 90 (seconds), 15m, 8h, 30d or 4w.
 
-    Exit status: 0 done, 1 refused, 2 invalid arguments or files, 3 no answer (the message is kept), 4 not signed yet.
+    Exit status: 0 success, 1 refused, 2 bad arguments or files, 3 no answer (the message is kept), 4 not signed yet.
     """
     context.obj = Job(read_settings(config, **given), formats.seconds_of(wait))
 
 
 pass_job = click.make_pass_decorator(Job)
 as_json = click.option("--json", "as_json", is_flag=True, help="print JSON")
-without_asking = click.option("--yes", is_flag=True, help="don't ask")
+without_asking = click.option("--yes", is_flag=True, help="don't ask for confirmation")
 
 
 def read_text(path):

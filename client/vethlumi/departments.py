@@ -15,11 +15,11 @@ from vethlumi.settings import BadSettings
 
 @main.group()
 def department():
-    """Look at departments, compare them, and send them to the office."""
+    """Show departments, compare them, and send them to the office."""
 
 
 policy_option = click.option("--policy", metavar="FILE",
-                             help="the departments to compare with, in place of the settings' policy")
+                             help="the departments to compare with [default: the policy of the settings]")
 
 
 def policy_of(job, file):
@@ -34,23 +34,14 @@ def policy_of(job, file):
 @as_json
 @pass_job
 def department_show(job, names, policy, as_json):
-    """Show the departments of the policy."""
-    known = policy_of(job, policy)
-    if missing := [it for it in names if it not in known]:
-        raise BadFormat(f"the policy has no department {missing[0]}")
-    chosen = [known[it] for it in names] or [*known.values()]
+    """Show departments of the policy."""
+    chosen = chosen_of(policy_of(job, policy), names, "the policy")
     if as_json:
         for it in chosen:
             print_json({"maxlife": it.longest, **{name: getattr(it, name) for name in (
                 "name", "kind", "admins", "principals", "options", "extensions", "namespaces")}})
         return
     click.echo("\n".join(it.text for it in chosen), nl=False)
-
-
-def changes(old, new):
-    """The lines in which two departments differ, as diff -u prints them."""
-    old_lines = old.text.splitlines() if old else []
-    return [*difflib.unified_diff(old_lines, new.text.splitlines(), "now", "then", lineterm="", n=8)]
 
 
 def affected(job, department):
@@ -68,7 +59,8 @@ def affected(job, department):
 
 def tell_changes(job, old, new):
     """Shows how a department changes, and which certificates it wouldn't permit any more. Whether there is a change."""
-    lines = changes(old, new)
+    texts = [it.text.splitlines() if it else [] for it in (old, new)]
+    lines = [*difflib.unified_diff(*texts, "now", "then", lineterm="", n=8)]
     for line in lines:
         click.echo(click.style(line, fg={"+": "green", "-": "red"}.get(line[0])))
     hit = affected(job, new)
@@ -80,12 +72,10 @@ def tell_changes(job, old, new):
     return bool(lines)
 
 
-def chosen_of(file, names):
-    found = read_departments(file)
-    if missing := [it for it in names if it not in found]:
-        raise BadFormat(f"{file} has no department {missing[0]}")
-    if not found:
-        raise BadFormat(f"{file} has no department")
+def chosen_of(found, names, where):
+    """Those of the departments that are named, or all. `where` says where they are from."""
+    if missing := [it for it in names if it not in found] or [""] * (not found):
+        raise BadFormat(f"{where} has no department {missing[0]}".strip())
     return [found[it] for it in names] or [*found.values()]
 
 
@@ -95,9 +85,9 @@ def chosen_of(file, names):
 @policy_option
 @pass_job
 def department_diff(job, file, names, policy):
-    """Compare the departments of FILE with the policy's, and say which certificates they wouldn't permit."""
+    """Compare the departments in FILE with the policy, and list the certificates that they wouldn't permit."""
     known = policy_of(job, policy)
-    differ = [tell_changes(job, known.get(it.name), it) for it in chosen_of(file, names)]
+    differ = [tell_changes(job, known.get(it.name), it) for it in chosen_of(read_departments(file), names, file)]
     if not any(differ):
         click.echo("no difference")
 
@@ -109,12 +99,12 @@ def department_diff(job, file, names, policy):
 @without_asking
 @pass_job
 def department_put(job, file, names, policy, yes):
-    """Send the departments of FILE to the office, or those named, after showing what changes.
+    """Show what changes, and send the departments in FILE, or those with the given names, to the office.
 
-    FILE has departments as the policy has them: eight lines each, with empty lines and comments between.
+    FILE has the format of the policy: eight lines per department, with empty lines and comments in between.
     """
     known = read_departments(policy) if policy else job.policy()
-    chosen = chosen_of(file, names)
+    chosen = chosen_of(read_departments(file), names, file)
     if not yes:
         for it in chosen:
             tell_changes(job, known.get(it.name), it)
@@ -130,7 +120,7 @@ def department_put(job, file, names, policy, yes):
 @without_asking
 @pass_job
 def rollover(job, public, yes):
-    """Make another key the CA. The older CAs stay valid for what they signed."""
+    """Make a new key the CA. What the older CAs have signed stays valid."""
     key = formats.key_line(read_text(public))
     print_ = formats.fingerprint(base64.b64decode(key.split()[1]))
     ask(f"Make {print_} the CA? Servers have to trust it before its first certificate is used.", yes)

@@ -23,9 +23,6 @@ Finding = collections.namedtuple("Finding", "state what found advice")
 AMISS = NoAnswer, Refused, BadFormat, ValueError
 STATEMENT = re.compile(rb"list ([0-9a-f]{64}) \d+ (\d+)\n")
 
-
-def first_line(fault):
-    return str(fault).partition("\n")[0]
 # Seconds by which clocks may differ: certificates begin a minute in the past.
 CLOCKS = 30
 
@@ -37,7 +34,7 @@ def ok(what, found):
 def ending(what, moment, within, advice):
     """What is found of something that ends at a moment."""
     left = moment - time.time()
-    text = f"valid until {formats.date(min(int(moment), formats.LAST_MOMENT))}"
+    text = f"valid until {formats.date(int(moment))}"
     if left <= 0:
         return Finding("bad", what, text.replace("valid until", "ended at"), advice)
     return Finding("warn", what, text, advice) if left < within else ok(what, text)
@@ -93,11 +90,11 @@ def office_findings(job, within):
         cas = job.office.cas()
         found = [ok("office", f"answers; {len(cas)} of 8 CAs")]
     except AMISS as fault:
-        return [Finding("bad", "office", first_line(fault), "see whether it runs: systemctl status office")]
+        return [Finding("bad", "office", str(fault).partition("\n")[0], "see whether it runs: systemctl status office")]
     try:
         rows, version = job.office.table()
     except AMISS as fault:
-        return [*found, Finding("warn", "table", first_line(fault), "only clients with a certificate may read it")]
+        return [*found, Finding("warn", "table", str(fault).partition("\n")[0], "it takes a client's certificate")]
     now = time.time()
     waiting = [it for it in rows if it.state == "pending" and it.after < now - 300]
     found.append(ok("signing station", "nothing has waited for five minutes") if not waiting else
@@ -152,7 +149,7 @@ def list_findings(job, krl, fresh):
              Finding("bad", "list here", text, "see why office-list.timer doesn't fetch it")]
     found.append(statement_finding(f"{krl}.statement", data, fresh))
     try:
-        theirs = formats.RevocationList.of(job.office.list_bytes())
+        _, theirs = job.office.krl()
     except AMISS:
         return found
     if theirs.version > here.version:

@@ -7,8 +7,7 @@ from vethlumi import formats
 def figures(office, last):
     """Name, help and values of each metric; a value has labels and a number."""
     begun, now = time.monotonic(), time.time()
-    cas, (rows, _) = office.cas(), office.table()
-    found = formats.RevocationList.of(office.list_bytes())
+    cas, (rows, _), (_, found) = office.cas(), office.table(), office.krl()
     counts = {(kind, state): 0 for kind in ("user", "host") for state in ("pending", "signed", "revoked")}
     valid = {"user": 0, "host": 0}
     for row in rows:

@@ -3,13 +3,13 @@ import base64
 import datetime
 import hashlib
 import re
-import struct
 from dataclasses import dataclass
 
 LAST_MOMENT = 253402300799
 LAST_SERIAL = 9223372036854775806
 UNITS = {"s": 1, "m": 60, "h": 3600, "d": 86400, "w": 604800}
 NAME = re.compile(r"[a-z0-9-]{1,32}", re.ASCII)
+KEY_LINE = re.compile(r"ssh-ed25519 AAAAC3NzaC1lZDI1NTE5AAAAI[A-P][A-Za-z0-9+/]{42}( .*)?", re.ASCII)
 KEY_ID = re.compile(r"[a-z0-9-]{1,32}/[!-~]{1,64}", re.ASCII)
 ROW = re.compile(r" *([1-9]\d{0,18})  (user|host)  (revoked|signed |pending)  +(\d+)  +(\d+)  (\S+)", re.ASCII)
 TOTAL = re.compile(r"total (\d+) version (\d+)", re.ASCII)
@@ -32,7 +32,8 @@ def seconds_of(text):
 
 def date(moment):
     """A time as ISO 8601 has it, in UTC."""
-    return datetime.datetime.fromtimestamp(moment, datetime.timezone.utc).strftime("%Y-%m-%dT%H:%M:%SZ").zfill(20)
+    found = datetime.datetime.fromtimestamp(min(moment, LAST_MOMENT), datetime.timezone.utc)
+    return found.strftime("%Y-%m-%dT%H:%M:%SZ").zfill(20)
 
 
 def fingerprint(blob):
@@ -42,7 +43,7 @@ def fingerprint(blob):
 def key_line(text):
     """The first line of a public key's file, which has to be an Ed25519 key's."""
     line = text.partition("\n")[0].rstrip("\r")
-    if not line.startswith("ssh-ed25519 "):
+    if not KEY_LINE.fullmatch(line):
         raise BadFormat("the file has no Ed25519 public key: ssh-keygen -t ed25519 makes one")
     return line
 
@@ -133,14 +134,11 @@ class Reader:
         self.at += count
         return bytes(self.data[self.at - count:self.at])
 
-    def u32(self):
-        return struct.unpack(">I", self.take(4))[0]
-
-    def u64(self):
-        return struct.unpack(">Q", self.take(8))[0]
+    def number(self, size):
+        return int.from_bytes(self.take(size))
 
     def string(self):
-        return self.take(self.u32())
+        return self.take(self.number(4))
 
     def strings(self):
         """The strings within a string."""
@@ -174,9 +172,9 @@ class Certificate:
         if it.string() != CERTIFICATE_TYPE:
             raise BadFormat("the bytes are no Ed25519 certificate")
         it.string()
-        key, serial, kind, key_id = it.string(), it.u64(), it.u32(), it.string().decode("latin-1")
+        key, serial, kind, key_id = it.string(), it.number(8), it.number(4), it.string().decode("latin-1")
         principals = tuple(name.decode("latin-1") for name in it.strings())
-        after, before = it.u64(), it.u64()
+        after, before = it.number(8), it.number(8)
         options, extensions = it.strings(), it.strings()
         it.string()
         pairs = tuple((name.decode("latin-1"), Reader(data).string().decode("latin-1") if data else "")
@@ -198,14 +196,14 @@ class Certificate:
 
     def is_of_key(self, line):
         """Whether it is for the public key of this line."""
-        return base64.b64decode(line.split()[1]) == struct.pack(">I11sI", 11, b"ssh-ed25519", 32) + self.key
+        return base64.b64decode(line.split()[1])[-32:] == self.key
 
     def as_record(self):
         """What people and programs are shown of it."""
         return {
             "serial": str(self.serial), "kind": self.kind, "keyid": self.key_id, "principals": [*self.principals],
-            "after": date(min(self.after, LAST_MOMENT)), "before": date(min(self.before, LAST_MOMENT)),
-            "options": dict(self.options), "extensions": [*self.extensions], "ca": fingerprint(self.ca),
+            "after": date(self.after), "before": date(self.before), "options": dict(self.options),
+            "extensions": [*self.extensions], "ca": fingerprint(self.ca),
         }
 
 
@@ -230,14 +228,19 @@ class Row:
                 "before": date(self.before), "keyid": self.key_id, "department": self.department}
 
 
-def table(text):
+def table(data):
     """The rows of a table, and the version of the list."""
-    *lines, end = text.split("\n")
+    *lines, end = data.decode("latin-1").split("\n")
     total = TOTAL.fullmatch(lines.pop()) if lines else None
     rows = [ROW.fullmatch(line) for line in lines]
     if end or not total or None in rows or len(rows) != int(total[1]):
         raise BadFormat("the table was cut off, or is none")
     return [Row(int(it[1]), it[2], it[3].strip(), int(it[4]), int(it[5]), it[6]) for it in rows], int(total[2])
+
+
+def cas(data):
+    """The CAs of their page: number, first serial, fingerprint."""
+    return [(int(number), int(since), print_) for number, since, print_ in map(str.split, data.decode().splitlines())]
 
 
 # ---- key revocation lists
@@ -263,7 +266,7 @@ class RevocationList:
         it = Reader(data)
         if it.take(12) != b"SSHKRL\n\0\0\0\0\1":
             raise BadFormat("the bytes are no key revocation list")
-        version, moment, _, _, _ = it.u64(), it.u64(), it.u64(), it.string(), it.string()
+        version, moment, _, _, _ = it.number(8), it.number(8), it.number(8), it.string(), it.string()
         sections = []
         while not it.is_at_end():
             if it.take(1) != b"\1":
@@ -279,9 +282,9 @@ class RevocationList:
             inner = Reader(it.string())
             while not inner.is_at_end():
                 if part == 0x20:
-                    runs.append((inner.u64(),) * 2)
+                    runs.append((inner.number(8),) * 2)
                 elif part == 0x21:
-                    runs.append((inner.u64(), inner.u64()))
+                    runs.append((inner.number(8), inner.number(8)))
                 elif part == 0x23:
                     key_ids.append(inner.string().decode("latin-1"))
                 else:
@@ -294,7 +297,7 @@ class RevocationList:
             low <= certificate.serial <= high for low, high in it.runs)) for it in self.sections)
 
     def as_record(self):
-        return {"version": str(self.version), "date": date(min(self.moment, LAST_MOMENT)), "bytes": self.length,
+        return {"version": str(self.version), "date": date(self.moment), "bytes": self.length,
                 "cas": [{"ca": fingerprint(it.ca), "serials": [f"{low}" if low == high else f"{low}-{high}"
                                                               for low, high in it.runs],
                          "keyids": [*it.key_ids]} for it in self.sections]}

@@ -2,8 +2,10 @@
 import time
 
 import requests
+import urllib3
 
 from vethlumi import formats
+from vethlumi.formats import BadFormat
 from vethlumi.refusals import Refused, refusal_of
 
 # The most bytes of a page that are read: over three million certificates.
@@ -36,7 +38,7 @@ class Office:
                 if len(came) > longest or (whole is not None and len(came) != int(whole)):
                     raise NoAnswer(f"{path}: the answer is too long, or was cut off")
                 return answer.status_code, came
-        except (requests.RequestException, OSError, ValueError) as fault:
+        except (requests.RequestException, urllib3.exceptions.HTTPError, OSError, ValueError) as fault:
             raise NoAnswer(f"{self.url}: {root_of(fault)}") from None
 
     def answer(self, method, path, data=None, longest=LONGEST_ANSWER):
@@ -55,24 +57,29 @@ class Office:
         reply = self.answer("POST", f"/v1/{sender}/{kept.key}", kept.message.encode())
         return reply.decode("ascii", "replace").split()
 
-    def text(self, path):
-        return self.answer("GET", path, longest=LONGEST_PAGE).decode("latin-1")
+    def page(self, path, read):
+        """What a page says, by the function that reads its bytes."""
+        came = self.answer("GET", path, longest=LONGEST_PAGE)
+        try:
+            return read(came)
+        except (BadFormat, ValueError) as fault:
+            raise NoAnswer(f"{path}: what came is no page that an office gives: {fault}") from None
 
     def table(self):
         """The certificates, and the version of the list."""
-        return formats.table(self.text("/v1/table"))
+        return self.page("/v1/table", formats.table)
 
     def cas(self):
         """The CAs: number, first serial, fingerprint."""
-        lines = [it.split() for it in self.text("/v1/cas").splitlines()]
-        return [(int(number), int(since), print_) for number, since, print_ in lines]
+        return self.page("/v1/cas", formats.cas)
 
-    def list_bytes(self):
-        return self.answer("GET", "/v1/krl", longest=LONGEST_PAGE)
+    def krl(self):
+        """The bytes of the list, and what they say."""
+        return self.page("/v1/krl", lambda it: (it, formats.RevocationList.of(it)))
 
     def body(self, serial):
         """The fields of a certificate, signed or not."""
-        return formats.Certificate.of_bytes(self.answer("GET", f"/v1/certs/{serial}/body"))
+        return self.page(f"/v1/certs/{serial}/body", formats.Certificate.of_bytes)
 
     def line(self, serial):
         """The line of a certificate, or None while it has no signature."""

@@ -9,6 +9,11 @@ from rich.table import Table
 COLOURS = {"signed": "green", "pending": "yellow", "revoked": "red", "ok": "green", "warn": "yellow", "bad": "red"}
 
 
+def plain(text):
+    """A text without what steers a terminal: what it shows has come from elsewhere."""
+    return "".join(it if it.isprintable() or it == "\n" else "?" for it in str(text))
+
+
 def print_json(record):
     click.echo(json.dumps(record, ensure_ascii=False))
 
@@ -22,7 +27,7 @@ def print_table(columns, rows, empty):
     for name in columns:
         made.add_column(name, justify="right" if name in ("serial", "serials", "since") else "left", overflow="fold")
     for row in rows:
-        made.add_row(*row, style=next((COLOURS[it] for it in row if it in COLOURS), None))
+        made.add_row(*map(plain, row), style=next((COLOURS[it] for it in row if it in COLOURS), None))
     Console(highlight=False, markup=False, emoji=False, width=None if sys.stdout.isatty() else 200).print(made)
 
 
@@ -31,12 +36,11 @@ def print_fields(record):
     width = max(map(len, record)) + 2
     for name, value in record.items():
         if isinstance(value, dict):
-            value = ", ".join(f"{key} {text}".strip() for key, text in value.items())
-        elif isinstance(value, list):
-            value = ", ".join(map(str, value))
-        click.echo(f"{name:{width}}{value}".rstrip())
+            value = [f"{key} {text}".strip() for key, text in value.items()]
+        value = ", ".join(map(str, value)) if isinstance(value, list) else value
+        click.echo(plain(f"{name:{width}}{value}").rstrip())
 
 
 def say(text):
     """Tells people something beside the output."""
-    click.echo(f"vethlumi: {text}", err=True)
+    click.echo(f"vethlumi: {plain(text)}", err=True)

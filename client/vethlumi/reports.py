@@ -18,7 +18,7 @@ from vethlumi.settings import NO_ANSWER, REFUSED
 @as_json
 @pass_job
 def status(job, as_json):
-    """Show the office's CAs, counts and list, and the messages that wait for an answer."""
+    """Show the office's CAs, number of certificates and KRL, and how many messages have no answer yet."""
     cas, (rows, version) = job.office.cas(), job.office.table()
     now = time.time()
     record = {
@@ -39,14 +39,13 @@ def status(job, as_json):
 
 
 @main.command("list")
-@click.option("--out", metavar="FILE", help="write the list's bytes to a file")
-@click.option("--check", metavar="FILE", help="say whether the list revokes the certificate in a file")
+@click.option("--out", metavar="FILE", help="write the KRL to FILE")
+@click.option("--check", metavar="FILE", help="check whether the KRL revokes the certificate in FILE")
 @as_json
 @pass_job
 def list_(job, out, check, as_json):
-    """Show the revocation list (KRL), or fetch it."""
-    data = job.office.list_bytes()
-    found = formats.RevocationList.of(data)
+    """Show the key revocation list (KRL), or fetch it."""
+    data, found = job.office.krl()
     if check:
         is_revoked = found.revokes(Certificate.of_line(read_text(check)))
         print_json({"revoked": is_revoked}) if as_json else click.echo("revoked" if is_revoked else "clear")
@@ -67,8 +66,8 @@ def list_(job, out, check, as_json):
 @main.command()
 @pass_job
 def signers(job):
-    """Print the allowed signers, as ssh-keygen -Y verify reads them."""
-    click.echo(job.office.text("/v1/signers"), nl=False)
+    """Print the allowed signers file for ssh-keygen -Y verify."""
+    click.echo(job.office.page("/v1/signers", bytes.decode), nl=False)
 
 
 @main.command("figures")
@@ -88,12 +87,12 @@ def figures_(job, last):
 
 
 @main.command()
-@click.option("--send", is_flag=True, help="send each of them again")
-@click.option("--drop", metavar="ID", help="give one up: it may have been accepted all the same")
+@click.option("--send", is_flag=True, help="send them again")
+@click.option("--drop", metavar="ID", help="delete a message, which may have been accepted")
 @as_json
 @pass_job
 def outbox(job, send, drop, as_json):
-    """Show the messages whose answer isn't here yet."""
+    """Show the messages that have no answer yet."""
     kept = job.outbox.all()
     if drop:
         found = next((it for it in kept if it.key == drop), None)
@@ -114,13 +113,13 @@ def outbox(job, send, drop, as_json):
 
 
 @main.command("doctor")
-@click.option("--within", metavar="TIME", default="14d", show_default=True, help="warn of what ends within this time")
-@click.option("--krl", metavar="FILE", help="the list that sshd reads [what sshd -T says]")
-@click.option("--fresh", metavar="TIME", default="1h", show_default=True, help="the oldest that this file may be")
+@click.option("--within", metavar="TIME", default="14d", show_default=True, help="warn of what expires within TIME")
+@click.option("--krl", metavar="FILE", help="the KRL that sshd reads [default: as sshd -T prints it]")
+@click.option("--fresh", metavar="TIME", default="1h", show_default=True, help="the oldest that this KRL may be")
 @as_json
 @pass_job
 def doctor_(job, within, krl, fresh, as_json):
-    """Look at everything that this machine needs: the front, clocks, certificates, the list, and sshd's settings."""
+    """Check what this machine needs: the front, clocks, certificates, the KRL, and sshd's settings."""
     found = doctor.findings(job, formats.seconds_of(within), krl, formats.seconds_of(fresh))
     if as_json:
         for it in found:

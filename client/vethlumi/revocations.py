@@ -31,11 +31,11 @@ def revocation_of(what, keyid, job):
 
 @main.command()
 @click.argument("what", metavar="SERIAL|LOW-HIGH|KEYID|FILE")
-@click.option("--keyid", is_flag=True, help="take the argument for a key ID, even if a file has this name")
+@click.option("--keyid", is_flag=True, help="the argument is a key ID, even if a file has this name")
 @without_asking
 @pass_job
 def revoke(job, what, keyid, yes):
-    """Revoke certificates, for good: by serial, by a range of serials, by key ID, or by a certificate's file."""
+    """Revoke certificates, permanently: by serial, by a range of serials, by key ID, or by a certificate's file."""
     message, hits = revocation_of(what, keyid, job)
     if not yes:
         rows, _ = job.office.table()

@@ -1,4 +1,4 @@
--- A command with one more option, word or subcommand.
+-- A command with one more option, argument or subcommand.
 use Rattle.std.proofs.Common.{◌≡◌, ◌∙◌, ◌+◌, ◌<◌, ◌||◌, ℕ, List, ap, ap₂, get_or, length, map, subst, sym, take}
 use Rattle.std.proofs.lemmas.List.{map_push, take_more}
 use Rattle.clap.specs.Words.{AddsArg, AddsSubcommand, App, Shape, Text, app_of, with_rule, with_subcommand}

@@ -1,4 +1,4 @@
--- What the words are answered with.
+-- What is returned for the words.
 use Rattle.std.specs.Prelude.{◌≡◌, ◌≢◌, ◌⊎◌, [], List, Option, Some, None}
 use Rattle.clap.specs.Words.{App, IsAmong, Kinds, Text, fault_of}
 use Rattle.clap.specs.declared.error.kind.ErrorKind.{ErrorKind}
@@ -9,31 +9,31 @@ use Rattle.command_line.specs.declared.words_fault.WordsFault.{WordsFault}
 use Rattle.command_line.specs.declared.words_fault.WordsFault.TheVariants.{Help, BadWords, NoMemory}
 use Rattle.command_line.specs.declared.job.Job.{Job}
 
--- the mistakes and wishes of the words, by clap's meaning of the command
+-- the errors and requests for a text in the words, by clap's meaning of the command
 abbrev pub faults_of : List Text → Kinds
 faults_of words = fault_of office_command words
 
--- The words have no mistake, and ask for the job.
+-- The words are valid, and ask for the job.
 abbrev pub Names : List Text → Job → Type 0
 Names words job = (faults_of words ≡ []) × (asked_of words ≡ Some (asked job))
 
--- a kind that is neither a wish for a text nor want of memory
+-- a kind that is neither a request for a text nor refused memory
 abbrev pub IsMistake : ErrorKind → Type 0
 IsMistake kind = (kind ≢ DisplayHelp) × (kind ≢ DisplayVersion) × (kind ≢ OutOfMemory)
 
--- a kind that is a wish for a text
+-- a kind that is a request for a text
 abbrev pub IsWish : ErrorKind → Type 0
 IsWish kind = (kind ≡ DisplayHelp) ⊎ (kind ≡ DisplayVersion)
 
--- the words have a mistake, by clap's meaning of a command
+-- the words are invalid, by clap's meaning of a command
 abbrev pub HaveMistake : App → List Text → Type 0
 HaveMistake app words = (kind : ErrorKind) × IsAmong kind (fault_of app words) × IsMistake kind
 
--- the words ask for help or the version of a command
+-- the words ask for the help or the version of a command
 abbrev pub AskForTextOf : App → List Text → Type 0
 AskForTextOf app words = (kind : ErrorKind) × IsAmong kind (fault_of app words) × IsWish kind
 
--- The words have a mistake, or ask for nothing.
+-- The words are invalid, or ask for no job.
 abbrev pub AreBad : List Text → Type 0
 AreBad words = HaveMistake office_command words ⊎ (asked_of words ≡ None)
 
@@ -41,31 +41,31 @@ AreBad words = HaveMistake office_command words ⊎ (asked_of words ≡ None)
 abbrev pub AskForText : List Text → Type 0
 AskForText = AskForTextOf office_command
 
--- what is said of the words by what is answered in place of a job
+-- what a fault in place of a job implies of the words
 abbrev pub IsFaultOf : List Text → WordsFault → Type 0
 IsFaultOf words (Help text) = AskForText words
 IsFaultOf words (BadWords text) = AreBad words
 IsFaultOf words NoMemory = Unit {0}
 
--- what is said of words of a command by what an error of clap is answered with
+-- what the fault that an error of clap becomes implies of a command's words
 abbrev pub IsErrorOf : App → List Text → WordsFault → Type 0
 IsErrorOf app words (Help text) = AskForTextOf app words
 IsErrorOf app words (BadWords text) = HaveMistake app words
 IsErrorOf app words NoMemory = Unit {0}
 
--- what an error of clap is answered with
+-- the fault that an error of clap becomes
 abbrev pub IsAnswered : ErrorKind → WordsFault → Type 0
 IsAnswered kind (Help text) = IsWish kind
 IsAnswered kind (BadWords text) = IsMistake kind
 IsAnswered kind NoMemory = Unit {0}
 
--- what is answered where a value is wanted: bad words only where there is none
+-- the fault for a required value: bad words only if there is none
 abbrev pub IsLack : {A : Type 0} → Option A → WordsFault → Type 0
 IsLack found (Help text) = ⊥
 IsLack found (BadWords text) = found ≡ None
 IsLack found NoMemory = Unit {0}
 
--- what is said of a value that is not there
+-- the fault for a value that is missing
 abbrev pub IsLackOfAny : WordsFault → Type 0
 IsLackOfAny (Help text) = ⊥
 IsLackOfAny fault = Unit {0}

@@ -10,7 +10,7 @@ use Rattle.command_line.specs.declared.command.TheConstants.{MOST_CONNECTIONS}
 use Rattle.command_line.specs.declared.job.Job.{Job}
 use Rattle.command_line.specs.declared.job.Job.TheVariants as job
 
--- a job without where its texts lie in memory
+-- a job without the places of its texts in memory
 pub data Asked : Type 0 where
   init : Text → Text → Text → Text → ℕ → ℕ → Asked
   apply : Option Text → Text → Asked
@@ -34,15 +34,15 @@ asked (job.Check ca list serial key_id) = check (string_bytes ca) (string_bytes 
 asked (job.Migrate db) = migrate (string_bytes db)
 asked job.Selftest = selftest
 
--- the number that `u64` reads from a text, where it lies within these limits
+-- the number that `u64` parses from a text, if it is within these limits
 abbrev pub number_of : ℕ → ℕ → Text → Option ℕ
 number_of low high t = if is_unsigned_in low high t then Some (digits_value 10 (without_leading_plus t)) else None
 
--- the number that was given for an option or word
+-- the number that was given for an option or argument
 abbrev pub number_at : List Row → Text → ℕ → ℕ → Option ℕ
 number_at rows name low high = option_and_then (number_of low high) (first_of name rows)
 
--- the same for an option that may be left out, and then this number
+-- the same for an optional option, or else this number
 abbrev pub number_or : List Row → Text → (limits : ℕ × ℕ) → ℕ → Option ℕ
 number_or rows name limits none = option_map_or (number_of limits.0 limits.1) (first_of name rows) (Some none)
 
@@ -79,11 +79,11 @@ check_in rows = do
   key_id ← first_of (codes "KEYID") rows
   Some (check ca list serial key_id)
 
--- a job on a database alone
+-- a job that has only a database
 abbrev pub database_in : (Text → Asked) → List Row → Option Asked
 database_in of rows = option_map of (first_of (codes "db") rows)
 
--- what the subcommand of this name asks for, by what clap found for it
+-- what the subcommand of this name asks for, by the values that clap found for it
 abbrev pub asked_by : Text → List Row → Option Asked
 asked_by name rows =
     if bytes_eq name (codes "init") then init_in rows
@@ -97,10 +97,10 @@ asked_by name rows =
     else if bytes_eq name (codes "selftest") then Some selftest
     else None
 
--- what a subcommand asks for, where there is one
+-- what a subcommand asks for, if there is one
 abbrev pub asked_in : Option (Text × List Row) → Option Asked
 asked_in = option_and_then (λ found. asked_by found.0 found.1)
 
--- what the words ask for, the program's name being the first
+-- what the words ask for; the first is the program's name
 abbrev pub asked_of : List Text → Option Asked
 asked_of words = asked_in (subcommand_of office_command words)

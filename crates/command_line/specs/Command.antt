@@ -1,4 +1,4 @@
--- The command line as clap reads it: each subcommand with its options and words.
+-- The command line as clap reads it: each subcommand with its options and arguments.
 use Rattle.std.specs.Prelude.{◌≡◌, ◌-◌, ◌^◌, ◌∷◌, [], ℕ, false, true, List, Some, codes}
 use Rattle.clap.specs.Words.{App, Rule, Shape, Text, app_of, new_app, new_rule, rule_of}
 use Rattle.clap.specs.declared.builder.arg.Arg.{Arg}
@@ -12,15 +12,15 @@ use Rattle.command_line.specs.declared.command.TheConstants.{MOST_CONNECTIONS}
 abbrev pub most : ℕ
 most = 2 ^ 64 - 1
 
--- `--name VALUE`, which may be left out
+-- `--name VALUE`, optional
 abbrev pub optional : Text → Rule
 optional name = record (new_rule name) { long = Some name; value_names = 1 }
 
--- `--name VALUE`, which must be given
+-- `--name VALUE`, required
 abbrev pub required : Text → Rule
 required name = record (new_rule name) { long = Some name; value_names = 1; required = true }
 
--- `--name N`, with N from `low` to `high`
+-- `--name N`, required, with N from `low` to `high`
 abbrev pub number : Text → ℕ → ℕ → Rule
 number name low high = record (new_rule name) {
   long = Some name;
@@ -29,24 +29,24 @@ number name low high = record (new_rule name) {
   parser = Some (Unsigned low high);
 }
 
--- a word by its place
+-- a positional argument
 abbrev pub word : Text → Rule
 word name = record (new_rule name) { required = true }
 
--- a number by its place, from `low` to `high`
+-- a positional argument: a number from `low` to `high`
 abbrev pub number_word : Text → ℕ → ℕ → Rule
 number_word name low high = record (new_rule name) { required = true; parser = Some (Unsigned low high) }
 
--- `--name N`, with N from `low` to `high`, which may be left out
+-- `--name N`, optional, with N from `low` to `high`
 abbrev pub optional_number : Text → ℕ → ℕ → Rule
 optional_number name low high =
     record (new_rule name) { long = Some name; value_names = 1; parser = Some (Unsigned low high) }
 
--- one word or more, at the end
+-- one or more arguments, at the end
 abbrev pub words : Text → Rule
 words name = record (new_rule name) { required = true; action = Some Append }
 
--- a subcommand with these options and words
+-- a subcommand with these options and arguments
 abbrev pub subcommand : Text → List Rule → Shape
 subcommand name rules = record (new_app name).top { rules = rules }
 
@@ -66,7 +66,7 @@ serve_command = subcommand (codes "serve") (
     required (codes "db") ∷ number (codes "port") 0 65535
     ∷ number (codes "connections") 1 MOST_CONNECTIONS ∷ required (codes "nonces") ∷ [])
 
--- a subcommand of one database, as `krl --db PATH`
+-- a subcommand for one database, for example `krl --db PATH`
 abbrev pub on_database : Text → Shape
 on_database name = subcommand name (required (codes "db") ∷ [])
 
@@ -78,7 +78,7 @@ check_command = subcommand (codes "check") (
 abbrev pub selftest_command : Shape
 selftest_command = subcommand (codes "selftest") []
 
--- `sshoffice`, which has a version and wants a subcommand
+-- `sshoffice`, which has a version and requires a subcommand
 abbrev pub top_command : Shape
 top_command = record (subcommand (codes "sshoffice") []) { subcommand_required = true; has_version = true }
 
@@ -92,7 +92,7 @@ office_command = with_commands (init_command ∷ apply_command ∷ serve_command
     ∷ on_database (codes "signers") ∷ on_database (codes "table") ∷ check_command ∷ on_database (codes "migrate")
     ∷ selftest_command ∷ [])
 
--- The argument has this rule, at its own level alone.
+-- The argument has this rule, at its own level only.
 abbrev pub IsArgument : Rule → Arg → Type 0
 IsArgument rule a = (rule_of a ≡ rule) × (a.global ≡ false)
 

@@ -11,10 +11,10 @@ use crate::parts::{Part, job_command, plain_command, with_job};
 use clap::Command;
 use std::alloc::{AllocError, Global};
 
-/// The most connections that one run of `serve` may be asked for.
+/// The highest number of connections that `serve` accepts.
 pub const MOST_CONNECTIONS: u64 = 1_000_000;
 
-// The command with no subcommands yet.
+// The command without subcommands.
 fn top_command<'a>(alloc: Global) -> Command<'a>
     ensures { app_of result ≡ record { top = top_command; subs = [] } }
 {
@@ -59,7 +59,7 @@ fn serve_command<'a>(alloc: Global) -> Result<Command<'a>, AllocError>
     job_command(alloc, "serve", help::SERVE, help::SERVE_MORE, &parts)
 }
 
-// A command of one database, as `krl --db PATH`.
+// A command for one database, for example `krl --db PATH`.
 fn on_database<'a>(
     alloc: Global,
     name: &'a str,
@@ -90,7 +90,7 @@ fn selftest_command<'a>(alloc: Global) -> Command<'a>
     plain_command(alloc, "selftest", help::SELFTEST, help::SELFTEST_MORE)
 }
 
-// The same with the jobs that read an office.
+// The command with the jobs that read an office added.
 fn with_readings<'a>(
     alloc: Global,
     office: Result<Command<'a>, AllocError>,
@@ -107,7 +107,7 @@ fn with_readings<'a>(
     )
 }
 
-/// The whole command, whose meaning to clap is that of `specs/Command.antt`.
+/// The whole command. To clap it means what `specs/Command.antt` defines.
 ///
 /// # Errors
 ///

@@ -1,124 +1,126 @@
-//! What help says of each command, option and word.
+//! The help text of each command, option and argument.
 
 /// What the program is.
-pub const OFFICE: &str = "An SSH certificate office";
+pub const OFFICE: &str = "Keeps the records of an SSH certificate authority";
 
-/// The crate's version, and the toolchain by which it is proved.
+/// The crate's version, and the toolchain that proved it.
 pub const VERSION: &str = "1.0.0 (rattle-kit-13b)";
 
-/// What the program's help says at its end.
-pub const OFFICE_MORE: &str = "In this order:
-  1. init makes an office in a new database.
-  2. serve answers requests. A front before the server knows who asks.
-  3. The signing station asks for what waits, signs, and delivers.
+/// The end of the program's help.
+pub const OFFICE_MORE: &str = "Typical order:
+  1. init creates an office in a new database.
+  2. serve answers requests. It trusts the caller's name in each request's path, so a reverse
+     proxy in front of it has to authenticate callers.
+  3. The signing station fetches pending certificates, signs them, and delivers the signatures.
 
-Status:
-  0  it is done
-  1  there was a fault, and its name stands on the standard error
-  2  the words are no command
+Exit status:
+  0  success
+  1  a fault, named on standard error
+  2  invalid arguments
 
 Example:
   sshoffice apply first.exchange
 
-Each command has its own help, as sshoffice init --help.
-A value that begins with '-' is written --name=-value, and a word that begins with '-' comes after --.";
+Each command has its own help, for example sshoffice init --help.
+Write a value that begins with '-' as --OPTION=VALUE. Arguments that begin with '-' go after --.";
 
 /// What `init` does.
-pub const INIT: &str = "Makes an office in a new database";
+pub const INIT: &str = "Creates an office in a new database";
 
-/// What the help of `init` says at its end.
+/// The end of the help of `init`.
 pub const INIT_MORE: &str = "Example:
   sshoffice init --db office.db --ca ca.pub --root root --station station --first 1 --last 1000000
 
-The file is made if it isn't there, and then you alone may read and write it.
-A value that begins with '-' is written --root=-value.";
+The file is created if it doesn't exist; then only you can read and write it.
+Write a value that begins with '-' as --OPTION=VALUE.";
 
 /// What `apply` does.
-pub const APPLY: &str = "Answers the requests of a file";
+pub const APPLY: &str = "Answers the requests in a file";
 
-/// What the help of `apply` says at its end.
+/// The end of the help of `apply`.
 pub const APPLY_MORE: &str = "Example:
   sshoffice apply --db office.db first.exchange
 
-A file whose name begins with '-' comes after --.
-While a server has the database open, --db is the fault Device. Send the requests to the server.";
+A FILE whose name begins with '-' goes after --.
+While a server has the database open, apply --db fails with Device. Send requests to the server.";
 
 /// What `serve` does.
-pub const SERVE: &str = "Answers HTTP requests on 127.0.0.1, one connection after the other";
+pub const SERVE: &str = "Answers HTTP requests on 127.0.0.1, one connection at a time";
 
-/// What the help of `serve` says at its end.
+/// The end of the help of `serve`.
 pub const SERVE_MORE: &str = "Example:
   sshoffice serve --db office.db --port 8022 --connections 100 --nonces /dev/urandom
 
-Once listening, the server prints the port. It ends with status 0 after so many connections, so that
-whatever started it starts it again. A connection that met a fault is named on the standard error, as
-connection 7 Read, and the next one is served.
-No other program can open the database meanwhile.";
+Once it is listening, the server prints its port. After N connections it exits with status 0, and
+the service manager is expected to start it again. If a connection fails, the server prints its
+number and the fault on standard error, for example connection 7 Read, and serves the next one.
+While the server runs, no other program can open the database.";
 
 /// What `krl` does.
-pub const KRL: &str = "Prints the revocation list";
+pub const KRL: &str = "Prints the key revocation list (KRL)";
 
-/// What the help of `krl` says at its end.
+/// The end of the help of `krl`.
 pub const KRL_MORE: &str = "Example:
   sshoffice krl --db office.db > office.krl
 
-While a server has the database open, this is the fault Device. Ask the server for /v1/krl.";
+While a server has the database open, this fails with Device. Fetch /v1/krl from the server.";
 
 /// What `signers` does.
-pub const SIGNERS: &str = "Prints the allowed signers";
+pub const SIGNERS: &str = "Prints the allowed signers file for ssh-keygen -Y";
 
-/// What the help of `signers` says at its end.
+/// The end of the help of `signers`.
 pub const SIGNERS_MORE: &str = "Example:
   sshoffice signers --db office.db > allowed_signers
 
-While a server has the database open, this is the fault Device. Ask the server for /v1/signers.";
+While a server has the database open, this fails with Device. Fetch /v1/signers from the server.";
 
 /// What `table` does.
 pub const TABLE: &str = "Prints the table of certificates";
 
-/// What the help of `table` says at its end.
+/// The end of the help of `table`.
 pub const TABLE_MORE: &str = "Example:
   sshoffice table --db office.db
 
-While a server has the database open, this is the fault Device. Ask the server for /v1/table.";
+While a server has the database open, this fails with Device. Fetch /v1/table from the server.";
 
 /// What `check` does.
-pub const CHECK: &str = "Says whether a revocation list revokes a certificate";
+pub const CHECK: &str = "Checks whether a KRL revokes a certificate";
 
-/// What the help of `check` says at its end.
+/// The end of the help of `check`.
 pub const CHECK_MORE: &str = "Example:
   sshoffice check --ca ca.pub office.krl 7 web/alice
 
-Words that begin with '-' come after --, as in check --ca ca.pub -- office.krl 7 -web/alice";
+Arguments that begin with '-' go after --, as in check --ca ca.pub -- office.krl 7 -web/alice";
 
 /// What `migrate` does.
-pub const MIGRATE: &str = "Brings a database of schema 1 to schema 2";
+pub const MIGRATE: &str = "Migrates a database from schema 1 to schema 2";
 
-/// What the help of `migrate` says at its end.
+/// The end of the help of `migrate`.
 pub const MIGRATE_MORE: &str = "Example:
   sshoffice migrate --db office.db";
 
 /// What `selftest` does.
-pub const SELFTEST: &str = "Asks a trial office over a socket and compares the answer";
+pub const SELFTEST: &str =
+    "Sends a request to an in-memory office over a socket and checks the answer";
 
-/// What the help of `selftest` says at its end.
+/// The end of the help of `selftest`.
 pub const SELFTEST_MORE: &str = "Example:
   sshoffice selftest";
 
-/// What `--db` is, where an office is in it.
-pub const DATABASE: &str = "The office's database, which init has made";
+/// What `--db` is of a command that opens an office.
+pub const DATABASE: &str = "The office's database, created by init";
 
 /// What `--db` of `init` is.
-pub const NEW_DATABASE: &str = "The database to make";
+pub const NEW_DATABASE: &str = "The database to create";
 
 /// What `--db` of `apply` is.
-pub const DATABASE_OR_NONE: &str = "The office's database; without it, a trial office in memory";
+pub const DATABASE_OR_NONE: &str = "The office's database; if omitted, a new office in memory";
 
 /// What `--ca` is.
-pub const CA_FILE: &str = "The file with the public key line of the CA";
+pub const CA_FILE: &str = "The file with the CA's public-key line";
 
 /// What `--root` is.
-pub const ROOT: &str = "The caller that may do everything but deliver signatures";
+pub const ROOT: &str = "The caller that may do everything except deliver signatures";
 
 /// What `--station` is.
 pub const STATION: &str = "The caller that delivers signatures";
@@ -139,13 +141,13 @@ pub const PORT: &str = "The port to listen on, or 0 for any free one";
 pub const CONNECTIONS: &str = "How many connections to serve, 1 to 1000000";
 
 /// What `--nonces` is.
-pub const NONCES: &str = "The file of nonces, 32 bytes a connection, as /dev/urandom";
+pub const NONCES: &str = "The file of nonces, 32 bytes per connection, for example /dev/urandom";
 
 /// What `KRL` is.
-pub const LIST_FILE: &str = "The file of the revocation list";
+pub const LIST_FILE: &str = "The file with the KRL";
 
 /// What `SERIAL` is.
 pub const SERIAL: &str = "The certificate's serial, 1 to 18446744073709551615";
 
 /// What `KEYID` is.
-pub const KEY_ID: &str = "The certificate's key id";
+pub const KEY_ID: &str = "The certificate's key ID";

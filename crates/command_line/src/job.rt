@@ -1,15 +1,15 @@
 //! What the words ask for.
 
-/// What the words ask for. A path is the word's text, and an option that may be left out is `None` where it is.
+/// What the words ask for. A path is the text of its word. An optional option that wasn't given is `None`.
 #[derive(Drop)]
 pub enum Job {
-    /// Makes an office in a new database.
+    /// Creates an office in a new database.
     Init {
         /// Path of the database.
         db: String,
-        /// Path of the file with the CA's key line.
+        /// Path of the file with the CA's public-key line.
         ca: String,
-        /// The caller that may do everything but deliver signatures.
+        /// The caller that may do everything except deliver signatures.
         root: String,
         /// The caller that delivers signatures.
         station: String,
@@ -18,25 +18,25 @@ pub enum Job {
         /// The last serial.
         last: u64,
     },
-    /// Answers the requests of a file, by the office of a database or by a trial office.
+    /// Answers the requests in a file, with the office of a database or with one in memory.
     Apply {
-        /// Path of the database, or none for a trial office in memory.
+        /// Path of the database, or `None` for a new office in memory.
         db: Option<String>,
         /// Path of the exchange file.
         file: String,
     },
-    /// Serves connections one after the other.
+    /// Serves connections, one at a time.
     Serve {
         /// Path of the database.
         db: String,
-        /// The port of 127.0.0.1, where 0 leaves the choice to the system.
+        /// The port on 127.0.0.1. With 0, the system chooses.
         port: u16,
         /// How many connections are served, 1 to `MOST_CONNECTIONS`.
         connections: u64,
         /// Path of the file that nonces are read from.
         nonces: String,
     },
-    /// Prints the revocation list.
+    /// Prints the KRL.
     Krl {
         /// Path of the database.
         db: String,
@@ -51,22 +51,22 @@ pub enum Job {
         /// Path of the database.
         db: String,
     },
-    /// Asks a revocation list about one certificate.
+    /// Checks whether a KRL revokes a certificate.
     Check {
-        /// Path of the file with the CA's key line.
+        /// Path of the file with the CA's public-key line.
         ca: String,
-        /// Path of the revocation list.
+        /// Path of the KRL.
         list: String,
         /// The certificate's serial, at least 1.
         serial: u64,
-        /// The certificate's key id.
+        /// The certificate's key ID.
         key_id: String,
     },
-    /// Brings a database of the older schema to the one of today.
+    /// Migrates a database from schema 1 to schema 2.
     Migrate {
         /// Path of the database.
         db: String,
     },
-    /// Tries a trial office over a socket of its own.
+    /// Sends a request to an in-memory office over a socket and checks the answer.
     Selftest,
 }

@@ -1,9 +1,9 @@
-//! The words of the command line.
+//! The command line of `sshoffice`. Its words are the program's name and the arguments.
 //!
-//! The words are read by clap's meaning of one command, which `specs/Command.antt` writes out as data. `read_words`
-//! gives a job only where the words have no mistake by that meaning and name that job with those values, and a fault
-//! only where they ask for help, have a mistake or name no job, or memory was refused.
-//! A number is what `u64` reads: decimal digits, perhaps behind a `+` or with leading zeros, within its limits.
+//! The command is data, in `specs/Command.antt`, and clap defines what words mean for it. `read_words` returns a job
+//! only if the words are valid by that meaning and ask for that job with those values. It returns a fault only if they
+//! ask for help, are invalid or ask for no job, or if memory was refused.
+//! A number is what `u64` parses: decimal digits, possibly after a `+` or with leading zeros, within its limits.
 #![tactic(auto)]
 
 mod command;

@@ -1,4 +1,4 @@
-//! The parts of a command: its options, its words and its jobs.
+//! The parts of a command: its options, arguments and jobs.
 
 ghost use Rattle.std.specs.Prelude.{◌≡◌, [], IfOk, map};
 ghost use Rattle.clap.specs.Words.{App, Shape, app_of, with_subcommand};
@@ -10,26 +10,26 @@ use clap::builder::ValueParser;
 use clap::{Arg, ArgAction, Command};
 use std::alloc::{AllocError, Global};
 
-/// An option or word of a job: its name, what help calls its value, its limits and what help says of it.
+/// An option or argument of a job: its name, the name of its value, its limits and its help text.
 #[derive(Clone, Copy)]
 pub enum Part<'a> {
-    /// `--name VALUE`, which may be left out.
+    /// `--name VALUE`, optional.
     Optional(&'a str, &'a str, &'a str),
-    /// `--name VALUE`, which must be given.
+    /// `--name VALUE`, required.
     Required(&'a str, &'a str, &'a str),
-    /// `--name N`, with a number within the limits.
+    /// `--name N`, required: a number within the limits.
     Number(&'a str, &'a str, u64, u64, &'a str),
-    /// `--name N`, with a number within the limits, which may be left out.
+    /// `--name N`, optional: a number within the limits.
     OptionalNumber(&'a str, &'a str, u64, u64, &'a str),
-    /// A word by its place.
+    /// A positional argument.
     Word(&'a str, &'a str),
-    /// A number by its place, within the limits.
+    /// A positional argument: a number within the limits.
     NumberWord(&'a str, u64, u64, &'a str),
-    /// One word or more, at the end.
+    /// One or more arguments, at the end.
     Words(&'a str, &'a str),
 }
 
-// `--name VALUE`, which may be left out.
+// `--name VALUE`, optional.
 fn optional<'a>(alloc: Global, name: &'a str, value: &'a str, help: &'a str) -> Arg<'a>
     ensures { IsArgument (optional name.entry.now) result }
 {
@@ -39,14 +39,14 @@ fn optional<'a>(alloc: Global, name: &'a str, value: &'a str, help: &'a str) -> 
         .help(help)
 }
 
-// `--name VALUE`, which must be given.
+// `--name VALUE`, required.
 fn required<'a>(alloc: Global, name: &'a str, value: &'a str, help: &'a str) -> Arg<'a>
     ensures { IsArgument (required name.entry.now) result }
 {
     optional(alloc, name, value, help).required(true)
 }
 
-// `--name N`, with a number from `low` to `high`.
+// `--name N`, required: a number from `low` to `high`.
 fn number<'a>(
     alloc: Global,
     name: &'a str,
@@ -60,7 +60,7 @@ fn number<'a>(
     required(alloc, name, value, help).value_parser(ValueParser::Unsigned(low, high))
 }
 
-// `--name N`, with a number from `low` to `high`, which may be left out.
+// `--name N`, optional: a number from `low` to `high`.
 fn optional_number<'a>(
     alloc: Global,
     name: &'a str,
@@ -74,35 +74,35 @@ fn optional_number<'a>(
     optional(alloc, name, value, help).value_parser(ValueParser::Unsigned(low, high))
 }
 
-// A word by its place.
+// A positional argument.
 fn word<'a>(alloc: Global, name: &'a str, help: &'a str) -> Arg<'a>
     ensures { IsArgument (word name.entry.now) result }
 {
     Arg::new(alloc, name).required(true).help(help)
 }
 
-// A number by its place, from `low` to `high`.
+// A positional argument: a number from `low` to `high`.
 fn number_word<'a>(alloc: Global, name: &'a str, low: u64, high: u64, help: &'a str) -> Arg<'a>
     ensures { IsArgument (number_word name.entry.now low high) result }
 {
     word(alloc, name, help).value_parser(ValueParser::Unsigned(low, high))
 }
 
-// One word or more, at the end.
+// One or more arguments, at the end.
 fn words<'a>(alloc: Global, name: &'a str, help: &'a str) -> Arg<'a>
     ensures { IsArgument (words name.entry.now) result }
 {
     word(alloc, name, help).action(ArgAction::Append)
 }
 
-/// A command with no options and words yet: its name, what it does, and what its help says at the end.
+/// A command without options and arguments: its name, what it does, and the end of its help.
 pub fn plain_command<'a>(alloc: Global, name: &'a str, about: &'a str, more: &'a str) -> Command<'a>
     ensures { IsSubcommand (subcommand name.entry.now []) result }
 {
     Command::new(alloc, name).about(about).after_help(more)
 }
 
-// What clap takes for a part.
+// A part as clap's argument.
 fn argument<'a>(alloc: Global, part: Part<'a>) -> Arg<'a>
     ensures { IsArgument (rule_of_part part.entry) result }
 {
@@ -119,7 +119,7 @@ fn argument<'a>(alloc: Global, part: Part<'a>) -> Arg<'a>
     }
 }
 
-/// A command with these options and words.
+/// A command with these options and arguments.
 ///
 /// # Errors
 ///

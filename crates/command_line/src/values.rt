@@ -11,7 +11,7 @@ use crate::WordsFault;
 use clap::ArgMatches;
 use std::alloc::Global;
 
-/// What is said of a value that clap did not give, or let through: `BadWords` with the name, or `NoMemory`.
+/// The fault for a value that is missing or invalid: `BadWords` with its name, or `NoMemory`.
 pub fn lack(alloc: Global, name: &str) -> WordsFault
     ensures { IsLackOfAny result }
 {
@@ -21,18 +21,18 @@ pub fn lack(alloc: Global, name: &str) -> WordsFault
     }
 }
 
-// The value of an option or word, as it was given.
+// The value that was given for an option or argument.
 fn value_at<'a>(found: &ArgMatches<'a>, name: &str) -> Option<&'a str>
     ensures { option_map (λ s. s.now) result ≡ first_of name.now (rows_of (found_of found.now)) }
 {
     found.get_str(name)
 }
 
-/// The value that was given for an option or word.
+/// The value that was given for an option or argument.
 ///
 /// # Errors
 ///
-/// `BadWords`, only where none was given. `NoMemory`, where a growth was refused.
+/// `BadWords`, only if none was given. `NoMemory`, if memory was refused.
 pub fn text_at(alloc: Global, found: &ArgMatches<'_>, name: &str) -> Result<String, WordsFault>
     ensures ok { IfOk result (λ text. first_of name.now (rows_of (found_of found.now)) ≡ Some (string_bytes text)) }
     ensures err { IfErr result (IsLack (first_of name.now (rows_of (found_of found.now)))) }
@@ -43,11 +43,11 @@ pub fn text_at(alloc: Global, found: &ArgMatches<'_>, name: &str) -> Result<Stri
     }
 }
 
-/// The value of an option that may be left out.
+/// The value of an optional option.
 ///
 /// # Errors
 ///
-/// `NoMemory`, where a growth was refused.
+/// `NoMemory`, if memory was refused.
 pub fn text_if_given(
     alloc: Global,
     found: &ArgMatches<'_>,
@@ -62,7 +62,7 @@ pub fn text_if_given(
     }
 }
 
-// The number that a text writes, from `low` to `high`.
+// The number that a text has, from `low` to `high`.
 fn number_of(text: &str, low: u64, high: u64) -> Option<u64>
     ensures number { result ≡ number_of low high text.now }
     ensures limits { IfSome result (λ n. (low ≤ n) × (n ≤ high)) }
@@ -74,11 +74,11 @@ fn number_of(text: &str, low: u64, high: u64) -> Option<u64>
     }
 }
 
-/// The number that was given for an option or word, from `low` to `high`.
+/// The number that was given for an option or argument, from `low` to `high`.
 ///
 /// # Errors
 ///
-/// `BadWords`, only where no number within the limits was given. `NoMemory`, where a growth was refused.
+/// `BadWords`, only if no number within the limits was given. `NoMemory`, if memory was refused.
 pub fn number_at(
     alloc: Global,
     found: &ArgMatches<'_>,
@@ -99,12 +99,11 @@ pub fn number_at(
     }
 }
 
-/// The number that was given for an option that may be left out, from `low` to `high`, or else `none`.
+/// The number that was given for an optional option, from `low` to `high`, or else `none`.
 ///
 /// # Errors
 ///
-/// `BadWords`, only where something else than a number within the limits was given. `NoMemory`, where a growth was
-/// refused.
+/// `BadWords`, only if something other than a number within the limits was given. `NoMemory`, if memory was refused.
 pub fn number_if_given(
     alloc: Global,
     found: &ArgMatches<'_>,
@@ -124,14 +123,14 @@ pub fn number_if_given(
     }
 }
 
-// The words that were given for a name.
+// The words that were given for an argument.
 fn values_at<'m, 'a>(found: &'m ArgMatches<'a>, name: &str) -> Option<&'m [&'a str]>
     ensures { option_map (λ s. map (λ v. v.now) s.now) result ≡ all_of name.now (rows_of (found_of found.now)) }
 {
     found.get_strs(name)
 }
 
-// A word as text of its own.
+// An owned copy of a word.
 fn pushed(alloc: Global, texts: &mut Vec<String>, word: &str) -> Result<(), WordsFault>
     ensures ok { OnOk result (map string_bytes texts.new.items ≡ map string_bytes texts.old.items ++ word.now ∷ []) }
     ensures err { IfErr result (λ fault. fault ≡ NoMemory) }
@@ -145,7 +144,7 @@ fn pushed(alloc: Global, texts: &mut Vec<String>, word: &str) -> Result<(), Word
     }
 }
 
-// Words as texts of their own.
+// Owned copies of words.
 fn owned(alloc: Global, words: &[&str]) -> Result<Vec<String>, WordsFault>
     ensures ok { IfOk result (λ texts. map string_bytes texts.items ≡ map (λ v. v.now) words.now) }
     ensures err { IfErr result (λ fault. fault ≡ NoMemory) }
@@ -157,11 +156,11 @@ fn owned(alloc: Global, words: &[&str]) -> Result<Vec<String>, WordsFault>
     Ok(texts)
 }
 
-/// The words that were given for a name, in their order.
+/// The words that were given for an argument, in order.
 ///
 /// # Errors
 ///
-/// `BadWords`, only where none was given. `NoMemory`, where a growth was refused.
+/// `BadWords`, only if none was given. `NoMemory`, if memory was refused.
 pub fn texts_at(
     alloc: Global,
     found: &ArgMatches<'_>,

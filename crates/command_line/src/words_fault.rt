@@ -7,9 +7,9 @@ use std::alloc::AllocError;
 pub enum WordsFault {
     /// They ask for help or for the version, which is this text.
     Help(String),
-    /// They have a mistake, which this text names.
+    /// They are invalid, for the reason in this text.
     BadWords(String),
-    /// A growth was refused.
+    /// Memory was refused.
     NoMemory,
 }
 

@@ -7,7 +7,6 @@ use Rattle.hex.specs.Hex.{IsBytes, encode_lower}
 use Rattle.web.specs.declared.exchange.Exchange.{Exchange}
 use Rattle.exchanges.specs.declared.exchange_reader.ExchangesFault.{ExchangesFault}
 use Rattle.exchanges.specs.declared.exchange_reader.ExchangesFault.TheVariants.{BadExchange, NoMemory}
-use Rattle.exchanges.specs.declared.exchange_reader.TheConstants.{MAX_EXCHANGES, MAX_REQUEST}
 
 -- a record
 abbrev pub exchange_text : Exchange → List ℕ
@@ -24,12 +23,12 @@ pub record IsExchange (e : Exchange) : Type 0 where
   pub moment : e.moment < 2 ^ 64
   pub nonce : length e.nonce ≡ 32
   pub bytes : IsBytes e.nonce
-  pub size : length e.request ≤ MAX_REQUEST
+  pub size : length e.request ≤ 65536
 
 -- exchanges that a file can hold
 pub record AreExchanges (es : List Exchange) : Type 0 where
   pub each : AllByRecursion IsExchange es
-  pub count : length es ≤ MAX_EXCHANGES
+  pub count : length es ≤ 10000
 
 -- Behind k - 1 records something stands, and k is over the limit or no record begins there.
 pub record IsBadRecord (file : List ℕ) (k : ℕ) : Type 0 where
@@ -39,7 +38,7 @@ pub record IsBadRecord (file : List ℕ) (k : ℕ) : Type 0 where
   pub text : file ≡ exchanges_text before ++ rest
   pub number : k ≡ length before + 1
   pub more : rest ≢ []
-  pub first : k ≤ MAX_EXCHANGES → (e : Exchange) (after : List ℕ) → IsExchange e → rest ≢ exchange_text e ++ after
+  pub first : k ≤ 10000 → (e : Exchange) (after : List ℕ) → IsExchange e → rest ≢ exchange_text e ++ after
 
 -- Bytes that tell of a file what reading asks: which exchanges it is the text of, and which record is the first bad
 -- one.

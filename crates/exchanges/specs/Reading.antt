@@ -9,7 +9,6 @@ use Rattle.hex.specs.Hex.{decode_sized, encode_lower}
 use Rattle.values.specs.Decimals.{number_of}
 use Rattle.web.specs.declared.exchange.Exchange.{Exchange}
 use Rattle.exchanges.specs.declared.exchange_reader.Record.{Record}
-use Rattle.exchanges.specs.declared.exchange_reader.TheConstants.{MAX_REQUEST}
 
 -- what follows these bytes
 abbrev pub after : List ℕ → List ℕ → Option (List ℕ)
@@ -36,7 +35,7 @@ nonce_of t = option_and_then (if_lower t) (result_ok (decode_sized t 32))
 
 -- the first bytes, so many, and those behind them
 abbrev pub request_in : ℕ → List ℕ → Option (List ℕ × List ℕ)
-request_in size t = if nat_le size MAX_REQUEST && nat_le size (length t) then Some (take size t, drop size t) else None
+request_in size t = if nat_le size 65536 && nat_le size (length t) then Some (take size t, drop size t) else None
 
 infixl 10 ◌>>=◌
 abbrev pub ◌>>=◌ : {A B : Type 0} → Option A → (A → Option B) → Option B

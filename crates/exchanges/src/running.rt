@@ -3,6 +3,7 @@
 ghost use Rattle.std.specs.Prelude.{◌≡◌, Err, IfErr, OnOk, false, true};
 ghost use Rattle.std.specs.Io.KnownBytes.{Appends};
 ghost use Rattle.web.specs.Answers.{Keeps};
+ghost use Rattle.web.specs.Runs.{AskNoChange};
 ghost use Rattle.exchanges.specs.Printing.{AreRun, Prints, all_given_text, has_fault};
 ghost use Rattle.exchanges.specs.Running.{IsOfPrinting};
 
@@ -84,6 +85,10 @@ pub fn apply_exchanges<R: Registry, W: Write>(
     // Nothing was run, and nothing is printed.
     ensures unrun { result ≡ Err RunFault.NoMemory → registry.new ≡ registry.old }
     ensures unprinted { result ≡ Err RunFault.NoMemory → out.new ≡ out.old }
+
+    // If none is a message, all that the register keeps is as it was, whatever it means.
+    ensures reads { R.is_honest registry.new → R.is_open registry.new → AskNoChange exchanges.now
+        → R.is_as_before registry.old registry.new }
 {
     let given = run(registry, alloc, exchanges)?;
     print_all(out, given.as_slice())

@@ -1,5 +1,5 @@
 -- The list, from what the tables show of it.
-use Rattle.std.proofs.Common.{◌≡◌, ℕ, List, [], ◌∷◌, Option, Result, Ok, Err, refl, ap, subst, ◌∙◌}
+use Rattle.std.proofs.Common.{◌≡◌, ℕ, List, [], ◌∷◌, Option, Result, Ok, Err, refl, ap, subst, sym, ◌∙◌}
 use Rattle.std.specs.Prelude.{◌≤◌, IfErr, IfOk, IsTrue, OnOk, Vec}
 use Rattle.std.specs.declared.alloc.Global.{Global}
 use Rattle.std.specs.Io.KnownBytes.{Appends}
@@ -45,7 +45,7 @@ unwritten_only (Err Write) count means h few = tt
 
 module _ (exact : ListsAreExact) where
   is_list : (o : Opening) (l : List Arrival) → MayList o l → IsList o l (list_bytes o l)
-  is_list o l may = record { same = refl; exact = exact o l may.office may.fits }
+  is_list o l may = record { same = refl; fits = may.fits; exact = exact o l may.office may.fits }
 
   -- what is written of what the tables show is the list
   pub listed : {E : Type 0} (means : Opening → List Arrival → Type 0) → ((o : Opening) (l : List Arrival) → means o l → IsOffice o l)
@@ -53,21 +53,22 @@ module _ (exact : ListsAreExact) where
       → ((o : Opening) (l : List Arrival) → means o l → AreRevoked found (state o l))
       → OnOk r (IsTrue (fits found.parts.items found.key_ids))
       → OnOk r (Appends old new (published_text found.head found.parts.items found.key_ids))
-      → OnOk r ((o : Opening) (l : List Arrival) → means o l → (bytes : List ℕ) × IsList o l bytes × Appends old new bytes)
+      → OnOk r ((bytes : List ℕ) × Appends old new bytes × ((o : Opening) (l : List Arrival) → means o l → IsList o l bytes))
   listed means office (Err e) found old new row fit written = tt
-  listed means office (Ok x) found old new row fit written = λ o l m.
-      let s = state o l in
-      let are = row o l m in
-      let here : IsTrue (fits (published_parts s) found.key_ids) = subst (λ (ps : List CaPart). IsTrue (fits ps found.key_ids)) are.parts fit in
-      let fits_here : ListFits s = subst (λ (ids : List (List ℕ)). IsTrue (fits (published_parts s) ids)) are.key_ids here in
-      let same : published_text found.head found.parts.items found.key_ids ≡ list_bytes o l =
-      ap (λ (h : KrlHead). published_text h found.parts.items found.key_ids) are.head
-      ∙ (ap (λ (ps : List CaPart). published_text (head_of s) ps found.key_ids) are.parts
-      ∙ ap (λ (ids : List (List ℕ)). published_text (head_of s) (published_parts s) ids) are.key_ids) in (
-        list_bytes o l,
-        is_list o l (record { office = office o l m; fits = fits_here }),
-        subst (λ (bytes : List ℕ). Appends old new bytes) same written,
-      )
+  listed means office (Ok x) found old new row fit written = (
+    published_text found.head found.parts.items found.key_ids,
+    written,
+    λ o l m.
+        let s = state o l in
+        let are = row o l m in
+        let here : IsTrue (fits (published_parts s) found.key_ids) = subst (λ (ps : List CaPart). IsTrue (fits ps found.key_ids)) are.parts fit in
+        let fits_here : ListFits s = subst (λ (ids : List (List ℕ)). IsTrue (fits (published_parts s) ids)) are.key_ids here in
+        let same : published_text found.head found.parts.items found.key_ids ≡ list_bytes o l =
+        ap (λ (h : KrlHead). published_text h found.parts.items found.key_ids) are.head
+        ∙ (ap (λ (ps : List CaPart). published_text (head_of s) ps found.key_ids) are.parts
+        ∙ ap (λ (ids : List (List ℕ)). published_text (head_of s) (published_parts s) ids) are.key_ids) in
+        subst (λ (bytes : List ℕ). IsList o l bytes) (sym same) (is_list o l (record { office = office o l m; fits = fits_here })),
+  )
 
   -- what is due to a GET of the list is the response with it
   is_response : (o : Opening) (l : List Arrival) (a : Ask) (moment : ℕ) (nonce response : List ℕ) → a ≡ get RevocationList

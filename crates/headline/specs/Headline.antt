@@ -29,7 +29,7 @@ use Rattle.store.specs.Meaning.{HasFailed, KeepsTelling, Stores, Tells}
 use Rattle.web.specs.declared.exchange.Exchange.{Exchange}
 use Rattle.web.specs.declared.exchange.Given.{Given}
 use Rattle.web.specs.declared.exchange.Given.TheVariants.{Answer, Fault}
-use Rattle.web.specs.Answers.{IsAnswered, with_ask}
+use Rattle.web.specs.Answers.{IsAnswered, ListFits, with_ask}
 use Rattle.web.specs.Causes.{StopsAt}
 use Rattle.exchanges.specs.declared.running.RunFault.{RunFault}
 use Rattle.exchanges.specs.declared.running.RunFault.TheVariants as run
@@ -56,9 +56,11 @@ BodiesNameTheirSigners = (o : Opening) (l : List Arrival) → IsOpening o → (s
 abbrev pub list_bytes : Opening → List Arrival → List ℕ
 list_bytes o l = publication.published_list (state o l)
 
--- the bytes of the list; cut in the one way that there is, they revoke what accepted messages named, and nothing else
+-- The bytes of the list, each section of which has a length of 32 bits. Cut in the one way that there is, they revoke
+-- what accepted messages named, and nothing else.
 pub record IsList (o : Opening) (l : List Arrival) (bytes : List ℕ) : Type 0 where
   pub same : bytes ≡ list_bytes o l
+  pub fits : ListFits (state o l)
   pub exact : AreExactList bytes o l
 
 -- the response with such a list
@@ -169,10 +171,10 @@ IfFound (Err Write) P = P
 
 -- ---- publishing
 
--- where all is written, that is the list of each history that the tables told
+-- where all is written, what is written is the list of each history that the tables told
 abbrev pub WritesList : (held holds : Option (List ℕ)) → (old new : State) → Result (Unit {0}) PublishFault → Type 0
-WritesList held holds old new r = OnOk r ((o : Opening) (l : List Arrival) → Tells old o l
-    → (bytes : List ℕ) × IsList o l bytes × Appends held holds bytes)
+WritesList held holds old new r = OnOk r ((bytes : List ℕ) × Appends held holds bytes
+    × ((o : Opening) (l : List Arrival) → Tells old o l → IsList o l bytes))
 
 -- where the list was found, the tables store each history that they told
 abbrev pub StoresWhereFound : (old new : State) → Result (Unit {0}) PublishFault → Type 0

@@ -21,7 +21,9 @@ ghost use Rattle.office.specs.declared.opening.Opening.{Opening};
 ghost use Rattle.office.specs.declared.arrival.Arrival.{Arrival};
 ghost use Rattle.office.specs.Faults.{HasCause};
 ghost use Rattle.store.specs.Meaning.{HasFailed, KeepsTelling, StoresWhereOpen};
+ghost use Rattle.web.specs.Answers.{AsksNoChange};
 ghost use Rattle.web.specs.Causes.{IsOfAList};
+ghost use Rattle.web.specs.Runs.{AskNoChange};
 ghost use Rattle.office_laws.specs.Counting.{CountsUp};
 ghost use Rattle.headline.specs.Headline.{AnswersDue, AnswersList, BodiesNameTheirSigners, BodiesStay};
 ghost use Rattle.headline.specs.Headline.{EqualVersionsAreEqualLists, FailsAsRegister, IsAsBeforeWhereOpen};
@@ -66,6 +68,9 @@ pub fn replay<S: Alter, W: Write>(
     ensures unrun { result ≡ Err RunFault.NoMemory → store.new ≡ store.old }
     ensures unprinted { result ≡ Err RunFault.NoMemory → out.new ≡ out.old }
 
+    // If none is a message, the database is as it was, whatever its tables mean, while the connection is open.
+    ensures reads { AskNoChange exchanges.now → Between S.Store IsAsBeforeWhereOpen store.old.conn store.new.conn }
+
     // A disk that has returned what was written did so before.
     ensures honest { StaysClean S.Store store.old.conn store.new.conn }
 
@@ -102,6 +107,10 @@ pub fn respond<S: Alter>(
 
     // After a fault they tell what they told.
     ensures fault { On S.Store KeepsTellingOnErr store.old.conn store.new.conn result }
+
+    // A request that is no message leaves the database as it was, whatever its tables mean, while the connection is
+    // open.
+    ensures reads { AsksNoChange request.now → Between S.Store IsAsBeforeWhereOpen store.old.conn store.new.conn }
 
     // Such a fault is want of memory, or the database failed, or refused a row that was due. `Device` is answered only
     // where one of the last two was.

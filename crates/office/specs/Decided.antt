@@ -8,7 +8,6 @@ use Rattle.values.specs.Serials.{is_serial}
 use Rattle.message.specs.Values.{is_department, is_signature, is_range}
 use Rattle.message.specs.declared.kinds.Message.{Message}
 use Rattle.message.specs.declared.kinds.Message.TheVariants as message
-use Rattle.office.specs.declared.ca.TheConstants.{MOST_CAS}
 use Rattle.office.specs.declared.certificate.Certificate.{Certificate}
 use Rattle.office.specs.declared.view.View.{View}
 use Rattle.office.specs.declared.view.Change.{Change}
@@ -164,7 +163,7 @@ HasRoom (change.Certificate c) s = next_serial s ≤ s.opening.last
 HasRoom (change.Signature serial signature) s = IsSome (certificate_of s serial)
 HasRoom (change.Range r) s = (s.opening.first ≤ r.lo) × (r.hi < next_serial s)
 HasRoom (change.KeyId key_id) s = Unit {0}
-HasRoom (change.Ca ca) s = (length s.cas < MOST_CAS) × (ca.since ≡ next_serial s)
+HasRoom (change.Ca ca) s = (length s.cas < 8) × (ca.since ≡ next_serial s)
 
 -- what is written is as it may be
 abbrev pub IsLawfulChange : Change → Type 0

@@ -5,7 +5,6 @@ use Rattle.std.specs.List.{list_any}
 use Rattle.std.specs.Option.{option_map}
 use Rattle.std.specs.Str.{bytes_eq}
 use Rattle.text.specs.Results.{◌>>=◌, or_fault}
-use Rattle.values.specs.declared.limits.TheConstants.{LATEST_MOMENT}
 use Rattle.values.specs.declared.refusal.Refusal.{Refusal}
 use Rattle.values.specs.declared.refusal.Refusal.TheVariants.{BadMessage, BadMoment, KeyReused}
 use Rattle.message.specs.declared.kinds.Message.{Message}
@@ -44,11 +43,12 @@ refuse_if b r = if b then Err r else Ok tt
 abbrev pub first_of_step : Arrival → Message → Stepped → First
 first_of_step a m stepped = record { arrival = a; message = m; reply = stepped.reply }
 
--- what an arrival that is no repeat gives: the refusal with the least number, or a first acceptance
+-- What an arrival that is no repeat gives: the refusal with the least number, or a first acceptance. The last moment is
+-- that of 9999-12-31 23:59:59 UTC.
 abbrev pub judged : State → List Kept → Arrival → Result First Refusal
 judged s kept a = do
   m ← or_fault BadMessage (message_with_text a.bytes)
-  _ ← refuse_if (nat_lt LATEST_MOMENT a.moment) BadMoment
+  _ ← refuse_if (nat_lt 253402300799 a.moment) BadMoment
   _ ← refuse_if (list_any (has_key a) kept) KeyReused
   stepped ← step s a.caller m a.moment a.nonce
   Ok (first_of_step a m stepped)

@@ -33,7 +33,6 @@ use Rattle.message.specs.declared.delivery.Delivery.{Delivery}
 use Rattle.message.specs.declared.serial_range.SerialRange.{SerialRange}
 use Rattle.message.specs.declared.kinds.Message.{Message}
 use Rattle.message.specs.declared.kinds.Message.TheVariants as message
-use Rattle.office.specs.declared.ca.TheConstants.{MOST_CAS}
 use Rattle.office.specs.declared.certificate.Certificate.{Certificate}
 use Rattle.office.specs.Permissions.{may_administer, is_permitted_by, is_renewal_permitted_by}
 use Rattle.office.specs.State.{State, next_serial, certificate_of, department_named, department_of_serial, is_ca}
@@ -128,7 +127,7 @@ abbrev pub rollover_refusals : State → List ℕ → List ℕ → List (Refusal
 rollover_refusals s caller key =
     (NotAllowed, not (bytes_eq caller s.opening.root))
     ∷ (CaInUse, is_ca s.cas key)
-    ∷ (TooManyCas, nat_le MOST_CAS (length s.cas))
+    ∷ (TooManyCas, nat_le 8 (length s.cas))
     ∷ []
 
 abbrev pub refusals : State → List ℕ → Message → ℕ → List (Refusal × Bool)

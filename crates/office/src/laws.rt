@@ -1,7 +1,9 @@
 //! Laws of every state and every history.
 
 ghost use Rattle.std.specs.Prelude.{◌≡◌, ℕ, List, true};
+ghost use Rattle.values.specs.declared.limits.TheConstants.{LAST_SERIAL, LATEST_MOMENT};
 ghost use Rattle.message.specs.declared.kinds.Message.{Message};
+ghost use Rattle.office.specs.declared.ca.TheConstants.{MOST_CAS};
 ghost use Rattle.office.specs.declared.opening.Opening.{Opening};
 ghost use Rattle.office.specs.declared.arrival.Arrival.{Arrival};
 ghost use Rattle.office.specs.State.{State};
@@ -20,4 +22,11 @@ pub fn refusals_ascend()
 /// Each reply that is due, a kept one too, has at most 99 bytes.
 pub fn replies_are_short()
     ensures { (o : Opening) (l : List Arrival) (a : Arrival) → IsOffice o l → ReplyFits 99 (due o l a) }
+{}
+
+/// The limits of an office. The definitions have them as numbers.
+pub fn limits_of_offices()
+    ensures moment { LATEST_MOMENT ≡ 253402300799 }
+    ensures serial { LAST_SERIAL ≡ 9223372036854775806 }
+    ensures cas { MOST_CAS ≡ 8 }
 {}

@@ -34,7 +34,7 @@ pub use ca::{Ca, MOST_CAS};
 pub use certificate::Certificate;
 pub use concern::{Concern, concerned};
 pub use deciding::decide;
-pub use laws::{refusals_ascend, replies_are_short};
+pub use laws::{limits_of_offices, refusals_ascend, replies_are_short};
 pub use listing::{BATCH, Revocations, has_key_id, place_behind};
 pub use opening::{Opening, OpeningFault};
 pub use publication::{Entry, Issued, Pending, Revoked, Standing};

@@ -155,6 +155,7 @@ pub trait Registry {
         ensures row { is_honest self.new → AnswersBy means self.old result
             (λ o l rows. rows.items ≡ pending_of (state o l)) }
         ensures same { is_honest self.new → MeansTheSame means self.old self.new }
+        ensures before { is_honest self.new → is_open self.new → is_as_before self.old self.new }
         ensures cause { is_honest self.new → IfErr result (λ e. HasCause e (FailsWithin means fails self.old self.new)) }
         ensures only { is_honest self.new → FailsAsARegister means self.old result }
     {
@@ -171,6 +172,12 @@ pub trait Registry {
             place = next;
         }
     }
+
+    /// What is kept is the same if nothing is asked.
+    ghost unasked: { (s : Self) → is_as_before s s };
+
+    /// What is kept is the same after two calls, one after the other, if it is after each of them.
+    ghost through: { (a b c : Self) → is_as_before a b → is_as_before b c → is_as_before a c };
 
     /// It shows no office whose opening isn't lawful, nor one whose version has none after it.
     ghost lawful: { (s : Self) (o : Opening) (l : List Arrival) → means s o l → IsOffice o l };

@@ -2,7 +2,6 @@
 use Rattle.std.specs.Prelude.{◌≡◌, ◌≤◌, ℕ, List, [], ◌∷◌, ◌++◌, length, take, map, flat_map}
 use Rattle.std.specs.Prelude.{All, Option, Some, Result, Ok, Err}
 use Rattle.std.specs.Io.KnownBytes.{Consumes}
-use Rattle.values.specs.declared.limits.TheConstants.{LATEST_MOMENT}
 use Rattle.office.specs.declared.opening.Opening.{Opening}
 use Rattle.office.specs.declared.arrival.Arrival.{Arrival}
 use Rattle.office.specs.declared.registry.Registry.{Ghosts}
@@ -23,7 +22,7 @@ use Rattle.server.specs.Books.{Coming, Book, IsMet, WhereTold}
 pub record Talk : Type 0 where
   pub exchange : Exchange
   pub response : List ℕ
-  pub lawful : exchange.moment ≤ LATEST_MOMENT
+  pub lawful : exchange.moment ≤ 253402300799
   pub size : length exchange.nonce ≡ 32
 
 -- A fault after which nothing was written, and what was drawn of the nonces before it. `Write` comes behind a beginning
@@ -145,7 +144,7 @@ pub record Meets {S : Type 0} (count : ℕ) (book book' : Option Book) (nonces n
 
 -- an arrival that an office may be given at any time
 pub record IsTimely (arrival : Arrival) : Type 0 where
-  pub moment : arrival.moment ≤ LATEST_MOMENT
+  pub moment : arrival.moment ≤ 253402300799
   pub nonce : length arrival.nonce ≡ 32
 
 -- a history is meant with at most so many arrivals more

@@ -34,6 +34,10 @@ selftest_fault_name Mismatch = codes "Mismatch"
 abbrev pub connection_line : ℕ → Fault → List ℕ
 connection_line number fault = codes "sshoffice: connection " ++ (decimal number ++ 32 ∷ (fault_name fault ++ 10 ∷ []))
 
+-- the line where there was no memory to serve anybody
+abbrev pub no_memory_line : List ℕ
+no_memory_line = codes "sshoffice: NoMemory\n"
+
 -- the line of a port at which a server listens
 abbrev pub listening_line : ℕ → List ℕ
 listening_line port = codes "listening " ++ (decimal port ++ 10 ∷ [])

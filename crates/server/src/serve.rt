@@ -5,7 +5,7 @@ ghost use Rattle.server.specs.Connections.{Extends, Meets};
 
 use crate::connection::serve_connection;
 use crate::listener::Listener;
-use crate::report::report;
+use crate::report::{report, report_no_memory};
 use http_requests::Routes;
 use office::Registry;
 use std::io::Write;
@@ -55,7 +55,7 @@ pub fn serve_on<R: AllocGlobal, L: Listener, S: Registry, N: Source, O: Write, E
     ensures quiet { out.new ≡ out.old }
 {
     let Ok(routes) = Routes::new(rt.alloc()) else {
-        let _ = err.write_all(b"sshoffice: NoMemory\n");
+        let _ = report_no_memory(err);
         return FAULT;
     };
     for served in 0..connections {

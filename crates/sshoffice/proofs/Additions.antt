@@ -23,7 +23,7 @@ use Rattle.sshoffice.specs.Jobs.{Does}
 use Rattle.sshoffice.specs.Listing.{Lists}
 use Rattle.sshoffice.specs.Making.{Makes, Migrates}
 use Rattle.sshoffice.specs.Opening.{TellsOn}
-use Rattle.sshoffice.specs.Reporting.{Reports}
+use Rattle.sshoffice.specs.Reporting.{IsReport}
 use Rattle.sshoffice.specs.Serving.{Heard, Serves}
 
 -- tables that tell what they told add nothing
@@ -96,7 +96,7 @@ module _ (old new : State) (was : IsTrue old.is_open) where
   applied exchanges held holds (Err (fault.List x)) h = absurd h
 
   listed : (held holds : Option (List ℕ)) (r : Result Unit JobFault) → Lists old new held holds r → AddsArrivals old new
-  listed held holds (Ok done) h = adds_none old new (λ o l told. (h.1 o l told).3.tells)
+  listed held holds (Ok done) h = adds_none old new (λ o l told. (h.1.2 o l told).1.tells)
   listed held holds (Err fault.Write) h = adds_none old new (λ o l told. (h.1 o l told).tells)
   listed held holds (Err fault.NoMemory) h = adds_none old new h.1.tells
   listed held holds (Err (fault.Store e)) h = adds_none old new h.1.tells
@@ -111,8 +111,8 @@ module _ (old new : State) (was : IsTrue old.is_open) where
   listed held holds (Err fault.Fault) h = absurd h
 
   reported : (which : Report) (held holds : Option (List ℕ)) (r : Result Unit JobFault)
-      → Reports which old new held holds r → AddsArrivals old new
-  reported which held holds (Ok done) h = adds_none old new (λ o l told. (h o l told).1.tells)
+      → IsReport which old new held holds r → AddsArrivals old new
+  reported which held holds (Ok done) h = adds_none old new (λ o l told. (h.2 o l told).1.tells)
   reported which held holds (Err fault.Write) h = adds_none old new (λ o l told. (h o l told).tells)
   reported which held holds (Err fault.NoMemory) h = adds_none old new h.tells
   reported which held holds (Err (fault.Store e)) h = adds_none old new h.tells
@@ -131,8 +131,8 @@ module _ (old new : State) (was : IsTrue old.is_open) where
   done (job.Init opening) held holds r h = made opening.now r h.0
   done (job.Apply exchanges) held holds r h = applied exchanges.now held holds r h
   done job.Krl held holds r h = listed held holds r h
-  done job.Signers held holds r h = reported report.Signers held holds r h
-  done job.Table held holds r h = reported report.Table held holds r h
+  done job.Signers held holds r h = reported report.Signers held holds r h.came
+  done job.Table held holds r h = reported report.Table held holds r h.came
   done job.Migrate held holds r h = moved r h.0
 
   pub served : (connections : ℕ) (source : Option (List ℕ)) (heard : Heard) (held holds : Option (List ℕ))

@@ -1,9 +1,9 @@
--- What the requests for reports ask.
+-- What the requests for the list and for reports ask.
 use Rattle.std.proofs.Common.{◌≡◌, ◌<◌, inr, ℕ, true, List, [], length, codes, IsUtf8, All, refl, arith}
 use Rattle.std.specs.List.{list_all}
 use Rattle.std.proofs.lemmas.List.Sums.{AllPass-from_list_all}
 use Rattle.httparse.specs.Grammar.{RequestHead, IsField, IsRequestHead, crlf, is_token_byte, is_uri_byte, print_request}
-use Rattle.http_requests.specs.declared.resource.Resource.TheVariants.{Signers, Table}
+use Rattle.http_requests.specs.declared.resource.Resource.TheVariants.{RevocationList, Signers, Table}
 use Rattle.http_requests.specs.Asks.{Asks, get}
 use Rattle.http_requests.specs.Paths.{resource}
 
@@ -71,4 +71,22 @@ asks_table =
         record { one = omega arith; digits = λ k d inside. absurd (omega (arith, inside)) },
       ),
       inr (resource Table, tt, refl, refl),
+    )
+
+pub asks_list : Asks (codes "GET /v1/krl HTTP/1.1\r\n\r\n") (get RevocationList)
+unfolding print_request lib.Utf8.encode
+asks_list =
+    let target : List ℕ = codes "/v1/krl" in
+    inr (
+      head_of target,
+      [],
+      (
+        record {
+          reads = (is_head target (omega arith) refl (target, (refl, refl)), refl);
+          size = omega arith;
+          lines = omega arith;
+        },
+        record { one = omega arith; digits = λ k d inside. absurd (omega (arith, inside)) },
+      ),
+      inr (resource RevocationList, tt, refl, refl),
     )

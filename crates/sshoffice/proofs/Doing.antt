@@ -1,16 +1,24 @@
 -- What a job does is what its run was asked.
 use Rattle.std.proofs.Common.{◌≡◌, ◌≢◌, ℕ, zero, suc, List, [], ◌∷◌, inl, inr, false, arith}
-use Rattle.std.proofs.Common.{Option, None, Result, Ok, Err, refl, sym, subst}
+use Rattle.std.proofs.Common.{Option, None, Result, Ok, Err, ap, codes, refl, sym, subst}
 use Rattle.std.specs.Prelude.{All, IsTrue}
 use Rattle.std.specs.List.{list_any}
+use Rattle.std.specs.Io.KnownBytes.{Appends}
 use Rattle.sqlite.specs.State.{State, HasCleanDisk}
 use Rattle.sqlite.specs.Tree.{Trees}
 use Rattle.store_sql.proofs.Words.{Schema}
+use Rattle.http_requests.specs.declared.resource.Resource.{Resource}
+use Rattle.http_requests.specs.declared.resource.Resource.TheVariants.{RevocationList, Signers, Table}
+use Rattle.http_requests.specs.declared.response.MediaType.{MediaType}
+use Rattle.http_requests.specs.declared.response.MediaType.TheVariants.{Bytes, PlainText}
+use Rattle.http_requests.specs.Asks.{Asks, get}
+use Rattle.http_requests.specs.Responses.{response_text}
 use Rattle.office.specs.declared.opening.Opening.{Opening}
 use Rattle.office.specs.declared.arrival.Arrival.{Arrival}
 use Rattle.office.specs.declared.store_fault.StoreFault.{StoreFault}
 use Rattle.office.specs.declared.store_fault.StoreFault.TheVariants.{NotAnOffice}
 use Rattle.office.specs.Openings.{IsOpening}
+use Rattle.office.specs.History.{state}
 use Rattle.store_sql.specs.Contents.{Kept}
 use Rattle.store_sql.specs.Look.{is_office_table, none_is_office}
 use Rattle.store.specs.Rows.{office_contents}
@@ -18,6 +26,7 @@ use Rattle.store.specs.Meaning.{IsBlank, IsHistory, Tells}
 use Rattle.web.specs.declared.exchange.Exchange.{Exchange}
 use Rattle.web.specs.declared.exchange.Given.{Given}
 use Rattle.web.specs.declared.exchange.Given.TheVariants as given
+use Rattle.web.specs.Answers.{MayList, resource_response}
 use Rattle.web.specs.Runs.{AllDue}
 use Rattle.restart.specs.Lives.{Asked}
 use Rattle.restart.specs.Runs.{Does as DoesAsked, IsUnfounded}
@@ -25,17 +34,17 @@ use Rattle.sshoffice.specs.declared.job.OfficeJob.{OfficeJob}
 use Rattle.sshoffice.specs.declared.job.OfficeJob.TheVariants as job
 use Rattle.sshoffice.specs.declared.job_fault.JobFault.{JobFault}
 use Rattle.sshoffice.specs.declared.job_fault.JobFault.TheVariants as fault
-use Rattle.sshoffice.specs.declared.reporting.Report.{Report}
 use Rattle.sshoffice.specs.declared.reporting.Report.TheVariants as report
 use Rattle.sshoffice.specs.Applying.{Applies}
-use Rattle.sshoffice.specs.Asked.{AsksExchanges, AsksOffice, AsksServing, asked_by, founding_asked}
-use Rattle.sshoffice.specs.Asked.{nothing_asked}
+use Rattle.sshoffice.specs.Asked.{AsksExchanges, AsksOffice, AsksResource, AsksServing, IsShown, asked_by}
+use Rattle.sshoffice.specs.Asked.{founding_asked, nothing_asked}
 use Rattle.sshoffice.specs.Jobs.{Does, IsLawful, IsMaking}
 use Rattle.sshoffice.specs.Listing.{Lists}
 use Rattle.sshoffice.specs.Making.{IsUnmade, Makes, Migrates}
 use Rattle.sshoffice.specs.Opening.{TellsOn}
-use Rattle.sshoffice.specs.Reporting.{Reports}
+use Rattle.sshoffice.specs.Reporting.{IsReport}
 use Rattle.sshoffice.specs.Serving.{Heard, Serves}
+use Rattle.sshoffice.proofs.Asking.{asks_list, asks_signers, asks_table}
 
 -- ---- exchanges that were not run
 
@@ -54,6 +63,23 @@ unfolding all_faults
 none_given [] k d within = absurd (omega (arith, within))
 none_given (x ∷ xs) zero d within = refl
 none_given (x ∷ xs) (suc k) d within = none_given xs k d (omega (arith, within))
+
+one_fault : (x : Exchange) → all_faults (x ∷ []) ≡ given.Fault ∷ []
+unfolding all_faults
+one_fault x = refl
+
+-- the requests for what is printed
+abbrev get_by : List ℕ → Exchange
+get_by request = record { request = request; moment = 0; nonce = [] }
+
+abbrev list_get : Exchange
+list_get = get_by (codes "GET /v1/krl HTTP/1.1\r\n\r\n")
+
+abbrev signers_get : Exchange
+signers_get = get_by (codes "GET /v1/signers HTTP/1.1\r\n\r\n")
+
+abbrev table_get : Exchange
+table_get = get_by (codes "GET /v1/table HTTP/1.1\r\n\r\n")
 
 nothing_given : All (λ (g : Given). g ≡ given.Fault) []
 nothing_given k d within = absurd (omega (arith, within))
@@ -162,36 +188,112 @@ module _ (old new : State) where
 
   -- ---- readings, whose tables tell what they told
 
-  listed : (held holds : Option (List ℕ)) (r : Result (Unit {0}) JobFault) → Lists old new held holds r → TellsOn old new
-  listed held holds (Ok done) h = λ o l told. (h.1 o l told).3.tells
-  listed held holds (Err fault.Write) h = λ o l told. (h.1 o l told).tells
-  listed held holds (Err fault.NoMemory) h = h.1.tells
-  listed held holds (Err (fault.Store e)) h = h.1.tells
-  listed held holds (Err fault.File) h = absurd h
-  listed held holds (Err fault.Socket) h = absurd h
-  listed held holds (Err (fault.Connection x)) h = absurd h
-  listed held holds (Err fault.Mismatch) h = absurd h
-  listed held holds (Err (fault.BadExchange k)) h = absurd h
-  listed held holds (Err (fault.Line x)) h = absurd h
-  listed held holds (Err (fault.Opening x)) h = absurd h
-  listed held holds (Err (fault.List x)) h = absurd h
-  listed held holds (Err fault.Fault) h = absurd h
+  -- the GET of a resource, and what was given to it
+  abbrev pub Shown : Resource → MediaType → (held holds : Option (List ℕ)) → Result (Unit {0}) JobFault → Type 0
+  Shown resource media held holds r =
+      (asked : Asked) × AsksResource resource media held holds r asked × DoesAsked asked old new
 
-  reported : (which : Report) (held holds : Option (List ℕ)) (r : Result (Unit {0}) JobFault)
-      → Reports which old new held holds r → TellsOn old new
-  reported which held holds (Ok done) h = λ o l told. (h o l told).1.tells
-  reported which held holds (Err fault.Write) h = λ o l told. (h o l told).tells
-  reported which held holds (Err fault.NoMemory) h = h.tells
-  reported which held holds (Err (fault.Store e)) h = h.tells
-  reported which held holds (Err fault.File) h = absurd h
-  reported which held holds (Err fault.Socket) h = absurd h
-  reported which held holds (Err (fault.Connection x)) h = absurd h
-  reported which held holds (Err fault.Mismatch) h = absurd h
-  reported which held holds (Err (fault.BadExchange k)) h = absurd h
-  reported which held holds (Err (fault.Line x)) h = absurd h
-  reported which held holds (Err (fault.Opening x)) h = absurd h
-  reported which held holds (Err (fault.List x)) h = absurd h
-  reported which held holds (Err fault.Fault) h = absurd h
+  module _ (resource : Resource) (media : MediaType) (x : Exchange) (asks : Asks x.request (get resource)) where
+    -- a response with this body
+    showed : (done : Unit {0}) (held holds : Option (List ℕ)) (body : List ℕ) → Appends held holds body
+        → Refuses (Ok done)
+        → ((o : Opening) (l : List Arrival) → Tells old o l
+        → (response_text 200 media body ≡ resource_response (state o l) resource)
+        × (get resource ≡ get RevocationList → MayList o l) × Tells new o l)
+        → Shown resource media held holds (Ok done)
+    showed done held holds body printed refuses is =
+        let gave : List Given = given.Answer (response_text 200 media body) ∷ [] in (
+          record { founds = None; exchanges = x ∷ []; given = gave },
+          record { founds = refl; get_of = x; asks = asks; one = refl; shown = (body, printed, refl) },
+          ran (x ∷ []) gave
+              (λ o l told. let due = is o l told in (l, (get resource, asks, due.0, due.1, refl), due.2))
+              (not_blank done refuses),
+        )
+
+    -- a fault
+    unshown : (r : Result (Unit {0}) JobFault) (held holds : Option (List ℕ)) → Refuses r → TellsOn old new
+        → IsShown media held holds r (all_faults (x ∷ [])) → Shown resource media held holds r
+    unshown r held holds refuses tells shown = (
+      record { founds = None; exchanges = x ∷ []; given = all_faults (x ∷ []) },
+      record { founds = refl; get_of = x; asks = asks; one = refl; shown = shown },
+      unrun (x ∷ []) r refuses tells,
+    )
+
+  listed : (held holds : Option (List ℕ)) (r : Result (Unit {0}) JobFault) → Refuses r → Lists old new held holds r
+      → Shown RevocationList Bytes held holds r
+  listed held holds (Ok done) refuses h =
+      showed RevocationList Bytes list_get asks_list done held holds h.1.0 h.1.1 refuses (λ o l told.
+      let is = h.1.2 o l told in (
+        ap (response_text 200 Bytes) is.0.same,
+        λ _. record { office = told.history.office; fits = is.0.fits },
+        is.1.tells,
+      ))
+  listed held holds (Err fault.Write) refuses h =
+      unshown RevocationList Bytes list_get asks_list (Err fault.Write) held holds refuses
+      (λ o l told. (h.1 o l told).tells) (one_fault list_get)
+  listed held holds (Err fault.NoMemory) refuses h =
+      unshown RevocationList Bytes list_get asks_list (Err fault.NoMemory) held holds refuses h.1.tells
+      (one_fault list_get, h.1.unprinted)
+  listed held holds (Err (fault.Store e)) refuses h =
+      unshown RevocationList Bytes list_get asks_list (Err (fault.Store e)) held holds refuses h.1.tells
+      (one_fault list_get, h.1.unprinted)
+  listed held holds (Err fault.File) refuses h = absurd h
+  listed held holds (Err fault.Socket) refuses h = absurd h
+  listed held holds (Err (fault.Connection x)) refuses h = absurd h
+  listed held holds (Err fault.Mismatch) refuses h = absurd h
+  listed held holds (Err (fault.BadExchange k)) refuses h = absurd h
+  listed held holds (Err (fault.Line x)) refuses h = absurd h
+  listed held holds (Err (fault.Opening x)) refuses h = absurd h
+  listed held holds (Err (fault.List x)) refuses h = absurd h
+  listed held holds (Err fault.Fault) refuses h = absurd h
+
+  signers_shown : (held holds : Option (List ℕ)) (r : Result (Unit {0}) JobFault) → Refuses r
+      → IsReport report.Signers old new held holds r → Shown Signers PlainText held holds r
+  signers_shown held holds (Ok done) refuses h =
+      showed Signers PlainText signers_get asks_signers done held holds h.0 h.1 refuses (λ o l told.
+      let is = h.2 o l told in (ap (response_text 200 PlainText) is.0, λ other. absurd (cc), is.1.tells))
+  signers_shown held holds (Err fault.Write) refuses h =
+      unshown Signers PlainText signers_get asks_signers (Err fault.Write) held holds refuses
+      (λ o l told. (h o l told).tells) (one_fault signers_get)
+  signers_shown held holds (Err fault.NoMemory) refuses h =
+      unshown Signers PlainText signers_get asks_signers (Err fault.NoMemory) held holds refuses h.tells
+      (one_fault signers_get, h.unprinted)
+  signers_shown held holds (Err (fault.Store e)) refuses h =
+      unshown Signers PlainText signers_get asks_signers (Err (fault.Store e)) held holds refuses h.tells
+      (one_fault signers_get, h.unprinted)
+  signers_shown held holds (Err fault.File) refuses h = absurd h
+  signers_shown held holds (Err fault.Socket) refuses h = absurd h
+  signers_shown held holds (Err (fault.Connection x)) refuses h = absurd h
+  signers_shown held holds (Err fault.Mismatch) refuses h = absurd h
+  signers_shown held holds (Err (fault.BadExchange k)) refuses h = absurd h
+  signers_shown held holds (Err (fault.Line x)) refuses h = absurd h
+  signers_shown held holds (Err (fault.Opening x)) refuses h = absurd h
+  signers_shown held holds (Err (fault.List x)) refuses h = absurd h
+  signers_shown held holds (Err fault.Fault) refuses h = absurd h
+
+  table_shown : (held holds : Option (List ℕ)) (r : Result (Unit {0}) JobFault) → Refuses r
+      → IsReport report.Table old new held holds r → Shown Table PlainText held holds r
+  table_shown held holds (Ok done) refuses h =
+      showed Table PlainText table_get asks_table done held holds h.0 h.1 refuses (λ o l told.
+      let is = h.2 o l told in (ap (response_text 200 PlainText) is.0, λ other. absurd (cc), is.1.tells))
+  table_shown held holds (Err fault.Write) refuses h =
+      unshown Table PlainText table_get asks_table (Err fault.Write) held holds refuses
+      (λ o l told. (h o l told).tells) (one_fault table_get)
+  table_shown held holds (Err fault.NoMemory) refuses h =
+      unshown Table PlainText table_get asks_table (Err fault.NoMemory) held holds refuses h.tells
+      (one_fault table_get, h.unprinted)
+  table_shown held holds (Err (fault.Store e)) refuses h =
+      unshown Table PlainText table_get asks_table (Err (fault.Store e)) held holds refuses h.tells
+      (one_fault table_get, h.unprinted)
+  table_shown held holds (Err fault.File) refuses h = absurd h
+  table_shown held holds (Err fault.Socket) refuses h = absurd h
+  table_shown held holds (Err (fault.Connection x)) refuses h = absurd h
+  table_shown held holds (Err fault.Mismatch) refuses h = absurd h
+  table_shown held holds (Err (fault.BadExchange k)) refuses h = absurd h
+  table_shown held holds (Err (fault.Line x)) refuses h = absurd h
+  table_shown held holds (Err (fault.Opening x)) refuses h = absurd h
+  table_shown held holds (Err (fault.List x)) refuses h = absurd h
+  table_shown held holds (Err fault.Fault) refuses h = absurd h
 
   -- ---- tables that are moved
 
@@ -273,12 +375,10 @@ module _ (old new : State) where
         (founding_asked opening.now, refl, founded clean was settled opening.now lawful r h.0)
     does_asked (job.Apply exchanges) held holds r lawful refuses h =
         applied exchanges.now held holds r (refuses (λ making. making)) h
-    does_asked job.Krl held holds r lawful refuses h =
-        (nothing_asked, refl, stays r (refuses (λ making. making)) (listed held holds r h))
+    does_asked job.Krl held holds r lawful refuses h = listed held holds r (refuses (λ making. making)) h
     does_asked job.Signers held holds r lawful refuses h =
-        (nothing_asked, refl, stays r (refuses (λ making. making)) (reported report.Signers held holds r h))
-    does_asked job.Table held holds r lawful refuses h =
-        (nothing_asked, refl, stays r (refuses (λ making. making)) (reported report.Table held holds r h))
+        signers_shown held holds r (refuses (λ making. making)) h.came
+    does_asked job.Table held holds r lawful refuses h = table_shown held holds r (refuses (λ making. making)) h.came
     does_asked job.Migrate held holds r lawful refuses h =
         (nothing_asked, refl, stays r (refuses (λ making. making)) (moved was r h.0))
 

@@ -19,7 +19,7 @@ use Rattle.sshoffice.specs.declared.reporting.Report.{Report}
 use Rattle.sshoffice.specs.Faults.{of_store, publish_result}
 use Rattle.sshoffice.specs.Opening.{IsLeft, IsOpened, IsUnopened, TellsOn}
 use Rattle.sshoffice.specs.Listing.{Lists}
-use Rattle.sshoffice.specs.Reporting.{Reports}
+use Rattle.sshoffice.specs.Reporting.{IsReport, Reports}
 use Rattle.sshoffice.proofs.Carried.{before_again, before_open, left_from, unopened_left}
 
 -- ---- the list
@@ -52,8 +52,8 @@ left mid new held holds e silent tells only = record {
 pub listed : (r : Result Unit PublishFault) (done : Result Unit JobFault) (old mid new : State)
     (held holds : Option (List ℕ))
     → done ≡ publish_result r → IsOpened old mid
-    → OnOk r ((o : Opening) (l : List Arrival) → Tells mid o l
-    → (bytes : List ℕ) × IsList o l bytes × Appends held holds bytes)
+    → OnOk r ((bytes : List ℕ) × Appends held holds bytes
+    × ((o : Opening) (l : List Arrival) → Tells mid o l → IsList o l bytes))
     → TellsOn mid new
     → IfFound r ((o : Opening) (l : List Arrival) → Tells mid o l → Stores new o l)
     → (IsTrue new.is_open → IsAsBefore mid new)
@@ -63,7 +63,7 @@ pub listed : (r : Result Unit PublishFault) (done : Result Unit JobFault) (old m
 listed (Ok x) done old mid new held holds same opened list tells found before silent only =
     subst (λ (d : Result Unit JobFault). Lists old new held holds d) (sym same) (
       before_again old mid new opened.before (before_open mid new before),
-      λ o l m. let is = list o l (opened.tells o l m) in (is.0, is.1, is.2, found o l (opened.tells o l m)),
+      (list.0, list.1, λ o l m. (list.2 o l (opened.tells o l m), found o l (opened.tells o l m))),
     )
 listed (Err publish.Write) done old mid new held holds same opened list tells found before silent only =
     subst (λ (d : Result Unit JobFault). Lists old new held holds d) (sym same) (
@@ -86,7 +86,7 @@ lists_as old new newer held is_held holds is_holds r same before after lists =
 
 -- a fault of the register, as of a report
 pub report_fault : (report : Report) (e : StoreFault) (old new : State) (held holds : Option (List ℕ))
-    → IsLeft old new held holds e → Reports report old new held holds (Err (of_store e))
+    → IsLeft old new held holds e → IsReport report old new held holds (Err (of_store e))
 report_fault report store.NoMemory old new held holds left = left
 report_fault report store.Device old new held holds left = left
 report_fault report store.AlreadyAnOffice old new held holds left = left
@@ -97,15 +97,26 @@ report_fault report store.Damaged old new held holds left = left
 pub unreported : (report : Report) (e : StoreFault) (f : JobFault) (old new : State) (held holds : Option (List ℕ))
     → f ≡ of_store e → IsUnopened old new e → holds ≡ held → Reports report old new held holds (Err f)
 unreported report e f old new held holds same u silent =
-    subst (λ (f : JobFault). Reports report old new held holds (Err f)) (sym same)
-    (report_fault report e old new held holds (unopened_left old new held holds e u silent))
+    record {
+      before = u.before;
+      came = subst (λ (f : JobFault). IsReport report old new held holds (Err f)) (sym same)
+          (report_fault report e old new held holds (unopened_left old new held holds e u silent));
+    }
+
+-- what came of the report of an opened office came of the database's
+came_from : (report : Report) (old mid new : State) (held holds : Option (List ℕ)) (r : Result Unit JobFault)
+    → IsOpened old mid → IsReport report mid new held holds r → IsReport report old new held holds r
+came_from report old mid new held holds (Ok x) opened is = (is.0, is.1, λ o l m. is.2 o l (opened.tells o l m))
+came_from report old mid new held holds (Err Write) opened is = λ o l m. is o l (opened.tells o l m)
+came_from report old mid new held holds (Err NoMemory) opened is =
+    left_from old mid new held holds store.NoMemory opened is
+came_from report old mid new held holds (Err (Store e)) opened is = left_from old mid new held holds e opened is
+came_from report old mid new held holds (Err other) opened is = is
 
 -- what is reported of an opened office is reported of the database
 pub reports_from : (report : Report) (old mid new : State) (held holds : Option (List ℕ)) (r : Result Unit JobFault)
     → IsOpened old mid → Reports report mid new held holds r → Reports report old new held holds r
-reports_from report old mid new held holds (Ok x) opened is = λ o l m. is o l (opened.tells o l m)
-reports_from report old mid new held holds (Err Write) opened is = λ o l m. is o l (opened.tells o l m)
-reports_from report old mid new held holds (Err NoMemory) opened is =
-    left_from old mid new held holds store.NoMemory opened is
-reports_from report old mid new held holds (Err (Store e)) opened is = left_from old mid new held holds e opened is
-reports_from report old mid new held holds (Err other) opened is = is
+reports_from report old mid new held holds r opened is = record {
+  before = before_again old mid new opened.before is.before;
+  came = came_from report old mid new held holds r opened is.came;
+}

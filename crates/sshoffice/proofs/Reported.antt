@@ -18,7 +18,7 @@ use Rattle.sshoffice.specs.declared.job_fault.JobFault.TheVariants.{Write}
 use Rattle.sshoffice.specs.declared.reporting.Report.{Report}
 use Rattle.sshoffice.specs.declared.reporting.Report.TheVariants.{Signers, Table}
 use Rattle.sshoffice.specs.Opening.{IsLeft}
-use Rattle.sshoffice.specs.Reporting.{Reports, report_text, resource_of}
+use Rattle.sshoffice.specs.Reporting.{IsReport, report_text, resource_of}
 use Rattle.sshoffice.proofs.Bodies.{found_is, not_found}
 
 -- no request asks two things
@@ -74,17 +74,19 @@ pub reported : (report : Report) (old new : State) (held holds : Option (List �
     (nonce response looked body : List ℕ) (r : Result Unit JobFault) → OneAsk → Asks request (get (resource_of report))
     → OfficeAnswers old new request moment nonce response → looked ≡ response → length response < 2 ^ 64
     → Finds (Some body) looked → OnOk r (Appends held holds body) → IfErr r (λ e. e ≡ Write)
-    → Reports report old new held holds r
+    → IsReport report old new held holds r
 reported report old new held holds request moment nonce response looked body
-    (Ok x) one asks answers same short finds ok only =
-    λ o l m.
-    let is = found_report report old new request moment nonce response looked
-    (Some body) one asks answers same short finds o l m in
-    let text : body ≡ report_text report (state o l) = found_is body (report_text report (state o l)) is.0 in
-    (subst (λ (b : List ℕ). Appends held holds b) text ok, is.1)
+    (Ok x) one asks answers same short finds ok only = (
+      body,
+      ok,
+      λ o l m.
+          let is = found_report report old new request moment nonce response looked
+          (Some body) one asks answers same short finds o l m in
+          (found_is body (report_text report (state o l)) is.0, is.1),
+    )
 reported report old new held holds request moment nonce response looked body
     (Err e) one asks answers same short finds ok only =
-    subst (λ (e : JobFault). Reports report old new held holds (Err e)) (sym only) (λ o l m.
+    subst (λ (e : JobFault). IsReport report old new held holds (Err e)) (sym only) (λ o l m.
     (found_report report old new request moment nonce response looked
     (Some body) one asks answers same short finds o l m).1)
 

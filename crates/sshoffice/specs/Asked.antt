@@ -1,14 +1,23 @@
 -- What the run of a job was asked and gave, by its result and by what was printed.
-use Rattle.std.specs.Prelude.{◌≡◌, ℕ, List, [], length, map, flat_map, false, true, Option, Some, None, Result, Ok, Err}
+use Rattle.std.specs.Prelude.{◌≡◌, ◌∷◌, ℕ, List, [], length, map, flat_map, false, true, Option, Some, None, Result, Ok, Err}
 use Rattle.std.specs.Io.KnownBytes.{Appends, Consumes}
+use Rattle.http_requests.specs.declared.resource.Resource.{Resource}
+use Rattle.http_requests.specs.declared.resource.Resource.TheVariants as resource
+use Rattle.http_requests.specs.declared.response.MediaType.{MediaType}
+use Rattle.http_requests.specs.declared.response.MediaType.TheVariants.{Bytes, PlainText}
+use Rattle.http_requests.specs.Asks.{Asks, get}
+use Rattle.http_requests.specs.Responses.{response_text}
 use Rattle.office.specs.declared.opening.Opening.{Opening}
 use Rattle.web.specs.declared.exchange.Exchange.{Exchange}
+use Rattle.web.specs.declared.exchange.Given.{Given}
+use Rattle.web.specs.declared.exchange.Given.TheVariants as given
+use Rattle.web.specs.declared.exchange.Given.TheVariants.{Answer}
 use Rattle.exchanges.specs.Printing.{all_given_text, has_fault}
 use Rattle.server.specs.Books.{Book}
 use Rattle.server.specs.Connections.{TellsAll, Visit, drawn_of, exchange_of, given_of}
 use Rattle.restart.specs.Lives.{Asked, GivesNone}
 use Rattle.sshoffice.specs.declared.job.OfficeJob.{OfficeJob}
-use Rattle.sshoffice.specs.declared.job.OfficeJob.TheVariants.{Apply, Init}
+use Rattle.sshoffice.specs.declared.job.OfficeJob.TheVariants.{Apply, Init, Krl, Migrate, Signers, Table}
 use Rattle.sshoffice.specs.declared.job_fault.JobFault.{JobFault}
 use Rattle.sshoffice.specs.declared.job_fault.JobFault.TheVariants.{Fault, Write}
 use Rattle.sshoffice.specs.Serving.{Heard}
@@ -38,11 +47,32 @@ pub record AsksExchanges (exchanges : List Exchange) (held holds : Option (List 
   pub are_its : asked.exchanges ≡ exchanges
   pub given : IsGiven held holds r asked
 
--- What a job asks of the office in a database. The list, a report and a move ask nothing that is an exchange.
+-- What is printed is the body of the response that was given. Or a fault was given, and nothing is printed, but for an
+-- output that failed.
+abbrev pub IsShown : MediaType → (held holds : Option (List ℕ)) → Result (Unit {0}) JobFault → List Given → Type 0
+IsShown media held holds (Ok done) gave =
+    (body : List ℕ) × Appends held holds body × (gave ≡ Answer (response_text 200 media body) ∷ [])
+IsShown media held holds (Err Write) gave = gave ≡ given.Fault ∷ []
+IsShown media held holds (Err other) gave = (gave ≡ given.Fault ∷ []) × (holds ≡ held)
+
+-- A GET of this resource was asked, and that was given. The body of its response has this type.
+pub record AsksResource (wanted : Resource) (media : MediaType) (held holds : Option (List ℕ))
+    (r : Result (Unit {0}) JobFault) (asked : Asked) : Type 0 where
+  pub founds : asked.founds ≡ None
+  pub get_of : Exchange
+  pub asks : Asks get_of.request (get wanted)
+  pub one : asked.exchanges ≡ get_of ∷ []
+  pub shown : IsShown media held holds r asked.given
+
+-- What a job asks of the office in a database. What the list and the reports print is what a GET gets. A move asks
+-- nothing that is an exchange.
 abbrev pub AsksOffice : OfficeJob → (held holds : Option (List ℕ)) → Result (Unit {0}) JobFault → Asked → Type 0
 AsksOffice (Init opening) held holds r asked = asked ≡ founding_asked opening.now
 AsksOffice (Apply exchanges) held holds r asked = AsksExchanges exchanges.now held holds r asked
-AsksOffice other held holds r asked = asked ≡ nothing_asked
+AsksOffice Krl held holds r asked = AsksResource resource.RevocationList Bytes held holds r asked
+AsksOffice Signers held holds r asked = AsksResource resource.Signers PlainText held holds r asked
+AsksOffice Table held holds r asked = AsksResource resource.Table PlainText held holds r asked
+AsksOffice Migrate held holds r asked = asked ≡ nothing_asked
 
 -- ---- servers
 

@@ -12,10 +12,11 @@ use Rattle.sshoffice.specs.declared.job_fault.JobFault.{JobFault}
 use Rattle.sshoffice.specs.declared.job_fault.JobFault.TheVariants.{NoMemory, Store, Write}
 use Rattle.sshoffice.specs.Opening.{IsLeft}
 
--- the list of the history that the tables tell is printed, and they store that history
+-- what is printed is the list of the history that the tables tell, and they store that history
 abbrev pub IsListed : (old new : State) → (held holds : Option (List ℕ)) → Type 0
-IsListed old new held holds = (o : Opening) (l : List Arrival) → Tells old o l
-    → (bytes : List ℕ) × IsList o l bytes × Appends held holds bytes × Stores new o l
+IsListed old new held holds =
+    (bytes : List ℕ) × Appends held holds bytes
+    × ((o : Opening) (l : List Arrival) → Tells old o l → IsList o l bytes × Stores new o l)
 
 -- the tables store what they told
 abbrev pub IsStored : (old new : State) → Type 0

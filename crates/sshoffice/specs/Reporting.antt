@@ -1,5 +1,5 @@
 -- A report of the office in a database, printed.
-use Rattle.std.specs.Prelude.{ℕ, List, Option, Result, Ok, Err}
+use Rattle.std.specs.Prelude.{◌≡◌, ℕ, List, Option, Result, Ok, Err}
 use Rattle.std.specs.Io.KnownBytes.{Appends}
 use Rattle.sqlite.specs.State.{State as Connection}
 use Rattle.http_requests.specs.declared.resource.Resource.{Resource}
@@ -9,6 +9,7 @@ use Rattle.office.specs.declared.arrival.Arrival.{Arrival}
 use Rattle.office.specs.declared.store_fault.StoreFault.TheVariants as store
 use Rattle.office.specs.State.{State}
 use Rattle.office.specs.History.{state}
+use Rattle.store.specs.Transactions.{IsAsBefore}
 use Rattle.store.specs.Meaning.{Stores, Tells}
 use Rattle.web.specs.Reports.{signers_report, table_report}
 use Rattle.sshoffice.specs.declared.job_fault.JobFault.{JobFault}
@@ -28,16 +29,23 @@ abbrev pub report_text : Report → State → List ℕ
 report_text Signers s = signers_report s
 report_text Table s = table_report s
 
--- the report of the office after the history that the tables tell is printed, and they store that history
+-- what is printed is the report of the office after the history that the tables tell, and they store that history
 abbrev pub IsReported : Report → (old new : Connection) → (held holds : Option (List ℕ)) → Type 0
-IsReported report old new held holds = (o : Opening) (l : List Arrival) → Tells old o l
-    → Appends held holds (report_text report (state o l)) × Stores new o l
+IsReported report old new held holds =
+    (text : List ℕ) × Appends held holds text
+    × ((o : Opening) (l : List Arrival) → Tells old o l → (text ≡ report_text report (state o l)) × Stores new o l)
 
--- what came of it
-abbrev pub Reports : Report → (old new : Connection) → (held holds : Option (List ℕ)) → Result (Unit {0}) JobFault
+-- what came of it, if nothing of the tables has changed
+abbrev pub IsReport : Report → (old new : Connection) → (held holds : Option (List ℕ)) → Result (Unit {0}) JobFault
     → Type 0
-Reports report old new held holds (Ok done) = IsReported report old new held holds
-Reports report old new held holds (Err Write) = IsStored old new
-Reports report old new held holds (Err NoMemory) = IsLeft old new held holds store.NoMemory
-Reports report old new held holds (Err (Store e)) = IsLeft old new held holds e
-Reports report old new held holds (Err other) = ⊥
+IsReport report old new held holds (Ok done) = IsReported report old new held holds
+IsReport report old new held holds (Err Write) = IsStored old new
+IsReport report old new held holds (Err NoMemory) = IsLeft old new held holds store.NoMemory
+IsReport report old new held holds (Err (Store e)) = IsLeft old new held holds e
+IsReport report old new held holds (Err other) = ⊥
+
+-- Nothing of the tables has changed, whatever they mean, and that came of the report.
+pub record Reports (report : Report) (old new : Connection) (held holds : Option (List ℕ))
+    (result : Result (Unit {0}) JobFault) : Type 0 where
+  pub before : IsAsBefore old new
+  pub came : IsReport report old new held holds result

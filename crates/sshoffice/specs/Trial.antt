@@ -1,7 +1,6 @@
 -- What `apply` prints for a file of exchanges.
 use Rattle.std.specs.Prelude.{◌≡◌, ◌≢◌, ℕ, List, [], ◌∷◌, Bool, false, true, Option, Result, Err, IfErr, IfSome, OnOk}
 use Rattle.std.specs.Io.KnownBytes.{Appends}
-use Rattle.values.specs.declared.limits.TheConstants.{LAST_SERIAL}
 use Rattle.office.specs.declared.arrival.Arrival.{Arrival}
 use Rattle.web.specs.declared.exchange.Exchange.{Exchange}
 use Rattle.web.specs.declared.exchange.Given.{Given}
@@ -21,7 +20,7 @@ pub record AppliesToTrial (file : List ℕ) (old new : Option (List ℕ)) (fault
   pub text : file ≡ exchanges_text exchanges
   pub given : List Given
   pub last : List Arrival
-  pub due : AllDue (opening_of 1 LAST_SERIAL) (trial_arrival ∷ []) exchanges given last
+  pub due : AllDue (opening_of 1 9223372036854775806) (trial_arrival ∷ []) exchanges given last
   pub printed : Appends old new (all_given_text given)
   pub faults : has_fault given ≡ fault
 

@@ -1,4 +1,4 @@
--- What is answered in place of a job.
+-- Faults in place of a job.
 use Rattle.std.proofs.Common.{◌≡◌, ◌⊎◌, ◌∙◌, true, List, Option, None, ap, subst, sym, inl, inr}
 use Rattle.clap.specs.Words.{App, IsAmong, Text, fault_of, is_simple_and_free}
 use Rattle.clap.specs.declared.error.kind.ErrorKind.{ErrorKind}
@@ -11,14 +11,14 @@ use Rattle.station_command.specs.Answers.{IsFaultOf}
 use Rattle.station_command.specs.Asked.{Asked, asked_of}
 use Rattle.station_command.specs.Command.{station_command}
 
--- What is answered where the words ask for nothing, said of the words.
+-- The fault for words that ask for no job.
 pub lack_is_fault : (words : List Text) (found : Option Asked) (fault : WordsFault) → found ≡ asked_of words → IsLack found fault
     → IsFaultOf words fault
 lack_is_fault words found (Help text) same lack = absurd lack
 lack_is_fault words found (BadWords text) same lack = inr (sym same ∙ lack)
 lack_is_fault words found NoMemory same lack = tt
 
--- An error of clap, said of the words.
+-- An error of clap as a fault of the words.
 pub error_is_fault : (app : App) (words : List Text) (kind : ErrorKind) (fault : WordsFault) → app ≡ station_command
     → IsAnswered kind fault → (is_simple_and_free app ≡ true → (kind ≡ OutOfMemory) ⊎ IsAmong kind (fault_of app words))
     → IsFaultOf words fault

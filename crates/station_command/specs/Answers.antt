@@ -1,4 +1,4 @@
--- What the words are answered with.
+-- What is returned for the words.
 use Rattle.std.specs.Prelude.{◌≡◌, ◌⊎◌, [], List, Some, None}
 use Rattle.clap.specs.Words.{Text, fault_of}
 use Rattle.command_line.specs.Answers.{AskForTextOf, HaveMistake}
@@ -8,15 +8,15 @@ use Rattle.station_command.specs.Asked.{asked, asked_of}
 use Rattle.station_command.specs.Command.{station_command}
 use Rattle.station_command.specs.declared.job.StationJob.{StationJob}
 
--- The words have no mistake, by clap's meaning of the command, and ask for the job.
+-- The words are valid by clap's meaning of the command, and ask for the job.
 abbrev pub Names : List Text → StationJob → Type 0
 Names words job = (fault_of station_command words ≡ []) × (asked_of words ≡ Some (asked job))
 
--- The words have a mistake, or ask for nothing.
+-- The words are invalid, or ask for no job.
 abbrev pub AreBad : List Text → Type 0
 AreBad words = HaveMistake station_command words ⊎ (asked_of words ≡ None)
 
--- what is said of the words by what is answered in place of a job
+-- what a fault in place of a job implies of the words
 abbrev pub IsFaultOf : List Text → WordsFault → Type 0
 IsFaultOf words (Help text) = AskForTextOf station_command words
 IsFaultOf words (BadWords text) = AreBad words

@@ -1,14 +1,14 @@
--- Options that only lists have, as clap reads them.
+-- Kinds of options that only `lists` and `list` have, as clap reads them.
 use Rattle.std.specs.Prelude.{◌++◌, ◌∷◌, [], List, Bool, false, true, Some, codes, bytes_eq}
 use Rattle.std.specs.Option.{option_map_or}
 use Rattle.clap.specs.Words.{Row, Rule, Shape, Text, first_of, new_rule}
 use Rattle.clap.specs.declared.builder.action.ArgAction.TheVariants.{Append, SetTrue}
 
--- `--name`, which may be left out
+-- `--name`, an optional flag
 abbrev pub flag : Text → Rule
 flag name = record (new_rule name) { long = Some name; action = Some SetTrue }
 
--- `--name VALUE`, once or more
+-- `--name VALUE`, given once or more
 abbrev pub several : Text → Rule
 several name = record (new_rule name) { long = Some name; value_names = 1; required = true; action = Some Append }
 

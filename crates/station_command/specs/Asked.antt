@@ -10,7 +10,7 @@ use Rattle.station_command.specs.declared.job.StationJob.TheVariants as job
 use Rattle.station_command.specs.Arguments.{is_set}
 use Rattle.station_command.specs.Command.{station_command}
 
--- a job without where its texts lie in memory
+-- a job without the places of its texts in memory
 pub data Asked : Type 0 where
   init : Text → Text → ℕ → ℕ → Asked
   judge : Text → Text → ℕ → List Text → Asked
@@ -41,7 +41,7 @@ init_in rows = do
   last ← number_at rows (codes "last") 0 most
   Some (init db ca first last)
 
--- an hour ahead, where none is named
+-- the seconds ahead: an hour by default
 abbrev pub judge_in : List Row → Option Asked
 judge_in rows = do
   db ← first_of (codes "db") rows
@@ -68,7 +68,7 @@ retire_in rows = do
   last ← number_at rows (codes "last") 0 most
   Some (retire db last)
 
--- a list guard is made only where that is said
+-- a guard of lists is created only if `--init` was given
 abbrev pub lists_in : List Row → Option Asked
 lists_in rows = if is_set rows (codes "init") then option_map lists (first_of (codes "db") rows) else None
 
@@ -79,7 +79,7 @@ list_in rows = do
   file ← first_of (codes "LIST") rows
   Some (list db cas (is_set rows (codes "begin")) file)
 
--- what the subcommand of this name asks for, by what clap found for it
+-- what the subcommand of this name asks for, by the values that clap found for it
 abbrev pub asked_by : Text → List Row → Option Asked
 asked_by name rows =
     if bytes_eq name (codes "init") then init_in rows
@@ -92,10 +92,10 @@ asked_by name rows =
     else if bytes_eq name (codes "list") then list_in rows
     else None
 
--- what a subcommand asks for, where there is one
+-- what a subcommand asks for, if there is one
 abbrev pub asked_in : Option (Text × List Row) → Option Asked
 asked_in = option_and_then (λ found. asked_by found.0 found.1)
 
--- what the words ask for, the program's name being the first
+-- what the words ask for; the first is the program's name
 abbrev pub asked_of : List Text → Option Asked
 asked_of words = asked_in (subcommand_of station_command words)

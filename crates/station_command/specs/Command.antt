@@ -1,4 +1,4 @@
--- The command line of `sshstation` as clap reads it: each subcommand with its options and words.
+-- The command line of `sshstation` as clap reads it: each subcommand with its options and arguments.
 use Rattle.std.specs.Prelude.{◌∷◌, [], false, true, codes}
 use Rattle.clap.specs.Words.{App, Shape}
 use Rattle.command_line.specs.Command.{most, number, number_word, on_database, optional_number, required, subcommand}
@@ -39,11 +39,11 @@ list_command =
     with_more (with_more (subcommand (codes "list") (required (codes "db") ∷ word (codes "LIST") ∷ []))
     (several (codes "ca"))) (flag (codes "begin"))
 
--- `sshstation`, which has a version and wants a subcommand
+-- `sshstation`, which has a version and requires a subcommand
 abbrev pub top_command : Shape
 top_command = record (subcommand (codes "sshstation") []) { subcommand_required = true; has_version = true }
 
--- the whole command; `bodies` has a database alone
+-- the whole command; `bodies` has only a database
 abbrev pub station_command : App
 station_command = record {
   top = record top_command { is_leaf = false };

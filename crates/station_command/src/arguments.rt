@@ -1,4 +1,4 @@
-//! Options that only lists have.
+//! Kinds of options that only `lists` and `list` have.
 
 ghost use Rattle.std.specs.Prelude.{◌≡◌, IfOk, option_map};
 ghost use Rattle.clap.specs.Words.{Rule, Shape, first_of, found_of, rows_of};
@@ -8,7 +8,7 @@ ghost use Rattle.station_command.specs.Arguments.{flag, is_set, several, with_mo
 use clap::{Arg, ArgAction, ArgMatches, Command};
 use std::alloc::{AllocError, Global};
 
-/// `--name`, which stands alone and may be left out.
+/// `--name`, an optional flag.
 pub(crate) fn flag<'a>(alloc: Global, name: &'a str, help: &'a str) -> Arg<'a>
     ensures { IsArgument (flag name.entry.now) result }
 {
@@ -18,7 +18,7 @@ pub(crate) fn flag<'a>(alloc: Global, name: &'a str, help: &'a str) -> Arg<'a>
         .action(ArgAction::SetTrue)
 }
 
-/// `--name VALUE`, which must be given, and may be given again.
+/// `--name VALUE`, given once or more.
 pub(crate) fn several<'a>(alloc: Global, name: &'a str, value: &'a str, help: &'a str) -> Arg<'a>
     ensures { IsArgument (several name.entry.now) result }
 {
@@ -47,7 +47,7 @@ pub(crate) fn with_option<'a>(
     }
 }
 
-/// The text that clap has for an option.
+/// The text that clap found for an option.
 fn text_of<'a>(found: &ArgMatches<'a>, name: &str) -> Option<&'a str>
     ensures { option_map (λ s. s.now) result ≡ first_of name.now (rows_of (found_of found.now)) }
 {

@@ -13,10 +13,10 @@ use clap::Command;
 use command_line::{Part, job_command, plain_command, with_job};
 use std::alloc::{AllocError, Global};
 
-/// The seconds ahead, where none are named.
+/// The default of `--ahead`, in seconds.
 pub const AHEAD: u64 = 3600;
 
-// The command with no subcommands yet.
+// The command without subcommands.
 fn top_command<'a>(alloc: Global) -> Command<'a>
     ensures { app_of result ≡ record { top = top_command; subs = [] } }
 {
@@ -102,7 +102,7 @@ fn list_command<'a>(alloc: Global) -> Result<Command<'a>, AllocError>
     with_option(command, flag(alloc, "begin", help::BEGIN))
 }
 
-/// The whole command, whose meaning to clap is that of `specs/Command.antt`.
+/// The whole command. To clap it means what `specs/Command.antt` defines.
 ///
 /// # Errors
 ///

@@ -1,127 +1,131 @@
-//! What help says of each command, option and word.
+//! The help text of each command, option and argument.
 
 /// What the program is.
-pub const STATION: &str = "Says which SSH certificates a CA's key may sign";
+pub const STATION: &str = "Decides which SSH certificates a CA's key may sign";
 
-/// The crate's version, and the toolchain by which it is proved.
+/// The crate's version, and the toolchain that proved it.
 pub const VERSION: &str = "1.0.0 (rattle-kit-13b)";
 
-/// What the program's help says at its end.
-pub const STATION_MORE: &str = "In this order:
-  1. init makes a guard in a new database, beside the CA's key.
-  2. policy says whether a policy can be read.
-  3. judge says of each certificate body whether it may be signed, and keeps it first.
-  4. lists makes a file for lists of what is revoked, and list says which is the next one.
+/// The end of the program's help.
+pub const STATION_MORE: &str = "Typical order:
+  1. init creates a guard in a new database, on the machine with the CA's key.
+  2. policy checks a policy.
+  3. judge decides for each unsigned certificate (BODY) whether it may be signed. What it
+     approves is recorded before it is printed.
+  4. lists creates a guard of lists, and list decides whether a KRL may follow the last one.
 
-Status:
-  0  it is done
-  1  there was a fault, and its name stands on the standard error
-  2  the words are no command
+Exit status:
+  0  success
+  1  a fault, named on standard error
+  2  invalid arguments
 
 Example:
   sshstation judge --db guard.db --policy policy body
 
-Each command has its own help, as sshstation init --help.
-A value that begins with '-' is written --name=-value, and a word that begins with '-' comes after --.";
+Each command has its own help, for example sshstation init --help.
+Write a value that begins with '-' as --OPTION=VALUE. Arguments that begin with '-' go after --.";
 
 /// What `init` does.
-pub const INIT: &str = "Makes a guard in a new database";
+pub const INIT: &str = "Creates a guard in a new database";
 
-/// What the help of `init` says at its end.
+/// The end of the help of `init`.
 pub const INIT_MORE: &str = "Example:
   sshstation init --db guard.db --ca ca.pub --first 1 --last 1000000
 
-The file is made if it isn't there, and then you alone may read and write it.
-The first serial is above every one that was signed before.";
+The file is created if it doesn't exist; then only you can read and write it.
+The first serial has to be above every serial that this key has signed.";
 
 /// What `judge` does.
-pub const JUDGE: &str = "Says of each body whether it may be signed, and keeps it if it may";
+pub const JUDGE: &str =
+    "Decides whether unsigned certificates may be signed, and records those that may";
 
-/// What the help of `judge` says at its end.
+/// The end of the help of `judge`.
 pub const JUDGE_MORE: &str = "Example:
   sshstation judge --db guard.db --policy policy body
 
-It prints a line for each body, in order: sign SERIAL DIGEST or refuse NAME.
-With - as its only BODY it reads paths from the standard input, one a line, and answers each
-before it reads the next. It then reads the policy's file again before each body.";
+It prints one line per BODY, in order: sign SERIAL DIGEST or refuse NAME.
+If the only BODY is -, it reads paths from standard input, one per line, and answers each before it
+reads the next. It then reads the policy again before each BODY.";
 
 /// What `bodies` does.
-pub const BODIES: &str = "Prints a line for each body that is approved";
+pub const BODIES: &str = "Prints one line per approved certificate";
 
-/// What the help of `bodies` says at its end.
+/// The end of the help of `bodies`.
 pub const BODIES_MORE: &str = "Example:
   sshstation bodies --db copy.db
 
-A line is SERIAL DIGEST MOMENT KEYID.
-While judge has the database open, this is the fault Device. Read a copy of the stopped station's file.";
+A line is SERIAL DIGEST TIME KEYID, with the time of approval in seconds since 1970.
+While judge has the database open, this fails with Device. Stop the station, copy the file, and
+read the copy.";
 
 /// What `body` does.
-pub const BODY: &str = "Prints the bytes of the body that is approved under a serial";
+pub const BODY: &str = "Prints the unsigned certificate that was approved under a serial";
 
-/// What the help of `body` says at its end.
+/// The end of the help of `body`.
 pub const BODY_MORE: &str = "Example:
   sshstation body --db copy.db 7 > body";
 
 /// What `policy` does.
-pub const POLICY: &str = "Prints the names of a policy's departments, or where it can't be read";
+pub const POLICY: &str = "Checks a policy and prints the names of its departments";
 
-/// What the help of `policy` says at its end.
+/// The end of the help of `policy`.
 pub const POLICY_MORE: &str = "Example:
   sshstation policy policy";
 
 /// What `retire` does.
 pub const RETIRE: &str = "Lowers the last serial";
 
-/// What the help of `retire` says at its end.
+/// The end of the help of `retire`.
 pub const RETIRE_MORE: &str = "Example:
   sshstation retire --db guard.db --last 5000
 
-After a rollover this is the new CA's first serial, less one.";
+After a rollover, the last serial is the new CA's first serial minus one.";
 
 /// What `lists` does.
-pub const LISTS: &str = "Makes a file for lists, which has approved none yet";
+pub const LISTS: &str = "Creates a guard of lists, which has approved no KRL yet";
 
-/// What the help of `lists` says at its end.
+/// The end of the help of `lists`.
 pub const LISTS_MORE: &str = "Example:
   sshstation lists --init --db lists.db
 
-The file is made if it isn't there, and then you alone may read and write it.";
+The file is created if it doesn't exist; then only you can read and write it.";
 
 /// What `list` does.
-pub const LIST: &str = "Says whether a list is the office's next one, and keeps it if it is";
+pub const LIST: &str =
+    "Decides whether a KRL may follow the last approved one, and records it if it may";
 
-/// What the help of `list` says at its end.
+/// The end of the help of `list`.
 pub const LIST_MORE: &str = "Example:
   sshstation list --db lists.db --ca ca.pub krl
 
-It prints one line: list SHA256 VERSION MOMENT or refuse NAME.
-A list that is older than the one approved last, that has other bytes under the same version, or
-that doesn't revoke all that this one revokes, is refused. The first list wants --begin.";
+It prints one line: list SHA256 VERSION TIME or refuse NAME.
+A KRL is refused if it is older than the last approved one, has the same version but other bytes, or
+takes a revocation back. Approving the first KRL requires --begin.";
 
-/// What `--db` is, where a guard is in it.
-pub const DATABASE: &str = "The guard's database, which init has made";
+/// What `--db` is of a command that opens a guard.
+pub const DATABASE: &str = "The guard's database, created by init";
 
 /// What `--db` of `init` is.
-pub const NEW_DATABASE: &str = "The database to make";
+pub const NEW_DATABASE: &str = "The database to create";
 
 /// What `--init` of `lists` is.
-pub const INIT_LISTS: &str = "Makes the file; nothing else can be asked for yet";
+pub const INIT_LISTS: &str = "Creates the database; required";
 
 /// What `--db` of `list` is.
-pub const LIST_DATABASE: &str = "The file for lists, which lists --init has made";
+pub const LIST_DATABASE: &str = "The database of the guard of lists, created by lists --init";
 
 /// What `--ca` of `list` is.
 pub const LIST_CA: &str =
-    "The file with the public key line of a CA that the list may speak of; again for each";
+    "The file with the public-key line of a CA whose certificates the KRL may revoke; one --ca per CA";
 
 /// What `--begin` is.
-pub const BEGIN: &str = "Takes a first list, where none was approved yet";
+pub const BEGIN: &str = "Allows a first KRL; without effect once one is approved";
 
 /// What `LIST` is.
-pub const LIST_FILE: &str = "The file of the list";
+pub const LIST_FILE: &str = "The file with the KRL";
 
 /// What `--ca` is.
-pub const CA_FILE: &str = "The file with the public key line of the CA";
+pub const CA_FILE: &str = "The file with the CA's public-key line";
 
 /// What `--first` is.
 pub const FIRST: &str = "The first serial, at least 1";
@@ -130,20 +134,21 @@ pub const FIRST: &str = "The first serial, at least 1";
 pub const LAST: &str = "The last serial, at most 9223372036854775806";
 
 /// What `--last` of `retire` is.
-pub const NEW_LAST: &str = "The new last serial, over which no body is approved";
+pub const NEW_LAST: &str = "The new last serial, not below any approved one";
 
 /// What `--policy` is.
-pub const POLICY_OPTION: &str = "The file of the departments that may be signed for";
+pub const POLICY_OPTION: &str = "The file with the policy: the departments that may be signed for";
 
 /// What `--ahead` is.
 pub const AHEAD_SECONDS: &str =
-    "How many seconds from now a certificate may begin; 3600 if left out";
+    "How many seconds from now a certificate's validity may begin [default: 3600]";
 
 /// What `BODY` is.
-pub const BODY_FILES: &str = "The files of the bodies, or - for paths from the standard input";
+pub const BODY_FILES: &str =
+    "The files of unsigned certificates, or - to read paths from standard input";
 
 /// What `SERIAL` is.
-pub const SERIAL: &str = "The serial of the body, 1 to 18446744073709551615";
+pub const SERIAL: &str = "The certificate's serial, 1 to 18446744073709551615";
 
 /// What `FILE` is.
-pub const POLICY_FILE: &str = "The file of the policy";
+pub const POLICY_FILE: &str = "The file with the policy";

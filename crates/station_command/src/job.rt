@@ -1,39 +1,39 @@
 //! What the words ask for.
 
-/// What is to be judged, and by what.
+/// Which unsigned certificates (bodies) are judged, and by which policy.
 #[derive(Drop)]
 pub struct Judging {
     /// Path of the database.
     pub db: String,
     /// Path of the policy.
     pub policy: String,
-    /// How many seconds after the moment a validity may begin.
+    /// How many seconds from now a validity may begin.
     pub ahead: u64,
     /// Paths of the bodies, at least one.
     pub bodies: Vec<String>,
 }
 
-/// Which list is to be judged, and by what.
+/// Which KRL is judged, and for which CAs.
 #[derive(Drop)]
 pub struct Listing {
     /// Path of the database.
     pub db: String,
-    /// Paths of the files with the CAs' key lines, at least one.
+    /// Paths of the files with the CAs' public-key lines, at least one.
     pub cas: Vec<String>,
-    /// Whether a first list is taken.
+    /// Whether a first KRL may be approved.
     pub begins: bool,
-    /// Path of the list.
+    /// Path of the KRL.
     pub list: String,
 }
 
-/// What the words ask for. A path is the word's text.
+/// What the words ask for. A path is the text of its word.
 #[derive(Drop)]
 pub enum StationJob {
-    /// Makes a guard in a new database.
+    /// Creates a guard in a new database.
     Init {
         /// Path of the database.
         db: String,
-        /// Path of the file with the CA's key line.
+        /// Path of the file with the CA's public-key line.
         ca: String,
         /// The first serial.
         first: u64,
@@ -42,12 +42,12 @@ pub enum StationJob {
     },
     /// Judges bodies.
     Judge(Judging),
-    /// Prints a line for each body that is approved.
+    /// Prints a line for each approved body.
     Bodies {
         /// Path of the database.
         db: String,
     },
-    /// Prints the body that is approved under a serial.
+    /// Prints the body that was approved under a serial.
     Body {
         /// Path of the database.
         db: String,
@@ -66,11 +66,11 @@ pub enum StationJob {
         /// The new last serial.
         last: u64,
     },
-    /// Makes a list guard in a new database.
+    /// Creates a guard of lists in a new database.
     Lists {
         /// Path of the database.
         db: String,
     },
-    /// Judges a list.
+    /// Judges a KRL.
     List(Listing),
 }

@@ -1,8 +1,8 @@
-//! The words of the command line of `sshstation`.
+//! The command line of `sshstation`. Its words are the program's name and the arguments.
 //!
-//! The words are read by clap's meaning of one command, which `specs/Command.antt` writes out as data. `read_words`
-//! gives a job only where the words have no mistake by that meaning and name that job with those values, and a fault
-//! only where they ask for help, have a mistake or name no job, or memory was refused.
+//! The command is data, in `specs/Command.antt`, and clap defines what words mean for it. `read_words` returns a job
+//! only if the words are valid by that meaning and ask for that job with those values. It returns a fault only if they
+//! ask for help, are invalid or ask for no job, or if memory was refused.
 #![tactic(auto)]
 
 mod arguments;

@@ -132,12 +132,12 @@ fn job_by(alloc: Global, matches: &ArgMatches<'_>) -> Result<StationJob, WordsFa
 ///
 /// # Errors
 ///
-/// `Help` and `BadWords` with the text of clap, which ends with a line feed; `NoMemory` where a growth was refused.
+/// `Help` and `BadWords` with clap's text, which ends with a line feed; `NoMemory` if memory was refused.
 pub fn read_words(alloc: Global, words: &[String]) -> Result<StationJob, WordsFault>
-    // By the meaning of the command, the words have no mistake and name the job.
+    // By the meaning of the command, the words are valid and ask for the job.
     ensures ok { IfOk result (Names (map string_bytes words.now)) }
 
-    // They ask for help, have a mistake or ask for nothing.
+    // They ask for help, are invalid or ask for no job.
     ensures err { IfErr result (IsFaultOf (map string_bytes words.now)) }
 {
     let command = station_command(alloc)?;

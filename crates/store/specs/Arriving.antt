@@ -2,7 +2,6 @@
 use Rattle.std.specs.Prelude.{◌≡◌, ◌⊎◌, ◌<◌, false, nat_lt, Bool, List, [], ◌∷◌, ◌++◌, find, IfErr, IsOkAnd, Option}
 use Rattle.std.specs.Prelude.{Some, None, Result, Ok, Err, IsTrue}
 use Rattle.std.specs.List.{list_any}
-use Rattle.values.specs.declared.limits.TheConstants.{LATEST_MOMENT}
 use Rattle.sqlite.specs.Effect.{Database}
 use Rattle.sqlite_trees.specs.declared.store.Store.{Ghosts}
 use Rattle.sqlite.specs.Held.{Held, state as state_of}
@@ -96,7 +95,7 @@ pub record IsAsked (a : Arrival) (is_known : Bool) (p : Past) : Type 0 where
 pub record IsNew (a : Arrival) (m : Message) (p : Past) : Type 0 where
   pub new : reply_kept (kept_at p) a ≡ None
   pub message : message_with_text a.bytes ≡ Some m
-  pub in_time : nat_lt LATEST_MOMENT a.moment ≡ false
+  pub in_time : nat_lt 253402300799 a.moment ≡ false
   pub unknown : list_any (has_key a) (kept_at p) ≡ false
 
 -- and these are the rows that the message concerns

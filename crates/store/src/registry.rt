@@ -1,6 +1,7 @@
 //! The tables are a register.
 
 ghost use Rattle.std.specs.Prelude.{IsTrue};
+ghost use Rattle.std.proofs.Common.{◌∙◌, refl};
 ghost use Rattle.sqlite.specs.Held.{state};
 ghost use Rattle.sqlite.specs.State.{HasCleanDisk};
 ghost use Rattle.office.specs.declared.arrival.Arrival.{Arrival};
@@ -66,6 +67,18 @@ impl<S: Alter> Registry for Store<S> {
     fn certificates(&mut self, alloc: Global, place: u64) -> Result<Vec<Certificate>, StoreFault> {
         told(read_batch(alloc, &mut self.conn, place))
     }
+
+    ghost unasked = { λ _. record {
+      was_open = λ is. is;
+      rest = λ _ rests. rests;
+      same = λ _ _. refl;
+    } };
+
+    ghost through = { λ _ _ _ first next. record {
+      was_open = λ is. first.was_open (next.was_open is);
+      rest = λ is rests. next.rest is (first.rest (next.was_open is) rests);
+      same = λ is rests. next.same is (first.rest (next.was_open is) rests) ∙ first.same (next.was_open is) rests;
+    } };
 
     ghost lawful = { λ s o l m. m.history.office };
 }

@@ -34,6 +34,7 @@ fn waits_still<R: Registry>(
     ensures row { R.is_honest register.new → AnswersBy R.means register.old result (λ o l is.
         AreRevocations revocations.now (state o l) → is ≡ serial_waits (state o l) serial) }
     ensures same { R.is_honest register.new → MeansTheSame R.means register.old register.new }
+    ensures before { R.is_honest register.new → R.is_open register.new → R.is_as_before register.old register.new }
     ensures cause { IfErr result (λ e. HasCause e (R.fails register.old register.new)) }
     ensures only { R.is_honest register.new → FailsAsARegister R.means register.old result }
 {
@@ -67,6 +68,7 @@ fn push_waiting<R: Registry>(
         AreRevocations revocations.now (state o l) → rows.new.items ≡ rows.old.items
         ++ (if serial_waits (state o l) row.now.serial then row.now ∷ [] else [])) }
     ensures same { R.is_honest register.new → MeansTheSame R.means register.old register.new }
+    ensures before { R.is_honest register.new → R.is_open register.new → R.is_as_before register.old register.new }
     ensures cause { IfErr result (λ e. HasCause e (R.fails register.old register.new)) }
     ensures only { R.is_honest register.new → FailsAsARegister R.means register.old result }
 {
@@ -87,6 +89,7 @@ fn still_waiting<R: Registry>(
     ensures row { R.is_honest register.new → AnswersBy R.means register.old result (λ o l kept.
         AreRevocations revocations.now (state o l) → kept.items ≡ still_waiting (state o l) rows.now) }
     ensures same { R.is_honest register.new → MeansTheSame R.means register.old register.new }
+    ensures before { R.is_honest register.new → R.is_open register.new → R.is_as_before register.old register.new }
     ensures cause { R.is_honest register.new
         → IfErr result (λ e. HasCause e (FailsWithin R.means R.fails register.old register.new)) }
     ensures only { R.is_honest register.new → FailsAsARegister R.means register.old result }
@@ -114,6 +117,7 @@ fn learned<R: Registry>(
         → (all.seen ≡ length (state o l).certificates)
         × (all.rows.items ≡ waiting_rows revocations.now (state o l).certificates)) }
     ensures same { R.is_honest register.new → MeansTheSame R.means register.old register.new }
+    ensures before { R.is_honest register.new → R.is_open register.new → R.is_as_before register.old register.new }
     ensures cause { R.is_honest register.new
         → IfErr result (λ e. HasCause e (FailsWithin R.means R.fails register.old register.new)) }
     ensures only { R.is_honest register.new → FailsAsARegister R.means register.old result }
@@ -144,6 +148,7 @@ pub(crate) fn asked<R: Registry>(
         Knows known.seen known.rows.items (state o l)
         → Knows all.seen all.rows.items (state o l) × (all.rows.items ≡ pending_of (state o l))) }
     ensures same { R.is_honest register.new → MeansTheSame R.means register.old register.new }
+    ensures before { R.is_honest register.new → R.is_open register.new → R.is_as_before register.old register.new }
     ensures cause { R.is_honest register.new
         → IfErr result (λ e. HasCause e (FailsWithin R.means R.fails register.old register.new)) }
     ensures only { R.is_honest register.new → FailsAsARegister R.means register.old result }

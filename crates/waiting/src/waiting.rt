@@ -101,5 +101,9 @@ impl<R: Registry> Registry for Waiting<R> {
         }
     }
 
+    ghost unasked = { λ s. R.unasked s.register };
+
+    ghost through = { λ a b c. R.through a.register b.register c.register };
+
     ghost lawful = { λ s o l m. R.lawful s.register o l m.register_means };
 }

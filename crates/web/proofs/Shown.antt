@@ -2,6 +2,8 @@
 use Rattle.std.proofs.Common.{◌≡◌, ℕ, List, ap, sym, subst, ◌∙◌}
 use Rattle.std.specs.Prelude.{Result, Ok, Err, Vec, IfOk, IfErr}
 use Rattle.std.specs.declared.alloc.Global.{Global}
+use Rattle.http_requests.specs.Asks.{Ask, Asks}
+use Rattle.http_requests.proofs.OneAsk.{one_of}
 use Rattle.office.specs.declared.opening.Opening.{Opening}
 use Rattle.office.specs.declared.arrival.Arrival.{Arrival}
 use Rattle.office.specs.declared.store_fault.StoreFault.{StoreFault}
@@ -9,6 +11,7 @@ use Rattle.office.specs.declared.store_fault.StoreFault.TheVariants.{AlreadyAnOf
 use Rattle.office.specs.declared.store_fault.StoreFault.TheVariants.{Device, NoMemory}
 use Rattle.office.specs.Faults.{HasCause, IsOfARegister}
 use Rattle.office.specs.Registers.{FailsWithin}
+use Rattle.web.specs.Answers.{AsksNoChange, IsNoMessage}
 
 -- a response with what is found is one with what the histories show
 pub shows : {X E : Type 0} (r : Result (Vec ℕ Global) E) (text : X → List ℕ) (found : X) (shown : Opening → List Arrival → X)
@@ -17,6 +20,17 @@ pub shows : {X E : Type 0} (r : Result (Vec ℕ Global) E) (text : X → List �
     → IfOk r (λ v. (o : Opening) (l : List Arrival) → means o l → v.items ≡ text (shown o l))
 shows (Ok v) text found shown means same is = λ o l m. is ∙ ap text (same o l m)
 shows (Err e) text found shown means same is = tt
+
+-- what is asked is no message if the bytes ask none
+pub is_no_message : (request : List ℕ) (ask : Ask) → Asks request ask → AsksNoChange request → IsNoMessage ask
+is_no_message request ask asks none =
+    let N : Ask → Type 0 = IsNoMessage in
+    subst N (one_of request none.0 ask none.1 asks) none.2
+
+-- what is so of each fault is so of the one that a call ends with
+pub always_err : {T E : Type 0} (r : Result T E) (P : E → Type 0) → ((e : E) → P e) → IfErr r P
+always_err (Ok x) P is = tt
+always_err (Err e) P is = is e
 
 -- a register may lack memory
 pub memory_only : {T : Type 0} (r : Result T StoreFault) (means : Opening → List Arrival → Type 0) → IfErr r (λ e. e ≡ NoMemory)

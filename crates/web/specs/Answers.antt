@@ -87,6 +87,16 @@ IsOfTheRegister (refused refusal) = ⊥
 IsOfTheRegister (get resource) = Unit {0}
 IsOfTheRegister (post caller key message) = Unit {0}
 
+-- nothing is asked that may change what is kept: a resource, or nothing that is answered but by a refusal
+abbrev pub IsNoMessage : Ask → Type 0
+IsNoMessage (refused refusal) = Unit {0}
+IsNoMessage (get resource) = Unit {0}
+IsNoMessage (post caller key message) = ⊥
+
+-- so it is of the bytes of a request
+abbrev pub AsksNoChange : List ℕ → Type 0
+AsksNoChange request = (ask : Ask) × Asks request ask × IsNoMessage ask
+
 -- the bytes of a request ask something of the register
 abbrev pub AsksTheRegister : List ℕ → Type 0
 AsksTheRegister request = (ask : Ask) × Asks request ask × IsOfTheRegister ask

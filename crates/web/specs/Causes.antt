@@ -3,7 +3,6 @@ use Rattle.std.specs.Prelude.{◌≡◌, ◌⊎◌, ◌<◌, ℕ, List}
 use Rattle.http_requests.specs.Asks.{Asks, post}
 use Rattle.office.specs.declared.opening.Opening.{Opening}
 use Rattle.office.specs.declared.arrival.Arrival.{Arrival}
-use Rattle.office.specs.declared.ca.TheConstants.{MOST_CAS}
 use Rattle.office.specs.declared.store_fault.StoreFault.{StoreFault}
 use Rattle.office.specs.declared.store_fault.StoreFault.TheVariants.{Damaged, NoMemory}
 use Rattle.office.specs.Registers.{FailsWithin}
@@ -19,4 +18,4 @@ StopsAt means fails stops request moment nonce old new =
 
 -- want of memory, or more parts of a list than an office has CAs
 abbrev pub IsOfAList : (parts : ℕ) → StoreFault → Type 0
-IsOfAList parts e = (e ≡ NoMemory) ⊎ ((e ≡ Damaged) × (MOST_CAS < parts))
+IsOfAList parts e = (e ≡ NoMemory) ⊎ ((e ≡ Damaged) × (8 < parts))

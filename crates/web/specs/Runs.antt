@@ -1,5 +1,5 @@
 -- What is answered to requests one after the other, some of which met a fault.
-use Rattle.std.specs.Prelude.{◌≡◌, ◌⊎◌, List, [], ◌∷◌}
+use Rattle.std.specs.Prelude.{◌≡◌, ◌⊎◌, All, List, [], ◌∷◌}
 use Rattle.http_requests.specs.declared.resource.Resource.TheVariants.{RevocationList}
 use Rattle.http_requests.specs.Asks.{Ask, Asks, get}
 use Rattle.office.specs.declared.opening.Opening.{Opening}
@@ -7,7 +7,7 @@ use Rattle.office.specs.declared.arrival.Arrival.{Arrival}
 use Rattle.web.specs.declared.exchange.Exchange.{Exchange}
 use Rattle.web.specs.declared.exchange.Given.{Given}
 use Rattle.web.specs.declared.exchange.Given.TheVariants.{Answer, Fault}
-use Rattle.web.specs.Answers.{AsksTheRegister, MayList, answer_text, with_ask}
+use Rattle.web.specs.Answers.{AsksNoChange, AsksTheRegister, MayList, answer_text, with_ask}
 
 -- Each exchange is given the response that is due after the arrivals before it that met no fault, or a fault, and the
 -- list is given only where it may be. The last history is the first with the arrivals of all that met no fault.
@@ -34,3 +34,7 @@ HasAnswered so_far [] (g ∷ given) = ⊥
 abbrev pub Serves : (before after keeps : Opening → List Arrival → Type 0) → List Exchange → List Given → Type 0
 Serves before after keeps exchanges given = (o : Opening) (l : List Arrival) → before o l → (last : List Arrival)
     × AllDue o l exchanges given last × after o last × (HasAnswered ⊥ exchanges given → keeps o last)
+
+-- none of these is a message
+abbrev pub AskNoChange : List Exchange → Type 0
+AskNoChange exchanges = All (λ x. AsksNoChange x.request) exchanges

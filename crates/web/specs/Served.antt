@@ -1,9 +1,9 @@
 -- What one call takes and answers.
-use Rattle.std.specs.Prelude.{◌≡◌, ℕ, List, length, Option}
+use Rattle.std.specs.Prelude.{◌≡◌, ◌⊎◌, ℕ, List, length, Option}
 use Rattle.std.specs.Io.KnownBytes.{Consumes}
 use Rattle.office.specs.declared.opening.Opening.{Opening}
 use Rattle.office.specs.declared.arrival.Arrival.{Arrival}
-use Rattle.web.specs.Answers.{IsAnswered}
+use Rattle.web.specs.Answers.{AsksNoChange, IsAnswered}
 use Rattle.web.specs.Requests.{IsOneRequest}
 
 -- Exactly one request and one nonce were taken of what the reader and the nonce source had left, and the response is
@@ -30,3 +30,14 @@ pub record Stopped (reader reader' nonces nonces' : Option (List ℕ)) (stops : 
   pub nonce_taken : Consumes nonces nonces' nonce
   pub nonce_size : length nonce ≡ 32
   pub stopped : stops request nonce
+
+-- Exactly one request was taken, and all that is kept is as before if that is no message.
+pub record Takes (reader reader' : Option (List ℕ)) (is_as_before : Type 0) : Type 0 where
+  pub request : List ℕ
+  pub taken : Consumes reader reader' request
+  pub one : IsOneRequest reader' request
+  pub reads : AsksNoChange request → is_as_before
+
+-- So it is, or no request was answered, and all that is kept is as before.
+abbrev pub KeepsIfRead : (reader reader' : Option (List ℕ)) → (is_as_before : Type 0) → Type 0
+KeepsIfRead reader reader' is_as_before = is_as_before ⊎ Takes reader reader' is_as_before

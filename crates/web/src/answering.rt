@@ -1,6 +1,6 @@
 //! Arrivals answered.
 
-ghost use Rattle.std.specs.Prelude.{◌≡◌, ◌≤◌, ◌++◌, [], ◌∷◌, IfOk, OnOk, OnErr, IfErr, length, vec_capacity};
+ghost use Rattle.std.specs.Prelude.{◌≡◌, ◌≢◌, ◌≤◌, ◌++◌, [], ◌∷◌, IfOk, OnOk, OnErr, IfErr, length, vec_capacity};
 ghost use Rattle.http_requests.specs.declared.response.MediaType.TheVariants.{PlainText};
 ghost use Rattle.http_requests.specs.Responses.{response_text};
 ghost use Rattle.office.specs.declared.arrival.Arrival.{Arrival};
@@ -60,6 +60,8 @@ pub(crate) fn to_arrival<R: Registry>(
         (λ o l v. v.items ≡ outcome_response (due o l arrival)) }
     ensures next { R.is_honest registry.new → OnOk result (MeansOneMore R.means arrival registry.old registry.new) }
     ensures fault { R.is_honest registry.new → OnErr result (MeansTheSame R.means registry.old registry.new) }
+    ensures before { R.is_honest registry.new → R.is_open registry.new
+        → IfErr result (λ e. e ≢ StoreFault.Damaged → R.is_as_before registry.old registry.new) }
     ensures cause { IfErr result (λ e. HasCause e (R.stops registry.old registry.new arrival)) }
     ensures only { R.is_honest registry.new → FailsAsARegister R.means registry.old result }
 {

@@ -54,6 +54,7 @@ fn put_batch<R: Registry>(
     ensures row { R.is_honest registry.new → AnswersBy R.means registry.old result (λ o l next.
         Says revocations.now (batch_of (state o l) place) place next out.old.items out.new.items) }
     ensures same { R.is_honest registry.new → MeansTheSame R.means registry.old registry.new }
+    ensures before { R.is_honest registry.new → R.is_open registry.new → R.is_as_before registry.old registry.new }
     ensures cause { IfErr result (λ e. HasCause e (R.fails registry.old registry.new)) }
     ensures only { R.is_honest registry.new → FailsAsARegister R.means registry.old result }
 {
@@ -75,6 +76,7 @@ pub(crate) fn put_all<R: Registry>(
     ensures row { R.is_honest registry.new → AnswersBy R.means registry.old result (λ o l count.
         Says revocations.now (state o l).certificates 0 count out.old.items out.new.items) }
     ensures same { R.is_honest registry.new → MeansTheSame R.means registry.old registry.new }
+    ensures before { R.is_honest registry.new → R.is_open registry.new → R.is_as_before registry.old registry.new }
     ensures cause { R.is_honest registry.new
         → IfErr result (λ e. HasCause e (FailsWithin R.means R.fails registry.old registry.new)) }
     ensures only { R.is_honest registry.new → FailsAsARegister R.means registry.old result }

@@ -32,6 +32,7 @@ pub(crate) fn to_serial_body<R: Registry>(
     ensures row { R.is_honest registry.new → AnswersBy R.means registry.old result
         (λ o l v. v.items ≡ body_response (body_of (state o l) serial)) }
     ensures same { R.is_honest registry.new → MeansTheSame R.means registry.old registry.new }
+    ensures before { R.is_honest registry.new → R.is_open registry.new → R.is_as_before registry.old registry.new }
     ensures cause { IfErr result (λ e. HasCause e (R.fails registry.old registry.new)) }
     ensures only { R.is_honest registry.new → FailsAsARegister R.means registry.old result }
 {
@@ -68,6 +69,7 @@ pub(crate) fn to_certificate<R: Registry>(
     ensures row { R.is_honest registry.new → AnswersBy R.means registry.old result
         (λ o l v. v.items ≡ certificate_response (issued_of (state o l) serial)) }
     ensures same { R.is_honest registry.new → MeansTheSame R.means registry.old registry.new }
+    ensures before { R.is_honest registry.new → R.is_open registry.new → R.is_as_before registry.old registry.new }
     ensures cause { IfErr result (λ e. HasCause e (R.fails registry.old registry.new)) }
     ensures only { R.is_honest registry.new → FailsAsARegister R.means registry.old result }
 {
@@ -106,6 +108,7 @@ pub(crate) fn to_pending<R: Registry>(
     ensures row { R.is_honest registry.new → AnswersBy R.means registry.old result
         (λ o l v. v.items ≡ response_text 200 PlainText (pending_report (state o l))) }
     ensures same { R.is_honest registry.new → MeansTheSame R.means registry.old registry.new }
+    ensures before { R.is_honest registry.new → R.is_open registry.new → R.is_as_before registry.old registry.new }
     ensures cause { R.is_honest registry.new → IfErr result
         (λ e. HasCause e (FailsWithin R.means R.fails registry.old registry.new)) }
     ensures only { R.is_honest registry.new → FailsAsARegister R.means registry.old result }

@@ -62,6 +62,7 @@ pub(crate) fn to_list<R: Registry>(registry: &mut R, alloc: Global) -> Result<Ve
     ensures fits { R.is_honest registry.new → OnOk result
         (WhereMeant R.means registry.old (λ o l. ListFits (state o l))) }
     ensures same { R.is_honest registry.new → MeansTheSame R.means registry.old registry.new }
+    ensures before { R.is_honest registry.new → R.is_open registry.new → R.is_as_before registry.old registry.new }
     ensures cause { IfErr result (λ e. HasCause e (R.fails registry.old registry.new)) }
     ensures only { R.is_honest registry.new → FailsAsARegister R.means registry.old result }
 {
@@ -155,6 +156,7 @@ pub(crate) fn to_signers<R: Registry>(
     ensures row { R.is_honest registry.new → AnswersBy R.means registry.old result
         (λ o l v. v.items ≡ response_text 200 PlainText (signers_report (state o l))) }
     ensures same { R.is_honest registry.new → MeansTheSame R.means registry.old registry.new }
+    ensures before { R.is_honest registry.new → R.is_open registry.new → R.is_as_before registry.old registry.new }
     ensures cause { R.is_honest registry.new → IfErr result
         (λ e. HasCause e (FailsWithin R.means R.fails registry.old registry.new)) }
     ensures only { R.is_honest registry.new → FailsAsARegister R.means registry.old result }
@@ -202,6 +204,7 @@ pub(crate) fn to_cas<R: Registry>(registry: &mut R, alloc: Global) -> Result<Vec
     ensures row { R.is_honest registry.new → AnswersBy R.means registry.old result
         (λ o l v. v.items ≡ response_text 200 PlainText (ca_report (state o l))) }
     ensures same { R.is_honest registry.new → MeansTheSame R.means registry.old registry.new }
+    ensures before { R.is_honest registry.new → R.is_open registry.new → R.is_as_before registry.old registry.new }
     ensures cause { IfErr result (λ e. HasCause e (R.fails registry.old registry.new)) }
     ensures only { R.is_honest registry.new → FailsAsARegister R.means registry.old result }
 {

@@ -90,6 +90,7 @@ fn table_beside<R: Registry>(
     ensures row { R.is_honest registry.new → AnswersBy R.means registry.old result
         (λ o l v. v.items ≡ table_among revocations.now (state o l).certificates version) }
     ensures same { R.is_honest registry.new → MeansTheSame R.means registry.old registry.new }
+    ensures before { R.is_honest registry.new → R.is_open registry.new → R.is_as_before registry.old registry.new }
     ensures cause { R.is_honest registry.new
         → IfErr result (λ e. HasCause e (FailsWithin R.means R.fails registry.old registry.new)) }
     ensures only { R.is_honest registry.new → FailsAsARegister R.means registry.old result }
@@ -108,6 +109,7 @@ pub(crate) fn to_table<R: Registry>(registry: &mut R, alloc: Global) -> Result<V
     ensures row { R.is_honest registry.new → AnswersBy R.means registry.old result
         (λ o l v. v.items ≡ response_text 200 PlainText (table_report (state o l))) }
     ensures same { R.is_honest registry.new → MeansTheSame R.means registry.old registry.new }
+    ensures before { R.is_honest registry.new → R.is_open registry.new → R.is_as_before registry.old registry.new }
     ensures cause { R.is_honest registry.new → IfErr result
         (λ e. HasCause e (FailsWithin R.means R.fails registry.old registry.new)) }
     ensures only { R.is_honest registry.new → FailsAsARegister R.means registry.old result }

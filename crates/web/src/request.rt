@@ -1,13 +1,13 @@
 //! What a request is answered.
 
-ghost use Rattle.std.specs.Prelude.{◌≡◌, ℕ, List, IfOk, OnOk, OnErr, IfErr};
+ghost use Rattle.std.specs.Prelude.{◌≡◌, ◌≢◌, ℕ, List, IfOk, OnOk, OnErr, IfErr};
 ghost use Rattle.http_requests.specs.declared.resource.Resource.TheVariants.{RevocationList};
 ghost use Rattle.http_requests.specs.Asked.{ask_of};
 ghost use Rattle.http_requests.specs.Asks.{Asks};
 ghost use Rattle.office.specs.Faults.{HasCause};
 ghost use Rattle.office.specs.History.{state};
 ghost use Rattle.office.specs.Registers.{AnswersBy, FailsAsARegister, FailsWithin, MeansTheSame, WhereMeant};
-ghost use Rattle.web.specs.Answers.{IsAnswered, Keeps, ListFits, resource_response};
+ghost use Rattle.web.specs.Answers.{AsksNoChange, IsAnswered, IsNoMessage, Keeps, ListFits, resource_response};
 ghost use Rattle.web.specs.Causes.{StopsAt};
 ghost use Rattle.web.specs.Requests.{request_ask};
 
@@ -72,6 +72,7 @@ fn to_resource<R: Registry>(
     ensures fits { R.is_honest registry.new → resource ≡ RevocationList
         → OnOk result (WhereMeant R.means registry.old (λ o l. ListFits (state o l))) }
     ensures same { R.is_honest registry.new → MeansTheSame R.means registry.old registry.new }
+    ensures before { R.is_honest registry.new → R.is_open registry.new → R.is_as_before registry.old registry.new }
     ensures cause { R.is_honest registry.new → IfErr result
         (λ e. HasCause e (FailsWithin R.means R.fails registry.old registry.new)) }
     ensures only { R.is_honest registry.new → FailsAsARegister R.means registry.old result }
@@ -102,6 +103,10 @@ pub(crate) fn answer_request<R: Registry>(
         → IfOk result (λ v. IsAnswered (R.means registry.old) (R.means registry.new)
         (Keeps R.means R.is_open registry.new) bytes moment nonce.now v.items) }
     ensures fault { R.is_honest registry.new → OnErr result (MeansTheSame R.means registry.old registry.new) }
+    ensures before { R.is_honest registry.new → R.is_open registry.new
+        → IfErr result (λ e. e ≢ StoreFault.Damaged → R.is_as_before registry.old registry.new) }
+    ensures reads { R.is_honest registry.new → R.is_open registry.new → IsNoMessage (request_ask request)
+        → R.is_as_before registry.old registry.new }
     ensures cause { R.is_honest registry.new → (bytes : List ℕ) → Asks bytes (request_ask request) → IfErr result
         (λ e. HasCause e (StopsAt R.means R.fails R.stops bytes moment nonce.now registry.old registry.new)) }
     ensures only { R.is_honest registry.new → FailsAsARegister R.means registry.old result }
@@ -141,6 +146,10 @@ pub fn answer_by<R: Registry>(
     ensures answered { R.is_honest registry.new → IfOk result (λ v. IsAnswered (R.means registry.old)
         (R.means registry.new) (Keeps R.means R.is_open registry.new) request.now moment nonce.now v.items) }
     ensures fault { R.is_honest registry.new → OnErr result (MeansTheSame R.means registry.old registry.new) }
+    ensures before { R.is_honest registry.new → R.is_open registry.new
+        → IfErr result (λ e. e ≢ StoreFault.Damaged → R.is_as_before registry.old registry.new) }
+    ensures reads { R.is_honest registry.new → R.is_open registry.new → AsksNoChange request.now
+        → R.is_as_before registry.old registry.new }
     ensures cause { R.is_honest registry.new → IfErr result
         (λ e. HasCause e (StopsAt R.means R.fails R.stops request.now moment nonce.now registry.old registry.new)) }
     ensures only { R.is_honest registry.new → FailsAsARegister R.means registry.old result }
@@ -173,6 +182,13 @@ pub fn answer<R: Registry>(
     ensures answered { R.is_honest registry.new → IfOk result (λ v. IsAnswered (R.means registry.old)
         (R.means registry.new) (Keeps R.means R.is_open registry.new) request.now moment nonce.now v.items) }
     ensures fault { R.is_honest registry.new → OnErr result (MeansTheSame R.means registry.old registry.new) }
+
+    // A request that is no message leaves all that is kept as it was, whatever it means. So does each fault but
+    // `Damaged`, which a register that means a history doesn't answer.
+    ensures before { R.is_honest registry.new → R.is_open registry.new
+        → IfErr result (λ e. e ≢ StoreFault.Damaged → R.is_as_before registry.old registry.new) }
+    ensures reads { R.is_honest registry.new → R.is_open registry.new → AsksNoChange request.now
+        → R.is_as_before registry.old registry.new }
     ensures cause { R.is_honest registry.new → IfErr result
         (λ e. HasCause e (StopsAt R.means R.fails R.stops request.now moment nonce.now registry.old registry.new)) }
     ensures only { R.is_honest registry.new → FailsAsARegister R.means registry.old result }

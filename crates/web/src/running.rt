@@ -2,8 +2,8 @@
 
 ghost use Rattle.std.specs.Prelude.{◌≡◌, ℕ, List, IfOk, OnErr};
 ghost use Rattle.office.specs.Registers.{MeansTheSame};
-ghost use Rattle.web.specs.Answers.{IsAnswered, Keeps};
-ghost use Rattle.web.specs.Runs.{Serves};
+ghost use Rattle.web.specs.Answers.{AsksNoChange, IsAnswered, Keeps};
+ghost use Rattle.web.specs.Runs.{AskNoChange, Serves};
 
 use crate::exchange::{Exchange, Given};
 use crate::request::answer_by;
@@ -26,6 +26,8 @@ fn given_by<R: Registry>(
         exchange.now.request exchange.now.moment exchange.now.nonce response
         × (R.is_open registry.old → R.is_open registry.new) }
     ensures fault { R.is_honest registry.new → result ≡ Given.Fault → MeansTheSame R.means registry.old registry.new }
+    ensures reads { R.is_honest registry.new → R.is_open registry.new → AsksNoChange exchange.now.request
+        → R.is_as_before registry.old registry.new }
 {
     let request = exchange.request.as_slice();
     let answered = answer_by(
@@ -59,6 +61,10 @@ pub fn run<R: Registry>(
     ensures serves { R.is_honest registry.new → IfOk result (λ given. Serves (R.means registry.old)
         (R.means registry.new) (Keeps R.means R.is_open registry.new) exchanges.now given.items) }
     ensures err { OnErr result (registry.new ≡ registry.old) }
+
+    // Exchanges of which none is a message leave all that the register keeps as it was, whatever it means.
+    ensures reads { R.is_honest registry.new → R.is_open registry.new → AskNoChange exchanges.now
+        → R.is_as_before registry.old registry.new }
 {
     let mut given = Vec::with_capacity(alloc, exchanges.len())?;
     let routes = Routes::new(alloc)?;

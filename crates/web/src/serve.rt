@@ -10,7 +10,7 @@ ghost use Rattle.web.specs.Answers.{Keeps};
 ghost use Rattle.web.specs.Causes.{StopsAt};
 ghost use Rattle.web.specs.Faults.{is_read, is_write, IfServed, IfUnserved};
 ghost use Rattle.web.specs.Nonces.{Draws, FailsBy};
-ghost use Rattle.web.specs.Served.{Served, Stopped};
+ghost use Rattle.web.specs.Served.{KeepsIfRead, Served, Stopped};
 
 use crate::request::answer_request;
 use crate::serve_fault::ServeFault;
@@ -57,6 +57,10 @@ pub fn serve_one<R: Source, W: Sink, S: Registry, N: Source>(
     // After any other fault nothing was written, and the register means what it meant.
     ensures unwritten { IfUnserved result (writer.new ≡ writer.old) }
     ensures unchanged { S.is_honest registry.new → IfUnserved result (MeansTheSame S.means registry.old registry.new) }
+
+    // A request that is no message leaves all that the register keeps as it was, whatever it means.
+    ensures reads { S.is_honest registry.new → S.is_open registry.new → KeepsIfRead (R.remaining reader.old)
+        (R.remaining reader.new) (S.is_as_before registry.old registry.new) }
 
     // The bytes that are drawn of the nonces are the next ones, whatever comes of the call: a nonce, or nothing where
     // no request came, or less where the source failed or ended.

@@ -82,5 +82,9 @@ impl Registry for Register {
         Ok(Vec::new(alloc))
     }
 
+    ghost unasked = { λ _. tt };
+
+    ghost through = { λ _ _ _ _ _. tt };
+
     ghost lawful = { λ s o l m. absurd m };
 }

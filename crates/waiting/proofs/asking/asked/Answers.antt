@@ -18,3 +18,18 @@ returns-clause-row g c h =
     ∙ again o l r c.args.known.seen c.args.known.rows.items are known) in
     all_known r (state o l) all.seen all.rows.items are rest.0 rest.1)
     (c.learned.ensures.row h)
+
+pub returns-in_err-rows-clause-before : goal.returns-in_err-rows-clause-before
+returns-in_err-rows-clause-before g c h is =
+    g.met.R.Registry.through c.args.register.now c.revocations.new.self c.still_waiting.new.register
+    (c.revocations.ensures.before (c.still_waiting.ensures.honest h) (c.still_waiting.ensures.was_open h is))
+    (c.still_waiting.ensures.before h is)
+
+pub returns-clause-before : goal.returns-clause-before
+returns-clause-before g c h is =
+    let honest = c.learned.ensures.honest h in
+    let opened = c.learned.ensures.was_open h is in
+    g.met.R.Registry.through c.args.register.now c.still_waiting.new.register c.learned.new.register
+    (g.met.R.Registry.through c.args.register.now c.revocations.new.self c.still_waiting.new.register
+    (c.revocations.ensures.before (c.still_waiting.ensures.honest honest) (c.still_waiting.ensures.was_open honest opened))
+    (c.still_waiting.ensures.before honest opened)) (c.learned.ensures.before h is)

@@ -9,6 +9,8 @@ abbrev pub invariant-batches : goal.invariant-batches
 invariant-batches g l = record {
   honest : g.R.Registry.is_honest l.register → g.R.Registry.is_honest l.fn.register;
   was_open : g.R.Registry.is_honest l.register → g.R.Registry.is_open l.register → g.R.Registry.is_open l.fn.register;
+  before : g.R.Registry.is_honest l.register → g.R.Registry.is_open l.register
+      → g.R.Registry.is_as_before l.fn.register l.register;
   same : g.R.Registry.is_honest l.register → (o : Opening) (h : List Arrival) → g.R.Registry.means l.fn.register o h
       → g.R.Registry.means l.register o h;
   rows : g.R.Registry.is_honest l.register → (o : Opening) (h : List Arrival) → g.R.Registry.means l.fn.register o h

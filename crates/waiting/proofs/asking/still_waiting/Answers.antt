@@ -9,6 +9,10 @@ pub loop-row-preserved : goal.loop-row-preserved
 loop-row-preserved g c = record {
   honest = λ h. c.loop-row.invariant.honest (c.push_waiting.ensures.honest h);
   was_open = λ h is. c.loop-row.invariant.was_open (c.push_waiting.ensures.honest h) (c.push_waiting.ensures.was_open h is);
+  before = λ h is.
+      g.met.R.Registry.through c.args.register.now c.loop-row.register c.push_waiting.new.register
+      (c.loop-row.invariant.before (c.push_waiting.ensures.honest h) (c.push_waiting.ensures.was_open h is))
+      (c.push_waiting.ensures.before h is);
   same = λ h o l m. c.push_waiting.ensures.same h o l (c.loop-row.invariant.same (c.push_waiting.ensures.honest h) o l m);
   rows = λ h o l m are.
       let before = c.push_waiting.ensures.honest h in

@@ -6,6 +6,9 @@ pub batches-preserved : goal.batches-preserved
 batches-preserved g c = record {
   honest = λ h. c.batches.invariant.honest (c.put_batch.ensures.honest h);
   was_open = λ h is. c.batches.invariant.was_open (c.put_batch.ensures.honest h) (c.put_batch.ensures.was_open h is);
+  before = λ h is. g.met.R.Registry.through c.args.registry.now c.batches.registry c.put_batch.new.registry
+      (c.batches.invariant.before (c.put_batch.ensures.honest h) (c.put_batch.ensures.was_open h is))
+      (c.put_batch.ensures.before h is);
   same = λ h o l m. c.put_batch.ensures.same h o l (c.batches.invariant.same (c.put_batch.ensures.honest h) o l m);
   lines = λ h o l m.
       let before = c.put_batch.ensures.honest h in

@@ -10,6 +10,8 @@ abbrev pub invariant-batches : goal.invariant-batches
 invariant-batches g l = record {
   honest : g.R.Registry.is_honest l.registry → g.R.Registry.is_honest l.fn.registry;
   was_open : g.R.Registry.is_honest l.registry → g.R.Registry.is_open l.registry → g.R.Registry.is_open l.fn.registry;
+  before : g.R.Registry.is_honest l.registry → g.R.Registry.is_open l.registry
+      → g.R.Registry.is_as_before l.fn.registry l.registry;
   same : g.R.Registry.is_honest l.registry → (o : Opening) (h : List Arrival) → g.R.Registry.means l.fn.registry o h
       → g.R.Registry.means l.registry o h;
   lines : g.R.Registry.is_honest l.registry → (o : Opening) (h : List Arrival) → g.R.Registry.means l.fn.registry o h

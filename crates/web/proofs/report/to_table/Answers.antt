@@ -25,3 +25,27 @@ returns-clause-cause g c h = memory_cause c.around.result _ c.around.ensures.err
 
 pub returns-clause-only : goal.returns-clause-only
 returns-clause-only g c h = memory_only c.around.result _ c.around.ensures.err
+
+pub returns-in_err-revocations-clause-before : goal.returns-in_err-revocations-clause-before
+returns-in_err-revocations-clause-before g c h is =
+    g.met.R.Registry.through c.args.registry.now c.revoked.new.self c.revocations.new.self
+    (c.revoked.ensures.before (c.revocations.ensures.honest h) (c.revocations.ensures.was_open h is))
+    (c.revocations.ensures.before h is)
+
+pub returns-in_err-report-clause-before : goal.returns-in_err-report-clause-before
+returns-in_err-report-clause-before g c h is =
+    let honest = c.table_beside.ensures.honest h in
+    let opened = c.table_beside.ensures.was_open h is in
+    g.met.R.Registry.through c.args.registry.now c.revocations.new.self c.table_beside.new.registry
+    (g.met.R.Registry.through c.args.registry.now c.revoked.new.self c.revocations.new.self
+    (c.revoked.ensures.before (c.revocations.ensures.honest honest) (c.revocations.ensures.was_open honest opened))
+    (c.revocations.ensures.before honest opened)) (c.table_beside.ensures.before h is)
+
+pub returns-clause-before : goal.returns-clause-before
+returns-clause-before g c h is =
+    let honest = c.table_beside.ensures.honest h in
+    let opened = c.table_beside.ensures.was_open h is in
+    g.met.R.Registry.through c.args.registry.now c.revocations.new.self c.table_beside.new.registry
+    (g.met.R.Registry.through c.args.registry.now c.revoked.new.self c.revocations.new.self
+    (c.revoked.ensures.before (c.revocations.ensures.honest honest) (c.revocations.ensures.was_open honest opened))
+    (c.revocations.ensures.before honest opened)) (c.table_beside.ensures.before h is)

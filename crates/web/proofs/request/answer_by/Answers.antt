@@ -1,5 +1,7 @@
 use Rattle.std.proofs.Common.{sym, subst}
 use Rattle.http_requests.specs.Asks.{Ask, Asks}
+use Rattle.web.specs.Requests.{request_ask}
+use Rattle.web.proofs.Shown.{always_err, is_no_message}
 use Rattle.web.proofs.request.answer_by.Goals as goal
 
 pub returns-clause-answered : goal.returns-clause-answered
@@ -13,3 +15,17 @@ returns-clause-cause g c honest =
     let P : Ask → Type 0 = Asks c.args.request.now in
     let asks = subst P (sym c.in_ok-request.ensures) c.asks.ensures.asked in
     c.answer_request.ensures.cause honest c.args.request.now asks
+
+pub returns-in_err-request-clause-before : goal.returns-in_err-request-clause-before
+returns-in_err-request-clause-before g c honest is =
+    always_err c.from_residual.result _ (λ e differs. g.met.R.Registry.unasked c.args.registry.now)
+
+pub returns-in_err-request-clause-reads : goal.returns-in_err-request-clause-reads
+returns-in_err-request-clause-reads g c honest is none = g.met.R.Registry.unasked c.args.registry.now
+
+pub returns-clause-reads : goal.returns-clause-reads
+returns-clause-reads g c honest is none =
+    let P : Ask → Type 0 = Asks c.args.request.now in
+    let asks = subst P (sym c.in_ok-request.ensures) c.asks.ensures.asked in
+    c.answer_request.ensures.reads honest is
+    (is_no_message c.args.request.now (request_ask c.in_ok-request.request) asks none)

@@ -1,5 +1,5 @@
 use Rattle.std.proofs.Common.{inl, inr, refl}
-use Rattle.web.proofs.Shown.{cause_as, memory_cause, memory_only}
+use Rattle.web.proofs.Shown.{always_err, cause_as, memory_cause, memory_only}
 use Rattle.web.proofs.Answered.{of_arrival, of_refusal, of_resource}
 use Rattle.web.specs.Answers.{Keeps, arrival_by}
 use Rattle.web.proofs.request.answer_request.Goals as goal
@@ -44,3 +44,17 @@ returns-in-Post-clause-cause g c honest bytes asks =
     let post = rw c.in-Post.is at asks in
     cause_as c.to_arrival.result _ _
     (λ stopped. inr (c.in-Post.caller, c.in-Post.key, c.in-Post.message, post, stopped)) c.to_arrival.ensures.cause
+
+pub returns-in-Refused-clause-before : goal.returns-in-Refused-clause-before
+returns-in-Refused-clause-before g c honest is =
+    always_err c.to_refusal.result _ (λ e differs. g.met.R.Registry.unasked c.args.registry.now)
+
+pub returns-in-Refused-clause-reads : goal.returns-in-Refused-clause-reads
+returns-in-Refused-clause-reads g c honest is none = g.met.R.Registry.unasked c.args.registry.now
+
+pub returns-in-Get-clause-before : goal.returns-in-Get-clause-before
+returns-in-Get-clause-before g c honest is =
+    always_err c.to_resource.result _ (λ e differs. c.to_resource.ensures.before honest is)
+
+pub returns-in-Post-clause-reads : goal.returns-in-Post-clause-reads
+returns-in-Post-clause-reads g c honest is none = absurd (rw c.in-Post.is at none)

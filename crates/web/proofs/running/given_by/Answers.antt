@@ -1,6 +1,6 @@
 use Rattle.std.proofs.Common.{◌≡◌, ◌∙◌, ℕ, List, subst, sym}
 use Rattle.web.specs.declared.exchange.Given.TheVariants.{Answer}
-use Rattle.web.specs.Answers.{IsAnswered, Keeps}
+use Rattle.web.specs.Answers.{AsksNoChange, IsAnswered, Keeps}
 use Rattle.web.proofs.running.given_by.Goals as goal
 
 same_text : (x y : List ℕ) → Answer x ≡ Answer y → x ≡ y
@@ -19,3 +19,11 @@ returns-in-Ok-clause-answered g c honest response is =
           exchange.nonce text) same (c.in-Ok.ensures.answered honest)),
       c.in-Ok.ensures.stays_open honest,
     )
+
+pub returns-in-Ok-clause-reads : goal.returns-in-Ok-clause-reads
+returns-in-Ok-clause-reads g c honest is none =
+    c.answer_by-answered.ensures.reads honest is (subst (λ (request : List ℕ). AsksNoChange request) (sym c.as_slice-request.ensures) none)
+
+pub returns-in-Err-clause-reads : goal.returns-in-Err-clause-reads
+returns-in-Err-clause-reads g c honest is none =
+    c.answer_by-answered.ensures.reads honest is (subst (λ (request : List ℕ). AsksNoChange request) (sym c.as_slice-request.ensures) none)

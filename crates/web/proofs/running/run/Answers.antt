@@ -3,6 +3,7 @@ use Rattle.std.proofs.lemmas.Grind.{common_steps}
 use Rattle.std.proofs.Math.ListN.{drop_of_length-le}
 use Rattle.web.specs.declared.exchange.Exchange.{Exchange}
 use Rattle.web.specs.declared.exchange.Given.{Given}
+use Rattle.web.specs.Answers.{AsksNoChange}
 use Rattle.web.proofs.Underway.{IsUnderway, goes_with, is_done, starts}
 use Rattle.web.proofs.running.run.Goals as goal
 
@@ -24,6 +25,11 @@ loop-exchange-preserved g c =
     record {
       honest = λ h. c.loop-exchange.invariant.honest (c.given_by.ensures.honest h);
       was_open = λ h is. c.loop-exchange.invariant.was_open (c.given_by.ensures.honest h) (c.given_by.ensures.was_open h is);
+      before = λ h is none.
+          g.met.R.Registry.through c.args.registry.now c.loop-exchange.registry c.given_by.new.registry
+          (c.loop-exchange.invariant.before (c.given_by.ensures.honest h) (c.given_by.ensures.was_open h is) none)
+          (c.given_by.ensures.reads h is (subst (λ (y : Exchange). AsksNoChange y.request) (sym c.exchange-item.is)
+          (none i _ c.loop-exchange-test.true)));
       underway = λ h.
           let u : IsUnderway before now was_open all (x ∷ rest) given =
           subst (λ (r : List Exchange). IsUnderway before now was_open all r given) left (c.loop-exchange.invariant.underway (c.given_by.ensures.honest h)) in
@@ -50,6 +56,7 @@ loop-exchange-init g c =
     record {
       honest = λ h. h;
       was_open = λ h is. is;
+      before = λ h is none. g.met.R.Registry.unasked c.args.registry.now;
       underway = λ h. subst (λ (g : List Given). IsUnderway means means is_open all all g) (sym c.in_ok-given.ensures.items)
           (starts means is_open all);
       room = grind (arith, common_steps);

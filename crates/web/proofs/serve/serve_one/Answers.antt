@@ -1,6 +1,8 @@
-use Rattle.std.proofs.Common.{subst}
+use Rattle.std.proofs.Common.{inl, inr, subst}
 use Rattle.std.specs.Io.KnownBytes.{Appends}
 use Rattle.wire.specs.Streams.{AppendsBeginning}
+use Rattle.web.specs.Requests.{request_ask}
+use Rattle.web.proofs.Shown.{is_no_message}
 use Rattle.web.proofs.Stores.{cause_of_store}
 use Rattle.web.proofs.serve.serve_one.Goals as goal
 
@@ -53,3 +55,42 @@ returns-in_err-response-clause-store g c honest store o l means =
           c.from_residual-in_err-response.ensures.1 store (c.in_err-response.ensures.only honest o l means)
           (c.in_err-response.ensures.cause honest taken.bytes taken.asks);
     }
+
+pub returns-in-Ok-clause-reads : goal.returns-in-Ok-clause-reads
+returns-in-Ok-clause-reads g c honest is =
+    let taken = c.in_ok-request.ensures.taken in
+    inr (record {
+      request = taken.bytes;
+      taken = taken.consumed;
+      one = taken.one;
+      reads = λ none. c.answer_request.ensures.reads honest is
+          (is_no_message taken.bytes (request_ask c.in_ok-request.request) taken.asks none);
+    })
+
+pub returns-clause-reads : goal.returns-clause-reads
+returns-clause-reads g c honest is =
+    let taken = c.in_ok-request.ensures.taken in
+    inr (record {
+      request = taken.bytes;
+      taken = taken.consumed;
+      one = taken.one;
+      reads = λ none. c.answer_request.ensures.reads honest is
+          (is_no_message taken.bytes (request_ask c.in_ok-request.request) taken.asks none);
+    })
+
+pub returns-in_err-response-clause-reads : goal.returns-in_err-response-clause-reads
+returns-in_err-response-clause-reads g c honest is =
+    let taken = c.in_ok-request.ensures.taken in
+    inr (record {
+      request = taken.bytes;
+      taken = taken.consumed;
+      one = taken.one;
+      reads = λ none. c.answer_request.ensures.reads honest is
+          (is_no_message taken.bytes (request_ask c.in_ok-request.request) taken.asks none);
+    })
+
+pub returns-in_err-request-clause-reads : goal.returns-in_err-request-clause-reads
+returns-in_err-request-clause-reads g c honest is = inl (g.met.S.Registry.unasked c.args.registry.now)
+
+pub returns-in_err-nonce-clause-reads : goal.returns-in_err-nonce-clause-reads
+returns-in_err-nonce-clause-reads g c honest is = inl (g.met.S.Registry.unasked c.args.registry.now)

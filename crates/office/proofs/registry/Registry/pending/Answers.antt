@@ -9,6 +9,10 @@ pub batches-preserved : goal.batches-preserved
 batches-preserved g c = record {
   honest = λ h. c.batches.invariant.honest (c.certificates.ensures.honest h);
   was_open = λ h is. c.batches.invariant.was_open (c.certificates.ensures.honest h) (c.certificates.ensures.was_open h is);
+  before = λ h is.
+      let honest = c.certificates.ensures.honest h in
+      g.met.Self.Registry.through c.args.self.now c.batches.self c.certificates.new.self
+      (c.batches.invariant.before honest (c.certificates.ensures.was_open h is)) (c.certificates.ensures.before h is);
   same = λ h o l m. c.certificates.ensures.same h o l (c.batches.invariant.same (c.certificates.ensures.honest h) o l m);
   rows = λ h o l m.
       let before = c.certificates.ensures.honest h in

@@ -9,6 +9,8 @@ abbrev pub invariant-batches : goal.invariant-batches
 invariant-batches g l = record {
   honest : g.Self.Registry.is_honest l.self → g.Self.Registry.is_honest l.fn.self;
   was_open : g.Self.Registry.is_honest l.self → g.Self.Registry.is_open l.self → g.Self.Registry.is_open l.fn.self;
+  before : g.Self.Registry.is_honest l.self → g.Self.Registry.is_open l.self
+      → g.Self.Registry.is_as_before l.fn.self l.self;
   same : g.Self.Registry.is_honest l.self → (o : Opening) (h : List Arrival) → g.Self.Registry.means l.fn.self o h → g.Self.Registry.means l.self o h;
   rows : g.Self.Registry.is_honest l.self → (o : Opening) (h : List Arrival) → g.Self.Registry.means l.fn.self o h
       → AreRevocations l.revocations (state o h) × (l.place ≤ length (state o h).certificates)
