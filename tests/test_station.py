@@ -257,14 +257,15 @@ def test_what_is_no_list_of_pending_certificates_is_not_followed(alone, rows):
 
 @pytest.mark.parametrize("answer, why", [
     (response(b"", "302 Found\r\nlocation: http://127.0.0.1:1/"), "302"),
+    (response(b"", "302 Found\r\nlocation: http://["), "302"),
     (response(b"1 " + 64 * b"a" + b"\n", length=500), "half an answer"),
     (response(b"\x1b[2Jrefused\n", "502 Bad Gateway"), "502 ?[2Jrefused"),
     (b"no answer of HTTP\r\n\r\n", None),
     (b"HTTP/1.1 200 OK\r\ntransfer-encoding: chunked\r\n\r\nfff\r\n1 ", None),
     (b"HTTP/1.1 200 OK\r\ntransfer-encoding: chunked\r\n\r\nx\r\n", None),
     (b"", None),
-], ids=["a redirect", "half an answer", "letters that move the cursor", "another protocol", "half a chunk",
-        "no chunk", "nothing"])
+], ids=["a redirect", "a redirect to no address", "half an answer", "letters that move the cursor", "another protocol",
+        "half a chunk", "no chunk", "nothing"])
 def test_an_answer_that_is_none_is_said(alone, answer, why):
     with Web(answer) as web:
         status, out, errors = Station(alone, web.url, alone.key).once()
@@ -287,6 +288,43 @@ def test_an_endless_answer_is_cut_off(alone):
     with Endless({1: b""}) as web:
         said = ["station: not signed: 1, an answer of more than 65536 bytes: 1"]
         assert (1, [], said) == Station(alone, web.url, alone.key).once()
+
+
+def test_an_endless_redirect_is_cut_off(alone):
+    """The library would read all of it, even where the redirect isn't followed."""
+    with Web(response(b"", "302 Found\r\nlocation: http://127.0.0.1:1/", length="")) as web:
+        web.endless = b"a" * (1 << 16)
+        said = f"station: {web.url} doesn't answer: {('302 ' + 200 * 'a')[:200]}"
+        assert (1, [], [said]) == Station(alone, web.url, alone.key).once()
+
+
+def test_no_cookie_is_kept(alone):
+    class Baking(FalseOffice):
+        def finish_request(self, peer, address):
+            super().finish_request(Baked(peer), address)
+
+    class Baked:
+        def __init__(self, peer):
+            self.recv, self.settimeout = peer.recv, peer.settimeout
+            self.sendall = lambda text: peer.sendall(text.replace(b"\r\n", b"\r\nset-cookie: a=b\r\n", 1))
+
+    with Baking({1: body(ca=alone.blob)}) as web:
+        assert (0, ["signed 1"], []) == Station(alone, web.url, alone.key, ahead=3600).once()
+        assert [3, 0] == [len(web.requests), sum(b"\r\ncookie:" in it.lower() for it in web.requests)]
+
+
+def test_an_office_that_has_many_reasons_is_not_quoted_without_end(alone):
+    class Inventive(FalseOffice):
+        def finish_request(self, peer, address):
+            if found := re.match(rb"GET /v1/certs/(\d+)/", came := whole_request(peer)):
+                return peer.sendall(response(b"reason %s" % found[1], "500 Broken"))
+            peer.sendall(response(self.rows.encode()) if b"/pending " in came else b"")
+
+    with Inventive({serial: b"" for serial in range(1, 31)}) as web:
+        status, out, errors = Station(alone, web.url, alone.key).once()
+        assert (1, [], 21) == (status, out, len(errors))
+        assert ["station: not signed: 1, 500 reason 20: 20", "station: not signed: 10, for other reasons: 21-30"
+                ] == errors[19:]
 
 
 @pytest.mark.slow

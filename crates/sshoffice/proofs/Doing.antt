@@ -195,19 +195,19 @@ module _ (old new : State) where
 
   module _ (resource : Resource) (media : MediaType) (x : Exchange) (asks : Asks x.request (get resource)) where
     -- a response with this body
-    showed : (held holds : Option (List ℕ)) (body : List ℕ) → Appends held holds body
-        → Refuses {A = Unit {0}} (Ok tt)
+    showed : (done : Unit {0}) (held holds : Option (List ℕ)) (body : List ℕ) → Appends held holds body
+        → Refuses (Ok done)
         → ((o : Opening) (l : List Arrival) → Tells old o l
         → (response_text 200 media body ≡ resource_response (state o l) resource)
         × (get resource ≡ get RevocationList → MayList o l) × Tells new o l)
-        → Shown resource media held holds (Ok tt)
-    showed held holds body printed refuses is =
-        let given : List Given = given.Answer (response_text 200 media body) ∷ [] in (
-          record { founds = None; exchanges = x ∷ []; given = given },
+        → Shown resource media held holds (Ok done)
+    showed done held holds body printed refuses is =
+        let gave : List Given = given.Answer (response_text 200 media body) ∷ [] in (
+          record { founds = None; exchanges = x ∷ []; given = gave },
           record { founds = refl; get_of = x; asks = asks; one = refl; shown = (body, printed, refl) },
-          ran (x ∷ []) given
+          ran (x ∷ []) gave
               (λ o l told. let due = is o l told in (l, (get resource, asks, due.0, due.1, refl), due.2))
-              (not_blank tt refuses),
+              (not_blank done refuses),
         )
 
     -- a fault
@@ -221,8 +221,8 @@ module _ (old new : State) where
 
   listed : (held holds : Option (List ℕ)) (r : Result (Unit {0}) JobFault) → Refuses r → Lists old new held holds r
       → Shown RevocationList Bytes held holds r
-  listed held holds (Ok tt) refuses h =
-      showed RevocationList Bytes list_get asks_list held holds h.1.0 h.1.1 refuses (λ o l told.
+  listed held holds (Ok done) refuses h =
+      showed RevocationList Bytes list_get asks_list done held holds h.1.0 h.1.1 refuses (λ o l told.
       let is = h.1.2 o l told in (
         ap (response_text 200 Bytes) is.0.same,
         λ _. record { office = told.history.office; fits = is.0.fits },
@@ -249,8 +249,8 @@ module _ (old new : State) where
 
   signers_shown : (held holds : Option (List ℕ)) (r : Result (Unit {0}) JobFault) → Refuses r
       → IsReport report.Signers old new held holds r → Shown Signers PlainText held holds r
-  signers_shown held holds (Ok tt) refuses h =
-      showed Signers PlainText signers_get asks_signers held holds h.0 h.1 refuses (λ o l told.
+  signers_shown held holds (Ok done) refuses h =
+      showed Signers PlainText signers_get asks_signers done held holds h.0 h.1 refuses (λ o l told.
       let is = h.2 o l told in (ap (response_text 200 PlainText) is.0, λ other. absurd (cc), is.1.tells))
   signers_shown held holds (Err fault.Write) refuses h =
       unshown Signers PlainText signers_get asks_signers (Err fault.Write) held holds refuses
@@ -273,8 +273,8 @@ module _ (old new : State) where
 
   table_shown : (held holds : Option (List ℕ)) (r : Result (Unit {0}) JobFault) → Refuses r
       → IsReport report.Table old new held holds r → Shown Table PlainText held holds r
-  table_shown held holds (Ok tt) refuses h =
-      showed Table PlainText table_get asks_table held holds h.0 h.1 refuses (λ o l told.
+  table_shown held holds (Ok done) refuses h =
+      showed Table PlainText table_get asks_table done held holds h.0 h.1 refuses (λ o l told.
       let is = h.2 o l told in (ap (response_text 200 PlainText) is.0, λ other. absurd (cc), is.1.tells))
   table_shown held holds (Err fault.Write) refuses h =
       unshown Table PlainText table_get asks_table (Err fault.Write) held holds refuses

@@ -50,17 +50,17 @@ pub record AsksExchanges (exchanges : List Exchange) (held holds : Option (List 
 -- What is printed is the body of the response that was given. Or a fault was given, and nothing is printed, but for an
 -- output that failed.
 abbrev pub IsShown : MediaType → (held holds : Option (List ℕ)) → Result (Unit {0}) JobFault → List Given → Type 0
-IsShown media held holds (Ok done) given =
-    (body : List ℕ) × Appends held holds body × (given ≡ Answer (response_text 200 media body) ∷ [])
-IsShown media held holds (Err Write) given = given ≡ given.Fault ∷ []
-IsShown media held holds (Err other) given = (given ≡ given.Fault ∷ []) × (holds ≡ held)
+IsShown media held holds (Ok done) gave =
+    (body : List ℕ) × Appends held holds body × (gave ≡ Answer (response_text 200 media body) ∷ [])
+IsShown media held holds (Err Write) gave = gave ≡ given.Fault ∷ []
+IsShown media held holds (Err other) gave = (gave ≡ given.Fault ∷ []) × (holds ≡ held)
 
 -- A GET of this resource was asked, and that was given. The body of its response has this type.
-pub record AsksResource (resource : Resource) (media : MediaType) (held holds : Option (List ℕ))
+pub record AsksResource (wanted : Resource) (media : MediaType) (held holds : Option (List ℕ))
     (r : Result (Unit {0}) JobFault) (asked : Asked) : Type 0 where
   pub founds : asked.founds ≡ None
   pub get_of : Exchange
-  pub asks : Asks get_of.request (get resource)
+  pub asks : Asks get_of.request (get wanted)
   pub one : asked.exchanges ≡ get_of ∷ []
   pub shown : IsShown media held holds r asked.given
 
