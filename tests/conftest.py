@@ -15,12 +15,13 @@ from stations import new_station
 
 
 # The fixtures of programs that are built, the last one by the test itself.
-BUILT = {"program", "sshstation", "krl_tool", "bad_lines"}
+BUILT = {"program", "sshstation", "krl_tool", "trial", "heads_tool", "bad_lines"}
 
 
 def pytest_addoption(parser):
     group = parser.getgroup("office")
-    for option, name in (("--program", "sshoffice"), ("--krl-tool", "krl_tool"), ("--sshstation", "sshstation")):
+    for option, name in (("--program", "sshoffice"), ("--krl-tool", "krl_tool"), ("--sshstation", "sshstation"),
+                         ("--trial", "trial"), ("--heads-tool", "heads_tool")):
         group.addoption(option, metavar="PATH", type=pathlib.Path, default=TOP / f"crates/{name}/out/{name}",
                         help=f"the {name} to test")
     group.addoption("--steps", type=int, default=1000, help="how many random exchanges test_registers asks (1000)")
@@ -29,6 +30,7 @@ def pytest_addoption(parser):
     group.addoption("--judgements", type=int, default=100_000,
                     help="how many random bodies test_guard has judged (100000)")
     group.addoption("--pieces", type=int, default=1000, help="how many random requests test_pieces sends (1000)")
+    group.addoption("--heads", type=int, default=100_000, help="how many changed heads test_heads compares (100000)")
     group.addoption("--counts", action="store_true", help="end with the lines of counts that ./check reads")
 
 
@@ -96,6 +98,16 @@ def program(request):
 @pytest.fixture(scope="session")
 def krl_tool(request):
     return built(request.config.getoption("--krl-tool"))
+
+
+@pytest.fixture(scope="session")
+def trial(request):
+    return built(request.config.getoption("--trial"))
+
+
+@pytest.fixture(scope="session")
+def heads_tool(request):
+    return built(request.config.getoption("--heads-tool"))
 
 
 @pytest.fixture(scope="session")

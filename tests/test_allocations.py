@@ -1,6 +1,6 @@
 """Refuses each allocation of the programs in turn.
 
-sshoffice applies exchanges: an issue, its delivery, its repeat with another nonce, its revocation, the list, and
+sshoffice and trial apply exchanges: an issue, its delivery, its repeat with another nonce, its revocation, the list, and
 another issue. With an allocation refused, either it says NoMemory and has printed nothing, or some exchanges are given
 a fault and the others are given what they are given if those are left out, or all is as without a refusal.
 
@@ -9,6 +9,8 @@ refused, either it fails and has printed nothing, or all is as without a refusal
 it is refused at least twice, and then says NoMemory.
 """
 import contextlib
+import shutil
+import sqlite3
 
 import pytest
 
@@ -57,9 +59,13 @@ def in_turn(attempt, is_right):
 
 
 @pytest.mark.slow
-def test_exchanges_are_applied(refuse, program, room):
+@pytest.mark.parametrize("words", ["program apply", "trial"])
+def test_exchanges_are_applied(words, refuse, request, room):
+    name, *others = words.split()
+    program = request.getfixturevalue(name)
+
     def attempt(number, exchanges=EXCHANGES):
-        return refuse([program, "apply", write_exchanges("some.exchange", exchanges)], number)
+        return refuse([program, *others, write_exchanges("some.exchange", exchanges)], number)
 
     def is_lawful(whole, status, printed, errors):
         if (status, errors) == (0, b""):
@@ -92,33 +98,50 @@ def test_serials_are_gathered(refuse, krl_tool):
 
 # ---- what a message reads
 
+def with_runs(db, certificates, runs):
+    """Puts into an office's file, which has one certificate, so many in all, and so many runs of one revoked serial each,
+    every second serial from 1 on."""
+    connection = sqlite3.connect(db)
+    name, key_id, body = connection.execute("SELECT department, keyid, body FROM cert").fetchone()
+    place = body.index((1).to_bytes(8, "big"))
+    for serial in range(2, certificates + 1):
+        its = body[:place] + serial.to_bytes(8, "big") + body[place + 8:]
+        connection.execute("INSERT INTO cert VALUES (?, ?, ?, ?, NULL)", (serial, name, key_id, its))
+    connection.executemany("INSERT INTO run VALUES (?, ?)", ((it, it) for it in range(1, 2 * runs, 2)))
+    connection.execute("UPDATE office SET next = ?, version = ?", (certificates + 1, runs))
+    connection.commit()
+    connection.close()
+
+
+@pytest.mark.slow
 def test_a_message_reads_one_run_alone(program, room):
-    """What is revoked is kept as runs. A delivery, and a revocation beside a run, look for the last run at a serial:
-    they allocate no more over nine hundred runs than over three, but for the opening of the file."""
-    office = Office(program, ca=CA, last=10_000)
-    serials = range(1, 2001)
-    office.apply([post("root", "web", department()), *(post("ana", f"i{it}", issue(f"web/{it}")) for it in serials)])
-    issued = office.db.read_bytes()
+    """What is revoked is kept as runs. A revocation at their end and one beside a run look for the last run at a serial:
+    they allocate no more over 100,000 runs than over 100, but for the opening of the file."""
+    most = 100_000
     counted = {"LD_PRELOAD": str(preloaded("refuse_allocation.c", room)), "COUNTED": str(room / "counted")}
+    offices = {}
+    for runs in (100, most):
+        offices[runs] = Office(program, f"{runs}.db", ca=CA)
+        offices[runs].apply([post("root", "web", department()), post("ana", "i1", issue())])
+        with_runs(offices[runs].db, 2 * most + 2, runs)
 
-    def allocations(exchanges):
-        """How many an `apply` of these makes over the office as it is."""
-        file, kept = write_exchanges("some.exchange", exchanges), office.db.read_bytes()
-        assert run([program, "apply", "--db", office.db, file], env=counted).returncode == 0
-        office.db.write_bytes(kept)
-        return int((room / "counted").read_text())
+    def allocations(office, exchanges):
+        """How many an `apply` of these makes over the office as it is, and what it prints."""
+        shutil.copy(office.db, "copy.db")
+        done = run([program, "apply", "--db", "copy.db", write_exchanges("some.exchange", exchanges)], env=counted)
+        assert (0, b"") == (done.returncode, done.stderr)
+        return int((room / "counted").read_text()), done.stdout
 
-    def more(message, runs):
-        """How many more a message makes, where so many runs of one serial each are revoked."""
-        office.db.write_bytes(issued)
-        revoked = [post("ana", f"r{it}", revoke_serial(it)) for it in serials[:2 * runs:2]]
-        assert all(it.status == 200 for it in office.apply(revoked))
-        return allocations([post("root", "new", message)]) - allocations([])
+    def more(office, message):
+        """How many more a message makes than none."""
+        count, printed = allocations(office, [post("root", "new", message)])
+        assert b"\r\n\r\nrevoked\nversion " in printed
+        return count - allocations(office, [])[0]
 
-    for message in (revoke_serial(2000), revoke_serial(2)):
-        few, many = more(message, 3), more(message, 900)
+    for message in (revoke_serial(2 * most + 2), revoke_serial(2)):
+        few, many = (more(offices[runs], message) for runs in (100, most))
         # A higher tree has more pages to look through.
-        assert many < few + 300, f"{message!r}: {few} allocations over 3 runs, {many} over 900"
+        assert many < few + 300, f"{message!r}: {few} allocations over 100 runs, {many} over {most}"
 
 
 # ---- a server

@@ -1,25 +1,22 @@
--- What the files hold after every list of runs.
+-- Lives of the files of a guard, run after run.
 use Rattle.std.proofs.Common.{◌≡◌, ◌++◌, ◌∷◌, ◌∙◌, [], ℕ, All, Bool, List, Option, Some, None, ap, append_assoc, cond}
-use Rattle.std.proofs.Common.{false, refl, subst, sym, true}
+use Rattle.std.proofs.Common.{false, inl, refl, subst, sym, true}
 use Rattle.std.specs.Prelude.{find, ◌==◌}
 use Rattle.std.specs.Option.{option_map}
 use Rattle.std.proofs.Math.Logic.{∥∥₁_elim, ∥∥₁_map}
-use Rattle.std.proofs.lemmas.List.{append-nil}
 use Rattle.std.proofs.lemmas.List.Elements.{All-cons, All-nil, All-weaker}
 use Rattle.sqlite_wal.specs.Recovery.{Image}
 use Rattle.guard.specs.declared.approved.Approved.{Approved}
+use Rattle.guard.specs.declared.judging.Answer.{Answer}
+use Rattle.guard.specs.declared.judging.Answer.TheVariants as answer
 use Rattle.guard.specs.History.{IsStill}
 use Rattle.guard.specs.State.{State, body_of}
-use Rattle.guard_restart.specs.Images.{HoldsKept}
-use Rattle.guard_restart.specs.Lives.{AreApproved, Follow, LivesKeep, Run}
+use Rattle.guard_restart.specs.Images.{Holds, Standing}
+use Rattle.guard_restart.specs.Lives.{Answered, AreBacked, Backs, BacksAll, Follow, IsBacked, IsRun, Life, LivesKeep, Run}
+use Rattle.guard_restart.specs.Lives.{RunsGoOn, Said, Stays, body_in}
+use Rattle.guard_restart.specs.Runs.{AreRuns, RunsOn}
 
 -- ---- what is approved stays approved
-
-still_then : (s t u : State) → IsStill s t → IsStill t u → IsStill s u
-still_then s t u first second = (
-  first.0 ++ second.0,
-  second.1 ∙ (ap (λ (rows : List Approved). rows ++ second.0) first.1 ∙ append_assoc s.approved first.0 second.0),
-)
 
 found_still : (p : Approved → Bool) (xs ys : List Approved) (b : List ℕ)
     → option_map (λ (a : Approved). a.body) (find p xs) ≡ Some b
@@ -41,35 +38,88 @@ body_still s t serial b still is =
     (λ (rows : List Approved). option_map (λ (a : Approved). a.body) (find (λ a. a.serial == serial) rows) ≡ Some b)
     (sym still.1) (found_still (λ a. a.serial == serial) s.approved still.0 b is)
 
-approved_still : (s t : State) (signed : List (ℕ × List ℕ)) → IsStill s t → AreApproved s signed → AreApproved t signed
-approved_still s t signed still are =
-    All-weaker (λ (p : ℕ × List ℕ). body_of s p.0 ≡ Some p.1) (λ (p : ℕ × List ℕ). body_of t p.0 ≡ Some p.1)
-    (λ p is. body_still s t p.0 p.1 still is) signed are
+body_stays : (p q : Standing) (serial : ℕ) (b : List ℕ) → Stays p q → body_in p serial ≡ Some b
+    → body_in q serial ≡ Some b
+body_stays None q serial b stays is = absurd cc
+body_stays (Some s) None serial b stays is = absurd stays
+body_stays (Some s) (Some t) serial b stays is = body_still s t serial b stays is
+
+backed_still : (p q : Standing) → Stays p q → (a : Answer) (b : List ℕ) → IsBacked p a b → IsBacked q a b
+backed_still p q stays (answer.Sign serial digest) b is = (body_stays p q serial b stays is.0, is.1)
+backed_still p q stays (answer.NotABody e) b is = tt
+backed_still p q stays (answer.Refuse r) b is = tt
 
 -- ---- runs
 
-abbrev Keeps : State → List Run → Image → State → Type 0
-Keeps s runs last t = IsStill s t × All (λ run. AreApproved t run.signed) runs × HoldsKept last t
+-- what was said of bodies stays so
+abbrev Keeps : Standing → Standing → Type 0
+Keeps p q = (a : Answer) (b : List ℕ) → IsBacked p a b → IsBacked q a b
 
-none_yet : (s : State) (last : Image) → HoldsKept last s → Keeps s [] last s
-none_yet s last held = (([], sym (append-nil s.approved)), All-nil (λ (run : Run). AreApproved s run.signed), held)
-
-one_more : (s t u : State) (run : Run) (runs : List Run) (last : Image) → IsStill s t → AreApproved t run.signed
-    → Keeps t runs last u → Keeps s (run ∷ runs) last u
-one_more s t u run runs last still signed rest = (
-  still_then s t u still rest.0,
-  All-cons (λ (r : Run). AreApproved u r.signed) run runs (approved_still t u run.signed rest.0 signed) rest.1,
-  rest.2,
+said_still : (p q : Standing) → Keeps p q → (said : Said) → Backs p said → Backs q said
+said_still p q keeps said is = (
+  is.0,
+  is.1,
+  All-weaker (λ (a : Answered). IsBacked p a.0 a.1) (λ (a : Answered). IsBacked q a.0 a.1) (λ a h. keeps a.0 a.1 h) is.0
+      is.2,
 )
 
+pub said_stays : (p q : Standing) → Stays p q → (said : Said) → Backs p said → Backs q said
+said_stays p q stays said is = said_still p q (λ a b h. backed_still p q stays a b h) said is
+
+record Kept (before : Standing) (runs : List Run) (last : Image) : Type 0 where
+  after : Standing
+  keeps : Keeps before after
+  backs : All (λ run. Backs after run.said) runs
+  holds : Holds last after
+
+one_more : (before next : Standing) (run : Run) (runs : List Run) (last : Image) → Stays before next
+    → Backs next run.said → Kept next runs last → Kept before (run ∷ runs) last
+one_more before next run runs last stays said rest = record {
+  after = rest.after;
+  keeps = λ a b is. rest.keeps a b (backed_still before next stays a b is);
+  backs = All-cons (λ (r : Run). Backs rest.after r.said) run runs (said_still next rest.after rest.keeps run.said said)
+      rest.backs;
+  holds = rest.holds;
+}
+
+-- what the files hold after runs, from where the guard stood
+runs_keep : (runs : List Run) (first last : Image) → Follow first runs last → (before : Standing) → Holds first before
+    → ∥ Kept before runs last ∥₁
+runs_keep [] first last same before holds = ∣ record {
+  after = before;
+  keeps = λ a b is. is;
+  backs = All-nil (λ (run : Run). Backs before run.said);
+  holds = subst (λ (image : Image). Holds image before) (sym same) holds;
+} ∣₁
+runs_keep (run ∷ runs) first last follow before holds =
+    ∥∥₁_elim (follow.0 before (subst (λ (image : Image). Holds image before) (sym follow.1) holds)) squash₁
+    (λ next. ∥∥₁_map (runs_keep runs run.left last follow.2 next.0 next.3)
+    (λ rest. one_more before next.0 run runs last next.1 next.2 rest))
+
 pub lives_keep : LivesKeep
-lives_keep first last [] s held same =
-    let keeps = none_yet s last (subst (λ (image : Image). HoldsKept image s) (sym same) held) in
-    ∣ (s, keeps.0, keeps.1, keeps.2) ∣₁
-lives_keep first last (run ∷ runs) s held (is, found, rest) =
-    ∥∥₁_elim (is s (subst (λ (image : Image). HoldsKept image s) (sym found) held)) squash₁
-    (λ one. ∥∥₁_map (lives_keep run.left last runs one.0 one.3 rest)
-    (λ later.
-    let keeps : Keeps s (run ∷ runs) last later.0 =
-    one_more s one.0 later.0 run runs last one.1 one.2 (later.1, later.2, later.3) in
-    (later.0, keeps.0, keeps.1, keeps.2)))
+lives_keep runs last life =
+    ∥∥₁_map (runs_keep runs life.first last life.follow None (inl (inl (inl life.empty)))) (λ kept.
+    let all : (after : Standing) × All (λ run. Backs after run.said) runs × Holds last after =
+    (kept.after, kept.backs, kept.holds) in all)
+
+-- a run after others
+follow_then : (runs : List Run) (run : Run) (first : Image) → Follow first runs run.found → IsRun run
+    → Follow first (runs ++ run ∷ []) run.left
+follow_then [] run first same is = (is, same, refl)
+follow_then (other ∷ runs) run first follow is = (follow.0, follow.1, follow_then runs run other.left follow.2 is)
+
+pub runs_go_on : RunsGoOn
+runs_go_on run is runs life =
+    let longer : Life (runs ++ run ∷ []) run.left = record {
+      first = life.first;
+      empty = life.empty;
+      follow = follow_then runs run life.first life.follow is;
+    } in (longer, lives_keep (runs ++ run ∷ []) run.left longer)
+
+-- a run of the program goes on with each life
+pub runs_on : (image : Image) (said : Said) (may_leave : Image → Type 0) → AreRuns image said may_leave
+    → RunsOn image said may_leave
+runs_on image said may_leave runs = record {
+  runs = runs;
+  goes_on = λ left may. runs_go_on (record { found = image; said = said; left = left }) (runs left may);
+}

@@ -1,5 +1,5 @@
 -- What the two files of a guard hold: the database and its log.
-use Rattle.std.specs.Prelude.{◌⊎◌}
+use Rattle.std.specs.Prelude.{◌⊎◌, Option, None, Some}
 use Rattle.sqlite_wal.specs.Recovery.{Image}
 use Rattle.sqlite_trees.specs.Tree.{Trees}
 use Rattle.sqlite.specs.Files.{HoldsDatabase}
@@ -7,6 +7,7 @@ use Rattle.guard.specs.State.{State}
 use Rattle.guard_sql.specs.Contents.{Kept}
 use Rattle.guard_sql.specs.Keeping.{IsGuard}
 use Rattle.guard_sql.specs.Rows.{guard_contents}
+use Rattle.restart.specs.Images.{HoldsNone}
 
 -- a database with the rows of the guard of this state
 pub record HoldsGuard (image : Image) (s : State) : Type 0 where
@@ -21,3 +22,12 @@ HoldsKept image s = IsGuard s × HoldsGuard image s
 -- the guard of the one state or that of the other
 abbrev pub HoldsOneOf : Image → State → State → Type 0
 HoldsOneOf image s t = ∥ HoldsGuard image s ⊎ HoldsGuard image t ∥₁
+
+-- no guard yet, or the guard of a state
+abbrev pub Standing : Type 0
+Standing = Option State
+
+-- the files hold that
+abbrev pub Holds : Image → Standing → Type 0
+Holds image None = HoldsNone image
+Holds image (Some s) = HoldsKept image s

@@ -19,6 +19,7 @@ use Rattle.restart.specs.declared.ending.EndFault.{EndFault}
 use Rattle.restart.specs.declared.ending.EndFault.TheVariants.{GivenUp, Uncopied}
 use Rattle.restart.specs.Images.{HoldsNone}
 use Rattle.guard_restart.specs.Images.{HoldsGuard, HoldsOneOf}
+use Rattle.guard_restart.specs.Lives.{GoesOn, IsRun, Said}
 
 -- ---- the open
 
@@ -84,6 +85,17 @@ RunKeepsGuard {D} g files =
     (image : Image) (opened last : Held (FileStore D g))
     → (HasCleanDisk (file_state opened) → HasWhatIsHeld image (file_state opened)) → Extends opened last
     → IsCopied last files → KeepsGuard image (outcomes g files.log files.db)
+
+-- what came of these files is a run of a program that keeps a guard, whatever a crash makes of what is left
+abbrev pub AreRuns : Image → Said → (Image → Type 0) → Type 0
+AreRuns image said may_leave = (left : Image) → may_leave left
+    → IsRun (record { found = image; said = said; left = left })
+
+-- Whatever a crash makes of what is left, it is a run of the program, and goes on with each life that has left what it
+-- found.
+pub record RunsOn (image : Image) (said : Said) (may_leave : Image → Type 0) : Type 0 where
+  pub runs : AreRuns image said may_leave
+  pub goes_on : (left : Image) → may_leave left → GoesOn (record { found = image; said = said; left = left })
 
 -- ---- the next run
 

@@ -1,7 +1,7 @@
 //! Laws of a guard from run to run: functions without a body, whose contracts a caller cites.
 
 ghost use Rattle.sqlite.specs.Held.{state};
-ghost use Rattle.guard_restart.specs.Lives.{LivesKeep};
+ghost use Rattle.guard_restart.specs.Lives.{LivesKeep, RunsGoOn};
 ghost use Rattle.guard_restart.specs.Runs.{FoundIsHad, RunKeepsGuard};
 
 use sqlite::{Alter, Connection, Files};
@@ -14,10 +14,11 @@ pub fn what_is_found_is_had<S: Alter>(conn: &Connection<S>)
     let _ = conn;
 }
 
-/// After every list of runs the files hold each body that they held at first, and each that any run said may be signed.
-/// A crash may have ended each run.
+/// After every list of runs, from no file on, the files hold each body that any of the runs said may be signed, under
+/// its serial. A crash may have ended each run. So it is after one run more.
 pub fn lives_keep_what_was_signed()
-    ensures { LivesKeep }
+    ensures keep { LivesKeep }
+    ensures goes_on { RunsGoOn }
 {}
 
 /// A run that was closed well leaves files that hold the guard which it found, with the bodies that it approved.

@@ -18,6 +18,10 @@ use Rattle.station_jobs.specs.declared.station_fault.StationFault.{StationFault}
 use Rattle.guard_restart.specs.Images.{HoldsKept}
 use Rattle.sshstation.specs.GuardFiles.{AreSettled, EndsGuard, FindsGuard, HaveGuard, HaveOne, MakesGuard}
 
+-- what went well was no fault
+pub is_no_fault : {X E : Type 0} (x : X) (e : E) → Ok x ≡ Err e → ⊥
+is_no_fault x e same = absurd cc
+
 module _ {D : Type 0} {g : Ghosts D} where
   -- what a guard over files keeps and what a crash leaves of it
   abbrev StoresFiles : GuardStore (FileStore D g) → State → Type 0

@@ -15,7 +15,7 @@ use Rattle.sqlite.specs.Files.{file_state, IsOpened}
 use Rattle.guard.specs.declared.scope.Scope.{Scope}
 use Rattle.guard.specs.State.{State}
 use Rattle.guard_sql.specs.declared.store.GuardStore.{GuardStore}
-use Rattle.guard_sql.specs.Keeping.{IsGuard}
+use Rattle.guard_sql.specs.Keeping.{HasGuard, IsBlank, IsGuard}
 use Rattle.guard_sql.specs.Opening.{Finds, Founds}
 use Rattle.restart.specs.declared.ending.EndFault.{EndFault}
 use Rattle.restart.specs.declared.ending.EndFault.TheVariants.{GivenUp, Uncopied}
@@ -45,6 +45,10 @@ IsWhole (Err (Uncopied error)) = ⊥
 
 -- ---- what files hold
 
+-- the tables hold a guard
+abbrev pub HasOne : Connection → Type 0
+HasOne c = (s : State) × HasGuard s c
+
 module _ {D : Type 0} {g : Ghosts D} where
   -- It is new. If its disk has returned what was written, it has each guard that the files held, and is blank if they
   -- held none.
@@ -54,22 +58,23 @@ module _ {D : Type 0} {g : Ghosts D} where
     pub held : HasCleanDisk (file_state conn) → HasWhatIsHeld image (file_state conn)
     pub blank : HasCleanDisk (file_state conn) → IsBlankIfNone image (file_state conn)
 
-  -- A connection to the files was opened so, and this is the guard over it. If the disk has returned what was written,
-  -- it has found what the connection had.
-  pub record OpensGuard (image : Image) (Found : Connection → Connection → Type 0) (guard : GuardStore (FileStore D g))
-      : Type 0 where
+  -- A connection to the files was opened so, which wasn't of the wrong sort, and this is the guard over it. If the disk
+  -- has returned what was written, it has found what the connection had.
+  pub record OpensGuard (image : Image) (Wrong : Connection → Type 0) (Found : Connection → Connection → Type 0)
+      (guard : GuardStore (FileStore D g)) : Type 0 where
     pub conn : Held (FileStore D g)
     pub files : OpensFiles image conn
+    pub right : Wrong (file_state conn) → ⊥
     pub honest : HasCleanDisk (file_state guard.conn) → HasCleanDisk (file_state conn)
     pub found : HasCleanDisk (file_state guard.conn) → Found (file_state conn) (file_state guard.conn)
 
-  -- the guard of the tables is opened
+  -- the guard of the tables is opened, which are there
   abbrev pub FindsGuard : Image → GuardStore (FileStore D g) → Type 0
-  FindsGuard image guard = OpensGuard image (Finds guard.scope) guard
+  FindsGuard image guard = OpensGuard image IsBlank (Finds guard.scope) guard
 
-  -- a guard of this scope that has approved nothing yet is made in blank tables
+  -- a guard of this scope that has approved nothing yet is made in blank tables, which have none
   abbrev pub MakesGuard : Image → Scope → GuardStore (FileStore D g) → Type 0
-  MakesGuard image scope guard = OpensGuard image (Founds scope) guard × (guard.scope ≡ scope)
+  MakesGuard image scope guard = OpensGuard image HasOne (Founds scope) guard × (guard.scope ≡ scope)
 
   -- ---- files that were closed or given up: how that went, and the files
 

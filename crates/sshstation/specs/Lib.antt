@@ -2,3 +2,4 @@ pub mod Ending
 pub mod GuardFiles
 pub mod Doing
 pub mod ListFiles
+pub mod Living

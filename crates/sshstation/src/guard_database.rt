@@ -1,6 +1,6 @@
 //! Guards in the files of databases: looked for, made, opened and closed.
 
-ghost use Rattle.std.specs.Prelude.{◌≡◌, IfOk, IsSomeAnd, IsTrue};
+ghost use Rattle.std.specs.Prelude.{◌≡◌, IfOk, IsSomeAnd, IsTrue, None};
 ghost use Rattle.office.specs.Openings.{are_serials};
 ghost use Rattle.sqlite_wal.specs.Files.{image_at};
 ghost use Rattle.restart.specs.Images.{HoldsNone};
@@ -26,8 +26,11 @@ const OWNER_ALONE: u32 = 0o600;
 /// A connection to the files at a path.
 pub(crate) type FileConnection<S> = Connection<FileStore<FileFrom<S>>>;
 
+/// How the connection to the files at a path ended, and the files as they were left.
+pub(crate) type FilesLeft<S> = (Result<(), EndFault>, Files<FileFrom<S>>);
+
 /// A guard in the files at a path.
-type FileGuard<S> = GuardStore<FileStore<FileFrom<S>>>;
+pub(crate) type FileGuard<S> = GuardStore<FileStore<FileFrom<S>>>;
 
 /// The fault of a database that was not opened or closed.
 fn database_fault(error: Error) -> StationFault
@@ -130,13 +133,15 @@ pub(crate) struct GuardDatabase<'a, S: Start> {
     rt: &'a HostRuntime,
     // What stands for what the files hold, until they are opened.
     start: Option<S>,
-    // How the connection ended, and its files as they were left.
-    left: Option<(Result<(), EndFault>, Files<FileFrom<S>>)>,
+    // Set once the connection has ended.
+    left: Option<FilesLeft<S>>,
 }
 
 impl<'a, S: Start> GuardDatabase<'a, S> {
     /// The guard in files that hold what `start` stands for, before they are opened.
-    pub(crate) fn new(rt: &'a HostRuntime, start: S) -> GuardDatabase<'a, S> {
+    pub(crate) fn new(rt: &'a HostRuntime, start: S) -> GuardDatabase<'a, S>
+        ensures { result.left ≡ None }
+    {
         GuardDatabase {
             rt,
             start: Some(start),
@@ -146,12 +151,21 @@ impl<'a, S: Start> GuardDatabase<'a, S> {
 
     /// Opens the files at a path, unless they were opened before.
     fn connect(&mut self, path: &str) -> Result<FileConnection<S>, StationFault>
-        ensures { IfOk result (OpensFiles (image_at S.Start)) }
+        ensures opens { IfOk result (OpensFiles (image_at S.Start)) }
+        ensures left { self.new.left ≡ self.old.left }
     {
         match self.start.take() {
             Some(start) => open_database(self.rt, path, start),
             None => Err(StationFault::Device),
         }
+    }
+
+    /// How the connection ended, and its files, if a guard was closed.
+    pub(crate) fn into_left(self) -> Option<FilesLeft<S>>
+        ensures { result ≡ self.entry.left }
+    {
+        let GuardDatabase { left, .. } = self;
+        left
     }
 }
 
@@ -193,9 +207,10 @@ fn open_over<S: Start>(alloc: Global, conn: FileConnection<S>) -> Result<FileGua
 impl<S: Start> GuardFile for GuardDatabase<'_, S> {
     type Guard = FileGuard<S>;
 
-    ghost makes = { λ _ _ scope found _. IfOk found (MakesGuard (image_at S.Start) scope) };
+    ghost makes = { λ db _ scope found after. IfOk found (MakesGuard (image_at S.Start) scope)
+        × (after.left ≡ db.left) };
 
-    ghost opens = { λ _ _ found _. IfOk found (FindsGuard (image_at S.Start)) };
+    ghost opens = { λ db _ found after. IfOk found (FindsGuard (image_at S.Start)) × (after.left ≡ db.left) };
 
     ghost closes = { λ _ guard done db. IsSomeAnd db.left (EndsGuard guard done) };
 

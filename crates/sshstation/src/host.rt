@@ -3,14 +3,21 @@
 ghost use Rattle.std.specs.Prelude.{◌≡◌, ◌≤◌, IfSome, map, string_bytes};
 ghost use Rattle.values.specs.declared.limits.TheConstants.{LATEST_MOMENT};
 ghost use Rattle.station_command.specs.Answers.{AreBad};
+ghost use Rattle.sqlite_wal.specs.Files.{image_at};
+ghost use Rattle.sshstation.specs.Living.{RunsWords};
 
 use crate::command::{BAD_WORDS, do_words};
-use crate::guard_database::GuardDatabase;
+use crate::guard_database::{FilesLeft, GuardDatabase};
 use crate::list_database::ListDatabase;
-use sqlite::Start;
-use station_jobs::{StationFault, Surroundings, file_fault};
+use guard::Register;
+use guard_sql::GuardStore;
+use list_guard::ListRegister;
+use list_jobs::ListFile;
+use list_sql::ListStore;
+use sqlite::{FileFrom, FileStore, Start};
+use station_jobs::{GuardFile, StationFault, Surroundings, file_fault};
 use std::fs;
-use std::io::Write;
+use std::io::{Read, Write};
 use std::time::{Clock, SystemTime, UNIX_EPOCH};
 use values::LATEST_MOMENT;
 
@@ -53,8 +60,9 @@ impl Surroundings for Host<'_> {
     }
 }
 
-/// Does what the words ask for, with the system's files and clock, and answers the status. `start` stands for what the
-/// files of a guard hold, and `lists` for what those of a list guard hold: a job opens the ones or the others.
+/// Does what the words ask for, with the system's files and clock, and answers the status and the files of a guard as
+/// they are left, if any were closed. `start` stands for what the files of a guard hold, and `lists` for what those of a
+/// list guard hold: a job opens the ones or the others.
 pub(crate) fn run<S: Start, T: Start, O: Write, E: Write>(
     rt: &HostRuntime,
     start: S,
@@ -62,15 +70,22 @@ pub(crate) fn run<S: Start, T: Start, O: Write, E: Write>(
     words: &[String],
     out: &mut O,
     err: &mut E,
-) -> u8
-    ensures status { result ≤ BAD_WORDS }
-    ensures bad { result ≡ BAD_WORDS → AreBad (map string_bytes words.now) }
+) -> (u8, Option<FilesLeft<S>>)
+    ensures status { result.0 ≤ BAD_WORDS }
+    ensures bad { result.0 ≡ BAD_WORDS → AreBad (map string_bytes words.now) }
+
+    // This came of the words, and a job over the files of a guard was a run in their life.
+    ensures runs { RunsWords ⟦<Host<'static> as Surroundings>⟧ ⟦<fs::File as Read>⟧.remaining
+        ⟦<GuardStore<FileStore<FileFrom<S>>> as Register>⟧ ⟦<GuardDatabase<'static, S> as GuardFile>⟧
+        ⟦<ListStore<FileStore<FileFrom<T>>> as ListRegister>⟧ ⟦<ListDatabase<'static, T> as ListFile>⟧
+        (λ db. db.left ≡ result.1) (image_at S.Start) result.1 (map string_bytes words.now) (O.contents out.old)
+        (O.contents out.new) result.0 }
 {
     let mut db = GuardDatabase::new(rt, start);
     let mut lists = ListDatabase::new(rt, lists);
     let mut input = rt.reader();
     let host = Host { rt };
-    do_words(
+    let status = do_words(
         rt.alloc(),
         &host,
         &mut db,
@@ -79,5 +94,6 @@ pub(crate) fn run<S: Start, T: Start, O: Write, E: Write>(
         &mut input,
         out,
         err,
-    )
+    );
+    (status, db.into_left())
 }

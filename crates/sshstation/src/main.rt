@@ -27,7 +27,7 @@ fn status_by(rt: &HostRuntime) -> u8 {
     let mut err = rt.stderr();
     let mut out = rt.stdout();
     match words_of(rt) {
-        Ok(words) => host::run(rt, Unknown, Unknown, words.as_slice(), &mut out, &mut err),
+        Ok(words) => host::run(rt, Unknown, Unknown, words.as_slice(), &mut out, &mut err).0,
         Err(fault) => command::do_no_words(fault.kind(), &mut err),
     }
 }

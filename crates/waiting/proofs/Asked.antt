@@ -1,6 +1,6 @@
 -- What an ask finds.
-use Rattle.std.proofs.Common.{◌≡◌, ℕ, zero, suc, ◌+◌, ◌-◌, ◌<◌, List, [], ◌∷◌, ◌++◌, length, get_or, map, take, filter, Bool, true}
-use Rattle.std.proofs.Common.{false, cond, ltb, not, ◌&&◌, Option, Some, None, refl, sym, ap, ap₂, subst, ◌∙◌, arith}
+use Rattle.std.proofs.Common.{◌≡◌, ℕ, zero, suc, ◌+◌, ◌-◌, ◌<◌, List, [], ◌∷◌, ◌++◌, length, get_or, take, filter, Bool, true}
+use Rattle.std.proofs.Common.{false, cond, not, ◌&&◌, Option, Some, None, refl, sym, ap, ap₂, subst, ◌∙◌, arith}
 use Rattle.std.specs.Prelude.{IfErr, IfOk, OnErr, OnOk, Result, Ok, Err, is_none, option_map, slice_get}
 use Rattle.std.specs.Option.{option_map_or}
 use Rattle.std.specs.Result.{IsErrAnd}
@@ -23,7 +23,7 @@ use Rattle.office.specs.State.{State, certificate_of}
 use Rattle.office.proofs.Listed.{among_is}
 use Rattle.office.proofs.Waiting.{pending_is, rows_are}
 use Rattle.office_laws.proofs.Bodies.{body_names_signer}
-use Rattle.waiting.specs.Knowing.{Covers, Knows, MeansKnown, serial_waits, still_waiting}
+use Rattle.waiting.specs.Knowing.{Covers, IsKept, Knows, MeansKnown, serial_waits, still_waiting}
 use Rattle.waiting.proofs.Covering.{covers_all, knows_more, still_are}
 
 -- ---- one row
@@ -145,22 +145,24 @@ then_so (Err e) M N P Q same so h = tt
 -- ---- the register over another
 
 module _ {S X : Type 0} (means : S → Opening → List Arrival → Type 0) (register : S) (seen : ℕ) (rows : List Pending)
-    (r : Result X StoreFault) where
+    (revoked : Option Revocations) (r : Result X StoreFault) where
   -- what the register below answers is answered
   pub same_answer : (P : Opening → List Arrival → X → Type 0)
       → IfOk r (λ x. (o : Opening) (l : List Arrival) → means register o l → P o l x)
-      → IfOk r (λ x. (o : Opening) (l : List Arrival) → MeansKnown means register seen rows o l → P o l x)
-  same_answer P h = then_so r (MeansKnown means register seen rows) (means register) P P (λ o l m. m.register_means)
-      (λ o l x m p. p) h
+      → IfOk r (λ x. (o : Opening) (l : List Arrival) → MeansKnown means register seen rows revoked o l → P o l x)
+  same_answer P h = then_so r (MeansKnown means register seen rows revoked) (means register) P P
+      (λ o l m. m.register_means) (λ o l x m p. p) h
 
   -- and so are its faults
   pub same_fault : IfErr r (λ e. (o : Opening) (l : List Arrival) → means register o l → IsOfARegister e)
-      → IfErr r (λ e. (o : Opening) (l : List Arrival) → MeansKnown means register seen rows o l → IsOfARegister e)
+      → IfErr r (λ e. (o : Opening) (l : List Arrival) → MeansKnown means register seen rows revoked o l
+      → IsOfARegister e)
   same_fault h = by_result r h
     where
       by_result : (x : Result X StoreFault)
           → IfErr x (λ e. (o : Opening) (l : List Arrival) → means register o l → IsOfARegister e)
-          → IfErr x (λ e. (o : Opening) (l : List Arrival) → MeansKnown means register seen rows o l → IsOfARegister e)
+          → IfErr x (λ e. (o : Opening) (l : List Arrival) → MeansKnown means register seen rows revoked o l
+          → IsOfARegister e)
       by_result (Ok x) h = tt
       by_result (Err e) h = λ o l m. h o l m.register_means
 
@@ -174,16 +176,23 @@ on_err (Err e) A B f a = f a
 
 -- where the register below means what it meant, nothing else has changed
 pub still_known : {S : Type 0} (means : S → Opening → List Arrival → Type 0) (old new : S) (seen : ℕ) (rows : List Pending)
-    → ((o : Opening) (l : List Arrival) → means old o l → means new o l) → (o : Opening) (l : List Arrival)
-    → MeansKnown means old seen rows o l → MeansKnown means new seen rows o l
-still_known means old new seen rows same o l m = record { register_means = same o l m.register_means; knows = m.knows }
+    (revoked : Option Revocations) → ((o : Opening) (l : List Arrival) → means old o l → means new o l) → (o : Opening)
+    (l : List Arrival) → MeansKnown means old seen rows revoked o l → MeansKnown means new seen rows revoked o l
+still_known means old new seen rows revoked same o l m =
+    record { register_means = same o l m.register_means; knows = m.knows; revocations = m.revocations }
 
--- and so it is with one arrival more
+-- and so it is with one arrival more, over which what is revoked is kept or not
 pub known_with : {S : Type 0} (means : S → Opening → List Arrival → Type 0) (old new : S) (seen : ℕ) (rows : List Pending)
-    (a : Arrival) → ((o : Opening) (l : List Arrival) → means old o l → means new o (l ++ a ∷ [])) → (o : Opening)
-    (l : List Arrival) → MeansKnown means old seen rows o l → MeansKnown means new seen rows o (l ++ a ∷ [])
-known_with means old new seen rows a next o l m =
-    record { register_means = next o l m.register_means; knows = knows_more o l a seen rows m.knows }
+    (revoked kept : Option Revocations) (a : Arrival)
+    → ((o : Opening) (l : List Arrival) → IsKept revoked (state o l) → IsKept kept (state o (l ++ a ∷ [])))
+    → ((o : Opening) (l : List Arrival) → means old o l → means new o (l ++ a ∷ [])) → (o : Opening)
+    (l : List Arrival) → MeansKnown means old seen rows revoked o l
+    → MeansKnown means new seen rows kept o (l ++ a ∷ [])
+known_with means old new seen rows revoked kept a stays next o l m = record {
+  register_means = next o l m.register_means;
+  knows = knows_more o l a seen rows m.knows;
+  revocations = stays o l m.revocations;
+}
 
 -- ---- an ask of the register over another
 

@@ -1,5 +1,5 @@
 -- What is known of certificates stays known, whatever arrives.
-use Rattle.std.proofs.Common.{◌≡◌, ℕ, zero, suc, ◌+◌, ◌-◌, List, [], ◌∷◌, ◌++◌, length, map, take, filter, Bool, true}
+use Rattle.std.proofs.Common.{◌≡◌, ℕ, zero, suc, ◌-◌, List, [], ◌∷◌, ◌++◌, map, take, filter, Bool, true}
 use Rattle.std.proofs.Common.{false, cond, not, ◌&&◌, ◌||◌, Some, refl, sym, ap, ap₂, subst, ◌∙◌, inl, inr, arith}
 use Rattle.std.proofs.Common.{length-append}
 use Rattle.std.specs.Prelude.{is_none, slice_get}
@@ -12,7 +12,7 @@ use Rattle.office.specs.declared.arrival.Arrival.{Arrival}
 use Rattle.office.specs.declared.certificate.Certificate.{Certificate}
 use Rattle.office.specs.declared.publication.Pending.{Pending}
 use Rattle.office.specs.History.{state}
-use Rattle.office.specs.Machine.{signed, signed_at, with_key_id, with_range}
+use Rattle.office.specs.Machine.{signed_at, with_key_id, with_range}
 use Rattle.office.specs.Publication.{is_pending, pending_row}
 use Rattle.office.specs.State.{State, is_key_id_revoked}
 use Rattle.office.proofs.Changes.{IsKeptByEach, always_more}

@@ -1,11 +1,15 @@
 -- What is known of the certificates that wait for their signatures.
-use Rattle.std.specs.Prelude.{◌≡◌, ◌≤◌, ◌⊎◌, ℕ, List, [], ◌∷◌, length, take, filter, Bool, false}
+use Rattle.std.specs.Prelude.{◌≡◌, ◌≤◌, ◌⊎◌, ℕ, List, [], ◌∷◌, length, take, filter, Bool, true, false, Option, IfSome}
 use Rattle.std.specs.Option.{option_map_or}
+use Rattle.message.specs.declared.kinds.Message.{Message}
+use Rattle.message.specs.declared.kinds.Message.TheVariants as message
 use Rattle.office.specs.declared.opening.Opening.{Opening}
 use Rattle.office.specs.declared.arrival.Arrival.{Arrival}
 use Rattle.office.specs.declared.certificate.Certificate.{Certificate}
+use Rattle.office.specs.declared.listing.Revocations.{Revocations}
 use Rattle.office.specs.declared.publication.Pending.{Pending}
 use Rattle.office.specs.History.{state}
+use Rattle.office.specs.Listing.{AreRevocations}
 use Rattle.office.specs.Publication.{is_pending, pending_row}
 use Rattle.office.specs.State.{State, certificate_of}
 
@@ -29,8 +33,20 @@ serial_waits s serial = option_map_or (is_pending s) (certificate_of s serial) f
 abbrev pub still_waiting : State → List Pending → List Pending
 still_waiting s rows = filter (λ row. serial_waits s row.serial) rows
 
--- a register means a history, and what is known is so of the history's state
+-- the message revokes something
+abbrev pub is_revocation : Message → Bool
+is_revocation (message.RevokeSerial serial) = true
+is_revocation (message.RevokeRange range) = true
+is_revocation (message.RevokeKeyId key_id) = true
+is_revocation other = false
+
+-- what is kept of it is what the state revokes
+abbrev pub IsKept : Option Revocations → State → Type 0
+IsKept revoked s = IfSome revoked (λ r. AreRevocations r s)
+
+-- a register means a history, and what is known is so of the history's state: what waits, and what is revoked
 pub record MeansKnown {S : Type 0} (means : S → Opening → List Arrival → Type 0) (register : S) (seen : ℕ)
-    (rows : List Pending) (o : Opening) (l : List Arrival) : Type 0 where
+    (rows : List Pending) (revoked : Option Revocations) (o : Opening) (l : List Arrival) : Type 0 where
   pub register_means : means register o l
   pub knows : Knows seen rows (state o l)
+  pub revocations : IsKept revoked (state o l)

@@ -7,7 +7,7 @@ ghost use Rattle.office.specs.History.{state};
 ghost use Rattle.office.specs.Listing.{AreRevocations, is_named, waiting_rows};
 ghost use Rattle.office.specs.Publication.{pending_of};
 ghost use Rattle.office.specs.Registers.{AnswersBy, FailsAsARegister, FailsWithin, MeansTheSame};
-ghost use Rattle.waiting.specs.Knowing.{Knows, serial_waits, still_waiting};
+ghost use Rattle.waiting.specs.Knowing.{IsKept, Knows, serial_waits, still_waiting};
 
 use crate::known::Known;
 use office::{Issued, Pending, Registry, Revocations, StoreFault, place_behind};
@@ -135,29 +135,54 @@ fn learned<R: Registry>(
     }
 }
 
-/// What is known after an ask: the rows are those of the certificates that wait.
+// What is revoked: what is kept of it, or else what the register says.
+fn revocations_by<R: Registry>(
+    register: &mut R,
+    alloc: Global,
+    kept: Option<Revocations>,
+) -> Result<Revocations, StoreFault>
+    ensures honest { R.is_honest register.new → R.is_honest register.old }
+    ensures was_open { R.is_honest register.new → R.is_open register.new → R.is_open register.old }
+    ensures row { R.is_honest register.new → AnswersBy R.means register.old result (λ o l r.
+        IsKept kept (state o l) → AreRevocations r (state o l)) }
+    ensures same { R.is_honest register.new → MeansTheSame R.means register.old register.new }
+    ensures before { R.is_honest register.new → R.is_open register.new → R.is_as_before register.old register.new }
+    ensures cause { IfErr result (λ e. HasCause e (R.fails register.old register.new)) }
+    ensures only { R.is_honest register.new → FailsAsARegister R.means register.old result }
+{
+    match kept {
+        Some(revocations) => Ok(revocations),
+        None => register.revocations(alloc),
+    }
+}
+
+/// What is known after an ask, and what is revoked: the rows are those of the certificates that wait. Nothing is read of
+/// what is revoked where it is kept.
 pub(crate) fn asked<R: Registry>(
     register: &mut R,
     alloc: Global,
     known: Known,
-) -> Result<Known, StoreFault>
+    kept: Option<Revocations>,
+) -> Result<(Known, Revocations), StoreFault>
     ensures honest { R.is_honest register.new → R.is_honest register.old }
     ensures was_open { R.is_honest register.new → R.is_open register.new → R.is_open register.old }
     ensures stays_open { R.is_honest register.new → OnOk result (R.is_open register.new) }
     ensures row { R.is_honest register.new → AnswersBy R.means register.old result (λ o l all.
-        Knows known.seen known.rows.items (state o l)
-        → Knows all.seen all.rows.items (state o l) × (all.rows.items ≡ pending_of (state o l))) }
+        Knows known.seen known.rows.items (state o l) → IsKept kept (state o l)
+        → Knows all.0.seen all.0.rows.items (state o l) × (all.0.rows.items ≡ pending_of (state o l))
+        × AreRevocations all.1 (state o l)) }
     ensures same { R.is_honest register.new → MeansTheSame R.means register.old register.new }
     ensures before { R.is_honest register.new → R.is_open register.new → R.is_as_before register.old register.new }
     ensures cause { R.is_honest register.new
         → IfErr result (λ e. HasCause e (FailsWithin R.means R.fails register.old register.new)) }
     ensures only { R.is_honest register.new → FailsAsARegister R.means register.old result }
 {
-    let revocations = register.revocations(alloc)?;
+    let revocations = revocations_by(register, alloc, kept)?;
     let rows = still_waiting(register, alloc, &revocations, known.rows.as_slice())?;
     let known = Known {
         seen: known.seen,
         rows,
     };
-    learned(register, alloc, &revocations, known)
+    let known = learned(register, alloc, &revocations, known)?;
+    Ok((known, revocations))
 }

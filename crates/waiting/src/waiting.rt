@@ -1,10 +1,11 @@
 //! The register.
 
-ghost use Rattle.std.specs.Prelude.{◌≡◌, [], OnOk, OnErr, IfErr};
+ghost use Rattle.std.specs.Prelude.{◌≡◌, [], None, OnOk, OnErr, IfErr};
 ghost use Rattle.waiting.specs.Knowing.{MeansKnown};
 
 use crate::asking::asked;
 use crate::known::Known;
+use crate::revoking::forget_before;
 use message::Department;
 use office::{
     Arrival, Ca, Certificate, Issued, Outcome, Pending, Registry, Revocations, Revoked, StoreFault,
@@ -18,6 +19,8 @@ use text::Text;
 pub struct Waiting<R: Registry> {
     pub(crate) register: R,
     pub(crate) known: Known,
+    // What is revoked, unless a revocation came since it was read.
+    pub(crate) revoked: Option<Revocations>,
 }
 
 impl<R: Registry> Waiting<R> {
@@ -26,10 +29,12 @@ impl<R: Registry> Waiting<R> {
         ensures register { result.register ≡ register }
         ensures seen { result.known.seen ≡ 0 }
         ensures rows { result.known.rows.items ≡ [] }
+        ensures revoked { result.revoked ≡ None }
     {
         Waiting {
             register,
             known: Known::nothing(alloc),
+            revoked: None,
         }
     }
 
@@ -37,8 +42,13 @@ impl<R: Registry> Waiting<R> {
     pub fn into_register(self) -> R
         ensures { result ≡ self.register }
     {
-        let Waiting { register, known } = self;
+        let Waiting {
+            register,
+            known,
+            revoked,
+        } = self;
         drop(known);
+        drop(revoked);
         register
     }
 }
@@ -54,9 +64,10 @@ impl<R: Registry> Registry for Waiting<R> {
 
     ghost stops = { λ old new a. R.stops old.register new.register a };
 
-    ghost means = { λ s o l. MeansKnown R.means s.register s.known.seen s.known.rows.items o l };
+    ghost means = { λ s o l. MeansKnown R.means s.register s.known.seen s.known.rows.items s.revoked o l };
 
     fn apply(&mut self, alloc: Global, arrival: Arrival) -> Result<Outcome, StoreFault> {
+        forget_before(arrival.bytes.as_slice(), &mut self.revoked);
         self.register.apply(alloc, arrival)
     }
 
@@ -91,10 +102,12 @@ impl<R: Registry> Registry for Waiting<R> {
     fn pending(&mut self, alloc: Global) -> Result<Vec<Pending>, StoreFault> {
         // What was known is dropped over a fault.
         let known = replace(&mut self.known, Known::nothing(alloc));
-        match asked(&mut self.register, alloc, known) {
-            Ok(known) => {
+        let kept = self.revoked.take();
+        match asked(&mut self.register, alloc, known, kept) {
+            Ok((known, revoked)) => {
                 let rows = known.copied_rows(alloc);
                 self.known = known;
+                self.revoked = Some(revoked);
                 Ok(rows?)
             }
             Err(fault) => Err(fault),

@@ -1,5 +1,9 @@
-use Rattle.std.proofs.Common.{arith, rules}
+use Rattle.std.proofs.Common.{◌∙◌, ap, arith, rules}
+use Rattle.std.specs.List.{list_any}
+use Rattle.sqlite.specs.Schema.{Schema}
+use Rattle.guard_sql.specs.Look.{is_guard_name, whole_has_tables}
 use Rattle.guard_sql.specs.Keeping.{IsScope}
+use Rattle.sshstation.proofs.Kept.{is_no_fault}
 use Rattle.sshstation.proofs.guard_database.make_over.Goals as goal
 
 pub init-requires-clause-lawful : goal.init-requires-clause-lawful
@@ -16,6 +20,9 @@ returns-in-Ok g c = (
   record {
     conn = c.args.conn;
     files = c.requires.files;
+    right = λ has.
+        let seen = ap (λ (s : Schema). list_any is_guard_name s.tables) has.1.now.schema ∙ whole_has_tables in
+        is_no_fault _ _ (c.in-Ok.ensures.already seen);
     honest = λ clean. omega (arith, c.in-Ok.ensures.crash.clean, clean);
     found = c.in-Ok.ensures.made;
   },

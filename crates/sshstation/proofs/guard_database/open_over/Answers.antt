@@ -1,3 +1,8 @@
+use Rattle.std.proofs.Common.{◌∙◌, ap}
+use Rattle.std.specs.List.{list_any}
+use Rattle.sqlite.specs.Schema.{Schema}
+use Rattle.guard_sql.specs.Look.{is_guard_table, none_is_guard}
+use Rattle.sshstation.proofs.Kept.{is_no_fault}
 use Rattle.sshstation.proofs.guard_database.open_over.Goals as goal
 
 pub open-requires-clause-outside : goal.open-requires-clause-outside
@@ -10,6 +15,9 @@ pub returns-in-Ok : goal.returns-in-Ok
 returns-in-Ok g c = record {
   conn = c.args.conn;
   files = c.requires;
+  right = λ blank.
+      let seen = ap (λ (s : Schema). list_any is_guard_table s.tables) blank.now.0 ∙ none_is_guard in
+      is_no_fault _ _ (c.in-Ok.ensures.none seen);
   honest = c.in-Ok.ensures.honest;
   found = c.in-Ok.ensures.opened;
 }

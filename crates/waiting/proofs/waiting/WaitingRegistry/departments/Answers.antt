@@ -4,14 +4,14 @@ use Rattle.waiting.proofs.waiting.WaitingRegistry.departments.Goals as goal
 pub returns-clause-row : goal.returns-clause-row
 returns-clause-row g c h =
     same_answer g.R.Registry.means c.args.self.now.register c.args.self.now.known.seen c.args.self.now.known.rows.items
-    c.departments.result _ (c.departments.ensures.row h)
+    c.args.self.now.revoked c.departments.result _ (c.departments.ensures.row h)
 
 pub returns-clause-same : goal.returns-clause-same
 returns-clause-same g c h =
     still_known g.R.Registry.means c.args.self.now.register c.departments.new.self c.args.self.now.known.seen
-    c.args.self.now.known.rows.items (c.departments.ensures.same h)
+    c.args.self.now.known.rows.items c.args.self.now.revoked (c.departments.ensures.same h)
 
 pub returns-clause-only : goal.returns-clause-only
 returns-clause-only g c h =
     same_fault g.R.Registry.means c.args.self.now.register c.args.self.now.known.seen c.args.self.now.known.rows.items
-    c.departments.result (c.departments.ensures.only h)
+    c.args.self.now.revoked c.departments.result (c.departments.ensures.only h)

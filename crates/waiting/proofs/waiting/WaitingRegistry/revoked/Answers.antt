@@ -4,14 +4,14 @@ use Rattle.waiting.proofs.waiting.WaitingRegistry.revoked.Goals as goal
 pub returns-clause-row : goal.returns-clause-row
 returns-clause-row g c h =
     same_answer g.R.Registry.means c.args.self.now.register c.args.self.now.known.seen c.args.self.now.known.rows.items
-    c.revoked.result _ (c.revoked.ensures.row h)
+    c.args.self.now.revoked c.revoked.result _ (c.revoked.ensures.row h)
 
 pub returns-clause-same : goal.returns-clause-same
 returns-clause-same g c h =
     still_known g.R.Registry.means c.args.self.now.register c.revoked.new.self c.args.self.now.known.seen
-    c.args.self.now.known.rows.items (c.revoked.ensures.same h)
+    c.args.self.now.known.rows.items c.args.self.now.revoked (c.revoked.ensures.same h)
 
 pub returns-clause-only : goal.returns-clause-only
 returns-clause-only g c h =
     same_fault g.R.Registry.means c.args.self.now.register c.args.self.now.known.seen c.args.self.now.known.rows.items
-    c.revoked.result (c.revoked.ensures.only h)
+    c.args.self.now.revoked c.revoked.result (c.revoked.ensures.only h)

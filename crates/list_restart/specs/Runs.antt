@@ -1,0 +1,57 @@
+-- One run of a program that keeps a list guard, from the two files that it finds to those that it leaves.
+use Rattle.std.specs.Prelude.{Result, Ok, Err}
+use Rattle.sqlite_disk.specs.declared.Disk.{Ghosts}
+use Rattle.sqlite_disk.specs.declared.Files.{Files}
+use Rattle.sqlite_wal.specs.Recovery.{Image}
+use Rattle.sqlite_wal.specs.Files.{outcomes}
+use Rattle.sqlite_wal.specs.Reads.{AreClean}
+use Rattle.sqlite_store.specs.declared.store.FileStore.{FileStore}
+use Rattle.sqlite.specs.State.{State as Connection, HasCleanDisk, IsLive, Opens}
+use Rattle.sqlite.specs.Held.{Held}
+use Rattle.sqlite.specs.Files.{file_state}
+use Rattle.list_guard.specs.State.{State}
+use Rattle.list_sql.specs.Contents.{Kept}
+use Rattle.list_sql.specs.Keeping.{HasList, IsBlank, Keeps, Leaves}
+use Rattle.list_sql.specs.Rows.{list_contents}
+use Rattle.restart.specs.declared.ending.EndFault.{EndFault}
+use Rattle.restart.specs.declared.ending.EndFault.TheVariants.{GivenUp, Uncopied}
+use Rattle.restart.specs.Images.{HoldsNone}
+use Rattle.list_restart.specs.Images.{HoldsList, HoldsOneOf}
+
+-- ---- the open
+
+-- a connection that was just opened has each list guard whose row its trees hold
+abbrev pub FoundIsHad : Connection → Type 0
+FoundIsHad c = Opens c → IsLive c → (s : State) → Kept c.committed.trees (list_contents s) → HasList s c
+
+-- it has each list guard that the files held
+abbrev pub HasWhatIsHeld : Image → Connection → Type 0
+HasWhatIsHeld image c = (s : State) → HoldsList image s → HasList s c
+
+-- it is blank if the files held no row
+abbrev pub IsBlankIfNone : Image → Connection → Type 0
+IsBlankIfNone image c = HoldsNone image → IsBlank c
+
+-- ---- the end
+
+-- whatever a crash makes of the files, they hold the list guard that was kept
+abbrev pub LeavesWhatIsKept : {D : Type 0} → Ghosts D → Connection → Files D → Type 0
+LeavesWhatIsKept g c files =
+    (s : State) → Keeps c s → (image : Image) → outcomes g files.log files.db image → HoldsList image s
+
+-- whatever a crash leaves, the files hold one of the two list guards that a crash left
+abbrev pub LeavesOneOf : Connection → (Image → Type 0) → Type 0
+LeavesOneOf c may_leave =
+    (s t : State) → Leaves c s t → (image : Image) → may_leave image → HoldsOneOf image s t
+
+-- How the connection ended, if its disk has returned what was written: it was closed, and whatever a crash makes of
+-- the files, they hold the list guard that was kept. Or it was given up, and they hold one of the two list guards that
+-- a crash left. Of a log that couldn't be copied nothing is said.
+abbrev pub EndsWell : {D : Type 0} {g : Ghosts D} → Held (FileStore D g) → Result (Unit {0}) EndFault → Files D
+    → Type 0
+EndsWell {D} {g} conn (Ok done) files =
+    AreClean g files.log files.db → HasCleanDisk (file_state conn) × LeavesWhatIsKept g (file_state conn) files
+EndsWell {D} {g} conn (Err (GivenUp error)) files =
+    AreClean g files.log files.db
+    → HasCleanDisk (file_state conn) × LeavesOneOf (file_state conn) (outcomes g files.log files.db)
+EndsWell {D} {g} conn (Err (Uncopied error)) files = Unit {0}

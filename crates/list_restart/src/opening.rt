@@ -1,0 +1,41 @@
+//! The files at a path, opened.
+
+ghost use Rattle.std.specs.Prelude.{IfOk};
+ghost use Rattle.sqlite_wal.specs.Files.{image_at};
+ghost use Rattle.sqlite.specs.Held.{IsNew};
+ghost use Rattle.sqlite.specs.State.{HasCleanDisk};
+ghost use Rattle.sqlite.specs.Files.{IsOpened, file_state};
+ghost use Rattle.list_restart.specs.Runs.{HasWhatIsHeld, IsBlankIfNone};
+
+use crate::laws::what_is_found_is_had;
+use sqlite::{Connection, Error, FileFrom, FileStore, Start};
+
+/// Opens the files at a path, or makes them. `start` stands for what they hold.
+///
+/// # Errors
+///
+/// Why they can't be opened.
+pub fn open_at<S: Start>(
+    rt: &HostRuntime,
+    path: &str,
+    start: S,
+) -> Result<Connection<FileStore<FileFrom<S>>>, Error>
+    ensures new { IfOk result IsNew }
+    ensures opened { IfOk result (λ c. HasCleanDisk (file_state c) → IsOpened c) }
+
+    // The connection has each list guard that the files held.
+    ensures held { IfOk result (λ c. HasCleanDisk (file_state c)
+        → HasWhatIsHeld (image_at S.Start) (file_state c)) }
+
+    // If they held no row, a list guard can be made.
+    ensures blank { IfOk result (λ c. HasCleanDisk (file_state c)
+        → IsBlankIfNone (image_at S.Start) (file_state c)) }
+{
+    match Connection::open_from(rt, path, false, start) {
+        Ok(conn) => {
+            what_is_found_is_had(&conn);
+            Ok(conn)
+        }
+        Err((error, _)) => Err(error),
+    }
+}

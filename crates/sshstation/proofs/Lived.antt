@@ -1,0 +1,310 @@
+-- A job over the files of a guard, as a run in their life.
+use Rattle.std.proofs.Common.{◌≡◌, ◌⊎◌, ◌<◌, ◌^◌, ◌∙◌, ℕ, List, Option, Some, None, Result, Ok, Err, ap, arith, inl, inr, refl, subst}
+use Rattle.std.proofs.Common.{map, sym}
+use Rattle.std.specs.Prelude.{IfOk, IfSome, IsSomeAnd, OnOk, string_bytes}
+use Rattle.std.proofs.Math.Logic.{∥∥₁_map}
+use Rattle.sqlite_disk.specs.declared.Disk.{Ghosts}
+use Rattle.sqlite_disk.specs.declared.Files.{Files}
+use Rattle.sqlite_wal.specs.Recovery.{Image}
+use Rattle.sqlite_wal.specs.Files.{outcomes}
+use Rattle.sqlite_store.specs.declared.store.FileStore.{FileStore}
+use Rattle.sqlite.specs.State.{HasCleanDisk}
+use Rattle.sqlite.specs.Files.{file_state}
+use Rattle.message.specs.declared.department.Department.{Department}
+use Rattle.guard.specs.declared.register.Register as register
+use Rattle.guard.specs.declared.scope.Scope.{Scope}
+use Rattle.guard.specs.History.{IsStill}
+use Rattle.guard.specs.Machine.{State, opened, row_of}
+use Rattle.guard.specs.Retiring.{with_last}
+use Rattle.guard.proofs.Allowed.{left_by}
+use Rattle.guard_sql.specs.declared.store.GuardStore.{GuardStore}
+use Rattle.guard_sql.specs.Keeping.{IsGuard}
+use Rattle.guard_sql.proofs.Changed.{last_below, lower_lawful, more_lawful}
+use Rattle.restart.specs.declared.ending.EndFault.{EndFault}
+use Rattle.restart.specs.Images.{HoldsNone}
+use Rattle.station_command.specs.declared.job.StationJob.{StationJob}
+use Rattle.station_command.specs.declared.job.StationJob.TheVariants as job
+use Rattle.list_guard.specs.declared.register.ListRegister as lister
+use Rattle.list_jobs.specs.declared.list_file.ListFile as lists
+use Rattle.station_jobs.specs.declared.guard_file.GuardFile as file
+use Rattle.station_jobs.specs.declared.station_fault.StationFault.{StationFault}
+use Rattle.station_jobs.specs.declared.station_fault.StationFault.TheVariants.{BadSerials, SerialApproved}
+use Rattle.station_jobs.specs.declared.surroundings.Surroundings as surroundings
+use Rattle.station_jobs.specs.Bodies.{ListsBodies, PrintsBody}
+use Rattle.station_jobs.specs.Jobs.{InitsIn}
+use Rattle.station_jobs.specs.Judging.{AsksNow}
+use Rattle.station_jobs.specs.Leaving.{IsNext}
+use Rattle.station_jobs.specs.Whole.{ClosesNew, Follows, JudgesGiven, LeavesFiles, MakesIn, Retires, RetiresTo, RunsIn}
+use Rattle.station_jobs.specs.Whole.{RunsOver, is_input}
+use Rattle.guard_restart.specs.Images.{Holds, HoldsGuard, HoldsKept, HoldsOneOf, Standing}
+use Rattle.guard_restart.specs.Lives.{Backs, Said, Stays}
+use Rattle.guard_restart.proofs.Lives.{runs_on, said_stays}
+use Rattle.sshstation.specs.Doing.{DoesJob, DoesWords, InitsAt}
+use Rattle.sshstation.specs.GuardFiles.{AreSettled, EndsGuard, FindsGuard, HaveGuard, HaveOne, MakesGuard}
+use Rattle.sshstation.specs.Living.{AreLived, IsLived, said_by}
+use Rattle.sshstation.proofs.Kept.{ends_honest}
+use Rattle.sshstation.proofs.Saying.{Lasts, backs_none, given_last, next_still, same_lasts, still_same, still_then}
+
+-- ---- the next state
+
+-- the one after a lawful state is lawful
+next_lawful : (s next : State) → IsGuard s → IsNext s next → IsGuard next
+next_lawful s next guard (inl same) = subst IsGuard (sym same) guard
+next_lawful s next guard (inr (inl (q, same))) =
+    subst IsGuard (sym same)
+    (left_by IsGuard s q guard (λ c new.
+    let most = new.may.to_last in
+    let below = last_below s.scope guard.scope in
+    let low : c.serial < 2 ^ 63 = omega (arith, most, below) in more_lawful (row_of q c) low s guard))
+next_lawful s next guard (inr (inr (last, low, same))) = subst IsGuard (sym same) (lower_lawful last s guard low)
+
+-- ---- retiring
+
+retires_to_last : (last : ℕ) (s : State) (Left : State → Result ℕ StationFault → Type 0) (r : Result ℕ StationFault)
+    → RetiresTo last s (λ t. Left t r) r → Lasts s Said.none Left
+retires_to_last last s Left (Ok first) is = record {
+  t = with_last s last;
+  outcome = Ok first;
+  still = still_same s;
+  backs = backs_none (with_last s last);
+  left = is.1;
+}
+retires_to_last last s Left (Err BadSerials) is = same_lasts s Left (Err BadSerials) is.1
+retires_to_last last s Left (Err SerialApproved) is = same_lasts s Left (Err SerialApproved) is.1
+retires_to_last last s Left (Err e) is = same_lasts s Left (Err e) is
+
+module _ (Dk : Type 0) (g : Ghosts Dk) (image : Image) where
+  abbrev Store : Type 0
+  Store = GuardStore (FileStore Dk g)
+
+  abbrev Left : Type 0
+  Left = Result (Unit {0}) EndFault × Files Dk
+
+  -- ---- what may be left of the files is left by a run
+
+  abbrev Comes : Standing → Said → Image → Type 0
+  Comes before said files =
+      (after : Standing) × Stays before after × Backs after said × Holds files after
+
+  -- a guard that stayed, or the next one
+  one_of : (s t next : State) (said : Said) (files : Image) → IsStill s t → Backs (Some t) said → IsGuard t
+      → IsNext t next → HoldsGuard files t ⊎ HoldsGuard files next → Comes (Some s) said files
+  one_of s t next said files still backs guard is (inl it) = (Some t, still, backs, (guard, it))
+  one_of s t next said files still backs guard is (inr it) =
+      let later = next_still t next is in (
+        Some next,
+        still_then s t next still later,
+        said_stays (Some t) (Some next) later said backs,
+        (next_lawful t next guard is, it),
+      )
+
+  -- the guard of this state is in the files; or it is after a fault, or the next one
+  abbrev Filed : Option Left → Store → Result (Unit {0}) StationFault → State → Type 0
+  Filed o last (Ok done) t = IsSomeAnd o (HaveGuard last t)
+  Filed o last (Err e) t = (next : State) × IsNext t next × IsSomeAnd o (HaveOne last t next)
+
+  comes : (left : Left) (last : Store) (closing : Result (Unit {0}) StationFault) (s t : State) (said : Said)
+      → IsStill s t → Backs (Some t) said → Filed (Some left) last closing t → (files : Image)
+      → outcomes g left.1.log left.1.db files → ∥ Comes (Some s) said files ∥₁
+  comes left last (Ok done) s t said still backs filed files may = ∣ (Some t, still, backs, filed files may) ∣₁
+  comes left last (Err e) s t said still backs (next, is, filed) files may =
+      ∥∥₁_map (filed.1 files may) (λ which. one_of s t next said files still backs filed.0 is which)
+
+  -- a guard that was opened, with which this was done, and closed
+  opened_lived : (o : Option Left) (first last : Store) (closing : Result (Unit {0}) StationFault) (said : Said)
+      → FindsGuard image first → IsSomeAnd o (EndsGuard last closing)
+      → (HasCleanDisk (file_state last.conn) → HasCleanDisk (file_state first.conn))
+      → (IsSomeAnd o (AreSettled last) → (s : State) → HoldsKept image s
+      → (t : State) × IsStill s t × Backs (Some t) said × Filed o last closing t)
+      → IfSome o (IsLived g image said)
+  opened_lived None first last closing said found ends honest did = tt
+  opened_lived (Some left) first last closing said found ends honest did = λ clean whole.
+      let settled : AreSettled last left = (clean, whole) in
+      let was_clean = honest (ends_honest last closing (Some left) ends settled) in
+      runs_on image said (outcomes g left.1.log left.1.db)
+      (λ files may before holds. by_standing settled was_clean files may before holds)
+    where
+      by_standing : AreSettled last left → HasCleanDisk (file_state first.conn) → (files : Image)
+          → outcomes g left.1.log left.1.db files → (before : Standing) → Holds image before
+          → ∥ Comes before said files ∥₁
+      by_standing settled clean files may None holds =
+          absurd (found.right (found.files.blank (found.honest clean) holds))
+      by_standing settled clean files may (Some s) holds =
+          let it = did settled s holds in comes left last closing s it.0 said it.1 it.2 it.3 files may
+
+  -- the guard that was made is in the files, whole
+  abbrev FiledNew : Option Left → Store → Result (Unit {0}) StationFault → State → Type 0
+  FiledNew o it (Ok done) t = IsSomeAnd o (HaveGuard it t)
+  FiledNew o it (Err e) t = IsSomeAnd o (HaveOne it t t)
+
+  made_comes : (left : Left) (it : Store) (closing : Result (Unit {0}) StationFault) (scope : Scope)
+      → FiledNew (Some left) it closing (opened scope) → (files : Image) → outcomes g left.1.log left.1.db files
+      → ∥ Comes None Said.none files ∥₁
+  made_comes left it (Ok done) scope filed files may =
+      ∣ (Some (opened scope), refl, backs_none (opened scope), filed files may) ∣₁
+  made_comes left it (Err e) scope filed files may = ∥∥₁_map (filed.1 files may) either
+    where
+      either : HoldsGuard files (opened scope) ⊎ HoldsGuard files (opened scope) → Comes None Said.none files
+      either (inl h) = (Some (opened scope), refl, backs_none (opened scope), (filed.0, h))
+      either (inr h) = (Some (opened scope), refl, backs_none (opened scope), (filed.0, h))
+
+  -- a guard that was made and closed
+  made_lived : (o : Option Left) (it : Store) (closing : Result (Unit {0}) StationFault) (scope : Scope)
+      → MakesGuard image scope it → IsSomeAnd o (EndsGuard it closing)
+      → (IsSomeAnd o (AreSettled it) → HoldsNone image → FiledNew o it closing (opened scope))
+      → IfSome o (IsLived g image Said.none)
+  made_lived None it closing scope made ends did = tt
+  made_lived (Some left) it closing scope made ends did = λ clean whole.
+      let settled : AreSettled it left = (clean, whole) in
+      let is_clean = ends_honest it closing (Some left) ends settled in
+      runs_on image Said.none (outcomes g left.1.log left.1.db)
+      (λ files may before holds. by_standing settled is_clean files may before holds)
+    where
+      by_standing : AreSettled it left → HasCleanDisk (file_state it.conn) → (files : Image)
+          → outcomes g left.1.log left.1.db files → (before : Standing) → Holds image before
+          → ∥ Comes before Said.none files ∥₁
+      by_standing settled clean files may None holds =
+          made_comes left it closing scope (did settled holds) files may
+      by_standing settled clean files may (Some s) holds =
+          absurd (made.0.right (s, made.0.files.held (made.0.honest clean) s holds.1))
+
+  -- ---- jobs
+
+  module _ {D : Type 0} (guard : register.Ghosts Store) (file : file.Ghosts D Store) (left_of : D → Option Left) where
+    -- the guard of the file is one of such files
+    pub record IsOver : Type 0 where
+      pub opens : (db after : D) (path : List ℕ) (found : Result Store StationFault) → file.opens db path found after
+          → IfOk found (FindsGuard image) × (left_of after ≡ left_of db)
+      pub makes : (db after : D) (path : List ℕ) (scope : Scope) (found : Result Store StationFault)
+          → file.makes db path scope found after → IfOk found (MakesGuard image scope) × (left_of after ≡ left_of db)
+      pub closes : (db after : D) (it : Store) (r : Result (Unit {0}) StationFault) → file.closes db it r after
+          → IsSomeAnd (left_of after) (EndsGuard it r)
+      pub held : (s : State) → HoldsKept image s → file.held s
+      pub blank : HoldsNone image → file.is_blank
+      pub settles : (db : D) (it : Store) → IsSomeAnd (left_of db) (AreSettled it) → file.is_settled db it
+      pub has : (db : D) (it : Store) (s : State) → file.has db it s → IsSomeAnd (left_of db) (HaveGuard it s)
+      pub has_one : (db : D) (it : Store) (s t : State) → file.has_one db it s t
+          → IsSomeAnd (left_of db) (HaveOne it s t)
+      pub honest : (it : Store) → HasCleanDisk (file_state it.conn) → guard.is_honest it
+      pub is_clean : (it : Store) → guard.is_honest it → HasCleanDisk (file_state it.conn)
+
+    module _ (over : IsOver) (db db' : D) (none : left_of db ≡ None) where
+      filed : {A : Type 0} (last : Store) (closing : Result (Unit {0}) StationFault) (t : State)
+          (outcome : Result A StationFault) → LeavesFiles guard file db' last closing t outcome
+          → Filed (left_of db') last closing t
+      filed last (Ok done) t outcome is = over.has db' last t is
+      filed last (Err e) t (Ok x) is = (t, inl refl, over.has_one db' last t t is)
+      filed last (Err e) t (Err f) is = (is.0, is.1, over.has_one db' last t is.0 is.2)
+
+      filed_new : (it : Store) (closing : Result (Unit {0}) StationFault) (t : State)
+          → LeavesFiles guard file {A = Unit {0}} db' it closing t (Ok tt) → FiledNew (left_of db') it closing t
+      filed_new it (Ok done) t is = over.has db' it t is
+      filed_new it (Err e) t is = over.has_one db' it t t is
+
+      untouched : (said : Said) → left_of db' ≡ None → IfSome (left_of db') (IsLived g image said)
+      untouched said is = subst (λ (o : Option Left). IfSome o (IsLived g image said)) (sym is) tt
+
+      ran_lived : {A : Type 0} (Did : State → (State → Result A StationFault → Type 0) → Result A StationFault → Type 0)
+          (path : List ℕ) (Nothing : Type 0) (result : Result A StationFault) (said : Said)
+          → ((s : State) (L : State → Result A StationFault → Type 0) (r : Result A StationFault) → IsGuard s
+          → Did s L r → Lasts s said L)
+          → RunsIn guard file db db' path Did Nothing result → IfSome (left_of db') (IsLived g image said)
+      ran_lived {A} Did path Nothing result said lasts is = by_found is.found is.is_opened is.ran
+        where
+          by_found : (found : Result Store StationFault) → file.opens db path found is.opened
+              → Follows (RunsOver guard file db db' Did is.opened) ((db' ≡ is.opened) × Nothing) found result
+              → IfSome (left_of db') (IsLived g image said)
+          by_found (Ok first) opens ran =
+              opened_lived (left_of db') first ran.last ran.closing said (over.opens db is.opened path (Ok first) opens).0
+              (over.closes is.opened db' ran.last ran.closing ran.is_closed)
+              (λ clean. over.is_clean first (ran.did.0 (over.honest ran.last clean)))
+              (λ settled s holds.
+              let did = ran.files (over.settles db' ran.last settled) s (over.held s holds) in
+              let it = lasts s (LeavesFiles guard file db' ran.last ran.closing) ran.outcome holds.0 did in
+              (it.t, it.still, it.backs, filed ran.last ran.closing it.t it.outcome it.left))
+          by_found (Err e) opens ran =
+              untouched said (ap left_of ran.1.0 ∙ ((over.opens db is.opened path (Err e) opens).1 ∙ none))
+
+      made_in_lived : (path : List ℕ) (scope : Scope) (result : Result (Unit {0}) StationFault)
+          → MakesIn guard file db db' path scope result → IfSome (left_of db') (IsLived g image Said.none)
+      made_in_lived path scope result is = by_found is.found is.is_made is.ran
+        where
+          by_found : (found : Result Store StationFault) → file.makes db path scope found is.made
+              → Follows (ClosesNew guard file db db' scope is.made) (db' ≡ is.made) found result
+              → IfSome (left_of db') (IsLived g image Said.none)
+          by_found (Ok it) makes ran =
+              made_lived (left_of db') it result scope (over.makes db is.made path scope (Ok it) makes).0
+              (over.closes is.made db' it result ran.is_closed)
+              (λ settled holds.
+              filed_new it result (opened scope) (ran.files (over.settles db' it settled) (over.blank holds)))
+          by_found (Err e) makes ran =
+              untouched Said.none (ap left_of ran.1 ∙ ((over.makes db is.made path scope (Err e) makes).1 ∙ none))
+
+      same_db : (said : Said) → db' ≡ db → IfSome (left_of db') (IsLived g image said)
+      same_db said same = untouched said (ap left_of same ∙ none)
+
+      module _ {E F : Type 0} (world : surroundings.Ghosts E F) (around : E) (remaining : F → Option (List ℕ)) where
+        inits_lived : (path ca : List ℕ) (first last : ℕ) (held holds : Option (List ℕ))
+            (result : Result (Unit {0}) StationFault)
+            → InitsAt world around remaining guard file db db' path ca first last held holds result
+            → IfSome (left_of db') (IsLived g image Said.none)
+        inits_lived path ca first last held holds result is = by_scope is.scope is.made
+          where
+            by_scope : (scope : Result Scope StationFault)
+                → Follows (λ scope. InitsIn guard file db db' path scope held holds) ((db' ≡ db) × (holds ≡ held)) scope
+                result → IfSome (left_of db') (IsLived g image Said.none)
+            by_scope (Ok scope) made = made_in_lived path scope made.made made.is_made
+            by_scope (Err e) made = same_db Said.none made.1.0
+
+        pub job_lived : (job : StationJob) (input held holds : Option (List ℕ)) (result : Result (Unit {0}) StationFault)
+            → DoesJob world around remaining guard file db db' job input held holds result
+            → IfSome (left_of db') (IsLived g image (said_by job held holds))
+        job_lived (job.Init path ca first last) input held holds result is =
+            inits_lived (string_bytes path) (string_bytes ca) first last held holds result is
+        job_lived (job.Judge j) input held holds result is = by_policy is.known is.judged
+          where
+            bodies : List (List ℕ)
+            bodies = map string_bytes j.bodies.items
+
+            by_policy : (known : Result (List Department) StationFault)
+                → Follows
+                (λ _. RunsIn guard file db db' (string_bytes j.db)
+                (λ s L r. JudgesGiven (is_input bodies) s L
+                (AsksNow world around remaining (string_bytes j.policy) j.ahead) bodies input held holds r)
+                (holds ≡ held)) ((db' ≡ db) × (holds ≡ held)) known result
+                → IfSome (left_of db') (IsLived g image (Said.judging held holds))
+            by_policy (Ok policy) ran =
+                ran_lived
+                (λ s L r. JudgesGiven (is_input bodies) s L
+                (AsksNow world around remaining (string_bytes j.policy) j.ahead) bodies input held holds r)
+                (string_bytes j.db) (holds ≡ held) result (Said.judging held holds)
+                (λ s L r guard did. given_last (is_input bodies) s L
+                (AsksNow world around remaining (string_bytes j.policy) j.ahead) bodies input held holds r did) ran
+            by_policy (Err e) ran = same_db (Said.judging held holds) ran.1.0
+        job_lived (job.Bodies path) input held holds result is =
+            ran_lived (λ s L r. OnOk r (ListsBodies s held holds) × L s (Ok tt)) (string_bytes path) (holds ≡ held)
+            result Said.none (λ s L r guard did. same_lasts s L (Ok tt) did.1) is
+        job_lived (job.Body path serial) input held holds result is =
+            ran_lived (λ s L r. PrintsBody s serial held holds r × L s (Ok tt)) (string_bytes path) (holds ≡ held)
+            result Said.none (λ s L r guard did. same_lasts s L (Ok tt) did.1) is
+        job_lived (job.Policy path) input held holds result is = same_db Said.none is.1
+        job_lived (job.Retire path last) input held holds result is =
+            ran_lived (Retires last) (string_bytes path) (Unit {0}) is.lowered Said.none
+            (λ s L r guard did. retires_to_last last s L r (did (last_below s.scope guard.scope))) is.is_lowered
+        job_lived (job.Lists path) input held holds result is = same_db Said.none is
+        job_lived (job.List words) input held holds result is = same_db Said.none is
+
+        -- what the words name was a run
+        pub words_lived : {L K : Type 0} (keeper : lister.Ghosts K) (file_of : lists.Ghosts L K) (l l' : L)
+            (words : List (List ℕ)) (input held holds : Option (List ℕ)) (answered : ℕ) (left : Option Left)
+            → left ≡ left_of db'
+            → DoesWords world around remaining guard file db db' keeper file_of l l' words input held holds answered
+            → AreLived g image words held holds left
+        words_lived keeper file_of l l' words input held holds answered left same (inl is) = inl (
+          is.0,
+          is.2,
+          subst (λ (o : Option Left). IfSome o (IsLived g image (said_by is.0 held holds))) (sym same)
+              (job_lived is.0 input held holds is.1 is.3),
+        )
+        words_lived keeper file_of l l' words input held holds answered left same (inr is) =
+            inr (is.0, is.1, same ∙ (ap left_of is.2 ∙ none))

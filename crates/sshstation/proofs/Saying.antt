@@ -1,0 +1,144 @@
+-- What a job said of bodies, and the guard that backs it.
+use Rattle.std.proofs.Common.{◌≡◌, ◌++◌, ◌∷◌, ◌∙◌, [], ℕ, List, All, Bool, Option, Some, None, Result, Ok, Err, ap, append_assoc}
+use Rattle.std.proofs.Common.{arith, drop, false, inl, inr, length, map, refl, subst, sym, take, true}
+use Rattle.std.specs.Prelude.{OnOk}
+use Rattle.std.specs.List.{flat_map}
+use Rattle.std.specs.Io.KnownBytes.{Appends}
+use Rattle.std.proofs.lemmas.List.{append-nil, take-append-drop, take_all, take_at}
+use Rattle.std.proofs.lemmas.List.Concat.{flat_map-append}
+use Rattle.std.proofs.lemmas.List.Elements.{All-cons, All-head, All-nil, All-tail}
+use Rattle.guard.specs.declared.approved.Approved.{Approved}
+use Rattle.guard.specs.declared.judging.Answer.{Answer}
+use Rattle.guard.specs.declared.judging.Answer.TheVariants as answer
+use Rattle.guard.specs.AnswerLines.{answer_line}
+use Rattle.guard.specs.History.{IsStill}
+use Rattle.guard.specs.Judged.{Answers, IsKept}
+use Rattle.guard.specs.Machine.{State, Question, after, row_of}
+use Rattle.guard.proofs.Allowed.{left_by as after_or_before}
+use Rattle.guard_restart.specs.Lives.{Answered, AreBacked, AreSaid, Backs, IsBacked, Said}
+use Rattle.station_jobs.specs.declared.station_fault.StationFault.{StationFault}
+use Rattle.station_jobs.specs.Input.{JudgesInput}
+use Rattle.station_jobs.specs.Judging.{AreAnswered, IsPrinted, Judgement, Judges, left_by, lines_of}
+use Rattle.station_jobs.specs.Whole.{JudgesGiven}
+use Rattle.station_jobs.specs.Leaving.{IsNext}
+
+-- ---- bodies stay
+
+pub still_same : (s : State) → IsStill s s
+still_same s = ([], sym (append-nil s.approved))
+
+pub still_then : (s t u : State) → IsStill s t → IsStill t u → IsStill s u
+still_then s t u first second = (
+  first.0 ++ second.0,
+  second.1 ∙ (ap (λ (rows : List Approved). rows ++ second.0) first.1 ∙ append_assoc s.approved first.0 second.0),
+)
+
+pub next_still : (s next : State) → IsNext s next → IsStill s next
+next_still s next (inl same) = subst (IsStill s) (sym same) (still_same s)
+next_still s next (inr (inl (q, same))) =
+    subst (IsStill s) (sym same) (after_or_before (IsStill s) s q (still_same s) (λ c new. (row_of q c ∷ [], refl)))
+next_still s next (inr (inr (last, low, same))) = subst (IsStill s) (sym same) (still_same s)
+
+judged_still : (s : State) (js : List Judgement) → IsStill s (left_by s js)
+judged_still s [] = still_same s
+judged_still s (j ∷ js) =
+    let next = after s j.question in
+    still_then s next (left_by next js) (next_still s next (inr (inl (j.question, refl)))) (judged_still next js)
+
+-- ---- what was said
+
+abbrev answered_of : Judgement → Answered
+answered_of j = (j.answer, j.question.body)
+
+abbrev answers_of : List Judgement → List Answered
+answers_of js = map answered_of js
+
+same_lines : (js : List Judgement) → flat_map (λ (a : Answered). answer_line a.0) (answers_of js) ≡ lines_of js
+same_lines [] = refl
+same_lines (j ∷ js) = ap (λ (t : List ℕ). answer_line j.answer ++ t) (same_lines js)
+
+-- the beginning of a second text after a first one is a beginning of both
+begins_both : (a b : List ℕ) (n : ℕ) → take (length (a ++ take n b)) (a ++ b) ≡ a ++ take n b
+begins_both a b n =
+    ap (λ (t : List ℕ). take (length (a ++ take n b)) t)
+    (ap (λ (t : List ℕ). a ++ t) (sym (take-append-drop n b)) ∙ sym (append_assoc a (take n b) (drop n b)))
+    ∙ take_at (a ++ take n b) (drop n b) (length (a ++ take n b)) refl
+
+are_said : (js : List Judgement) (held holds : Option (List ℕ)) (r : Result (Unit {0}) StationFault)
+    → IsPrinted js held holds r → AreSaid (answers_of js) (Said.judging held holds)
+are_said js held holds (Ok done) printed = (
+  length (lines_of js),
+  subst (Appends held holds)
+      (sym (ap (take (length (lines_of js))) (same_lines js) ∙ take_all (length (lines_of js)) (lines_of js) (omega arith)))
+      printed,
+)
+are_said js held holds (Err e) (whole, last, count, are, short, printed) =
+    let told = lines_of whole ++ take count (lines_of last) in
+    let all : lines_of whole ++ lines_of last ≡ lines_of js =
+    sym (ap lines_of are ∙ flat_map-append (λ (j : Judgement). answer_line j.answer) whole last) in (
+      length told,
+      subst (Appends held holds)
+          (sym (ap (take (length told)) (same_lines js ∙ sym all) ∙ begins_both (lines_of whole) (lines_of last) count))
+          printed,
+    )
+
+one_backed : (s t : State) (a : Answer) (q : Question) → Answers a s q → IsKept a t q.body → IsBacked (Some t) a q.body
+one_backed s t (answer.Sign serial digest) q answers kept = (kept, answers.2)
+one_backed s t (answer.NotABody e) q answers kept = tt
+one_backed s t (answer.Refuse r) q answers kept = tt
+
+are_backed : (s t : State) (js : List Judgement) → AreAnswered s js
+    → All (λ (j : Judgement). IsKept j.answer t j.question.body) js → AreBacked (Some t) (answers_of js)
+are_backed s t [] answered kept = All-nil (λ (a : Answered). IsBacked (Some t) a.0 a.1)
+are_backed s t (j ∷ js) answered kept =
+    All-cons (λ (a : Answered). IsBacked (Some t) a.0 a.1) (answered_of j) (answers_of js)
+    (one_backed s t j.answer j.question answered.0
+    (All-head (λ (j : Judgement). IsKept j.answer t j.question.body) j js kept))
+    (are_backed (after s j.question) t js answered.1
+    (All-tail (λ (j : Judgement). IsKept j.answer t j.question.body) j js kept))
+
+-- a run that judged no body said nothing
+pub backs_none : (t : State) → Backs (Some t) Said.none
+backs_none t = ([], refl, All-nil (λ (a : Answered). IsBacked (Some t) a.0 a.1))
+
+-- ---- what a job did with a guard
+
+-- Each body of it stayed, what was said is so, and this is left.
+pub record Lasts {A : Type 0} (s : State) (said : Said) (Left : State → Result A StationFault → Type 0) : Type 0 where
+  pub t : State
+  pub outcome : Result A StationFault
+  pub still : IsStill s t
+  pub backs : Backs (Some t) said
+  pub left : Left t outcome
+
+-- a job that said nothing left the guard as it was
+pub same_lasts : {A : Type 0} (s : State) (Left : State → Result A StationFault → Type 0) (r : Result A StationFault)
+    → Left s r → Lasts s Said.none Left
+same_lasts s Left r left = record {
+  t = s;
+  outcome = r;
+  still = still_same s;
+  backs = backs_none s;
+  left = left;
+}
+
+judges_last : (s : State) (Left : State → Result (Unit {0}) StationFault → Type 0) (Asked : List ℕ → Question → Type 0)
+    (paths : List (List ℕ)) (held holds : Option (List ℕ)) (r : Result (Unit {0}) StationFault)
+    → Judges s Left Asked paths held holds r → Lasts s (Said.judging held holds) Left
+judges_last s Left Asked paths held holds r is =
+    let t = left_by s is.judged in
+    record {
+      t = t;
+      outcome = r;
+      still = judged_still s is.judged;
+      backs = (answers_of is.judged, are_said is.judged held holds r is.printed, are_backed s t is.judged is.answered is.kept);
+      left = is.left;
+    }
+
+pub given_last : (b : Bool) (s : State) (Left : State → Result (Unit {0}) StationFault → Type 0)
+    (Asked : List ℕ → Question → Type 0) (bodies : List (List ℕ)) (input held holds : Option (List ℕ))
+    (r : Result (Unit {0}) StationFault) → JudgesGiven b s Left Asked bodies input held holds r
+    → Lasts s (Said.judging held holds) Left
+given_last true s Left Asked bodies input held holds r is =
+    judges_last s Left Asked is.paths held holds r is.judges
+given_last false s Left Asked bodies input held holds r is = judges_last s Left Asked bodies held holds r is

@@ -1,0 +1,64 @@
+-- What the words come to over the files of a database: a job over the files of a guard is a run in their life.
+use Rattle.std.specs.Prelude.{◌≡◌, ◌⊎◌, ℕ, List, IfSome, Option, None, Result}
+use Rattle.sqlite_disk.specs.declared.Disk.{Ghosts}
+use Rattle.sqlite_disk.specs.declared.Files.{Files}
+use Rattle.sqlite_wal.specs.Recovery.{Image}
+use Rattle.sqlite_wal.specs.Files.{outcomes}
+use Rattle.sqlite_wal.specs.Reads.{AreClean}
+use Rattle.sqlite_store.specs.declared.store.FileStore.{FileStore}
+use Rattle.command_line.specs.declared.words_fault.WordsFault.{WordsFault}
+use Rattle.station_command.specs.declared.job.StationJob.{StationJob}
+use Rattle.station_command.specs.declared.job.StationJob.TheVariants.{Judge}
+use Rattle.station_command.specs.Answers.{IsFaultOf, Names}
+use Rattle.guard.specs.declared.register.Register as register
+use Rattle.guard_sql.specs.declared.store.GuardStore.{GuardStore}
+use Rattle.list_guard.specs.declared.register.ListRegister as lister
+use Rattle.list_jobs.specs.declared.list_file.ListFile as lists
+use Rattle.station_jobs.specs.declared.guard_file.GuardFile as file
+use Rattle.station_jobs.specs.declared.surroundings.Surroundings as surroundings
+use Rattle.restart.specs.declared.ending.EndFault.{EndFault}
+use Rattle.guard_restart.specs.Lives.{Said}
+use Rattle.guard_restart.specs.Runs.{RunsOn}
+use Rattle.sshstation.specs.Doing.{DoesWords}
+use Rattle.sshstation.specs.GuardFiles.{IsWhole}
+
+-- what a job says of bodies, with this output before and after it: only one that judges says anything
+abbrev pub said_by : StationJob → (held holds : Option (List ℕ)) → Said
+said_by (Judge words) held holds = Said.judging held holds
+said_by other held holds = Said.none
+
+-- The files are left so. If the disk has returned what was written, and the log was copied, or nobody began to copy it,
+-- the job was a run in the life of the files.
+abbrev pub IsLived : {D : Type 0} (g : Ghosts D) → Image → Said → Result (Unit {0}) EndFault × Files D → Type 0
+IsLived g image said left =
+    AreClean g left.1.log left.1.db → IsWhole left.0 → RunsOn image said (outcomes g left.1.log left.1.db)
+
+-- how the connection to a guard's files ended, and the files, if a guard was closed
+abbrev pub Left : Type 0 → Type 0
+Left D = Option (Result (Unit {0}) EndFault × Files D)
+
+-- The words name a job, which was such a run if it closed the files of a guard. Or they name none, and no files were
+-- closed.
+abbrev pub AreLived : {D : Type 0} (g : Ghosts D) → Image → (words : List (List ℕ)) → (held holds : Option (List ℕ))
+    → Left D → Type 0
+AreLived g image words held holds left =
+    ((job : StationJob) × Names words job × IfSome left (IsLived g image (said_by job held holds)))
+    ⊎ ((fault : WordsFault) × IsFaultOf words fault × (left ≡ None))
+
+-- This came of the words in a world, with files of which this holds afterwards. What the files of a guard held before is
+-- the image, and they are left so.
+pub record RunsWords {E F D L K H : Type 0} {g : Ghosts H} (world : surroundings.Ghosts E F)
+    (remaining : F → Option (List ℕ)) (guard : register.Ghosts (GuardStore (FileStore H g)))
+    (file : file.Ghosts D (GuardStore (FileStore H g))) (keeper : lister.Ghosts K) (file_of : lists.Ghosts L K)
+    (Is : D → Type 0) (image : Image) (left : Left H) (words : List (List ℕ)) (held holds : Option (List ℕ))
+    (answered : ℕ) : Type 0 where
+  pub around : E
+  pub input : Option (List ℕ)
+  pub before : D
+  pub after : D
+  pub lists_before : L
+  pub lists_after : L
+  pub is_left : Is after
+  pub does : DoesWords world around remaining guard file before after keeper file_of lists_before lists_after words
+      input held holds answered
+  pub lived : AreLived g image words held holds left
