@@ -1,12 +1,14 @@
 -- What is served over a register that keeps what is pending is served over the register below.
-use Rattle.std.proofs.Common.{◌≡◌, ℕ, List, [], ◌++◌, Option, subst, sym}
+use Rattle.std.proofs.Common.{◌≡◌, ℕ, List, [], ◌++◌, Option, None, subst, sym}
 use Rattle.office.specs.declared.opening.Opening.{Opening}
 use Rattle.office.specs.declared.arrival.Arrival.{Arrival}
+use Rattle.office.specs.declared.listing.Revocations.{Revocations}
 use Rattle.office.specs.declared.publication.Pending.{Pending}
 use Rattle.office.specs.declared.registry.Registry.{Ghosts}
 use Rattle.office.specs.History.{state}
 use Rattle.waiting.specs.Knowing.{MeansKnown}
 use Rattle.waiting.proofs.Covering.{knows_nothing}
+use Rattle.waiting.proofs.Kept.{none_kept}
 use Rattle.server.specs.Books.{Book}
 use Rattle.server.specs.Connections.{Extends, Meets}
 
@@ -21,11 +23,12 @@ extends_as most before before' after after' first last extends o l m =
 
 -- before the first ask the register that keeps means what the one below does
 pub known_at_first : {S : Type 0} (means : S → Opening → List Arrival → Type 0) (below register : S) (seen : ℕ)
-    (rows : List Pending) → register ≡ below → seen ≡ 0 → rows ≡ [] → (o : Opening) (l : List Arrival)
-    → means below o l → MeansKnown means register seen rows o l
-known_at_first means below register seen rows same none empty o l m = record {
+    (rows : List Pending) (revoked : Option Revocations) → register ≡ below → seen ≡ 0 → rows ≡ [] → revoked ≡ None
+    → (o : Opening) (l : List Arrival) → means below o l → MeansKnown means register seen rows revoked o l
+known_at_first means below register seen rows revoked same none empty unread o l m = record {
   register_means = subst (λ (s : _). means s o l) (sym same) m;
   knows = knows_nothing (state o l) seen rows none empty;
+  revocations = none_kept revoked (state o l) unread;
 }
 
 -- so connections that were met over the one were met over the other

@@ -13,7 +13,7 @@ returns-clause-met g c done =
     (g.N.Source.remaining c.serve_on-status.new.nonces) g.S.Registry c.args.store s)
     (sym c.into_register.ensures)
     (met_as c.args.connections _ _ _ _ _ g.S.Registry _ _ c.args.store c.serve_on-status.new.store.register
-    (known_at_first means c.args.store _ _ _ first.register first.seen first.rows) (λ o l m. m.register_means)
+    (known_at_first means c.args.store _ _ _ _ first.register first.seen first.rows first.revoked) (λ o l m. m.register_means)
     (λ h. h) (λ is. is) (c.serve_on-status.ensures.met done))
 
 pub returns-clause-served : goal.returns-clause-served
@@ -24,7 +24,7 @@ returns-clause-served g c =
     let b = c.serve_on-status.new.store in
     subst (λ (s : g.row.S.Denot). g.S.Registry.is_honest s → Extends c.args.connections (means c.args.store) (means s))
     (sym c.into_register.ensures)
-    (λ honest. extends_as c.args.connections (MeansKnown means a.register a.known.seen a.known.rows.items)
-    (means c.args.store) (MeansKnown means b.register b.known.seen b.known.rows.items) (means b.register)
-    (known_at_first means c.args.store _ _ _ first.register first.seen first.rows) (λ o l m. m.register_means)
+    (λ honest. extends_as c.args.connections (MeansKnown means a.register a.known.seen a.known.rows.items a.revoked)
+    (means c.args.store) (MeansKnown means b.register b.known.seen b.known.rows.items b.revoked) (means b.register)
+    (known_at_first means c.args.store _ _ _ _ first.register first.seen first.rows first.revoked) (λ o l m. m.register_means)
     (c.serve_on-status.ensures.served honest))
