@@ -35,8 +35,8 @@ returns-in-Ok-clause-reports g c = λ clean.
           c.request.ensures (c.in-Ok.ensures.answered clean) c.as_slice.ensures.value short c.in-None.ensures;
     }
 
-pub returns-in-Err-clause-reports : goal.returns-in-Err-clause-reports
-returns-in-Err-clause-reports g c = λ clean.
+pub returns-clause-reports : goal.returns-clause-reports
+returns-clause-reports g c = λ clean.
     let old = state g.S.Store c.args.store.now.conn in
     let new = state g.S.Store c.respond.new.store.conn in
     let held = g.W.Write.contents c.args.out.now in record {
