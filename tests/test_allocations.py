@@ -60,12 +60,12 @@ def in_turn(attempt, is_right):
 
 @pytest.mark.slow
 @pytest.mark.parametrize("words", ["program apply", "trial"])
-def test_exchanges_are_applied(words, refuse, request, room):
+def test_exchanges_are_applied(words, program, trial, refuse, room):
     name, *others = words.split()
-    program = request.getfixturevalue(name)
+    asked = {"program": program, "trial": trial}[name]
 
     def attempt(number, exchanges=EXCHANGES):
-        return refuse([program, *others, write_exchanges("some.exchange", exchanges)], number)
+        return refuse([asked, *others, write_exchanges("some.exchange", exchanges)], number)
 
     def is_lawful(whole, status, printed, errors):
         if (status, errors) == (0, b""):
