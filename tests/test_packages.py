@@ -459,7 +459,9 @@ sys.exit(setting_up.main("set-up", "usage: set-up FILE\\n\\nSets up.", lambda pa
 STAND_IN = """#!/usr/bin/python3 -B
 import json, pathlib, re, shlex, sys
 name, room = pathlib.Path(sys.argv[0]).name, pathlib.Path(__file__).parent.parent
-words = [it for it in sys.argv[1:] if not re.search("^(-o|-q|Connect.*|Server.*)$", it)]
+words = [it for it in sys.argv[1:] if not re.search("^(-o|-q|Connect.*|Server.*|Forward.*|RequestTTY.*)$", it)]
+if name != "vethlumi-client-setup" and not {"ForwardAgent=no", "ForwardX11=no", "RequestTTY=no"} <= {*sys.argv}:
+    sys.exit("the other machine may use this one's agent")
 if name == "ssh":
     words = [words[0], *shlex.split(words[1])]
 with open(room / "said", "a") as it:
@@ -561,7 +563,31 @@ def test_what_machines_make_is_carried_to_others(installing):
     assert [] == [it for it in said if "cat" in it]
 
 
+@pytest.mark.parametrize("words", [["server", "c", *CLIENT[1:]], [*CLIENT, "--hosts", "*.org"]], ids=["server", "client"])
+def test_of_several_cas_a_machine_trusts_those_that_are_named(installing, room, words):
+    """The others may be retired or lost: whoever has the key of one would be believed there."""
+    lines = [CA.replace("IA", f"I{it}") + f" {it}\n" for it in "BC"]
+    prints = []
+    for it in lines:
+        (room / "line").write_text(it)
+        prints.append(run(["ssh-keygen", "-l", "-f", "line"], check=True).stdout.decode().split()[1])
+    both, (_, second) = {".*/cas.pub": "".join(lines)}, prints
+    for more, why in (([], f"s has several CAs: name each that is to be trusted by --ca: {', '.join(prints)}"),
+                      (["--ca", second, "--ca", "SHA256:other"], "s has no CA SHA256:other in ")):
+        status, told, said = installing(*words, *more, "--yes", **both)
+        assert (1, True, []) == (status, why in told, [it for it in said if "-" in it]), told
+    for named in ([second], prints):
+        further = [it for name in named for it in ("--ca", name)]
+        status, told, said = installing(*words, *further, "--yes", **both)
+        assert 0 == status, told
+        assert (*further, "-", "".join(lines[-len(named):]) + "[office]\nhttps://office:8443\n"
+                ) == said[-1][-len(further) - 2:]
+        assert 2 * len(named) == len([it for it in said[-1] if it == "--ca" or it in prints])
+
+
 @pytest.mark.parametrize("words, why", [
+    (["station", "s", "--ca", "SHA256:x"], "station takes no --ca"),
+    (["office", "o", "--station", "s", "--ca", "SHA256:x"], "office takes no --ca"),
     (["station"], "station needs MACHINE"), (["client", "c"], "no MACHINE here: c"), ([], "arguments are required"),
     (["stations", "s"], "invalid choice"), (["station", "a b"], "no machine"), (["station", "ana;x@s"], "no machine"),
     (["station", "s/t"], "no machine"), ([*CLIENT, "--office=-oProxyCommand=x"], "no machine"),
@@ -586,6 +612,7 @@ NOT_THERE = r".* test -e \S+/{} && echo yes \|\| true"
     ([*CLIENT, "--yes"], {".*/cas.pub": f"{CA}\n[office]\n"}, "something else"),
     ([*CLIENT, "--yes"], {r".*/admin\.bundle": f"{CA}\n[office]\n"}, "has no bundle"),
     (["station", "s", "--yes"], {".* dpkg .*": "s390x\n"}, "has no vethlumi-station_.._s390x.deb"),
+    (["station", "s", "--yes"], {".* dpkg .*": ""}, "s doesn't say what it is, but ''"),
 ])
 def test_what_is_not_installed(installing, words, answers, why):
     status, told, said = installing(*words, **answers)
