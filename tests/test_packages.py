@@ -453,6 +453,51 @@ sys.exit(setting_up.main("set-up", "usage: set-up FILE\\n\\nSets up.", lambda pa
 """
 
 
+@pytest.fixture
+def settle(room, monkeypatch):
+    """What a server's set-up does with sshd's settings, for a sshd_config that includes the files of a folder."""
+    server = load("vethlumi-server-setup")
+    (room / "conf.d").mkdir()
+    (room / "sshd_config").write_text(f"Include {room}/conf.d/*.conf\nMatch User bob\n  PasswordAuthentication no\n")
+    run(["ssh-keygen", "-q", "-t", "ed25519", "-N", "", "-f", room / "host"], check=True)
+    if not os.getuid():
+        pathlib.Path("/run/sshd").mkdir(exist_ok=True)
+    said = []
+
+    def stand_in(words):
+        if words[0] == "/usr/sbin/sshd":
+            return server.setting_up.run([*words, "-f", room / "sshd_config", "-h", room / "host"])
+        return said.append(words)
+    monkeypatch.setattr(server, "run", stand_in)
+    monkeypatch.setattr(server, "SETTINGS", room / "conf.d/vethlumi.conf")
+    monkeypatch.setattr(server, "HOST_CERTIFICATE", room / "host.pub")
+    return lambda: server.settle_sshd(True), said, server.Fault
+
+
+def test_a_server_is_set_up_once_sshd_reads_the_list(room, settle):
+    """Of several values sshd takes the first, so a file before that of the set-up may say which list counts."""
+    do, said, fault = settle
+    do()
+    settings = (room / "conf.d/vethlumi.conf").read_text()
+    assert (3, [["systemctl", "reload-or-restart", "ssh"]]) == (len(settings.splitlines()), said)
+    do()
+    assert 1 == len(said)
+    for name, value in (("RevokedKeys", "none"), ("RevokedKeys", "/etc/old.krl"), ("TrustedUserCAKeys", "/etc/old.pub")):
+        (room / "conf.d/00-old.conf").write_text(f"{name} {value}\n")
+        with pytest.raises(fault, match=f"sshd doesn't take `{name} .*no file before this one may have {name}"):
+            do()
+        assert settings == (room / "conf.d/vethlumi.conf").read_text()
+        (room / "conf.d/vethlumi.conf").unlink()
+        with pytest.raises(fault, match=f"sshd doesn't take `{name} "):
+            do()
+        assert not (room / "conf.d/vethlumi.conf").exists(), "they are taken back"
+        (room / "conf.d/00-old.conf").unlink()
+        do()
+    (room / "sshd_config").write_text("")
+    with pytest.raises(fault, match="sshd_config has to include its folder"):
+        do()
+
+
 # ---- one machine that installs the others
 
 # Stands for ssh, scp and the set-up command of this machine: writes down what it is told, and gives what it has.
