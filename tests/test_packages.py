@@ -366,6 +366,53 @@ def test_no_client_gets_the_name_of_another(given):
         found()
 
 
+@pytest.fixture
+def authority(room, monkeypatch):
+    """What a front's set-up does with the authority: a function of its words that returns what it did."""
+    front = load("vethlumi-front-setup")
+    monkeypatch.setattr(front, "front_steps", lambda *_: 8443)
+    monkeypatch.setenv("PATH", f"{TOP}/examples/front:{os.environ['PATH']}")
+
+    def do(*words):
+        parser = argparse.ArgumentParser()
+        front.options(parser)
+        given = parser.parse_args([*words, "--authority", str(room / "authority")])
+        given.yes = True
+        steps = front.setting_up.Steps(given, "vethlumi-front-setup")
+        front.do(given, steps)
+        return [what for what, _ in steps.steps]
+    do("front.example.org")
+    return do, front.Fault
+
+
+@pytest.mark.parametrize("first, later", [
+    (["--caller", "db"], ["--server", "db"]), (["--server", "db"], ["--caller", "db"]),
+    (["--server", "db.example.org"], ["--server", "db-example-org"]),
+    (["--caller", "ana"], ["--reader", "ana"]), (["--reader", "ana"], ["--caller", "ana"]),
+], ids=" ".join)
+def test_no_client_gets_the_private_key_of_an_earlier_one(room, authority, first, later):
+    do, fault = authority
+    do(*first)
+    files = {it.name: it.read_bytes() for it in (room / "authority").glob("*.*")}
+    with pytest.raises(fault, match="is another one's already"):
+        do(*later)
+    assert files == {it.name: it.read_bytes() for it in (room / "authority").glob("*.*")}
+    assert [] == do(*first)
+
+
+def test_bundles_follow_a_certificate_that_is_made_again(room, authority):
+    do, _ = authority
+    folder = room / "authority"
+    assert [] == do()
+    old = (folder / "admin.pem").read_text()
+    assert old in (folder / "admin.bundle").read_text()
+    run(["authority", "renew", folder, "admin", "--revoke"], check=True)
+    assert [f"make the bundles root, station, admin, watch, server in {folder}"] == do()
+    text = (folder / "admin.bundle").read_text()
+    assert ((folder / "admin.pem").read_text() in text, old in text) == (True, False)
+    assert [] == do()
+
+
 @pytest.mark.parametrize("host, name", [("db.example.org", "db-example-org"), ("DB", "db"), ("a_b", None),
                                         ("db.some-longer-name.example.org", "db-some-longer-name-example-org"),
                                         ("db.a-still-longer-name.example.org", None), ("192.0.2.7", "192-0-2-7")])
