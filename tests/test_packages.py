@@ -453,6 +453,56 @@ def test_a_set_up_changes_nothing_that_is_as_it_should_be(room):
     steps.lines(room / "file", ["one", "two"])
     steps.carry_out()
     assert "one\ntwo\n" == (room / "file").read_text() and 0o644 == (room / "file").stat().st_mode & 0o777
+    # A last line without its end stays a line of its own.
+    (room / "file").write_text("one\ntwo")
+    steps = common.Steps(argparse.Namespace(yes=True), "set-up")
+    steps.lines(room / "file", ["two", "three"])
+    steps.carry_out()
+    assert "one\ntwo\nthree\n" == (room / "file").read_text()
+
+
+def test_a_fault_has_nothing_of_what_a_program_printed_before_it(room):
+    """That may be half a private key."""
+    common = load("setting_up.py")
+    with pytest.raises(common.Fault) as fault:
+        common.run(["sh", "-c", "echo a secret; echo the reason >&2; exit 1"], "the program")
+    assert "the program failed: the reason" == str(fault.value)
+
+
+@pytest.fixture
+def trust(room, monkeypatch):
+    """What a client's set-up writes into known_hosts, for a user of this number."""
+    client = load("vethlumi-client-setup")
+    monkeypatch.setenv("HOME", str(room))
+    monkeypatch.setattr(client, "reads_a_list", lambda: True)
+    monkeypatch.setattr(client, "list_steps", lambda *_: None)
+    (room / ".ssh").mkdir()
+
+    def do(owner):
+        given = argparse.Namespace(yes=True, hosts="*.org", ca=[])
+        steps = client.setting_up.Steps(given, "vethlumi-client-setup")
+        with monkeypatch.context() as it:
+            it.setattr(os, "getuid", lambda: owner)
+            client.host_steps(given, steps, {"ca": f"{CA}\n"}, "https://a", {})
+            steps.carry_out()
+    return do, client.Fault
+
+
+def test_known_hosts_keeps_what_it_has(room, trust):
+    """It may be a link to another folder, and its last line may have no end."""
+    do, fault = trust
+    (room / "kept").mkdir()
+    (room / "kept/hosts").write_text("one ssh-ed25519 AAAA")
+    known = room / ".ssh/known_hosts"
+    known.symlink_to(room / "kept/hosts")
+    owner = known.lstat().st_uid
+    # Nobody leads root elsewhere by a link of theirs.
+    with pytest.raises(fault, match="is a link of another user"):
+        do(owner + 1)
+    for _ in range(2):
+        do(owner)
+        assert known.is_symlink()
+        assert f"one ssh-ed25519 AAAA\n@cert-authority *.org {CA}\n" == (room / "kept/hosts").read_text()
 
 
 def test_a_set_up_asks_or_wants_yes(room):
