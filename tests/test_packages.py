@@ -443,6 +443,74 @@ def test_the_policy_that_a_station_begins_with(sshstation, room):
             office.departments_of(bad)
 
 
+@pytest.fixture
+def keeping(room, monkeypatch):
+    """The station's set-up, of one user, in a room of its own."""
+    station = load("vethlumi-station-setup")
+    monkeypatch.setattr(station, "STATION", room)
+    monkeypatch.setattr(station, "STATE", room)
+    monkeypatch.setattr(os, "getuid", lambda: 1000)
+    monkeypatch.setenv("PATH", f"{TOP}/examples:{os.environ['PATH']}")
+    (room / "first.policy").touch()
+    (room / "first.db").touch()
+
+    def do():
+        given = argparse.Namespace(yes=True, name="first", policy=None, principals=None, host=[], first="1")
+        steps = station.setting_up.Steps(given, "vethlumi-station-setup")
+        station.key_steps(given, steps, lambda kind: room / f"first.{kind}")
+        steps.carry_out()
+        return len(steps.steps)
+    return station, do
+
+
+def test_a_station_has_its_key_among_those_of_all_cas(room, keeping, monkeypatch):
+    """After a purge, which keeps the key alone, and after a kill between two files."""
+    station, do = keeping
+    assert (1, 0) == (do(), do())
+    line = (room / "first.pub").read_text()
+    assert line.startswith("ssh-ed25519 ") and line == (room / "cas.pub").read_text()
+    (room / "cas.pub").unlink()
+    assert (1, 0) == (do(), do())
+    assert line == (room / "cas.pub").read_text()
+    for number in (1, 2):
+        for it in ("first.pub", "cas.pub"):
+            (room / it).unlink(missing_ok=True)
+        written = []
+
+        def killed(path, *how):
+            if len(written) == number:
+                raise KeyboardInterrupt
+            written.append(path)
+            station.setting_up.put(path, *how)
+        monkeypatch.setattr(station, "put", killed)
+        with contextlib.suppress(KeyboardInterrupt):
+            do()
+        monkeypatch.setattr(station, "put", station.setting_up.put)
+        do()
+        assert (line, line) == ((room / "first.pub").read_text(), (room / "cas.pub").read_text()), written
+
+
+@pytest.mark.parametrize("reason", [KeyboardInterrupt, None])
+def test_a_first_list_that_is_interrupted_is_begun_again(room, keeping, monkeypatch, reason):
+    """A file of lists that has no first one would never get it."""
+    station, _ = keeping
+
+    def as_user(user, program, *words):
+        if program == "curl":
+            (room / "first.krl").touch()
+        if "--init" in words:
+            (room / "lists.db").touch()
+        if "--begin" in words:
+            if reason:
+                raise reason
+            return "refused"
+        return ""
+    monkeypatch.setattr(station.setting_up, "as_user", as_user)
+    with pytest.raises(reason or station.Fault):
+        station.begin_lists(room / "lists.db", lambda kind: room / f"first.{kind}", "https://a")
+    assert not (room / "lists.db").exists()
+
+
 def test_a_set_up_changes_nothing_that_is_as_it_should_be(room):
     common = load("setting_up.py")
     steps = common.Steps(argparse.Namespace(yes=True), "set-up")
