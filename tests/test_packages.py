@@ -647,8 +647,9 @@ def test_a_server_is_set_up_once_sshd_reads_the_list(room, settle):
     assert (3, [["systemctl", "reload-or-restart", "ssh"]]) == (len(settings.splitlines()), said)
     do()
     assert 1 == len(said)
-    for name, value in (("RevokedKeys", "none"), ("RevokedKeys", "/etc/old.krl"), ("TrustedUserCAKeys", "/etc/old.pub")):
-        (room / "conf.d/00-old.conf").write_text(f"{name} {value}\n")
+    for line in ("RevokedKeys none", "RevokedKeys /etc/old.krl", "TrustedUserCAKeys /etc/old.pub"):
+        (room / "conf.d/00-old.conf").write_text(f"{line}\n")
+        name = line.split()[0]
         with pytest.raises(fault, match=f"sshd doesn't take `{name} .*no file before this one may have {name}"):
             do()
         assert settings == (room / "conf.d/vethlumi.conf").read_text()
@@ -773,7 +774,7 @@ def test_what_machines_make_is_carried_to_others(installing):
     assert [] == [it for it in said if "cat" in it]
 
 
-@pytest.mark.parametrize("words", [["server", "c", *CLIENT[1:]], [*CLIENT, "--hosts", "*.org"]], ids=["server", "client"])
+@pytest.mark.parametrize("words", [["server", "c", *CLIENT[1:]], [*CLIENT, "--hosts", "*.org"]], ids=lambda it: it[0])
 def test_of_several_cas_a_machine_trusts_those_that_are_named(installing, room, words):
     """The others may be retired or lost: whoever has the key of one would be believed there."""
     lines = [CA.replace("IA", f"I{it}") + f" {it}\n" for it in "BC"]
