@@ -473,8 +473,8 @@ def test_a_station_has_its_key_among_those_of_all_cas(room, keeping, monkeypatch
     assert (1, 0) == (do(), do())
     assert line == (room / "cas.pub").read_text()
     for number in (1, 2):
-        for it in ("first.pub", "cas.pub"):
-            (room / it).unlink(missing_ok=True)
+        (room / "first.pub").unlink(missing_ok=True)
+        (room / "cas.pub").write_text("another\n")
         written = []
 
         def killed(path, *how):
@@ -487,7 +487,7 @@ def test_a_station_has_its_key_among_those_of_all_cas(room, keeping, monkeypatch
             do()
         monkeypatch.setattr(station, "put", station.setting_up.put)
         do()
-        assert (line, line) == ((room / "first.pub").read_text(), (room / "cas.pub").read_text()), written
+        assert (line, f"another\n{line}") == ((room / "first.pub").read_text(), (room / "cas.pub").read_text()), written
 
 
 @pytest.mark.parametrize("reason", [KeyboardInterrupt, None])
