@@ -127,7 +127,8 @@ def run(words, shown=None, **how):
     done = subprocess.run([str(it) for it in words], text=True, errors="replace",
                           **({"stdin": subprocess.DEVNULL, "capture_output": True} | how))
     if done.returncode:
-        said = f"{done.stdout or ''}{done.stderr or ''}".strip()[-600:] or f"status {done.returncode}"
+        # What it has printed may be part of a private key.
+        said = (done.stderr or done.stdout or "").strip()[-600:] or f"status {done.returncode}"
         raise Fault(f"{shown or ' '.join(map(str, words))} failed: {said}")
     return done.stdout
 
@@ -178,6 +179,8 @@ class Steps:
         """A step that adds those of the lines to a file that it lacks."""
         old = text_of(path)
         new = [it for it in lines if it not in old.splitlines()]
+        if new and old and not old.endswith("\n"):
+            old += "\n"
         self.file(path, old + "".join(f"{it}\n" for it in new), mode, user, group, what)
 
     def units(self, *names):

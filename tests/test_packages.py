@@ -366,6 +366,53 @@ def test_no_client_gets_the_name_of_another(given):
         found()
 
 
+@pytest.fixture
+def authority(room, monkeypatch):
+    """What a front's set-up does with the authority: a function of its words that returns what it did."""
+    front = load("vethlumi-front-setup")
+    monkeypatch.setattr(front, "front_steps", lambda *_: 8443)
+    monkeypatch.setenv("PATH", f"{TOP}/examples/front:{os.environ['PATH']}")
+
+    def do(*words):
+        parser = argparse.ArgumentParser()
+        front.options(parser)
+        given = parser.parse_args([*words, "--authority", str(room / "authority")])
+        given.yes = True
+        steps = front.setting_up.Steps(given, "vethlumi-front-setup")
+        front.do(given, steps)
+        return [what for what, _ in steps.steps]
+    do("front.example.org")
+    return do, front.Fault
+
+
+@pytest.mark.parametrize("first, later", [
+    (["--caller", "db"], ["--server", "db"]), (["--server", "db"], ["--caller", "db"]),
+    (["--server", "db.example.org"], ["--server", "db-example-org"]),
+    (["--caller", "ana"], ["--reader", "ana"]), (["--reader", "ana"], ["--caller", "ana"]),
+], ids=" ".join)
+def test_no_client_gets_the_private_key_of_an_earlier_one(room, authority, first, later):
+    do, fault = authority
+    do(*first)
+    files = {it.name: it.read_bytes() for it in (room / "authority").glob("*.*")}
+    with pytest.raises(fault, match="is another one's already"):
+        do(*later)
+    assert files == {it.name: it.read_bytes() for it in (room / "authority").glob("*.*")}
+    assert [] == do(*first)
+
+
+def test_bundles_follow_a_certificate_that_is_made_again(room, authority):
+    do, _ = authority
+    folder = room / "authority"
+    assert [] == do()
+    old = (folder / "admin.pem").read_text()
+    assert old in (folder / "admin.bundle").read_text()
+    run(["authority", "renew", folder, "admin", "--revoke"], check=True)
+    assert [f"make the bundles root, station, admin, watch, server in {folder}"] == do()
+    text = (folder / "admin.bundle").read_text()
+    assert ((folder / "admin.pem").read_text() in text, old in text) == (True, False)
+    assert [] == do()
+
+
 @pytest.mark.parametrize("host, name", [("db.example.org", "db-example-org"), ("DB", "db"), ("a_b", None),
                                         ("db.some-longer-name.example.org", "db-some-longer-name-example-org"),
                                         ("db.a-still-longer-name.example.org", None), ("192.0.2.7", "192-0-2-7")])
@@ -396,6 +443,74 @@ def test_the_policy_that_a_station_begins_with(sshstation, room):
             office.departments_of(bad)
 
 
+@pytest.fixture
+def keeping(room, monkeypatch):
+    """The station's set-up, of one user, in a room of its own."""
+    station = load("vethlumi-station-setup")
+    monkeypatch.setattr(station, "STATION", room)
+    monkeypatch.setattr(station, "STATE", room)
+    monkeypatch.setattr(os, "getuid", lambda: 1000)
+    monkeypatch.setenv("PATH", f"{TOP}/examples:{os.environ['PATH']}")
+    (room / "first.policy").touch()
+    (room / "first.db").touch()
+
+    def do():
+        given = argparse.Namespace(yes=True, name="first", policy=None, principals=None, host=[], first="1")
+        steps = station.setting_up.Steps(given, "vethlumi-station-setup")
+        station.key_steps(given, steps, lambda kind: room / f"first.{kind}")
+        steps.carry_out()
+        return len(steps.steps)
+    return station, do
+
+
+def test_a_station_has_its_key_among_those_of_all_cas(room, keeping, monkeypatch):
+    """After a purge, which keeps the key alone, and after a kill between two files."""
+    station, do = keeping
+    assert (1, 0) == (do(), do())
+    line = (room / "first.pub").read_text()
+    assert line.startswith("ssh-ed25519 ") and line == (room / "cas.pub").read_text()
+    (room / "cas.pub").unlink()
+    assert (1, 0) == (do(), do())
+    assert line == (room / "cas.pub").read_text()
+    for number in (1, 2):
+        (room / "first.pub").unlink(missing_ok=True)
+        (room / "cas.pub").write_text("another\n")
+        written = []
+
+        def killed(path, *how):
+            if len(written) == number:
+                raise KeyboardInterrupt
+            written.append(path)
+            station.setting_up.put(path, *how)
+        monkeypatch.setattr(station, "put", killed)
+        with contextlib.suppress(KeyboardInterrupt):
+            do()
+        monkeypatch.setattr(station, "put", station.setting_up.put)
+        do()
+        assert (line, f"another\n{line}") == ((room / "first.pub").read_text(), (room / "cas.pub").read_text()), written
+
+
+@pytest.mark.parametrize("reason", [KeyboardInterrupt, None])
+def test_a_first_list_that_is_interrupted_is_begun_again(room, keeping, monkeypatch, reason):
+    """A file of lists that has no first one would never get it."""
+    station, _ = keeping
+
+    def as_user(user, program, *words):
+        if program == "curl":
+            (room / "first.krl").touch()
+        if "--init" in words:
+            (room / "lists.db").touch()
+        if "--begin" in words:
+            if reason:
+                raise reason
+            return "refused"
+        return ""
+    monkeypatch.setattr(station.setting_up, "as_user", as_user)
+    with pytest.raises(reason or station.Fault):
+        station.begin_lists(room / "lists.db", lambda kind: room / f"first.{kind}", "https://a")
+    assert not (room / "lists.db").exists()
+
+
 def test_a_set_up_changes_nothing_that_is_as_it_should_be(room):
     common = load("setting_up.py")
     steps = common.Steps(argparse.Namespace(yes=True), "set-up")
@@ -406,6 +521,56 @@ def test_a_set_up_changes_nothing_that_is_as_it_should_be(room):
     steps.lines(room / "file", ["one", "two"])
     steps.carry_out()
     assert "one\ntwo\n" == (room / "file").read_text() and 0o644 == (room / "file").stat().st_mode & 0o777
+    # A last line without its end stays a line of its own.
+    (room / "file").write_text("one\ntwo")
+    steps = common.Steps(argparse.Namespace(yes=True), "set-up")
+    steps.lines(room / "file", ["two", "three"])
+    steps.carry_out()
+    assert "one\ntwo\nthree\n" == (room / "file").read_text()
+
+
+def test_a_fault_has_nothing_of_what_a_program_printed_before_it(room):
+    """That may be half a private key."""
+    common = load("setting_up.py")
+    with pytest.raises(common.Fault) as fault:
+        common.run(["sh", "-c", "echo a secret; echo the reason >&2; exit 1"], "the program")
+    assert "the program failed: the reason" == str(fault.value)
+
+
+@pytest.fixture
+def trust(room, monkeypatch):
+    """What a client's set-up writes into known_hosts, for a user of this number."""
+    client = load("vethlumi-client-setup")
+    monkeypatch.setenv("HOME", str(room))
+    monkeypatch.setattr(client, "reads_a_list", lambda: True)
+    monkeypatch.setattr(client, "list_steps", lambda *_: None)
+    (room / ".ssh").mkdir()
+
+    def do(owner):
+        given = argparse.Namespace(yes=True, hosts="*.org", ca=[])
+        steps = client.setting_up.Steps(given, "vethlumi-client-setup")
+        with monkeypatch.context() as it:
+            it.setattr(os, "getuid", lambda: owner)
+            client.host_steps(given, steps, {"ca": f"{CA}\n"}, "https://a", {})
+            steps.carry_out()
+    return do, client.Fault
+
+
+def test_known_hosts_keeps_what_it_has(room, trust):
+    """It may be a link to another folder, and its last line may have no end."""
+    do, fault = trust
+    (room / "kept").mkdir()
+    (room / "kept/hosts").write_text("one ssh-ed25519 AAAA")
+    known = room / ".ssh/known_hosts"
+    known.symlink_to(room / "kept/hosts")
+    owner = known.lstat().st_uid
+    # Nobody leads root elsewhere by a link of theirs.
+    with pytest.raises(fault, match="is a link of another user"):
+        do(owner + 1)
+    for _ in range(2):
+        do(owner)
+        assert known.is_symlink()
+        assert f"one ssh-ed25519 AAAA\n@cert-authority *.org {CA}\n" == (room / "kept/hosts").read_text()
 
 
 def test_a_set_up_asks_or_wants_yes(room):
@@ -453,13 +618,61 @@ sys.exit(setting_up.main("set-up", "usage: set-up FILE\\n\\nSets up.", lambda pa
 """
 
 
+@pytest.fixture
+def settle(room, monkeypatch):
+    """What a server's set-up does with sshd's settings, for a sshd_config that includes the files of a folder."""
+    server = load("vethlumi-server-setup")
+    (room / "conf.d").mkdir()
+    (room / "sshd_config").write_text(f"Include {room}/conf.d/*.conf\nMatch User bob\n  PasswordAuthentication no\n")
+    run(["ssh-keygen", "-q", "-t", "ed25519", "-N", "", "-f", room / "host"], check=True)
+    if not os.getuid():
+        pathlib.Path("/run/sshd").mkdir(exist_ok=True)
+    said = []
+
+    def stand_in(words):
+        if words[0] == "/usr/sbin/sshd":
+            return server.setting_up.run([*words, "-f", room / "sshd_config", "-h", room / "host"])
+        return said.append(words)
+    monkeypatch.setattr(server, "run", stand_in)
+    monkeypatch.setattr(server, "SETTINGS", room / "conf.d/vethlumi.conf")
+    monkeypatch.setattr(server, "HOST_CERTIFICATE", room / "host.pub")
+    return lambda: server.settle_sshd(True), said, server.Fault
+
+
+def test_a_server_is_set_up_once_sshd_reads_the_list(room, settle):
+    """Of several values sshd takes the first, so a file before that of the set-up may say which list counts."""
+    do, said, fault = settle
+    do()
+    settings = (room / "conf.d/vethlumi.conf").read_text()
+    assert (3, [["systemctl", "reload-or-restart", "ssh"]]) == (len(settings.splitlines()), said)
+    do()
+    assert 1 == len(said)
+    for line in ("RevokedKeys none", "RevokedKeys /etc/old.krl", "TrustedUserCAKeys /etc/old.pub"):
+        (room / "conf.d/00-old.conf").write_text(f"{line}\n")
+        name = line.split()[0]
+        with pytest.raises(fault, match=f"sshd doesn't take `{name} .*no file before this one may have {name}"):
+            do()
+        assert settings == (room / "conf.d/vethlumi.conf").read_text()
+        (room / "conf.d/vethlumi.conf").unlink()
+        with pytest.raises(fault, match=f"sshd doesn't take `{name} "):
+            do()
+        assert not (room / "conf.d/vethlumi.conf").exists(), "they are taken back"
+        (room / "conf.d/00-old.conf").unlink()
+        do()
+    (room / "sshd_config").write_text("")
+    with pytest.raises(fault, match="sshd_config has to include its folder"):
+        do()
+
+
 # ---- one machine that installs the others
 
 # Stands for ssh, scp and the set-up command of this machine: writes down what it is told, and gives what it has.
 STAND_IN = """#!/usr/bin/python3 -B
 import json, pathlib, re, shlex, sys
 name, room = pathlib.Path(sys.argv[0]).name, pathlib.Path(__file__).parent.parent
-words = [it for it in sys.argv[1:] if not re.search("^(-o|-q|Connect.*|Server.*)$", it)]
+words = [it for it in sys.argv[1:] if not re.search("^(-o|-q|Connect.*|Server.*|Forward.*|RequestTTY.*)$", it)]
+if name != "vethlumi-client-setup" and not {"ForwardAgent=no", "ForwardX11=no", "RequestTTY=no"} <= {*sys.argv}:
+    sys.exit("the other machine may use this one's agent")
 if name == "ssh":
     words = [words[0], *shlex.split(words[1])]
 with open(room / "said", "a") as it:
@@ -561,7 +774,31 @@ def test_what_machines_make_is_carried_to_others(installing):
     assert [] == [it for it in said if "cat" in it]
 
 
+@pytest.mark.parametrize("words", [["server", "c", *CLIENT[1:]], [*CLIENT, "--hosts", "*.org"]], ids=lambda it: it[0])
+def test_of_several_cas_a_machine_trusts_those_that_are_named(installing, room, words):
+    """The others may be retired or lost: whoever has the key of one would be believed there."""
+    lines = [CA.replace("IA", f"I{it}") + f" {it}\n" for it in "BC"]
+    prints = []
+    for it in lines:
+        (room / "line").write_text(it)
+        prints.append(run(["ssh-keygen", "-l", "-f", "line"], check=True).stdout.decode().split()[1])
+    both, (_, second) = {".*/cas.pub": "".join(lines)}, prints
+    for more, why in (([], f"s has several CAs: name each that is to be trusted by --ca: {', '.join(prints)}"),
+                      (["--ca", second, "--ca", "SHA256:other"], "s has no CA SHA256:other in ")):
+        status, told, said = installing(*words, *more, "--yes", **both)
+        assert (1, True, []) == (status, why in told, [it for it in said if "-" in it]), told
+    for named in ([second], prints):
+        further = [it for name in named for it in ("--ca", name)]
+        status, told, said = installing(*words, *further, "--yes", **both)
+        assert 0 == status, told
+        assert (*further, "-", "".join(lines[-len(named):]) + "[office]\nhttps://office:8443\n"
+                ) == said[-1][-len(further) - 2:]
+        assert 2 * len(named) == len([it for it in said[-1] if it == "--ca" or it in prints])
+
+
 @pytest.mark.parametrize("words, why", [
+    (["station", "s", "--ca", "SHA256:x"], "station takes no --ca"),
+    (["office", "o", "--station", "s", "--ca", "SHA256:x"], "office takes no --ca"),
     (["station"], "station needs MACHINE"), (["client", "c"], "no MACHINE here: c"), ([], "arguments are required"),
     (["stations", "s"], "invalid choice"), (["station", "a b"], "no machine"), (["station", "ana;x@s"], "no machine"),
     (["station", "s/t"], "no machine"), ([*CLIENT, "--office=-oProxyCommand=x"], "no machine"),
@@ -586,6 +823,7 @@ NOT_THERE = r".* test -e \S+/{} && echo yes \|\| true"
     ([*CLIENT, "--yes"], {".*/cas.pub": f"{CA}\n[office]\n"}, "something else"),
     ([*CLIENT, "--yes"], {r".*/admin\.bundle": f"{CA}\n[office]\n"}, "has no bundle"),
     (["station", "s", "--yes"], {".* dpkg .*": "s390x\n"}, "has no vethlumi-station_.._s390x.deb"),
+    (["station", "s", "--yes"], {".* dpkg .*": ""}, "s doesn't say what it is, but ''"),
 ])
 def test_what_is_not_installed(installing, words, answers, why):
     status, told, said = installing(*words, **answers)
