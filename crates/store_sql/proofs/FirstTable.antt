@@ -18,12 +18,12 @@ former_offices db c means = record {
   holds = means.holds.offices;
 }
 
--- the others, where it is the first
+-- the other tables, if it is the first
 pub first_is : (ts : List Table) → slice_get ts 0 ≡ Some office_at → (others : List Table) × (ts ≡ office_at ∷ others)
 first_is [] e = absurd cc
 first_is (t ∷ ts) e = (ts, let same : t ≡ office_at = cc in ap (λ (u : Table). u ∷ ts) same)
 
--- so it is seen
+-- and thus it is recognized
 pub first_seen : (ts : List Table) → slice_get ts 0 ≡ Some office_at → list_any is_office_table ts ≡ true
 first_seen ts e =
     let it = first_is ts e in
