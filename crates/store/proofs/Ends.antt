@@ -11,7 +11,7 @@ use Rattle.store_sql.proofs.LastRun.{Has, IsLast, all_from, all_has, has_filtere
 use Rattle.store.proofs.RunsApart.{AreApart}
 use Rattle.store.specs.Ranges.{joined_high, joined_low}
 
--- from the least begin of an interval and of runs up to the greatest end
+-- from the least start of an interval and of runs up to the greatest end
 abbrev pub spanning : ℕ → ℕ → List RunRow → RunRow
 spanning lo hi [] = record { lo = lo; hi = hi }
 spanning lo hi (r ∷ rs) = spanning (min lo r.lo) (max hi r.hi) rs

@@ -17,7 +17,7 @@ is_near lo hi r = nat_le (lo - 1) r.hi && nat_le r.lo (hi + 1)
 abbrev pub is_far : ℕ → ℕ → Run → Bool
 is_far lo hi r = not (is_near lo hi r)
 
--- from the least begin up to the greatest end
+-- from the least start up to the greatest end
 abbrev pub span : ℕ → ℕ → List Run → Run
 span lo hi [] = record { lo = lo; hi = hi }
 span lo hi (r ∷ rs) = span (min lo r.lo) (max hi r.hi) rs

@@ -39,7 +39,7 @@ migrated c = with_schema 2 (record c { cas = map first_ca c.offices })
 
 -- ---- histories
 
--- the rows of the office of a configuration after a history, as schema 1 has them: no CA has a row
+-- the rows of the office with a configuration after a history, as schema 1 has them: no CA has a row
 abbrev pub former_contents : Opening → List Arrival → Contents
 former_contents o l = record (office_contents o l) { offices = renumbered 1 (office_row (state o l)) ∷ []; cas = [] }
 
@@ -51,7 +51,7 @@ is_rollover _ = false
 abbrev pub HasNoRollover : List Arrival → Type 0
 HasNoRollover l = AllByRecursion (λ a. IfSome (message_with_text a.bytes) (λ m. is_rollover m ≡ false)) l
 
--- No transaction is open, and the tables of schema 1 hold the rows of the office of this configuration after this
+-- No transaction is open, and the tables of schema 1 hold the rows of the office with this configuration after this
 -- history, in which no message is a rollover. The tables of a connection that a failed disk has closed are
 -- unconstrained.
 pub record TellsBefore (s : State) (o : Opening) (l : List Arrival) : Type 0 where

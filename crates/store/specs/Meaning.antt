@@ -29,15 +29,15 @@ pub record IsHistory (o : Opening) (l : List Arrival) : Type 0 where
   pub office : IsOffice o l
   pub nonces : AllByRecursion (λ a. length a.nonce ≡ 32) l
 
--- The trees hold the rows of the office of this configuration after this history, or after it and one more request,
--- which extends it to a history again.
+-- The trees hold the rows of the office with this configuration after this history, or after it and one more request,
+-- with which it is still a history.
 abbrev pub IsLeft : Opening → List Arrival → Trees → Type 0
 IsLeft o l trees =
     Kept trees (office_contents o l)
     ⊎ ((a : Arrival) × IsHistory o (l ++ a ∷ []) × Kept trees (office_contents o (l ++ a ∷ [])))
 
 -- The tables represent this history: no query has a limit on its steps, no transaction is open, and the tables hold the
--- rows of the office of this configuration after this history. If a failed disk has closed the connection, its tables
+-- rows of the office with this configuration after this history. If a failed disk has closed the connection, its tables
 -- are unconstrained; but a crash leaves these rows, or those with one more request, whose commit failed.
 pub record Tells (s : State) (o : Opening) (l : List Arrival) : Type 0 where
   pub history : IsHistory o l

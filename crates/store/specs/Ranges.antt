@@ -6,7 +6,7 @@ use Rattle.store_sql.specs.Contents.{Contents}
 use Rattle.store_sql.specs.Changes.{with_run}
 use Rattle.store_sql.specs.Runs.{last_run, without_runs}
 
--- the begin of the last run at or before the serial, if that run contains or touches it; otherwise the serial
+-- the start of the last run at or before the serial, if that run contains or touches it; otherwise the serial
 abbrev pub joined_low : ℕ → Option RunRow → ℕ
 joined_low lo None = lo
 joined_low lo (Some x) = if nat_le lo (x.hi + 1) then x.lo else lo

@@ -92,6 +92,6 @@ contents_of s kept = record {
   cas = ca_rows 1 s.cas;
 }
 
--- all rows of the office of a configuration after a history
+-- all rows of the office with a configuration after a history
 abbrev pub office_contents : Opening → List Arrival → Contents
 office_contents o l = contents_of (state o l) (kept_by (first_accepted o l))

@@ -31,8 +31,8 @@ pub record Goes (old new : State) (c : Contents) : Type 0 where
   pub committed : IsTrue old.in_transaction → new.committed ≡ old.committed
   pub mode : new.in_transaction ≡ old.in_transaction
 
--- For a database that satisfies `Before` for some `a`: the answer satisfies `Due a`, and the tables hold `after a`; or
--- it fails, and nothing is committed.
+-- If the database satisfies `Before a`: the answer satisfies `Due a`, and the tables hold `after a`; or it fails, and
+-- nothing is committed.
 abbrev pub Answers : {A X E : Type 0} → (A → Database → Type 0) → (A → X → Type 0) → (A → Contents) → State → State
     → Result X E → Type 0
 Answers {A} Before Due after old new (Ok x) = (a : A) → Before a old.now → Due a x × Goes old new (after a)
@@ -100,16 +100,15 @@ abbrev pub EndsFor : {X : Type 0} → Result X Fault → State → State → Res
 EndsFor (Ok x) old new r = ClosesFor old new r
 EndsFor (Err e) old new r = Unit {0}
 
--- what a crash may leave once there is an answer: the transaction's rows if it was successful, and otherwise nothing
--- new
+-- what a crash may leave after an answer: the transaction's rows if it succeeded, and otherwise nothing new
 abbrev pub LeavesAnswered : {X E : Type 0} → Result X E → State → Trees → Type 0
 LeavesAnswered (Ok x) old trees = trees ≡ old.now.trees
 LeavesAnswered (Err e) old trees = ⊥
 
 -- ---- the whole transaction
 
--- For a database at rest that satisfies `Before` for some `a`: the answer satisfies `Due a`, and the tables then hold
--- `after a`; or nothing has changed. Only a failed disk closes the connection, and a closed one never answers.
+-- If the database is at rest and satisfies `Before a`: the answer satisfies `Due a`, and the tables then hold `after
+-- a`; or nothing has changed. Only a failed disk closes the connection, and a closed one never answers.
 abbrev pub Ends : {A X E : Type 0} → (A → Database → Type 0) → (A → X → Type 0) → (A → Contents) → State → State
     → Result X E → Type 0
 Ends {A} Before Due after old new (Ok x) =

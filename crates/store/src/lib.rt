@@ -1,8 +1,8 @@
 //! The office's register in the tables of a database.
 //!
-//! An office is created in one transaction, whole or not at all, and so is each received request processed: its answer
-//! is the one specified after the history that the tables represent, and a crash leaves that history or the one with
-//! the request. The tables still represent their history after each reading call, and after each call that failed.
+//! An office is created in one transaction, whole or not at all, and each received request is processed in one: its
+//! answer is the one specified after the history that the tables represent, and a crash leaves that history or the one
+//! with the request. The tables still represent their history after each reading call, and after each call that failed.
 #![tactic(auto)]
 
 mod answer;

@@ -1,7 +1,6 @@
 //! The answer to a received request, inside a transaction.
 //!
-//! Large values are dropped explicitly, to keep the proof of a function that ends with one from splitting all its
-//! fields.
+//! Large values are dropped explicitly: if a function ends with one, its proof takes each field apart.
 
 ghost use Rattle.std.specs.Prelude.{◌≡◌, IsTrue, Some, length};
 ghost use Rattle.message.specs.Values.{is_message};
@@ -40,7 +39,7 @@ fn accept<S: Alter>(
     Ok(Outcome::Accepted(reply))
 }
 
-/// Writes an accepting decision. A version above the last one counts as a refused allocation.
+/// Writes the decision. A version above the last one counts as a refused allocation.
 fn accept_version<S: Alter>(
     alloc: Global,
     conn: &mut Connection<S>,

@@ -5,7 +5,7 @@ use Rattle.sqlite_schema.specs.Names.{same_name}
 use Rattle.sqlite.specs.Table.{Table}
 use Rattle.store_sql.specs.Schema.{office_at, whole, without_ca, no_schema}
 
--- whether a table has the name of one of the office's, in upper or lower case
+-- whether a table has the name of one of the office's, ignoring case
 abbrev pub is_office_name : Table → Bool
 is_office_name t =
     same_name t.name (codes "office") || (same_name t.name (codes "department") || (same_name t.name (codes "cert")
@@ -26,7 +26,7 @@ has_columns t = (length t.columns == 10) && list_all (λ p. bytes_eq p.0.name p.
 abbrev pub is_office_table : Table → Bool
 is_office_table t = same_name t.name (codes "office") && has_columns t
 
--- whether a table has the name of the table of CAs, in upper or lower case
+-- whether a table has the name of the table of CAs, ignoring case
 abbrev pub is_ca_name : Table → Bool
 is_ca_name t = same_name t.name (codes "ca")
 

@@ -1,4 +1,4 @@
--- Runs (maximal ranges) of revoked serials, found and deleted by their begin.
+-- Runs (maximal ranges) of revoked serials, found and deleted by their starts.
 use Rattle.std.specs.Prelude.{◌≡◌, ℕ, Bool, not, ◌&&◌, nat_le, if◌then◌else◌, List, [], ◌∷◌, filter, Option, Some, None}
 use Rattle.std.specs.Prelude.{Result, Ok, Err}
 use Rattle.sqlite.specs.State.{State, IsUnchanged}

@@ -1,7 +1,6 @@
 //! The rows that a message concerns, read together.
 //!
-//! Large values are dropped explicitly, to keep the proof of a function that ends with one from splitting all its
-//! fields.
+//! Large values are dropped explicitly: if a function ends with one, its proof takes each field apart.
 
 ghost use Rattle.std.specs.Prelude.{◌<◌, ◌≤◌, IfOk, IsTrue};
 ghost use Rattle.message.specs.declared.kinds.Message.{Message};

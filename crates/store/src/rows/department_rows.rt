@@ -1,7 +1,6 @@
 //! Departments as rows, and rows as departments.
 //!
-//! Large values are dropped explicitly, to keep the proof of a function that ends with one from splitting all its
-//! fields.
+//! Large values are dropped explicitly: if a function ends with one, its proof takes each field apart.
 
 ghost use Rattle.std.specs.Prelude.{◌≡◌, ◌<◌, ◌^◌, IfOk, IsTrue, Some, map};
 ghost use Rattle.message.specs.declared.department.Department.{Department};
@@ -97,7 +96,7 @@ fn is_department(department: &Department) -> bool
         && fits_kind(kind, namespaces)
 }
 
-/// The row of a department: the kind is 1 for users and 2 for hosts, and lists are texts joined by commas, in their
+/// The row of a department: its kind is 1 for users and 2 for hosts, and its lists are joined by commas, in their
 /// order.
 pub fn department_row(alloc: Global, department: &Department) -> Result<DepartmentRow, NoMemory>
     requires { department.now.longest_life < 2 ^ 63 }

@@ -12,7 +12,7 @@ use sqlite::{Alter, Connection};
 use std::alloc::Global;
 use store_sql::{Fault, Number, RunRow, delete_runs, insert_run, last_run};
 
-// The begin of a range from this serial on, once merged with the last run that begins there or before.
+// The start of a range from this serial on, once merged with the last run that begins there or before.
 fn joined_low(lo: u64, found: Option<RunRow>) -> Number
     requires { lo < 2 ^ 63 }
     ensures { result ≡ joined_low lo found }
