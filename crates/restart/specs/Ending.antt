@@ -75,7 +75,7 @@ AreEnded {D} {g} conn (Ok done) files =
 AreEnded {D} {g} conn (Err (GivenUp error)) files = AreClean g files.log files.db → AreGivenUp conn error files
 AreEnded {D} {g} conn (Err (Uncopied error)) files = AreClosed conn (Some error) files
 
--- the run ended so
+-- the run ended this way
 abbrev pub IsEnd : Result (Unit {0}) EndFault → End → Type 0
 IsEnd (Ok done) end = end ≡ closed
 IsEnd (Err (GivenUp error)) end = end ≡ cut

@@ -5,8 +5,8 @@
 //! connection that opens such files represents the history, a close leaves the history that was represented, and a
 //! crash leaves it, or it with one more request.
 //!
-//! The contents of the files at an open, and the meaning of a crash, are defined by `Start`. Clauses about values
-//! assume that the disk has been faithful: it has returned what was written.
+//! The contents of the files at an open, and the possible effects of a crash, are defined by `Start`. Clauses about
+//! values assume that the disk has been faithful: it has returned what was written.
 #![tactic(auto)]
 
 mod closing;

@@ -20,7 +20,7 @@ spanning lo hi (r ∷ rs) = spanning (min lo r.lo) (max hi r.hi) rs
 abbrev pub touches : ℕ → ℕ → RunRow → Bool
 touches lo hi q = nat_le (lo - 1) q.hi && nat_le q.lo (hi + 1)
 
--- ---- the least begin and the greatest end
+-- ---- the least start and the greatest end
 
 least_low : (lo hi : ℕ) (rs : List RunRow)
     → ((spanning lo hi rs).lo ≤ lo) × AllByRecursion (λ r. (spanning lo hi rs).lo ≤ r.lo) rs

@@ -45,7 +45,7 @@ use Rattle.store.specs.Meaning.{IsHistory}
 
 -- ---- parts of a valid state
 
--- whichever of two states it is
+-- for either of two states
 pub of_either : (P : State → Type 0) (b : Bool) (s t : State) → P s → P t → P (cond b s t)
 of_either P true s t p q = p
 of_either P false s t p q = q

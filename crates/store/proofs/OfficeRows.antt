@@ -1,4 +1,4 @@
--- A look at the tables of an office.
+-- Looking at the tables of an office.
 use Rattle.std.proofs.Common.{inl, inr, ◌≡◌, Bool, true, false, List, [], ◌∷◌, refl, sym, subst, ◌∙◌, arith}
 use Rattle.std.specs.Prelude.{◌==◌, None, Result, Ok, Err, IsPermutation, All}
 use Rattle.std.specs.List.{list_any}
@@ -21,7 +21,7 @@ use Rattle.store.specs.Migrating.{HasStopped, IsExcused, RefusesFirstCa}
 use Rattle.store.specs.Meaning.{DiskFailed, Looks, opened_by}
 use Rattle.store.proofs.Telling.{disk_failed}
 
--- the table of the office is found
+-- the `office` table is found
 pub unseen : (b : Bool) (rows : List OfficeRow) (db : Database) → b ≡ list_any is_office_table db.schema.tables
     → b ≡ false → HasOffices rows db → ⊥
 unseen b rows db is off has =

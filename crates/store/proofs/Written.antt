@@ -37,7 +37,7 @@ use Rattle.store.proofs.Once.{absent, present}
 use Rattle.store.proofs.WrittenParts.{Holds}
 use Rattle.store.proofs.SerialsHeld.{ca_added, signed_rows, to_front}
 
--- ---- the tables of changes
+-- ---- the tables that changes write
 
 -- the contents with these rows in the other tables
 abbrev with_others : List OfficeRow → List RequestRow → Contents → Contents

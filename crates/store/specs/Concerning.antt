@@ -1,4 +1,4 @@
--- The rows that a message concerns.
+-- The rows that a message concerns, and what holds of them.
 use Rattle.std.specs.Prelude.{◌≡◌, Bool, List, Option, IfSome, IsTrue}
 use Rattle.message.specs.declared.kinds.Message.{Message}
 use Rattle.message.specs.declared.department.Department.{Department}
@@ -35,13 +35,13 @@ pub record AreConcerned (c : Concerned) (s : State) (m : Message) : Type 0 where
   pub subject : IsSubject c.subject s m
   pub marks : AreMarks c.marks s m
 
--- ---- what is known of them in any case
+-- ---- what always holds of them
 
 pub record IsLawfulSubject (x : Subject) : Type 0 where
   pub certificate : IfSome x.certificate IsCertificate
   pub department : IfSome x.department (λ d. IsTrue (is_department d))
 
--- the rows are of the form that an office writes
+-- the rows are valid, that is, of the form that an office writes
 pub record AreLawful (c : Concerned) : Type 0 where
   pub office : IsLawfulOffice c.office
   pub subject : IsLawfulSubject c.subject

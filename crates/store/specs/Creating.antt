@@ -27,7 +27,7 @@ RefusesOpening o = RefusesFirst (office_row (opened o)) (ca_row 1 (first_ca o)) 
 
 -- ---- a database without tables
 
--- a fault of the whole has its cause, or is this refusal
+-- a fault of the whole transaction has its cause, or is this refusal
 abbrev pub FailsOnBlank : Type 0 → State → State → Result (Unit {0}) Fault → Type 0
 FailsOnBlank refused old new r = Rests (IsBare no_schema) old → IfErr r (HasCauseOr refused old new)
 

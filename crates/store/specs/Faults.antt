@@ -1,4 +1,4 @@
--- Why a call on the register fails.
+-- Faults of the tables as faults of the register.
 use Rattle.std.specs.Prelude.{Result, Ok, Err}
 use Rattle.store_sql.specs.declared.table_fault.Fault.{Fault}
 use Rattle.store_sql.specs.declared.table_fault.Fault.TheVariants as table

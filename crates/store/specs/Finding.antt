@@ -1,4 +1,4 @@
--- The value of a row that was found.
+-- The value of a row, if one is found.
 use Rattle.std.specs.Prelude.{ℕ, ◌^◌, nat_lt, if◌then◌else◌, Option, Some, None}
 use Rattle.std.specs.Option.{option_map}
 use Rattle.store_sql.specs.declared.requests.RequestRow.{RequestRow}

@@ -27,7 +27,7 @@ Had c db = MeansWithoutCa db c
 abbrev pub first_ca : OfficeRow → CaRow
 first_ca o = record { number = 1; ca = o.ca; since = o.first }
 
--- CA 1, if the table of the office has exactly one row, which is that of an office of schema 1
+-- CA 1, if the `office` table has exactly one row, which is that of an office of schema 1
 abbrev pub ca_of : List OfficeRow → Result CaRow StoreFault
 ca_of [] = Err NotAnOffice
 ca_of (o ∷ []) = if o.schema == 1 then (if o.id == 1 then Ok (first_ca o) else Err Damaged) else Err WrongSchema

@@ -78,20 +78,20 @@ abbrev pub LooksOn : State → State → Result (Unit {0}) StoreFault → Type 0
 LooksOn old new (Ok x) = IsUnchanged old new
 LooksOn old new (Err e) = IsTrue new.is_open → Fails old new
 
--- the answer of `open` to the rows of the table of the office: success if there is one row, of the current schema
+-- the answer of `open` to the rows of the `office` table: success if there is one row, of the current schema
 abbrev pub opened_by : List OfficeRow → Result (Unit {0}) StoreFault
 opened_by [] = Err NotAnOffice
 opened_by (row ∷ []) = if row.schema == 2 then Ok tt else Err WrongSchema
 opened_by (row ∷ other ∷ rows) = Err NotAnOffice
 
--- a look at a table of the office with these rows finds that answer, or memory is refused or the database failed
+-- a look at an `office` table with these rows finds that answer, or memory is refused or the database failed
 abbrev pub Looks : List OfficeRow → Type 0 → Result (Unit {0}) StoreFault → Type 0
 Looks rows failed (Ok x) = opened_by rows ≡ Ok x
 Looks rows failed (Err NoMemory) = Unit {0}
 Looks rows failed (Err Device) = failed
 Looks rows failed (Err e) = opened_by rows ≡ Err e
 
--- the same for each table of the office, with this failure of the database
+-- the same for each `office` table, with this failure of the database
 abbrev pub LooksUnless : (State → State → Type 0) → State → State → Result (Unit {0}) StoreFault → Type 0
 LooksUnless Failed old new r = (rows : List OfficeRow) → HasOffices rows old.now → Looks rows (Failed old new) r
 

@@ -73,13 +73,13 @@ impl<S: Alter> Store<S> {
         }
     }
 
-    /// Opens the office of a database. `NotAnOffice` if the table of the office is missing or doesn't have exactly one
-    /// row, `WrongSchema` if its tables are those of another schema, `Device` if the database failed. A fault returns
-    /// the connection. No transaction may be open, and the connection may have no limit on the steps of a query.
+    /// Opens the office of a database. `NotAnOffice` if the `office` table is missing or doesn't have exactly one row,
+    /// `WrongSchema` if its tables are those of another schema, `Device` if the database failed. A fault returns the
+    /// connection. No transaction may be open, and the connection may have no limit on the steps of a query.
     pub fn open(alloc: Global, conn: Connection<S>) -> Result<Store<S>, (StoreFault, Connection<S>)>
         requires outside { IsOutside S.Store conn }
         requires unlimited { IsUnlimited S.Store conn }
-        // The rows of the table of the office decide, if that is the first table, as it is in schema 1 and in schema 2.
+        // The rows of the `office` table decide, if that is the first table, as it is in schema 1 and in schema 2.
         ensures opened { IfOk result (λ s. On S.Store (LooksUnless DiskFailed) conn s.conn (Ok tt)) }
         ensures stays_open { IfOk result (λ s. Between S.Store IsLeftOpen conn s.conn) }
         ensures before { IfErr result (λ e. Between S.Store IsAsBefore conn e.1) }
@@ -103,10 +103,10 @@ impl<S: Alter> Store<S> {
     }
 
     /// Migrates the office of a database from schema 1 to the current schema: its CA gets number 1. If it fails,
-    /// nothing has changed, and it returns the connection. `NotAnOffice` if the table of the office is missing or
-    /// doesn't have exactly one row, `WrongSchema` if its tables are those of another schema, `Device` if the database
-    /// failed or its rules refuse the CA, which never happens to an office that represents a history. No transaction
-    /// may be open, and the connection may have no limit on the steps of a query.
+    /// nothing has changed, and it returns the connection. `NotAnOffice` if the `office` table is missing or doesn't
+    /// have exactly one row, `WrongSchema` if its tables are those of another schema, `Device` if the database failed
+    /// or its rules refuse the CA, which never happens to an office that represents a history. No transaction may be
+    /// open, and the connection may have no limit on the steps of a query.
     pub fn migrate(
         alloc: Global,
         conn: Connection<S>,

@@ -1,4 +1,4 @@
--- The table of the office is the first of the office's tables.
+-- The `office` table is the first of the office's tables.
 use Rattle.store_sql.proofs.Words.{Contents, Database, HasOffices, List, Means, Schema, Some, Table, [], ap, list_any}
 use Rattle.store_sql.proofs.Words.{office_at, slice_get, subst, sym, true, ◌∷◌, ◌≡◌}
 use Rattle.store_sql.specs.Contents.{MeansWithoutCa}

@@ -1,6 +1,5 @@
 -- Properties of a text, whatever the tables are: a query under one schema is a query under each, and a text that ends
 -- no transaction under one ends none under any.
--- transaction under one ends none under each.
 use Rattle.store_sql.proofs.Words.{Bool, Checked, CompileError, Compiled, Err, IsPlain, List, Name, NoSuchTable, None}
 use Rattle.store_sql.proofs.Words.{Ok, Option, Result, Returning, and_then, command, false, if◌then◌else◌, inl, inr}
 use Rattle.store_sql.proofs.Words.{is_select, length, reads_listing, refl, subst, sym, true, understood, ℕ, ◌+◌, ◌==◌}

@@ -245,7 +245,7 @@ row_of_one cells (r ∷ rows) [] i d low is = absurd cc
 row_of_one cells (r ∷ rows) (x ∷ all) zero d low is = (x, cc)
 row_of_one cells (r ∷ rows) (x ∷ all) (suc i) d low is = row_of_one cells rows all i d (omega arith) cc
 
--- rows of which one is no struct's are not those of structs
+-- if one row isn't a struct's, the rows aren't those of structs
 pub misread_one : {X : Type 0} (cells : X → Row) (rows : List Row) (i : ℕ) (row : Row) (fault : Fault)
     → i < length rows → row ≡ get_or rows i row
     → Misread ((x : X) → row ≢ cells x) fault → Misread ((all : List X) → rows ≢ map cells all) fault

@@ -33,7 +33,7 @@ idle false = refl
 pub no_works : (tree : ℕ) (olds news : List Row) → works whole Enforced 0 tree olds news ≡ []
 no_works tree olds news = rw (idle (length news == 0)) refl
 
--- The text that inserts the row of a struct. `row` is that row, given the existing rows.
+-- The text that inserts the row of a struct. `row` is that row, which depends on the existing rows.
 pub record IsInsert {X : Type 0} (sql : List ℕ) (cells : X → Row) (places : List ℕ) (at : ℕ) (table : Table)
     (terms : List Term)
     (width : ℕ) (with_x : X → Contents → Contents) (of : Contents → List X) (row : X → List Row → Row) : Type 0 where
@@ -101,7 +101,7 @@ pub parent_is : (trees : Trees) (row : Row) → has_parent whole.tables trees ro
 unfolding same_name joined
 parent_is trees row = refl
 
--- all references hold if each certificate has its department
+-- all references hold if each certificate's department exists
 pub all_refer : (trees : Trees) → AllByRecursion (λ r. has_department trees r ≡ true) (trees 3) → Refers All whole trees
 all_refer trees all = refers_from All whole trees (λ t ref row listed known is there.
     all_has (λ (u : Table). Has u.references ref → Has (trees u.tree) row
@@ -116,7 +116,7 @@ all_refer trees all = refers_from All whole trees (λ t ref row listed known is 
         (parent_is trees row ∙ all_has (λ r. has_department trees r ≡ true) (trees 3) row all there)
     at_cert ref row (inr none) there = absurd none
 
--- each certificate has its department
+-- each certificate's department exists
 pub each_refers : (trees : Trees) → Keeps ForeignKey whole trees → AllByRecursion (λ r. has_department trees r ≡ true) (trees 3)
 each_refers trees keeps = all_from (λ r. has_department trees r ≡ true) (trees 3) (λ row there.
     sym (parent_is trees row) ∙ test_has (has_parent whole.tables trees row) (to_department 2 ∷ []) (to_department 2)

@@ -1,4 +1,4 @@
--- INSERT of one row .. ON CONFLICT .. DO UPDATE, and what stops it.
+-- INSERT of one row .. ON CONFLICT .. DO UPDATE, and why it stops.
 use Rattle.store_sql.proofs.Words.{Abort, Answers, Applies, AreConflicts, AtPlace, Chosen, Clears, Database, Does, Edit}
 use Rattle.store_sql.proofs.Words.{Enforced, Err, Error, Given, InsertOr, IsJudged, Judged, List, Meets, None, Ok}
 use Rattle.store_sql.proofs.Words.{OnRows, Option, Program, ProgramOverflows, Puts, Refusal, Row, Schema, Some, Table}

@@ -77,7 +77,7 @@ MayLeave after old trees = (c : Contents) → Means old.now c → (old.in_transa
 abbrev pub Never : Trees → Type 0
 Never trees = ⊥
 
--- a transaction is begun
+-- a transaction begins
 abbrev pub Begins : {X E : Type 0} → State → State → Result X E → Type 0
 Begins old new (Ok x) = (old.in_transaction ≡ false) × Shows old new old.now old.committed true
 Begins old new (Err e) = Fails old new
@@ -118,7 +118,7 @@ pub record Grown (old new : State) (before : Schema) (table : Table) : Type 0 wh
   pub mode : new.in_transaction ≡ old.in_transaction
   pub marks : new.marks ≡ old.marks
 
--- the table is created next to the existing ones, or the call fails
+-- the table is added to the existing ones, or the call fails
 abbrev pub Creates : {X E : Type 0} → Schema → Table → State → State → Result X E → Type 0
 Creates before table old new (Ok x) = old.now.schema ≡ before → Grown old new before table
 Creates before table old new (Err e) = Fails old new
@@ -132,7 +132,7 @@ abbrev pub Completes : {X E : Type 0} → Schema → State → State → Result 
 Completes before old new (Ok x) = IsBare before old.now → Steps old new no_contents
 Completes before old new (Err e) = IsBare before old.now → IsTrue old.in_transaction → KeepsCommit old new
 
--- the table of CAs is created next to the others, whose rows stay; or the call fails
+-- the table of CAs is added to the others, whose rows stay; or the call fails
 abbrev pub AddsCa : {X E : Type 0} → State → State → Result X E → Type 0
 AddsCa old new (Ok x) = (c : Contents) → MeansWithoutCa old.now c → Steps old new c
 AddsCa old new (Err e) = Fails old new

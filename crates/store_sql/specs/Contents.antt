@@ -99,7 +99,7 @@ pub record MeansWithoutCa (db : Database) (c : Contents) : Type 0 where
   pub sound : IsSound without_ca db.trees
   pub holds : Holds (with_tree db.trees 9 []) c
 
--- The first table is that of the office, and it holds these rows, whatever other tables there are.
+-- The first table is the `office` table, and it holds these rows, whatever other tables there are.
 pub record HasOffices (rows : List OfficeRow) (db : Database) : Type 0 where
   pub first : slice_get db.schema.tables 0 ≡ Some office_at
   pub holds : Lists office_cells office_places (db.trees 0) rows

@@ -12,17 +12,17 @@ is_office_name t =
     || (same_name t.name (codes "request") || (same_name t.name (codes "run")
     || (same_name t.name (codes "revoked_keyid") || same_name t.name (codes "ca"))))))
 
--- the columns of the table of the office
+-- the columns of the `office` table
 abbrev pub office_columns : List (List ℕ)
 office_columns =
     codes "id" ∷ codes "schema" ∷ codes "ca" ∷ codes "root" ∷ codes "station" ∷ codes "first" ∷ codes "last"
     ∷ codes "next" ∷ codes "version" ∷ codes "date" ∷ []
 
--- whether a table has exactly the columns of the table of the office, by name
+-- whether a table has exactly the columns of the `office` table, by name
 abbrev pub has_columns : Table → Bool
 has_columns t = (length t.columns == 10) && list_all (λ p. bytes_eq p.0.name p.1) (zip t.columns office_columns)
 
--- whether a table is the table of the office, by its name and the names of its columns
+-- whether a table is the `office` table, by its name and the names of its columns
 abbrev pub is_office_table : Table → Bool
 is_office_table t = same_name t.name (codes "office") && has_columns t
 

@@ -21,7 +21,7 @@ use text::Text;
 /// A CA.
 #[derive(Drop)]
 pub struct CaRow {
-    /// From 1 on.
+    /// Its number, from 1 on.
     pub number: Number,
     /// Its key blob, 51 bytes.
     pub ca: Text,

@@ -15,7 +15,7 @@ use crate::sql::{
 use crate::table_fault::{Fault, done};
 use sqlite::{Alter, Connection};
 
-/// A table of the office, by its name.
+/// The name of one of the office's tables.
 #[derive(Clone, Copy)]
 enum TableName {
     Office,
@@ -56,7 +56,7 @@ fn create<S: Alter>(conn: &mut Connection<S>, name: TableName) -> Result<(), Fau
     done(conn.execute(name.create(), &[]))
 }
 
-/// Creates the table of CAs next to the other tables, whose rows stay.
+/// Adds the table of CAs to the other tables, whose rows stay.
 pub fn create_ca<S: Alter>(conn: &mut Connection<S>) -> Result<(), Fault>
     ensures creates { On S.Store (Creates without_ca ca) conn.old conn.new result }
     ensures adds { On S.Store AddsCa conn.old conn.new result }

@@ -23,7 +23,7 @@ use text::Text;
 /// A department. Lists are texts joined by commas, in the order given.
 #[derive(Drop)]
 pub struct DepartmentRow {
-    /// Its key.
+    /// Its name, the primary key.
     pub name: Text,
     /// 1 for users, 2 for hosts.
     pub kind: Number,

@@ -60,7 +60,7 @@ fn is_office(table: &Table) -> bool
     same_name(table.name.as_slice(), b"office") && has_office_columns(table)
 }
 
-/// Whether the database has the table of the office, with its columns.
+/// Whether the database has the `office` table, with its columns.
 pub fn has_office<S: Alter>(conn: &Connection<S>) -> bool
     ensures { result ≡ list_any is_office_table (tables_of S.Store conn.now) }
 {

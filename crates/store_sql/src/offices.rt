@@ -1,4 +1,4 @@
-//! The table of the office.
+//! The `office` table.
 
 ghost use Rattle.std.specs.Prelude.{◌≡◌, ◌∷◌, []};
 ghost use Rattle.std.specs.Ordering.{nat_cmp};
@@ -143,7 +143,7 @@ pub fn insert_office<S: Alter>(conn: &mut Connection<S>, office: &OfficeRow) -> 
     done(conn.execute(INSERT_OFFICE, &office.values()))
 }
 
-/// Each row of the table of the office, by id. An office has only one. `Damaged` if a row has another form.
+/// Each row of the `office` table, by id. An office has only one. `Damaged` if a row has another form.
 pub fn every_office<S: Alter>(
     alloc: Global,
     conn: &mut Connection<S>,
@@ -154,7 +154,7 @@ pub fn every_office<S: Alter>(
     found(alloc, conn.query_all(EVERY_OFFICE, &[]))
 }
 
-/// The table of the office is the first of the tables of schema 1, and of those of schema 2.
+/// The `office` table is the first of the tables of schema 1, and of those of schema 2.
 pub fn the_office_is_first()
     ensures former { (db : Database) (c : Contents) → MeansWithoutCa db c → HasOffices c.offices db }
     ensures present { (db : Database) (c : Contents) → Means db c → HasOffices c.offices db }

@@ -18,7 +18,7 @@ use sqlite::types::ValueRef;
 use sqlite::{Alter, Connection, Row};
 use std::alloc::Global;
 
-/// A run of revoked serials, both ends included.
+/// A run of revoked serials: a range that can't be made longer. Both ends are included.
 #[derive(Clone, Copy)]
 pub struct RunRow {
     pub lo: Number,

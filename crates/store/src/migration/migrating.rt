@@ -36,7 +36,7 @@ fn migrate_whole<S: Alter>(alloc: Global, conn: &mut Connection<S>) -> Result<()
 ///
 /// # Errors
 ///
-/// `NotAnOffice` if the table of the office is missing or doesn't have exactly one row. `WrongSchema` if that row has
+/// `NotAnOffice` if the `office` table is missing or doesn't have exactly one row. `WrongSchema` if that row has
 /// another schema number, or the database already has the table of CAs. `Damaged` if the id of that row isn't 1.
 /// `Device` if the database failed or its rules refuse the CA. `NoMemory` if an allocation was refused.
 pub fn migrate<S: Alter>(alloc: Global, conn: &mut Connection<S>) -> Result<(), StoreFault>

@@ -1,4 +1,4 @@
-//! The certificate of a serial.
+//! The certificate with a given serial.
 //!
 //! Large values are dropped explicitly: if a function ends with one, its proof takes each field apart.
 
