@@ -1,4 +1,4 @@
--- Why a connection can't be tested by preparing a statement.
+-- Why preparing a statement, as a test of a connection, fails.
 use Rattle.std.proofs.Common.{List, [], ℕ, codes, inl, inr, leb-true, refl, sym, subst}
 use Rattle.sqlite_trees.specs.declared.error.StoreError.TheVariants.{OutOfMemory, Io, Corrupt, Full, Broken, Unstorable}
 use Rattle.sqlite.specs.declared.error.Error.{Error}

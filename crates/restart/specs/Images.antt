@@ -36,7 +36,7 @@ HoldsAtLeast image o l = ∥ HoldsOffice image o l ⊎ ((a : Arrival) × HoldsOf
 abbrev pub HoldsNone : Image → Type 0
 HoldsNone image = IsNothing image ⊎ ((trees : Trees) × ∥ HoldsDatabase image trees ∥₁ × IsSound no_schema trees)
 
--- the status of an office: it doesn't exist yet, or it has this initial configuration and this history
+-- the status of an office: it doesn't exist yet, or it has an initial configuration and a history
 abbrev pub Standing : Type 0
 Standing = Option (Opening × List Arrival)
 

@@ -68,7 +68,7 @@ abbrev pub Follow : Image → List Run → Image → Type 0
 Follow first [] last = last ≡ first
 Follow first (run ∷ runs) last = IsRun run × (run.found ≡ first) × Follow run.left runs last
 
--- Files that were empty, or didn't exist, and the result of running the program on them.
+-- Files that at first were empty or didn't exist, and the runs of the program on them.
 pub record Life (runs : List Run) (last : Image) : Type 0 where
   pub first : Image
   pub empty : length first.db ≡ 0
@@ -78,7 +78,7 @@ pub record Life (runs : List Run) (last : Image) : Type 0 where
 abbrev pub LivesAreDue : Type 0
 LivesAreDue = (runs : List Run) (last : Image) → Life runs last → ∥ ((after : Standing) × AreDue None runs after) ∥₁
 
--- A run after any lifetime is as specified, too, and makes it a longer lifetime.
+-- A run after any lifetime is as specified, too, and the lifetime goes on with it.
 abbrev pub GoesOn : Run → Type 0
 GoesOn run = (runs : List Run) → Life runs run.found
     → Life (runs ++ run ∷ []) run.left × ∥ ((after : Standing) × AreDue None (runs ++ run ∷ []) after) ∥₁

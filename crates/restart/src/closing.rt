@@ -10,7 +10,7 @@ ghost use Rattle.restart.specs.Runs.{ClosesWell, IsGivenUp, LeavesAtLeast, Leave
 use sqlite::{Connection, Error, FileFrom, FileStore, Files, Start};
 use sqlite_disk::Disk;
 
-/// Closes a connection to files, and returns these.
+/// Closes a connection to files, and returns the files.
 ///
 /// # Errors
 ///

@@ -54,8 +54,8 @@ fn give_up<D: Disk + Drop>(conn: Connection<FileStore<D>>) -> Files<D>
     conn.into_store().close()
 }
 
-/// Ends a connection to files, and returns these. It is closed if it is open, and otherwise abandoned, since the effect
-/// of a failed close is known only for an open one.
+/// Ends a connection to files, and returns the files. It is closed if it is open, and otherwise abandoned, since the
+/// effect of a failed close is known only for an open one.
 pub fn end_at<D: Disk + Drop>(conn: Connection<FileStore<D>>) -> (Result<(), EndFault>, Files<D>)
     ensures ended { AreEnded conn result.0 result.1 }
 

@@ -47,7 +47,7 @@ carried r (s ∷ rs) le h =
     rw (le-ltb (s.hi + 1) r.lo (omega (arith, h.0, h.1)), lt-ltb (r.hi + 1) s.lo (omega (arith, h.0)))
     (ap (λ (xs : List Run). r ∷ xs) (carried s rs h.1 h.3))
 
--- the same after the interval has absorbed a run that ends at p
+-- the joined runs, once the interval has absorbed a run that ends at p
 grown : (lo hi a b p : ℕ) (rs : List Run) → 1 ≤ lo → lo ≤ p + 1 → a ≤ lo → b ≡ max hi p → a ≤ b → AreRunsFrom (p + 2) rs
     → joined a b rs ≡ span a b (filter (is_near lo hi) rs) ∷ filter (is_far lo hi) rs
 grown lo hi a b p [] low over first last le h = refl

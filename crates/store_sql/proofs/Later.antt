@@ -28,7 +28,7 @@ stops_then a b c p (inr back) = inr (record {
   };
 })
 
--- A failure after a call is one since before it: a connection that was closed after the call was closed before it.
+-- A failure after a call is one since before it, if the call didn't close the connection.
 module _ (a b c : State) (P : Trees → Type 0) (one : Survives a b P)
     (was_shut : b.is_open ≡ false → a.is_open ≡ false) where
   failed_since : HasFailed b c → HasFailed a c

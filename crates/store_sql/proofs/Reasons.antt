@@ -168,7 +168,7 @@ module _ (db : Trees) (table : Table) (gone : List ℤ) (new : Row) where
             )
       ]
 
-  -- no row has, if the table has no index
+  -- no row has its key, if the table has no index
   pub unclashed : AllByRecursion (λ i. guards i table ≡ true → ⊥) whole.indexes → HasClash → ⊥
   unclashed none (i, here, on, other, there, same) = all_has (λ j. guards j table ≡ true → ⊥) whole.indexes i none here on
 

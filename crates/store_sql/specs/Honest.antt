@@ -19,11 +19,11 @@ OnOpen g P old new result =
 abbrev pub Between : {S : Type 0} → Ghosts S → (State → State → Type 0) → Held S → Held S → Type 0
 Between g P old new = HasCleanDisk (state g new) → P (state g old) (state g new)
 
--- a call interrupted by a crash leaves the trees that were there, or trees that satisfy this
+-- a crash during the call leaves what one could leave before it, or trees that satisfy this
 abbrev pub Outlives : {S : Type 0} → Ghosts S → (Trees → Type 0) → Held S → Held S → Type 0
 Outlives g P old new = Survives (state g old) (state g new) P
 
--- a call interrupted by a crash leaves the trees that were there, or trees that satisfy this for the state before
+-- a crash during the call leaves what one could leave before it, or trees that satisfy this for the state before it
 abbrev pub OutlivesBy : {S : Type 0} → Ghosts S → (State → Trees → Type 0) → Held S → Held S → Type 0
 OutlivesBy g P old new = Survives (state g old) (state g new) (P (state g old))
 

@@ -4,9 +4,9 @@
 //! the tables hold: entirely or not at all, inside and outside a transaction. The structs that are read are those that
 //! the tables hold, and a fault has its cause. Only this crate contains SQL, and the crates above use only the structs.
 //!
-//! A call that fails answers `NoMemory` if an allocation was refused, `Device` if the database failed or was closed,
-//! and otherwise what its own comment says. The rows are then as they were, or the transaction that was open is rolled
-//! back. A row is too long if it takes more than a billion bytes.
+//! A call that fails answers `NoMemory` if an allocation was refused, and `Device` if the database failed or was
+//! closed; its own comment adds further causes. The rows are then as they were, or the transaction that was open is
+//! rolled back. A row is too long if it takes more than a billion bytes.
 #![tactic(auto)]
 
 mod cas;

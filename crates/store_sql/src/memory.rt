@@ -6,8 +6,8 @@ ghost use Rattle.store_sql.specs.Granted.{IfGranted};
 use std::alloc::Global;
 use text::{NoMemory, Text};
 
-/// Memory that remembers whether some of it was refused. So a function copies all columns of a row with no exit between
-/// them: its proof splits each text at each exit.
+/// Memory that remembers whether some of it was refused. So all columns of a row are copied with no exit between them:
+/// a function's proof takes each text apart at each exit.
 #[derive(Drop)]
 pub(crate) struct Memory {
     alloc: Global,
