@@ -40,7 +40,7 @@ bare_trees : (s : State) → Opens s → IsLive s → IsBlank s → IsSound no_s
 bare_trees s opens live blank =
     subst (λ (schema : Schema). IsSound schema s.committed.trees) blank.committed.0 (live opens.is_open).1
 
--- the same after everything that left the database as it was
+-- the same at the end of a run that left the database as it was
 still_bare : (founds : _) (opened last : State) → Opens opened → IsLive opened → IsBlank opened
     → IsUnfounded founds opened last → IsTrue last.is_open → IsSound no_schema last.committed.trees
 still_bare founds opened last opens live blank unfounded still =

@@ -15,7 +15,7 @@ use Rattle.sqlite_pool.proofs.ProbeLemmas.{first_byte}
 use Rattle.sqlite_trees.specs.Tree.{Trees}
 use Rattle.sqlite.specs.Files.{AreFoundIn, IsEmpty, IsNothing}
 
--- a file from which pages were read, the first of them with a header, was more than half made
+-- files from which pages were read, the first of them with a header, are neither empty nor half made
 begun : (size : ℕ) (image : Image) (pages : PageMap) → Adopts size image pages → IsSoundFile size pages
     → IsNothing image → ⊥
 begun size image pages found sound nothing =

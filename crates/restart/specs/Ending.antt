@@ -27,7 +27,7 @@ use Rattle.restart.specs.Runs.{AreRuns, DoesOver, IsFound, IsGivenUp}
 abbrev pub Excuses : State → (faults : ℕ) → Error → Type 0
 Excuses old faults e = (e ≡ SqliteFailure OutOfMemory) ⊎ ((old.is_open ≡ false) ⊎ MoreFaults old.faults faults)
 
--- these are the files of the store that is left of an abandoned connection
+-- these are the files of the store that an abandoned connection left
 pub record IsGivenUpTo {D : Type 0} {g : Ghosts D} (conn : Held (FileStore D g)) (files : Files D) : Type 0 where
   pub it : FileStore D g
   pub are_its : store.files it ≡ (files.log, files.db)
@@ -49,7 +49,7 @@ pub record IsClosedTo {D : Type 0} {g : Ghosts D} (conn : Held (FileStore D g)) 
   pub quiet : IsClosed conn it
   pub cause : (e : Error) → error ≡ Some e → IsClean (store.view it) → FailsToClose conn it e
 
--- the end of a connection that was open
+-- the result of closing an open connection, and the files that it left
 abbrev pub IsEndOfClose : {D : Type 0} {g : Ghosts D} → Held (FileStore D g) → Result (Unit {0}) EndFault → Files D
     → Type 0
 IsEndOfClose {D} {g} conn (Ok done) files =
@@ -66,8 +66,8 @@ pub record AreClosed {D : Type 0} {g : Ghosts D} (conn : Held (FileStore D g)) (
   pub quiet : IsClean (store.view it) → IsClosed conn it
   pub cause : (e : Error) → error ≡ Some e → IsClean (store.view it) → FailsToClose conn it e
 
--- The last commit is in the database file alone. Or the connection was abandoned. Or its log wasn't copied. The claims
--- about these assume that the disk has been faithful.
+-- The last commit is in the database file alone, or the connection was abandoned, or its log wasn't copied. Each case
+-- assumes that the disk has been faithful.
 abbrev pub AreEnded : {D : Type 0} {g : Ghosts D} → Held (FileStore D g) → Result (Unit {0}) EndFault → Files D
     → Type 0
 AreEnded {D} {g} conn (Ok done) files =
@@ -75,7 +75,7 @@ AreEnded {D} {g} conn (Ok done) files =
 AreEnded {D} {g} conn (Err (GivenUp error)) files = AreClean g files.log files.db → AreGivenUp conn error files
 AreEnded {D} {g} conn (Err (Uncopied error)) files = AreClosed conn (Some error) files
 
--- the run ended this way
+-- how a run with this result ended; an uncopied log is neither end
 abbrev pub IsEnd : Result (Unit {0}) EndFault → End → Type 0
 IsEnd (Ok done) end = end ≡ closed
 IsEnd (Err (GivenUp error)) end = end ≡ cut

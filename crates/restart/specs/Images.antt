@@ -19,7 +19,7 @@ pub record HoldsOffice (image : Image) (o : Opening) (l : List Arrival) : Type 0
   pub holds : ∥ HoldsDatabase image trees ∥₁
   pub kept : Kept trees (office_contents o l)
 
--- a database with those rows in schema 1, which has no rollovers
+-- a database with those rows in schema 1, after a history without rollovers
 pub record HoldsFormer (image : Image) (o : Opening) (l : List Arrival) : Type 0 where
   pub history : IsHistory o l
   pub plain : HasNoRollover l

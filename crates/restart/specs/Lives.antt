@@ -50,7 +50,7 @@ IsDue asked end (Some p) None = ⊥
 IsDue asked end (Some p) (Some q) =
     (q.0 ≡ p.0) × (l : List Arrival) × AllDue p.0 p.1 asked.exchanges asked.given l × Ends end l q.1
 
--- the same for each run, from the status that the run before has left
+-- the same for each run, from the status that the run before it left
 abbrev pub AreDue : Standing → List Run → Standing → Type 0
 AreDue before [] after = after ≡ before
 AreDue before (run ∷ runs) after = (next : Standing) × IsDue run.asked run.end before next × AreDue next runs after

@@ -84,13 +84,13 @@ KeepsOffice image may_leave =
     (o : Opening) (l : List Arrival) → HoldsOffice image o l
     → (more : List Arrival) × ((after : Image) → may_leave after → HoldsOffice after o (l ++ more))
 
--- each history that was represented still is, with more requests after it
+-- each history that was represented still is, with any number of requests added
 abbrev pub AddsArrivals : State → State → Type 0
 AddsArrivals old new =
     (o : Opening) (l : List Arrival) → Tells old o l → (more : List Arrival) × Tells new o (l ++ more)
 
--- Everything done between the open and the close: a disk that is faithful was so before, and a connection that is open
--- represents each history that was represented, with more requests after it.
+-- Everything done between the open and the close: a disk that is faithful at the end was so at the open, and then a
+-- connection that is still open represents each history that was represented, with any number of requests added.
 abbrev pub Extends : {D : Type 0} {g : Ghosts D} → (opened last : Held (FileStore D g)) → Type 0
 Extends opened last =
     HasCleanDisk (file_state last) → HasCleanDisk (file_state opened)

@@ -22,7 +22,7 @@ pub fn what_is_found_is_told<S: Alter>(conn: &Connection<S>)
     let _ = conn;
 }
 
-/// A run that closed its files cleanly leaves them with the office that it found, with the requests of the run.
+/// A run that closed its files cleanly leaves them with the office that it found, and with the requests of the run.
 pub fn a_run_keeps_the_office<D: Disk + Drop>(files: &Files<D>)
     ensures { RunKeepsOffice D.Disk files.now }
 {

@@ -40,7 +40,7 @@ module _ {R X : Type 0} (value : R → Option X) (rows : List R) where
       so_far ∙ ap (λ rs. option_map (λ xs. first ++ xs) (each value rs)) (drop_all k rows past)
       ∙ ap Some (append-nil first)
 
-  -- if a row has no value, the rows as a whole have none
+  -- a fault of reading one row is a fault of reading all of them
   pub first_fault : (k : ℕ) (first : List X) (row : R) (f : Fault) → k < length rows → row ≡ get_or rows k row
       → IsRead (value row) (Err f) → AreFirst k first → IsRead (each value rows) (Err f)
   first_fault k first row NoMemory within is read so_far = tt

@@ -1,4 +1,4 @@
--- An interval merged with the runs that touch or overlap it, found from the last run before each of its ends.
+-- An interval merged with the runs that touch or overlap it, found from the last runs that begin before its ends.
 use Rattle.std.proofs.Common.{◌≡◌, ℕ, ◌+◌, ◌-◌, ◌<◌, ◌≤◌, List, [], ◌∷◌, Bool, true, false}
 use Rattle.std.proofs.Common.{◌&&◌, Option, Some, None, sym, ap, ◌∙◌, arith, inl, inr}
 use Rattle.std.specs.Prelude.{min, max, nat_le, filter}

@@ -35,7 +35,7 @@ pub all_say : (flag : Bool) (s : State) (m : Message) (r : SerialRange) → is_m
 all_say flag s m r lawful none is says =
     range_says flag s m r none is (range_flag flag s r (range_order m r lawful is) says)
 
--- a message that names neither a serial nor a range
+-- for a message that names neither a serial nor a range, the flag is false
 pub none_says : (s : State) (m : Message) → named_serial m ≡ None → named_range m ≡ None → SaysRevoked false s m
 none_says s (message.Renew r) serial range = absurd cc
 none_says s (message.Deliver d) serial range = absurd cc

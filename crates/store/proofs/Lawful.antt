@@ -185,7 +185,7 @@ signature_size d e =
     let signature : is_signature d.signature ≡ true = (and_parts _ _ (and_parts _ _ e).1).1 in
     eqb-true _ _ (and_parts _ _ signature).0
 
--- the state after the message is still valid
+-- the state after an accepted message is still valid
 keeps_lawful : (s : State) (caller : List ℕ) (m : Message) (moment : ℕ) (nonce : List ℕ) → is_message m ≡ true
     → first_holding (refusals s caller m moment) ≡ None → length nonce ≡ 32 → IsLawful s
     → IsLawful (after s m moment nonce)

@@ -6,7 +6,7 @@ use Rattle.store_sql.specs.declared.runs.RunRow.{RunRow}
 use Rattle.store_sql.proofs.LastRun.{Has}
 use Rattle.store.specs.Rows.{run_row}
 
--- each contains a serial, and the earlier of two doesn't overlap or touch the later
+-- each contains a serial, and no two different ones overlap or touch
 abbrev pub AreApart : List RunRow → Type 0
 AreApart rows = (r x : RunRow) → Has rows r → Has rows x
     → (r.lo ≤ r.hi) × (r.lo < x.lo → r.hi + 1 < x.lo) × (r.lo ≡ x.lo → r ≡ x)

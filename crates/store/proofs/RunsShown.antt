@@ -63,7 +63,7 @@ counted : (first count n : ℕ) (b : Bool) → (b ≡ true → (first ≤ n) × 
 counted first count n true is = let p = is refl in rw (are_counted first count n p.0 p.1) refl
 counted first count n false is = and-false (is_counted first count n)
 
--- these serials fit in 64 bits
+-- the issued serials fit in 64 bits
 are_few : (s : State) (kept : List Kept) → IsLawful s → IsOfHistory s kept
     → s.opening.first + length s.certificates ≤ 2 ^ 64
 are_few s kept lawful history =

@@ -61,7 +61,7 @@ survives_still a P = record {
 -- ---- the whole contract of a call that reads rows
 
 module _ {X Given : Type 0} {P : State → List Kept → X → Type 0} {a b : Connection} where
-  -- given more, a weaker claim about the answer
+  -- a weaker claim about the answer, under a stronger condition
   pub asks_weaker : {More : Type 0} {Q : State → List Kept → X → Type 0} {r : Result X Fault} → Asking Given P a b r
       → (More → Given) → ((s : State) (kept : List Kept) (x : X) → IsLawful s → P s kept x → Q s kept x)
       → Asking More Q a b r

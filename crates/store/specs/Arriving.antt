@@ -113,7 +113,7 @@ pub record IsAccepted (a : Arrival) (d : Decision) (serving : List Ca) (p : Past
   pub cas : serving ≡ (state_at p).cas
   pub version : d.version < 9223372036854775807
 
--- it is so unless the version is above the last one
+-- this holds unless the version is above the last one
 abbrev pub IsDecided : Arrival → Decision → List Ca → Past → Type 0
 IsDecided a d serving p = d.version < 9223372036854775807 → IsAccepted a d serving p
 
@@ -163,13 +163,13 @@ SettlesOpen g a Known old new r =
 
 -- ---- the whole transaction
 
--- a statement that reads no rows can't report damaged ones
+-- the fault of a statement that reads no rows, so none can be damaged
 abbrev pub of_statement : Fault → Fault
 of_statement Device = Device
 of_statement Damaged = Device
 of_statement NoMemory = NoMemory
 
--- if the tables represent a history, provided that the connection is open, a fault has its cause
+-- a fault has its cause, if the connection is closed or its tables represent a history
 abbrev pub IsCaused : Arrival → Connection → Connection → Fault → Type 0
 IsCaused a old new f = StopsFor (IsAfter IsAny) (ExceedsTables a) old new f
 

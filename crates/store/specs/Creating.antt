@@ -17,7 +17,7 @@ use Rattle.store_sql.specs.Refusals.{HasCauseOr, RefusesCa, RefusesOffice}
 use Rattle.store.specs.Rows.{ca_row, office_row}
 use Rattle.store.specs.Transactions.{DoesIn, Ends, Leaves, Rests}
 
--- the row of the office is refused, or after it that of its CA
+-- the row of the office is refused, or, once that is inserted, the row of its CA
 abbrev pub RefusesFirst : OfficeRow → CaRow → Contents → Type 0
 RefusesFirst office ca c = RefusesOffice office c ⊎ RefusesCa ca (with_office office c)
 

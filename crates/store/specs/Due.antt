@@ -25,8 +25,9 @@ pub record Fits (d : Decision) : Type 0 where
   pub version : d.version < 2 ^ 63
   pub date : d.date < 2 ^ 63
 
--- the tables hold the rows of this valid state, with room for the decision, and of the stored requests; the state has
--- these CAs, and only issued serials are revoked
+-- The tables hold the rows of this valid state, with room for the decision, and of the stored requests. The state has
+-- these CAs, and only issued serials are revoked. The decision's counters fit their columns, and its next serial is
+-- that of the state after it.
 pub record IsDue (d : Decision) (cas : List Ca) (x : State × List Kept) (db : Database) : Type 0 where
   pub lawful : IsLawful x.0
   pub room : HasRoom d.change x.0

@@ -78,7 +78,7 @@ abbrev pub LooksOn : State → State → Result (Unit {0}) StoreFault → Type 0
 LooksOn old new (Ok x) = IsUnchanged old new
 LooksOn old new (Err e) = IsTrue new.is_open → Fails old new
 
--- the answer of `open` to the rows of the `office` table: success if there is one row, of the current schema
+-- the answer of `open` to the rows of the `office` table: success if there is exactly one, of the current schema
 abbrev pub opened_by : List OfficeRow → Result (Unit {0}) StoreFault
 opened_by [] = Err NotAnOffice
 opened_by (row ∷ []) = if row.schema == 2 then Ok tt else Err WrongSchema

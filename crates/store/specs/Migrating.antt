@@ -20,7 +20,7 @@ use Rattle.store.specs.Former.{Had, TellsBefore, ca_of, former_contents, migrate
 
 -- ---- results
 
--- the CA is the one that the rows specify, or the fault is, or memory is refused
+-- the result is the specified one, or memory is refused
 abbrev pub IsCaDue : Result CaRow StoreFault → Result CaRow StoreFault → Type 0
 IsCaDue due (Err NoMemory) = Unit {0}
 IsCaDue due r = due ≡ r
@@ -31,7 +31,7 @@ IsCaDue due r = due ≡ r
 abbrev pub IsRefused : CaRow → Contents → Type 0
 IsRefused ca c = RefusesCa ca c ⊎ RefusesNumber 2 (with_ca ca c)
 
--- they refuse CA 1 for these contents
+-- they refuse CA 1 of the office in these contents, or schema number 2 after it
 abbrev pub RefusesFirstCa : Contents → Type 0
 RefusesFirstCa c = (ca : CaRow) × (ca_of c.offices ≡ Ok ca) × IsRefused ca c
 
@@ -68,8 +68,8 @@ HasNoCa c db = Means db c × (c.cas ≡ [])
 
 -- ---- the whole migration
 
--- For a database at rest with the tables of schema 1: they become those of schema 2, or nothing has changed. Only a
--- failed disk closes the connection, and a closed one never succeeds.
+-- For a database at rest with the tables of schema 1: they become those of schema 2; or it fails, and nothing has
+-- changed, unless the connection is closed then. A migration over a closed connection never succeeds.
 abbrev pub Migrates : State → State → Result (Unit {0}) StoreFault → Type 0
 Migrates old new (Ok x) =
     IsTrue old.is_open × IsTrue new.is_open × ((c : Contents) → Rests (Had c) old → Rests (Has (migrated c)) new)

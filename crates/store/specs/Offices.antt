@@ -29,7 +29,7 @@ if_office o = if not (is_opening o.opening) || nat_lt o.next o.opening.first the
 abbrev pub office_in : OfficeRow → Option Office
 office_in row = option_and_then (λ key. if_office (office_of row key)) (key_of row.ca)
 
--- the office of the only row
+-- the office of the row, if there is exactly one
 abbrev pub only_office : List OfficeRow → Option Office
 only_office [] = None
 only_office (row ∷ []) = office_in row

@@ -1,4 +1,4 @@
--- A range of serials, added to the runs (the maximal ranges) of revoked ones.
+-- A range of serials, added to the runs (the maximal ranges) of revoked serials.
 use Rattle.std.specs.Prelude.{ℕ, ◌+◌, nat_le, if◌then◌else◌, max, Option, Some, None}
 use Rattle.message.specs.declared.serial_range.SerialRange.{SerialRange}
 use Rattle.store_sql.specs.declared.runs.RunRow.{RunRow}

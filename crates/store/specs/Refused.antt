@@ -28,7 +28,7 @@ RefusesJoined run c = RefusesRun run (without_runs run c)
 abbrev pub RefusesRange : SerialRange → Contents → Type 0
 RefusesRange r c = RefusesJoined (joined_run r c) c
 
--- the change is refused, in which a CA gets this number and serves from this serial on; an existing key ID never is
+-- the change is refused, in which a CA gets this number and this first serial; a key ID isn't refused for existing
 abbrev pub RefusesChange : (number since : ℕ) → Change → Contents → Type 0
 RefusesChange number since change.Nothing c = ⊥
 RefusesChange number since (change.Department d) c = RefusesDepartment (department_row d) c
@@ -47,6 +47,6 @@ abbrev pub RefusesRows : (number : ℕ) → Change → Counters → RequestRow �
 RefusesRows number change k row c =
     RefusesRecord k row c ⊎ RefusesChange number k.next change (with_request row (with_counters k c))
 
--- the rows of the decision on the request are refused, if these CAs exist
+-- the rows of the decision on the request are refused, given that these are the existing CAs
 abbrev pub RefusesDecision : Decision → Arrival → List Ca → Contents → Type 0
 RefusesDecision d a cas c = RefusesRows (length cas + 1) d.change (counters_of d) (request_row (kept_of a d.reply)) c

@@ -16,7 +16,7 @@ IsLeftOpen old new = IsTrue new.is_open
 
 -- ---- a new office
 
--- an empty database represents the configuration, with no request after it
+-- a database that was empty now represents the configuration, with no request after it
 abbrev pub Founds : Opening → State → State → Type 0
 Founds opening old new = IsBlank old → Tells new opening []
 

@@ -22,7 +22,7 @@ abbrev pub RiseFrom : ℕ → List Run → Type 0
 RiseFrom from [] = Unit {0}
 RiseFrom from (r ∷ runs) = (from ≤ r.lo) × (r.lo ≤ r.hi) × RiseFrom (r.hi + 2) runs
 
--- the runs of the rows, or memory is refused; if they don't ascend, a row is damaged
+-- the runs of the rows; or memory is refused, or a row is reported as damaged, because they don't ascend
 abbrev pub AreRead : List RunRow → Result (List Run) Fault → Type 0
 AreRead rows (Ok runs) = runs ≡ runs_of rows
 AreRead rows (Err NoMemory) = Unit {0}

@@ -47,7 +47,7 @@ Makes Before after old new r = Answers Before (λ _ _. Unit {0}) after old new r
 abbrev pub FailsFor : {A X : Type 0} → (A → Database → Type 0) → (A → Type 0) → State → State → Result X Fault → Type 0
 FailsFor {A} Before Refused old new r = IfErr r (λ f. (a : A) → Before a old.now → HasCauseOr (Refused a) old new f)
 
--- a crash during it leaves what was committed before
+-- a crash during a part leaves only what was committed before, if a transaction is open
 abbrev pub Waits : {A : Type 0} → (A → Database → Type 0) → State → Trees → Type 0
 Waits {A} Before old trees = (a : A) → Before a old.now → old.in_transaction ≡ false
 
@@ -108,7 +108,7 @@ LeavesAnswered (Err e) old trees = ⊥
 -- ---- the whole transaction
 
 -- If the database is at rest and satisfies `Before a`: the answer satisfies `Due a`, and the tables then hold `after
--- a`; or nothing has changed. Only a failed disk closes the connection, and a closed one never answers.
+-- a`; or it fails, and nothing has changed, unless the connection is closed then. A closed connection never answers.
 abbrev pub Ends : {A X E : Type 0} → (A → Database → Type 0) → (A → X → Type 0) → (A → Contents) → State → State
     → Result X E → Type 0
 Ends {A} Before Due after old new (Ok x) =
@@ -117,8 +117,8 @@ Ends {A} Before Due after old new (Ok x) =
 Ends {A} Before Due after old new (Err e) =
     IsTrue new.is_open → IsTrue old.is_open × ((a : A) → Rests (Before a) old → Rests (Before a) new)
 
--- if the database was at rest and satisfied `Before`, provided that the connection is open, a fault of the whole is
--- lack of memory, or a failure of the database, or this refusal
+-- if the connection was closed, or its database was at rest and satisfied `Before`, a fault of the whole is lack of
+-- memory, or a failure of the database, or this refusal
 abbrev pub StopsFor : {A : Type 0} → (A → Database → Type 0) → (A → Type 0) → State → State → Fault → Type 0
 StopsFor {A} Before Refused old new f =
     (a : A) → (IsTrue old.is_open → Rests (Before a) old) → HasCauseOr (Refused a) old new f

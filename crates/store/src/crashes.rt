@@ -7,7 +7,7 @@ use crate::register::Store;
 use sqlite::Alter;
 
 /// While the connection is open, a crash between two calls leaves the tables of the history that they represent, and
-/// nothing else. A connection whose disk has proved unfaithful is not open.
+/// nothing else. A connection whose disk has been unfaithful is not open.
 pub fn a_crash_leaves_the_history<S: Alter>(store: &Store<S>)
     ensures { OutlastsCrashes (state S.Store store.now.conn) }
 {

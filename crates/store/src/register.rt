@@ -32,10 +32,10 @@ pub struct Store<S: Alter> {
 }
 
 impl<S: Alter> Store<S> {
-    /// Creates an office in a database without tables. `AlreadyAnOffice` if the database has a table with a name that
-    /// an office needs, `Device` if the database fails, and `NoMemory` for lack of memory. If it fails, no table is
-    /// made, and it returns the connection. No transaction may be open, and the connection may have no limit on the
-    /// steps of a query, since a call that reaches one fails.
+    /// Creates an office with this initial configuration in a database without tables. `AlreadyAnOffice` if the
+    /// database has a table with a name that an office needs, `Device` if the database fails, and `NoMemory` for lack
+    /// of memory. If it fails, no table is made, and it returns the connection. No transaction may be open, and the
+    /// connection may have no limit on the steps of a query, since a call that reaches one fails.
     pub fn init(
         alloc: Global,
         conn: Connection<S>,
@@ -105,8 +105,8 @@ impl<S: Alter> Store<S> {
     /// Migrates the office of a database from schema 1 to the current schema: its CA gets number 1. If it fails,
     /// nothing has changed, and it returns the connection. `NotAnOffice` if the `office` table is missing or doesn't
     /// have exactly one row, `WrongSchema` if its tables are those of another schema, `Device` if the database failed
-    /// or its rules refuse the CA, which never happens to an office that represents a history. No transaction may be
-    /// open, and the connection may have no limit on the steps of a query.
+    /// or its rules refuse the CA, which never happens if its tables represent a history. No transaction may be open,
+    /// and the connection may have no limit on the steps of a query.
     pub fn migrate(
         alloc: Global,
         conn: Connection<S>,

@@ -160,7 +160,7 @@ fn judge<S: Alter>(
     }
 }
 
-/// Answers with the stored reply if the message is the same.
+/// Answers with the stored reply if the message is the same, and otherwise judges the message.
 fn settle_beside<S: Alter>(
     alloc: Global,
     conn: &mut Connection<S>,
@@ -179,7 +179,7 @@ fn settle_beside<S: Alter>(
     judge(alloc, conn, arrival, true)
 }
 
-/// The specified answer to a received request, written if it is accepted now.
+/// Answers a received request as specified, and stores it if it is accepted now.
 pub(crate) fn settle<S: Alter>(
     alloc: Global,
     conn: &mut Connection<S>,

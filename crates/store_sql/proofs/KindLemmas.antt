@@ -72,7 +72,7 @@ fits kinds row h =
 abbrev pub number : ℕ → Value
 number n = value.Int (pos n)
 
--- a row whose first cell holds this value holds an equal one
+-- two rows are equal if their first values are, and the other cells
 pub cell : {A : Type 0} (made : A → Value) {read shown : A} {rest others : Row} → read ≡ shown → others ≡ rest
     → made shown ∷ others ≡ made read ∷ rest
 cell made is same = ap₂ ◌∷◌ (ap made (sym is)) same

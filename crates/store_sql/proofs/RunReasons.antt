@@ -1,4 +1,4 @@
--- Why a run is refused, and that its deletion never is.
+-- Why a run is refused, and that a deletion of runs never is.
 use Rattle.store_sql.proofs.Words.{AllByRecursion, Bool, Contents, Damaged, Delete, Device, Err, FailsBy, Fault, Has}
 use Rattle.store_sql.proofs.Words.{HasCause, HasCauseOr, INSERT_RUN, Index, Keeps, List, Means, NoMemory, Ok}
 use Rattle.store_sql.proofs.Words.{RefusedFor, Result, Row, RunRow, State, Trees, Unique, [], accepts_program, all_has}

@@ -111,7 +111,7 @@ module _ (limit : Option ℕ) (db after : Database) (tally : Tally) (schema : Sc
       let step = one_step schema Enforced db.trees written.0 edit (none (taken_by db.trees edit) edit.news) written.1 in
       (given.0, given.1, subst (Applies schema Enforced db.trees edit) (sym all) step, ap (λ (d : Database). d.schema) now)
 
-  -- DELETE deletes the rowids that its query shows
+  -- DELETE deletes the rows whose rowids its query shows
   pub deletes : (q : Program) → Does limit mode params db text None (Delete at q) (Ok (tally, after))
       → ((olds news : List Row) → works schema Enforced 0 table.tree olds news ≡ [])
       → (rows : List Row) × Answers (record { schema = schema; trees = db.trees }) q params rows

@@ -32,7 +32,7 @@ Misread P NoMemory = Unit {0}
 Misread P Damaged = P
 Misread P Device = ⊥
 
--- a statement that reads no rows can't report damaged ones
+-- the faults of a statement that reads no rows, so none can be damaged
 abbrev pub IsOfStatement : Fault → Type 0
 IsOfStatement NoMemory = Unit {0}
 IsOfStatement Device = Unit {0}

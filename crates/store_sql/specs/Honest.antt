@@ -27,7 +27,7 @@ Outlives g P old new = Survives (state g old) (state g new) P
 abbrev pub OutlivesBy : {S : Type 0} → Ghosts S → (State → Trees → Type 0) → Held S → Held S → Type 0
 OutlivesBy g P old new = Survives (state g old) (state g new) (P (state g old))
 
--- a disk that was faithful after a call was so before it
+-- a disk that is still faithful after a call was faithful before it
 abbrev pub StaysClean : {S : Type 0} → Ghosts S → Held S → Held S → Type 0
 StaysClean g old new = HasCleanDisk (state g new) → HasCleanDisk (state g old)
 

@@ -39,7 +39,7 @@ pub whole_has_tables : list_any is_office_name whole.tables ≡ true
 unfolding same_name
 whole_has_tables = refl
 
--- a database without tables isn't one
+-- a database without tables isn't recognized as an office
 pub none_is_office : list_any is_office_table no_schema.tables ≡ false
 none_is_office = refl
 

@@ -20,8 +20,8 @@ use Rattle.store_sql.specs.Faults.{HasFailed}
 
 -- ---- limits of a table
 
--- A row of these values is over a billion bytes; each value counts 18 bytes more than its text or bytes have, and the
--- row number counts 18.
+-- A row of these values is over a billion bytes long; each value counts as its text or bytes and 18 more, and the row
+-- number counts as 18.
 abbrev pub IsTooLong : Row → Type 0
 IsTooLong values = 10 ^ 9 < 18 + sum_by (λ v. 18 + length (bytes v)) values
 
@@ -87,6 +87,6 @@ HasCauseOr refused old new NoMemory = Unit {0}
 HasCauseOr refused old new Device = HasFailed old new ⊎ refused
 HasCauseOr refused old new Damaged = ⊥
 
--- on tables with contents a fault is lack of memory, or a failure of the database, or a refusal by these contents
+-- on tables with contents, a fault is lack of memory, or a failure of the database, or a refusal by these contents
 abbrev pub RefusedFor : {X : Type 0} → (Contents → Type 0) → State → State → Result X Fault → Type 0
 RefusedFor Refuses old new r = IfErr r (λ f. (c : Contents) → Means old.now c → HasCauseOr (Refuses c) old new f)

@@ -21,7 +21,7 @@ last_at n (r ∷ rs) = if nat_le r.lo n then later r (last_at n rs) else last_at
 abbrev pub last_run : ℕ → Contents → Option RunRow
 last_run n c = last_at n c.runs
 
--- the result is that of the contents, if there is one, and nothing has changed; or the call fails
+-- the result is `of` the contents, which may be `None`, and nothing has changed; or the call fails
 abbrev pub FindsIts : {X E : Type 0} → (Contents → Option X) → State → State → Result (Option X) E → Type 0
 FindsIts of old new (Ok found) = (c : Contents) → Means old.now c → IsUnchanged old new × (found ≡ of c)
 FindsIts of old new (Err e) = (c : Contents) → Means old.now c → Fails old new

@@ -15,7 +15,7 @@ use Rattle.store_sql.specs.Refusals.{RefusedFor}
 
 -- ---- writes
 
--- it changes the contents so, or it fails for one of these causes
+-- it turns the contents `c` into `after c`, or it fails for one of these causes
 pub record Wrote {X : Type 0} (after : Contents → Contents) (Causes : State → State → Result X Fault → Type 0)
     (old new : State) (r : Result X Fault) : Type 0 where
   pub changes : HasCleanDisk new → Changes after old new r

@@ -43,7 +43,7 @@ impl Number {
         }
     }
 
-    /// The number from a signed one, or 0 if that is negative.
+    /// A signed number as an unsigned one, or 0 if it is negative.
     pub(crate) fn from_signed(value: i64) -> Number
         ensures { result ≡ number_in (Int value) }
     {

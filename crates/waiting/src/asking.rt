@@ -1,4 +1,4 @@
-//! A request for the pending certificates: remembered rows are checked again, and then those issued since are read.
+//! A request for the pending certificates: it checks the remembered rows again, and reads certificates issued since.
 
 ghost use Rattle.std.specs.Prelude.{◌≡◌, ◌≤◌, [], ◌∷◌, ◌++◌, ◌&&◌, IfOk, IfErr, OnOk, is_none, length, not, take};
 ghost use Rattle.std.specs.Prelude.{if◌then◌else◌};

@@ -11,7 +11,7 @@ ghost use Rattle.waiting.specs.Knowing.{IsKept, is_revocation};
 
 use office::Revocations;
 
-// Whether the bytes may be those of a message that revokes. The bytes of no other message begin like this.
+// Whether the bytes may be those of a message that revokes. No other message begins like this.
 fn may_revoke(bytes: &[u8]) -> bool
     ensures { result ≡ false → (m : Message) → message_with_text bytes.now ≡ Some m → is_revocation m ≡ false }
 {

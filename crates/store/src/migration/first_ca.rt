@@ -23,7 +23,7 @@ fn first_ca(alloc: Global, office: &OfficeRow) -> Result<CaRow, NoMemory>
     })
 }
 
-/// CA 1 of the office, whose rows must be exactly one, of schema 1.
+/// CA 1 of the office, whose table must have exactly one row, of schema 1.
 pub(crate) fn ca_of(alloc: Global, rows: &[OfficeRow]) -> Result<CaRow, StoreFault>
     ensures { IsCaDue (ca_of rows.now) result }
 {

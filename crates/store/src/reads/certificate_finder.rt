@@ -17,7 +17,7 @@ use sqlite::{Alter, Connection};
 use std::alloc::Global;
 use store_sql::{CertRow, Fault, Number, find_cert};
 
-/// The serial in the form of a column, or 0, which no office issues, if it is too great.
+/// The serial, or 0, which no office issues, if it is too great for a column.
 fn asked_serial(serial: u64) -> Number
     ensures { result ≡ asked_serial serial }
 {
@@ -41,7 +41,7 @@ fn read_found(alloc: Global, found: Option<CertRow>) -> Result<Option<Certificat
     }
 }
 
-/// The certificate of this serial, or `None` if it wasn't issued. A row without a valid value is `Damaged`.
+/// The certificate with this serial, or `None` if it wasn't issued. A row without a valid value is `Damaged`.
 pub fn find_certificate<S: Alter>(
     alloc: Global,
     conn: &mut Connection<S>,

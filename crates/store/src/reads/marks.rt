@@ -18,11 +18,11 @@ use store_sql::Fault;
 /// Which of the serials and key IDs that a message concerns are revoked.
 #[derive(Clone, Copy)]
 pub(crate) struct Marks {
-    /// Whether the serial is, or every serial of the range.
+    /// Whether the serial, or every serial of the range, is revoked.
     pub(crate) is_revoked: bool,
-    /// Whether the key ID is, or that of the certificate.
+    /// Whether the key ID, or that of the certificate, is revoked.
     pub(crate) is_key_id_revoked: bool,
-    /// Whether any key ID is, if the message depends on that.
+    /// Whether any key ID at all is revoked, if the message depends on that.
     pub(crate) has_revoked_key_ids: bool,
 }
 

@@ -41,7 +41,7 @@ fn passes(opening: &Opening) -> bool
         && opening.last <= LAST_SERIAL
 }
 
-/// Whether this is a valid initial configuration of an office.
+/// Whether the names and the serials of an initial configuration are valid.
 pub fn is_opening(opening: &Opening) -> bool
     ensures value { result ≡ is_opening opening.now }
     ensures lawful { length opening.now.ca ≡ 32 → IsTrue result → IsOpening opening.now }
@@ -103,7 +103,7 @@ fn only_office(alloc: Global, rows: &[OfficeRow]) -> Result<Office, Fault>
     }
 }
 
-/// The office's configuration and counters. `Damaged` if its table doesn't have exactly one row, or an invalid one.
+/// The office's configuration and counters. `Damaged` unless its table has exactly one row, and a valid one.
 pub fn read_office<S: Alter>(alloc: Global, conn: &mut Connection<S>) -> Result<Office, Fault>
     ensures asks { AsksRows S.Store (λ s kept office. IsOfficeOf office s) conn.old conn.new result }
     ensures lawful { IfOk result IsLawfulOffice }
