@@ -28,7 +28,7 @@ RefusesJoined run c = RefusesRun run (without_runs run c)
 abbrev pub RefusesRange : SerialRange → Contents → Type 0
 RefusesRange r c = RefusesJoined (joined_run r c) c
 
--- the change is refused, in which a CA gets this number and this first serial; a key ID isn't refused for existing
+-- the change is refused, in which a CA gets this number and first serial; a key ID is never refused because it exists
 abbrev pub RefusesChange : (number since : ℕ) → Change → Contents → Type 0
 RefusesChange number since change.Nothing c = ⊥
 RefusesChange number since (change.Department d) c = RefusesDepartment (department_row d) c

@@ -72,7 +72,7 @@ fits kinds row h =
 abbrev pub number : ℕ → Value
 number n = value.Int (pos n)
 
--- two rows are equal if their first values are, and the other cells
+-- two rows are equal if their first values and their other cells are
 pub cell : {A : Type 0} (made : A → Value) {read shown : A} {rest others : Row} → read ≡ shown → others ≡ rest
     → made shown ∷ others ≡ made read ∷ rest
 cell made is same = ap₂ ◌∷◌ (ap made (sym is)) same
