@@ -1,4 +1,4 @@
-//! Bytes that are no body, and pairs that are no options.
+//! Bytes that are no unsigned certificate (body), and pairs that are no options.
 
 mod faults;
 mod options;
