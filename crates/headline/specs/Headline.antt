@@ -104,7 +104,7 @@ AnswersList request old new r = Asks request (get the_list)
 abbrev pub KeepsTellingOnErr : (old new : State) → Result (Vec ℕ Global) StoreFault → Type 0
 KeepsTellingOnErr old new r = OnErr r (KeepsTelling old new)
 
--- if the tables represent a history, each fault is one that a register gives
+-- if the tables represent a history, each fault is one that a register may return
 abbrev pub FailsAsRegister : (old new : State) → Result (Vec ℕ Global) StoreFault → Type 0
 FailsAsRegister old new r = IfErr r (λ e. (o : Opening) (l : List Arrival) → Tells old o l → IsOfARegister e)
 
@@ -184,7 +184,7 @@ StoresWhereFound old new r = IfFound r ((o : Opening) (l : List Arrival) → Tel
 abbrev pub IsAsBeforeWhereOpen : (old new : State) → Type 0
 IsAsBeforeWhereOpen old new = IsTrue new.is_open → IsAsBefore old new
 
--- if the tables represent a history, each fault of the register is one that a register gives
+-- if the tables represent a history, each fault of the register is one that a register may return
 abbrev pub PublishFailsAsRegister : (old new : State) → Result (Unit {0}) PublishFault → Type 0
 PublishFailsAsRegister old new r =
     IfErr r (OfStore (λ e. (o : Opening) (l : List Arrival) → Tells old o l → IsOfARegister e))

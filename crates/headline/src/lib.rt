@@ -62,7 +62,7 @@ pub fn replay<S: Alter, W: Write>(
     ensures fault { On S.Store (PrintsWithFaults exchanges.now (W.contents out.old) (W.contents out.new))
         store.old.conn store.new.conn result }
 
-    // If the output fails, all exchanges were still run, whatever was printed. After lack of memory none was, and
+    // If the output fails, all exchanges were still run, whatever was printed. If memory was refused, none was run, and
     // nothing is printed.
     ensures write { On S.Store (RunsUnprinted exchanges.now) store.old.conn store.new.conn result }
     ensures unrun { result ≡ Err RunFault.NoMemory → store.new ≡ store.old }
@@ -173,8 +173,7 @@ pub fn publish<S: Alter, W: Sink>(
     // The written bytes are the list, which revokes exactly what accepted messages named.
     ensures list { On S.Store (WritesList (W.taken sink.old) (W.taken sink.new)) store.old.conn store.new.conn result }
 
-    // The tables represent what they did. If the list was found, they are open and durably represent it: no crash loses
-    // it.
+    // The tables represent what they did, and durably if the list was found: they are then open, and no crash loses it.
     ensures same { Between S.Store KeepsTelling store.old.conn store.new.conn }
     ensures found { On S.Store StoresWhereFound store.old.conn store.new.conn result }
 

@@ -17,7 +17,7 @@ pub record IsHead (bytes : List ℕ) (h : RequestHead) (rest : List ℕ) : Type 
 abbrev pub Line : Type 0
 Line = List ℕ × List ℕ
 
--- the line has this name, ignoring case
+-- the line has this name, ignoring ASCII case
 abbrev pub is_named : List ℕ → Line → Bool
 is_named name line = str_eq_ignore_ascii_case line.0 name
 

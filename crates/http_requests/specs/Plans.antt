@@ -25,7 +25,7 @@ plan_ask (Refused r) rest = refused r
 plan_ask (Get r) rest = get r
 plan_ask (Post caller key size) rest = posted_with caller.now key.now size rest
 
--- the plan has the body size of the head, and with any bytes after the head it asks for what both ask for together
+-- the plan has the body size of the head, and with any bytes after the head it asks for the same as the head
 pub record PlansHead (h : RequestHead) (plan : Plan) : Type 0 where
   pub wants : WantsBody h (plan_size plan)
   pub asks : (rest : List ℕ) → HeadAsks h rest (plan_ask plan rest)

@@ -31,7 +31,7 @@ impl<'a> FieldValues<'a> {
     }
 }
 
-/// Whether two names are equal, ignoring case.
+/// Whether two names are equal, ignoring ASCII case.
 fn is_same_name(name: &[u8], other: &[u8]) -> bool
     ensures { result ≡ str_eq_ignore_ascii_case name.now other.now }
 {

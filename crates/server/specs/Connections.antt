@@ -142,7 +142,7 @@ pub record Meets {S : Type 0} (count : ℕ) (book book' : Option Book) (nonces n
 
 -- ---- what is added to the history
 
--- an arrival that an office may receive at any time
+-- an arrival with a valid time and a whole nonce
 pub record IsTimely (arrival : Arrival) : Type 0 where
   pub moment : arrival.moment ≤ 253402300799
   pub nonce : length arrival.nonce ≡ 32

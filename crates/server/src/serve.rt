@@ -24,7 +24,7 @@ const FAULT: u8 = 1;
 /// is served. The result is 0; if there is no memory to begin with, the line `sshoffice: NoMemory` is printed and the
 /// result is 1. Nothing is printed to `out`. What `err` doesn't take is lost.
 ///
-/// The nonce source has failed so few times before that each connection may add one failure.
+/// The count of the nonce source's failures leaves room for one more per connection.
 pub fn serve_on<R: AllocGlobal, L: Listener, S: Registry, N: Source, O: Write, E: Write>(
     rt: &R,
     listener: &mut L,

@@ -44,8 +44,8 @@ pub record IsReady {S : Type 0} (store : store.Ghosts S) (conn : Held S) : Type 
   pub unlimited : IsUnlimited store conn
   pub rests : HasCleanDisk (state store conn) → IsTrue (state store conn).is_open × IsAtRest (state store conn)
 
--- A disk that has been faithful was faithful before, and an open connection represents each history that was
--- represented, with arrivals after it.
+-- A disk that is faithful at the end was faithful at the beginning, and a connection that is open at the end represents
+-- each history that was represented, with arrivals after it.
 abbrev pub Adds : {S : Type 0} → store.Ghosts S → (opened last : Held S) → Type 0
 Adds store opened last =
     HasCleanDisk (state store last) → HasCleanDisk (state store opened)

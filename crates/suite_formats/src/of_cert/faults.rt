@@ -41,7 +41,7 @@ fn each_beginning_is_cut(rt: HostRuntime) {
     assert_eq!(rt; first_uncut(rt.alloc(), WITH_COMMAND), None);
 }
 
-/// The begin and end of a part of `PLAIN`, its replacement, and the fault that this causes, if any.
+/// The start and end of a part of `PLAIN`, its replacement, and the fault that this causes, if any.
 type Case = (usize, usize, &'static [u8], Option<CertFault>);
 
 const FIELDS: [Case; 15] = [
