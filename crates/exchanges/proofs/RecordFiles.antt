@@ -28,7 +28,7 @@ record Goes (es fs : List Exchange) (rest : List ℕ) : Type 0 where
 not_empty : (e : Exchange) (t : List ℕ) → exchange_text e ++ t ≡ [] → ⊥
 not_empty e t same = cc same
 
--- the records that a file begins with are the first of the exchanges that it is the text of
+-- if a file is the text of exchanges, the records at its beginning are the first of these
 goes_on : (es fs : List Exchange) (rest : List ℕ) → AllByRecursion IsExchange es → AllByRecursion IsExchange fs
     → exchanges_text es ++ rest ≡ exchanges_text fs → Goes es fs rest
 goes_on [] fs rest are_es are_fs same = record { more = fs; all = refl; text = same; are = are_fs }
@@ -57,7 +57,7 @@ one_there : (more : List Exchange) (rest : List ℕ) → rest ≡ exchanges_text
 one_there [] rest text some = absurd (omega (arith, ap length text))
 one_there (e ∷ more) rest text some = omega arith
 
--- if bytes are left after the greatest number of records, the file is no text of exchanges
+-- if bytes are left after the greatest number of records, the file isn't the text of exchanges
 pub too_many : (file rest : List ℕ) (es fs : List Exchange) → AreExchanges es → file ≡ exchanges_text es ++ rest
     → IsMore rest → MAX_EXCHANGES < length es + 1 → AreExchanges fs → file ≡ exchanges_text fs → ⊥
 too_many file rest es fs are text some many whole at =
@@ -74,7 +74,7 @@ first_unread : (more : List Exchange) (rest : List ℕ) → AllByRecursion IsExc
 first_unread [] rest are text some none = omega (arith, ap length text)
 first_unread (e ∷ more) rest are text some none = unread rest e (exchanges_text more) none are.0 text
 
--- if bytes are left and don't begin with a record, the file is no text of exchanges
+-- if bytes are left and don't begin with a record, the file isn't the text of exchanges
 pub no_record : (file rest : List ℕ) (es fs : List Exchange) → AreExchanges es → file ≡ exchanges_text es ++ rest
     → IsMore rest → exchange_at rest ≡ None → AreExchanges fs → file ≡ exchanges_text fs → ⊥
 no_record file rest es fs are text some none whole at =

@@ -1,5 +1,5 @@
--- Exchange files: a sequence of records up to the end, each a line `exchange MOMENT NONCE LENGTH` and then LENGTH bytes
--- of a request.
+-- Exchange files. A file is a sequence of records up to its end, each a line `exchange MOMENT NONCE LENGTH` and then
+-- LENGTH bytes of a request.
 use Rattle.std.specs.Prelude.{◌≡◌, ◌≢◌, ◌↔◌, ℕ, ◌+◌, ◌^◌, ◌<◌, ◌≤◌, List, [], ◌∷◌, ◌++◌, length, codes}
 use Rattle.std.specs.Fmt.{decimal}
 use Rattle.std.specs.List.{AllByRecursion, flat_map}
@@ -40,7 +40,7 @@ pub record IsBadRecord (file : List ℕ) (k : ℕ) : Type 0 where
   pub more : rest ≢ []
   pub first : k ≤ 10000 → (e : Exchange) (after : List ℕ) → IsExchange e → rest ≢ exchange_text e ++ after
 
--- Bytes that are equivalent to a file for a reader: they are the text of the same exchanges, if of any, and have the
+-- Bytes that a reader can use in place of a file: they are the text of the same exchanges, if of any, and have the
 -- same first bad record.
 pub record TellsOf (file bytes : List ℕ) : Type 0 where
   pub exchanges : (es : List Exchange) → AreExchanges es → (bytes ≡ exchanges_text es) ↔ (file ≡ exchanges_text es)

@@ -10,7 +10,7 @@ use Rattle.web.specs.declared.exchange.Given.{Given}
 use Rattle.web.specs.declared.exchange.Given.TheVariants.{Answer, Fault}
 use Rattle.web.specs.Runs.{Serves}
 
--- a response after its length, or the word `fault` alone
+-- the word `answer`, a length and a response of that length, or the word `fault`
 abbrev pub given_text : Given → List ℕ
 given_text (Answer response) = codes "answer " ++ (decimal (length response) ++ 10 ∷ response)
 given_text Fault = codes "fault" ++ 10 ∷ []
@@ -23,11 +23,11 @@ abbrev pub is_fault : Given → Bool
 is_fault (Answer response) = false
 is_fault Fault = true
 
--- whether one of the exchanges got no response
+-- whether any exchange got no response
 abbrev pub has_fault : List Given → Bool
 has_fault given = list_any is_fault given
 
--- The output of a register for the exchanges is printed after the earlier output; `fault` says whether one got a fault.
+-- The output of a register for the exchanges is printed after the earlier output; `fault` says whether any got a fault.
 pub record Prints (before after keeps : Opening → List Arrival → Type 0) (exchanges : List Exchange)
     (old new : Option (List ℕ)) (fault : Bool) : Type 0 where
   pub given : List Given

@@ -33,7 +33,7 @@ if_lower t bytes = if bytes_eq (encode_lower bytes) t then Some bytes else None
 abbrev pub nonce_of : List ℕ → Option (List ℕ)
 nonce_of t = option_and_then (if_lower t) (result_ok (decode_sized t 32))
 
--- the first `size` bytes, and the bytes after them
+-- the first `size` bytes and the bytes after them, if there are that many and a request may have that many
 abbrev pub request_in : ℕ → List ℕ → Option (List ℕ × List ℕ)
 request_in size t = if nat_le size 65536 && nat_le size (length t) then Some (take size t, drop size t) else None
 

@@ -101,7 +101,7 @@ fn number_up_to(text: &[u8], byte: u8) -> Option<(u64, &[u8])>
     Some((number, rest))
 }
 
-// Whether the digits are the nonce in lower case.
+// Whether the digits are the lower-case hexadecimal form of the nonce.
 fn is_lower(nonce: &[u8; 32], digits: &[u8]) -> bool
     ensures { result ≡ bytes_eq (encode_lower nonce.now) digits.now }
 {
@@ -136,7 +136,7 @@ fn nonce_of(digits: &[u8]) -> Option<[u8; 32]>
     }
 }
 
-// The first `size` bytes, and the bytes after them.
+// The first `size` bytes and the bytes after them, if there are that many and a request may have that many.
 fn request_in(size: u64, text: &[u8]) -> Option<(&[u8], &[u8])>
     ensures { option_map (λ p. (p.0.now, p.1.now)) result ≡ request_in size text.now }
 {
@@ -242,7 +242,7 @@ pub fn read_exchanges(alloc: Global, file: &[u8]) -> Result<Vec<Exchange>, Excha
     Ok(exchanges)
 }
 
-/// The first 656370001 bytes of a file, one more than any exchange file has, are equivalent to the file for a reader.
+/// A reader can use the first 656370001 bytes, one more than any exchange file has, in place of the file.
 pub fn the_first_bytes_tell_of_a_file()
     ensures { (file : List ℕ) → TellsOf file (take (MAX_FILE + 1) file) }
 {}

@@ -39,7 +39,7 @@ fn is_fault(given: &Given) -> bool
     matches!(given, Given::Fault)
 }
 
-/// Whether some exchange got no response.
+/// Whether any exchange got no response.
 pub fn has_fault(given: &[Given]) -> bool
     ensures { result ≡ has_fault given.now }
 {

@@ -69,7 +69,7 @@ pub record IsListResponse (o : Opening) (l : List Arrival) (response : List ℕ)
   pub text : response ≡ response_text 200 Bytes body
   pub list : IsList o l body
 
--- a later list revokes, under each CA that existed at the earlier list, everything that the earlier list revokes
+-- a later list revokes, under each CA that the office had at the earlier one, everything that the earlier one revokes
 abbrev pub ListsForgetNothing : Type 0
 ListsForgetNothing = (o : Opening) (l later : List Arrival) (old new : RevocationList)
     → IsExact o l old → IsExact o (l ++ later) new
@@ -123,7 +123,7 @@ AreExactLists o l (x ∷ xs) (Fault ∷ given) = AreExactLists o l xs given
 AreExactLists o l [] given = Unit {0}
 AreExactLists o l (x ∷ xs) [] = Unit {0}
 
--- The specified responses are printed after what the output held; `fault` says whether one of them is a fault. The
+-- The specified responses are printed after what the output held; `fault` says whether any is a fault. The
 -- tables then represent the history with the arrivals that had no fault, and durably represent it if they have answered
 -- since the last fault.
 pub record OfficePrints (old new : State) (exchanges : List Exchange) (held holds : Option (List ℕ)) (fault : Bool)
@@ -158,12 +158,12 @@ is_write (Ok done) = false
 is_write (Err (Store fault)) = false
 is_write (Err Write) = true
 
--- a property of the register's fault, if it is one
+-- a property of the fault, if it is one of the register
 abbrev pub OfStore : (StoreFault → Type 0) → PublishFault → Type 0
 OfStore P (Store fault) = P fault
 OfStore P Write = Unit {0}
 
--- a fact that holds if the call found the list, and wrote it or a beginning of it
+-- a fact that holds if the call found the list, even if the writer then failed
 abbrev pub IfFound : Result (Unit {0}) PublishFault → Type 0 → Type 0
 IfFound (Ok done) P = P
 IfFound (Err (Store fault)) P = Unit {0}

@@ -3,10 +3,10 @@
 //! Tables represent an initial configuration and a history if they hold the rows of the reference model that began with
 //! this configuration and got the history's arrivals. They durably represent it if their connection is also open: a
 //! crash then leaves these rows and nothing else. Tables that have answered are open, so every answered request is
-//! preserved. If a failed disk has shut the connection, that tables represent a history means that a crash leaves its
-//! rows, or those with one arrival more. A request that is refused for its bytes alone doesn't use the tables.
+//! preserved. If a failed disk has shut the connection, tables represent a history if a crash leaves its rows, or those
+//! with one more arrival. A request that is refused for its bytes alone doesn't use the tables.
 //!
-//! The clauses assume a disk that has returned what was written, up to the end of the call.
+//! The clauses assume that the disk has returned what was written to it until the call ends.
 #![tactic(auto)]
 
 mod publish_fault;
@@ -112,8 +112,8 @@ pub fn respond<S: Alter>(
     // mean.
     ensures reads { AsksNoChange request.now → Between S.Store IsAsBeforeWhereOpen store.old.conn store.new.conn }
 
-    // The fault is lack of memory, or the database failed or refused a specified row. `Device` is returned only in the
-    // last two cases.
+    // If the tables represent a history, the fault is `NoMemory` or `Device`. `Device` is returned only if the database
+    // failed, or refused a specified row.
     ensures only { On S.Store FailsAsRegister store.old.conn store.new.conn result }
     ensures cause { HasCleanDisk (state S.Store store.new.conn) → IfErr result (λ e. HasCause e (OfficeStops
         (λ s. state S.Store s.conn) request.now moment nonce.now store.old store.new)) }
@@ -161,8 +161,9 @@ fn write_found<W: Sink>(revoked: &Revoked, sink: &mut W) -> Result<(), PublishFa
     }
 }
 
-/// Writes the key revocation list from front to back, without holding it. A section that would be too long is a fault
-/// of memory. The writer has failed fewer than 18446744073709551615 times before.
+/// Writes the key revocation list from front to back, without holding it. The fault is `NoMemory` for a section that
+/// would be too long, and `Damaged` for more CAs than an office may have. The writer has failed fewer than
+/// 18446744073709551615 times before.
 pub fn publish<S: Alter, W: Sink>(
     store: &mut Store<S>,
     alloc: Global,
@@ -189,7 +190,8 @@ pub fn publish<S: Alter, W: Sink>(
     ensures unwritten { IfErr result (λ e. e ≢ PublishFault.Write → sink.new ≡ sink.old) }
     ensures failed { W.failed sink.new ≡ (if is_write result then W.failed sink.old + 1 else W.failed sink.old) }
 
-    // A fault of the register is lack of memory, or the database failed. `Device` is returned only if it did.
+    // If the tables represent a history, a fault of the register is `NoMemory` or `Device`. `Device` is returned only
+    // if the database failed.
     ensures only { On S.Store PublishFailsAsRegister store.old.conn store.new.conn result }
     ensures cause { IfErr result (OfStore (λ e. HasCause e (HasFailed (state S.Store store.old.conn)
         (state S.Store store.new.conn)))) }

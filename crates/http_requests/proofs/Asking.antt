@@ -22,7 +22,7 @@ use Rattle.http_requests.proofs.OneAsk.{same_path}
 abbrev taken : (caller key : List ℕ) → ℕ → List ℕ → Ask
 taken caller key n rest = cond (nat_lt (length rest) n) (refused ShortBody) (post caller key (take n rest))
 
--- a property of asks that no bytes change, and of messages, holds of each ask at a path, with its body size
+-- a property of constant asks, with size 0, and of messages, with their size, holds of each ask at a path
 module _ (P : (List ℕ → Ask) → ℕ → Type 0)
     (fixed : (a : Ask) → IsLawful a → ¬ (a ≡ refused ShortBody) → P (λ rest. a) 0)
     (body : (caller key : List ℕ) (n : ℕ) → IsPath (message caller key) → n ≤ 16384 → P (taken caller key n) n) where

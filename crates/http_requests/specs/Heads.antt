@@ -7,7 +7,7 @@ use Rattle.std.specs.Str.Parse.{IsNumeral, digits_value}
 use Rattle.httparse.specs.Grammar.{RequestHead, ReadsRequest, print_request}
 use Rattle.httparse.specs.Spans.{name_and_value}
 
--- the bytes begin with a head of a permitted size, and rest comes after it
+-- the bytes begin with a head within the limits on bytes and lines, and rest comes after it
 pub record IsHead (bytes : List ℕ) (h : RequestHead) (rest : List ℕ) : Type 0 where
   pub reads : ReadsRequest bytes h rest
   pub size : length (print_request h) ≤ 8192
@@ -29,11 +29,11 @@ values name lines = map (λ line. line.1) (filter (is_named name) lines)
 abbrev pub lines_of : RequestHead → List Line
 lines_of h = map name_and_value h.fields
 
--- the lengths of the body that the head states
+-- the values of the head's content-length lines
 abbrev pub lengths : RequestHead → List (List ℕ)
 lengths h = values (codes "content-length") (lines_of h)
 
--- the head has a line about the body's coding
+-- the head has a transfer-encoding line
 abbrev pub is_coded : RequestHead → Bool
 is_coded h = nat_lt 0 (length (values (codes "transfer-encoding") (lines_of h)))
 

@@ -76,7 +76,7 @@ pub record IsMethod (least count : ℕ) (bytes : List ℕ) : Type 0 where
   pub next : IsTarget 1 count rest
   pub text : bytes ≡ method ++ space ∷ rest
 
--- these bytes may follow
+-- these bytes, with `count` more header lines, complete a head from this place (from `Elsewhere`, none do)
 abbrev pub MayFollow : Place → ℕ → List ℕ → Type 0
 MayFollow Start count bytes = IsMethod 1 count bytes
 MayFollow Method count bytes = IsMethod 0 count bytes

@@ -12,15 +12,15 @@ BeginsWith bytes h rest = ReadsRequest bytes h rest × (length h.fields ≤ 32)
 abbrev pub HoldsHead : List ℕ → Type 0
 HoldsHead bytes = (h : RequestHead) × (rest : List ℕ) × BeginsWith bytes h rest
 
--- the bytes begin with no head
+-- the bytes don't begin with a head
 abbrev pub HoldsNone : List ℕ → Type 0
 HoldsNone bytes = (h : RequestHead) (rest : List ℕ) → ¬ (BeginsWith bytes h rest)
 
--- the bytes begin with no head, whatever follows
+-- the bytes don't begin with a head, whatever follows
 abbrev pub NeverHolds : List ℕ → Type 0
 NeverHolds bytes = (more : List ℕ) → HoldsNone (bytes ++ more)
 
--- a head that the bytes begin with is all of them
+-- if the bytes begin with a head, nothing follows it
 abbrev pub IsNoMore : List ℕ → Type 0
 IsNoMore bytes = (h : RequestHead) (rest : List ℕ) → BeginsWith bytes h rest → rest ≡ []
 
@@ -30,6 +30,6 @@ HasCome Whole bytes = HoldsHead bytes
 HasCome Waits bytes = HoldsNone bytes × MayBecomeRequest bytes
 HasCome Hopeless bytes = NeverHolds bytes
 
--- each shorter prefix has no head, but may become one
+-- no shorter prefix holds a head, but each may become one
 abbrev pub WaitsBefore : List ℕ → Type 0
 WaitsBefore bytes = (n : ℕ) → n < length bytes → HasCome Waits (take n bytes)

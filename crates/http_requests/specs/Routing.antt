@@ -51,7 +51,7 @@ routing = rows_of kinds
 abbrev pub routing_by_parameters : RowsOf (RouteOf RouteKind)
 routing_by_parameters = rows_of (Message ∷ Body ∷ Certificate ∷ [])
 
--- the rows of a router after the route with this text was inserted
+-- the rows of a router after a route was inserted, if its text is valid
 abbrev with_read : Result Scan InsertError → RouteKind → RowsOf (RouteOf RouteKind) → RowsOf (RouteOf RouteKind)
 with_read (Ok scan) kind rows = placed (scan.pattern, route_from scan kind) rows
 with_read (Err e) kind rows = rows

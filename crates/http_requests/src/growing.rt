@@ -113,7 +113,7 @@ fn begins_line(place: Place, byte: u8) -> bool
 
 /// The place in a head after the bytes so far, and how many header lines began before it.
 ///
-/// For most bytes the place decides the progress. Only if it doesn't, all bytes are parsed.
+/// For most bytes the place decides the progress. All bytes are parsed only if it doesn't.
 #[derive(Clone, Copy)]
 pub struct Spot {
     place: Place,

@@ -37,7 +37,7 @@ pub fn short_bodies_are_below_the_size()
         → (a ≡ refused Refusal.ShortBody) ↔ (length rest < n) }
 {}
 
-/// The limits of a request, which the definitions have as numbers.
+/// The limits of a request are the numbers in the definitions.
 pub fn limits_of_requests()
     ensures head { MAX_HEAD ≡ 8192 }
     ensures lines { MAX_HEADER_LINES ≡ 32 }

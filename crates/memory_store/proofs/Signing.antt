@@ -5,7 +5,7 @@ use Rattle.lines.specs.declared.signature.Signature.{Signature}
 use Rattle.office.specs.declared.certificate.Certificate.{Certificate}
 use Rattle.office.specs.Machine.{signed, signed_at}
 
--- signing the certificate at the place; it is read with itself as the default value
+-- signing the certificate c at the place, given that an indexed read with c as the default returns c
 pub set_signed : (cs : List Certificate) (c : Certificate) (place : ℕ) (s : Signature) → c ≡ slice_index_or cs place c → place < length cs → slice_set cs place (signed c s) ≡ signed_at cs place s
 set_signed [] c place s is there = absurd (omega (arith, there))
 set_signed (d ∷ cs) c zero s is there = ap (λ (x : Certificate). signed x s ∷ cs) is

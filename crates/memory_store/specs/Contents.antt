@@ -55,7 +55,7 @@ state_of t = record {
 abbrev pub row_of : Arrival → List ℕ → Kept
 row_of a reply = record { caller = a.caller; key = a.key; bytes = a.bytes; reply = reply }
 
--- what is decided about an arrival that is no repeat
+-- what is decided about an arrival that isn't a repeat
 abbrev pub Judges : Result Decision Stop → Contents → Arrival → Type 0
 Judges (Ok d) t a = IsOkAnd (judged (state_of t) t.kept a) (λ f. (f.arrival ≡ a) × (f.reply ≡ d.reply)
     × (written d (state_of t) ≡ change (state_of t) f))
@@ -67,7 +67,7 @@ pub record Writes (old : Contents) (a : Arrival) (d : Decision) (new : Contents)
   pub kept : new.kept ≡ old.kept ++ row_of a d.reply ∷ []
   pub state : state_of new ≡ written d (state_of old)
 
--- the invariants of the lists: serials in range, valid rows, CAs in order, none starting after the next serial
+-- the invariants: valid configuration and rows, serials in range, CAs in order, none starting after the next serial
 pub record AreKept (t : Contents) : Type 0 where
   pub opening : IsOpening t.opening
   pub serials : t.opening.first + length t.certificates ≤ t.opening.last + 1

@@ -1,6 +1,6 @@
 //! Departments in the order of their names.
 //!
-//! A replaced department is dropped explicitly: the proof of a function that ends with one takes its fields apart.
+//! A replaced department is dropped explicitly: if it lives to the function's end, the proof takes its fields apart.
 
 ghost use Rattle.std.specs.Prelude.{◌≡◌, OnOk, OnErr, find, option_copied};
 ghost use Rattle.std.specs.List.{slice_get};

@@ -1,6 +1,6 @@
 //! The answer to an arrival.
 //!
-//! Large values are dropped explicitly: the proof of a function that ends with one takes each of its fields apart.
+//! Large values are dropped explicitly: if one lives to a function's end, the proof takes each of its fields apart.
 
 ghost use Rattle.std.specs.Prelude.{◌≡◌, ◌≤◌, IfOk, IfErr, IsTrue, Some};
 ghost use Rattle.std.specs.List.{list_any};
@@ -51,7 +51,7 @@ fn is_known(kept: &[Kept], arrival: &Arrival) -> bool
 }
 
 impl PlainStore {
-    /// The decision about an arrival that is no repeat.
+    /// The decision about an arrival that isn't a repeat.
     pub(crate) fn judge(&self, alloc: Global, arrival: &Arrival) -> Result<Decision, Stop>
         ensures judges { Judges result self.now arrival.now }
         ensures room { IfOk result (λ d. HasRoom d.change (state_of self.now)) }

@@ -1,6 +1,6 @@
 //! The in-memory store.
 //!
-//! An initial configuration is dropped explicitly: the proof of a function that ends with one takes its fields apart.
+//! An initial configuration is dropped explicitly: if one lives to a function's end, the proof takes its fields apart.
 
 ghost use Rattle.std.specs.Prelude.{◌≡◌, ◌∷◌, [], ℕ, false, IfOk};
 ghost use Rattle.krl.specs.Sets.{contains};

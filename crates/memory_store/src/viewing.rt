@@ -21,7 +21,7 @@ impl PlainStore {
         ensures is { option_copied result ≡ certificate_concerned (state_of self.now) message.now }
         ensures lawful { IfSome (option_copied result) IsCertificate }
     {
-        // The proof gets the invariants of the store only if a field of it is read.
+        // The proof gets the store's invariants only if one of its fields is read.
         let _ = &self.opening;
         match concerned(message).serial {
             Some(serial) => self.issued(serial),

@@ -1,6 +1,6 @@
 //! Writing decisions.
 //!
-//! Large values are dropped explicitly: the proof of a function that ends with one takes each of its fields apart.
+//! Large values are dropped explicitly: if one lives to a function's end, the proof takes each of its fields apart.
 
 ghost use Rattle.std.specs.Prelude.{◌≡◌, ◌++◌, ◌∷◌, [], IfOk, OnOk, OnErr};
 ghost use Rattle.office.specs.Decided.{HasRoom, IsLawfulChange, changed};

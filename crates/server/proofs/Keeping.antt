@@ -12,7 +12,7 @@ use Rattle.waiting.proofs.Kept.{none_kept}
 use Rattle.server.specs.Books.{Book}
 use Rattle.server.specs.Connections.{Extends, Meets}
 
--- an extension carries over to a meaning that implies the one before and to one that follows from the one after
+-- `Extends` still holds for a stronger meaning before and for a weaker one after
 pub extends_as : (most : ℕ) (before before' after after' : Opening → List Arrival → Type 0)
     → ((o : Opening) (l : List Arrival) → before' o l → before o l)
     → ((o : Opening) (l : List Arrival) → after o l → after' o l)

@@ -30,7 +30,7 @@ pub record IsAccepted (reader writer : Option (List ℕ)) (moment : ℕ) (old ne
   pub gives : reader ≡ Some sent
   pub silent : writer ≡ Some []
 
--- a connection ended after its writer had written exactly the bytes that it took
+-- a connection ended, and the bytes that its writer took are recorded as written on it
 pub record IsEnded (writer : Option (List ℕ)) (old new : Book) : Type 0 where
   pub written : List ℕ
   pub took : writer ≡ Some written

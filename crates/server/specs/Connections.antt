@@ -113,8 +113,8 @@ given_of (closed silence) = given.Fault
 abbrev pub drawn_of : Visit → List ℕ
 drawn_of visit = (exchange_of visit).nonce
 
--- A faithful register gave to the exchanges of the visits the specified responses, or faults, whatever it meant before.
--- If it has answered since the last fault, it is open, and so keeps the history that it then means.
+-- A register whose disk has been faithful gave the visits' exchanges the specified responses, or faults, whatever it
+-- meant before. If it has answered since the last fault, it is open, and so keeps the history that it then means.
 abbrev pub AreServed : {S : Type 0} → Ghosts S → (old new : S) → List Visit → Type 0
 AreServed register old new visits = register.is_honest new → Serves (register.means old) (register.means new)
     (Keeps register.means register.is_open new) (map exchange_of visits) (map given_of visits)

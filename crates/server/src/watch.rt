@@ -62,7 +62,7 @@ impl<'a, C: Clock> Watch<'a, C> {
         }
     }
 
-    /// Limits the wait of the stream's next read to the time left. `false` if it may not wait.
+    /// Limits the wait of the stream's next read to the time left. `false` if none is left or the limit can't be set.
     pub(crate) fn allow_read<S: OpenStream>(&self, stream: &S) -> bool {
         match self.left() {
             Some(wait) => stream.set_read_timeout(Some(wait)).is_ok(),
@@ -70,7 +70,7 @@ impl<'a, C: Clock> Watch<'a, C> {
         }
     }
 
-    /// Limits the wait of the stream's next write to the time left. `false` if it may not wait.
+    /// Limits the wait of the stream's next write to the time left. `false` if none is left or the limit can't be set.
     pub(crate) fn allow_write<S: OpenStream>(&self, stream: &S) -> bool {
         match self.left() {
             Some(wait) => stream.set_write_timeout(Some(wait)).is_ok(),

@@ -50,7 +50,7 @@ pub of_ok : (r : Result Unit RunFault) (done : Result Unit JobFault) (P : Type 0
 of_ok (Ok u) done P same shown = subst (λ (d : Result Unit JobFault). OnOk d P) (sym same) shown
 of_ok (Err fault) done P same shown = subst (λ (d : Result Unit JobFault). OnOk d P) (sym same) tt
 
--- A fault that was printed was one of the batch.
+-- A job that ends with `Fault` ran a batch that ended with `Fault`.
 pub was_fault : (r : Result Unit RunFault) → run_result r ≡ Err Fault → r ≡ Err run.Fault
 was_fault (Ok done) same = absurd cc
 was_fault (Err run.NoMemory) same = absurd cc

@@ -27,7 +27,7 @@ before_again a b c first then = record {
       ∙ first.same (then.was_open is_open) rests;
 }
 
--- a fact that is needed only for an open connection
+-- `IsAsBefore` has to be shown only for an open connection
 pub before_open : (a b : State) → (IsTrue b.is_open → IsAsBefore a b) → IsAsBefore a b
 before_open a b h = record {
   was_open = λ is_open. (h is_open).was_open is_open;

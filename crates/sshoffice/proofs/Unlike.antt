@@ -6,7 +6,7 @@ use Rattle.store_sql.specs.Look.{first_is_office, is_ca_name, is_office_name, is
 use Rattle.store_sql.specs.Look.{whole_has_ca, whole_has_tables}
 use Rattle.store_sql.specs.Schema.{whole}
 
--- a call that refuses tables with an office's names refuses an office
+-- if a call that refuses tables with an office's names succeeded, the schema wasn't an office's
 pub had_no_office : {X E : Type 0} (old : State) (r : Result X E) (x : X) (e : E) → r ≡ Ok x
     → (list_any is_office_name old.now.schema.tables ≡ true → r ≡ Err e) → old.now.schema ≢ whole
 had_no_office old r x e done already same =

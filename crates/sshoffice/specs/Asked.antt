@@ -1,4 +1,4 @@
--- What the run of a job was asked and gave, from its result and from what was printed.
+-- What a job's run was asked and what it gave, determined from its result and from what was printed.
 use Rattle.std.specs.Prelude.{◌≡◌, ◌∷◌, ℕ, List, [], length, map, flat_map, false, true, Option, Some, None, Result, Ok, Err}
 use Rattle.std.specs.Io.KnownBytes.{Appends, Consumes}
 use Rattle.http_requests.specs.declared.resource.Resource.{Resource}
@@ -63,8 +63,8 @@ pub record AsksResource (wanted : Resource) (media : MediaType) (held holds : Op
   pub one : asked.exchanges ≡ get_of ∷ []
   pub shown : IsShown media held holds r asked.given
 
--- What a job asks of the office in a database. The list and the reports print the response to a GET. A migration asks
--- no exchange.
+-- What a job asks of the office in a database. The list and the reports print the response to a GET. A migration has no
+-- exchanges.
 abbrev pub AsksOffice : OfficeJob → (held holds : Option (List ℕ)) → Result (Unit {0}) JobFault → Asked → Type 0
 AsksOffice (Init opening) held holds r asked = asked ≡ founding_asked opening.now
 AsksOffice (Apply exchanges) held holds r asked = AsksExchanges exchanges.now held holds r asked

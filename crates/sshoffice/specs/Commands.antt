@@ -33,7 +33,7 @@ abbrev pub IsServing : Job → Type 0
 IsServing (job.Serve db port connections nonces) = Unit {0}
 IsServing other = ⊥
 
--- The status of a job that was done is 0. Its output may fail when it is flushed; a fault of the job stays.
+-- A job that was done has status 0, unless flushing its output fails; a fault of the job is kept.
 abbrev pub IsFlushed : Result (Unit {0}) JobFault → Result ℕ JobFault → Type 0
 IsFlushed (Ok done) result = (result ≡ Ok 0) ⊎ (result ≡ Err Write)
 IsFlushed (Err e) result = result ≡ Err e

@@ -1,4 +1,4 @@
--- A connection to the two files of a database, when it is opened, and what its close leaves of them.
+-- A connection to the two files of a database, when it is opened, and what closing it leaves of them.
 use Rattle.std.specs.Prelude.{IfErr, IfOk, IsTrue, Result}
 use Rattle.sqlite_disk.specs.declared.Disk.{Ghosts}
 use Rattle.sqlite_disk.specs.declared.Files.{Files}

@@ -58,7 +58,7 @@ abbrev pub publish_result : Result (Unit {0}) PublishFault → Result (Unit {0})
 publish_result (Ok done) = Ok done
 publish_result (Err fault) = Err (of_publishing fault)
 
--- for a port on which nobody listens
+-- for a listener that couldn't be made, or whose port couldn't be printed
 abbrev pub of_listening : ListenFault → JobFault
 of_listening listening.Socket = Socket
 of_listening listening.Write = Write

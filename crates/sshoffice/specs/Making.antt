@@ -32,7 +32,7 @@ abbrev pub IsMadeWhole : Opening → (old new : State) → Type 0
 IsMadeWhole opening old new =
     Survives old new (Leaves (λ _. IsBare no_schema) (λ (_ : Unit {0}). office_contents opening []) old)
 
--- the database had no office; if it had no tables, it now has those of an office in which nothing has happened
+-- the tables weren't those of schema 2; if there were none, they are now those of an office with an empty history
 pub record IsMade (opening : Opening) (old new : State) : Type 0 where
   pub unlike : old.now.schema ≢ whole
   pub made : IsBlank old → Tells new opening []
@@ -66,7 +66,7 @@ ready_text o =
 abbrev pub IsMovedWhole : (old new : State) → Type 0
 IsMovedWhole old new = Survives old new (Leaves Had migrated old)
 
--- the tables weren't those of schema 2; those of schema 1 became these, row by row, and represent what they represented
+-- the tables weren't those of schema 2; tables of schema 1 were migrated row by row, and still represent the same
 pub record IsMoved (old new : State) : Type 0 where
   pub unlike : old.now.schema ≢ whole
   pub judged : (c : Contents) → Rests (Had c) old → IsOk (ca_of c.offices)

@@ -22,7 +22,7 @@ pub record IsOpened (old new : State) : Type 0 where
   pub before : IsAsBefore old new
   pub tells : TellsOn old new
 
--- For this fault it was not opened, and nothing has changed: its row gives the reason, or the database failed.
+-- The office was not opened, with this fault, and nothing has changed: its row is the reason, or the database failed.
 pub record IsUnopened (old new : State) (e : StoreFault) : Type 0 where
   pub refused : (rows : List OfficeRow) → HasOffices rows old.now → Looks rows (DiskFailed old new) (Err e)
   pub only : IsTrue old.is_open → (o : Opening) (l : List Arrival) → Tells old o l → IsExcused (DiskFailed old new) e

@@ -35,7 +35,7 @@ IsReported report old new held holds =
     (text : List ℕ) × Appends held holds text
     × ((o : Opening) (l : List Arrival) → Tells old o l → (text ≡ report_text report (state o l)) × Stores new o l)
 
--- the outcome, if no table has changed
+-- the outcome, apart from the fact that no table has changed
 abbrev pub IsReport : Report → (old new : Connection) → (held holds : Option (List ℕ)) → Result (Unit {0}) JobFault
     → Type 0
 IsReport report old new held holds (Ok done) = IsReported report old new held holds

@@ -17,7 +17,7 @@ opening_of first last = record {
   last = last;
 }
 
--- the message of root that makes the department `web`
+-- the message by which root makes the department `web`
 abbrev pub trial_arrival : Arrival
 trial_arrival = record {
   caller = codes "root";

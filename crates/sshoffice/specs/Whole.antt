@@ -93,7 +93,7 @@ Begins file due (Err e) =
 
 -- ---- listening
 
--- an address at this port of 127.0.0.1
+-- the address 127.0.0.1 with this port
 pub record IsLoopback (at : ℕ) (address : SocketAddrV4) : Type 0 where
   pub ip : ipv4_octets (v4_ip address) ≡ 127 ∷ 0 ∷ 0 ∷ 1 ∷ []
   pub port : v4_port address ≡ at
@@ -173,7 +173,7 @@ module _ {W File Tables Incoming Reader Writer : Type 0} (store : store.Ghosts T
       → Result (Unit {0}) JobFault → Type 0
   Quietly Did before after conn last result = (after ≡ before) × On store Did conn last result
 
-  -- The same, and once the database was closed, its message is printed.
+  -- The same, and after the database was closed, the job's message is printed.
   pub record DoesIn (Opens : W → Result (Held Tables) JobFault → W → Type 0)
       (Did : State → State → Option (List ℕ) → Option (List ℕ) → Result (Unit {0}) JobFault → Type 0)
       (Asks : Option (List ℕ) → Option (List ℕ) → Result (Unit {0}) JobFault → Asked → Type 0)
@@ -193,8 +193,8 @@ module _ {W File Tables Incoming Reader Writer : Type 0} (store : store.Ghosts T
     pub applied : Follows (λ es. DoesIn (OpensThere world db) (Applies es) (AsksExchanges es) [] held holds) ((w' ≡ w) × (holds ≡ held))
         exchanges result
 
-  -- The office with the key of the file was made, and is reported. Or there is no key, and then nothing was made or
-  -- opened, and nothing is printed.
+  -- The office with the key of the file was made, and this is reported. Or there is no initial configuration, and then
+  -- nothing was made or opened, and nothing is printed.
   pub record FoundsIn (db : List ℕ) (due : List ℕ → Result Opening OpeningFault) (file held holds : Option (List ℕ))
       (result : Result (Unit {0}) JobFault) : Type 0 where
     pub opening : Result Opening JobFault

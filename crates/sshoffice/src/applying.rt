@@ -73,11 +73,11 @@ pub fn apply_to_trial<R: Read + Drop, W: Write>(
     ensures fault { result ≡ Err JobFault.Fault → IfSome (R.remaining file) (λ text. AppliesToTrial text
         (W.contents out.old) (W.contents out.new) true) }
 
-    // The file is no exchange file.
+    // The file isn't an exchange file: this is its first bad record.
     ensures bad { (k : ℕ) → result ≡ Err (JobFault.BadExchange k)
         → IfSome (R.remaining file) (λ text. IsBadRecord text k) }
 
-    // After any fault except these two, nothing is printed.
+    // After any fault except `Write` and `Fault`, nothing is printed.
     ensures only { IfErr result IsOfATrial }
     ensures silent { IfErr result (λ e. e ≢ JobFault.Write → e ≢ JobFault.Fault → out.new ≡ out.old) }
 {

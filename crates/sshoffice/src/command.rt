@@ -238,8 +238,8 @@ fn run_job<S: Alter, W: World<Conn = Connection<S>> + AllocGlobal, O: Write, E: 
     }
 }
 
-/// Does a job in a world: opens the files and the database that the job names, in its order, does the job, closes,
-/// prints the result to `out`, and the name of a fault to `err`. Returns the status and `out`.
+/// Does a job in a world: opens its files, then its database, does the job, closes the database, and prints the result
+/// to `out`, or the name of a fault to `err`. Returns the status and `out`.
 pub fn do_job<S: Alter, W: World<Conn = Connection<S>> + AllocGlobal, O: Write, E: Write>(
     world: &mut W,
     job: &Job,

@@ -41,7 +41,7 @@ fn is_no_path(path: &str) -> bool {
     path == ":memory:" || path.starts_with("file:")
 }
 
-/// The system, of which at most one database is opened, once.
+/// The system, in which at most one database is opened, and only once.
 #[derive(Drop)]
 pub struct Host<'a, S: Start> {
     rt: &'a HostRuntime,

@@ -11,7 +11,7 @@ use std::fmt;
 /// Why a job was not done. It is printed as its name.
 #[derive(Clone, Copy, Debug, PartialEq, Eq)]
 pub enum JobFault {
-    /// A file can't be read, or one with a public-key line or a list is longer than any of its kind.
+    /// A file can't be read, or a public-key file or a list is longer than any may be.
     File,
     /// The output can't be written.
     Write,
@@ -29,9 +29,9 @@ pub enum JobFault {
     Line(LineFault),
     /// No office can begin with this configuration.
     Opening(OpeningFault),
-    /// The bytes are no list that this program reads.
+    /// The bytes aren't a list that this program can read.
     List(KrlFault),
-    /// The register didn't answer.
+    /// The register didn't answer, or its database can't be opened, made, migrated or closed.
     Store(StoreFault),
     /// An exchange got no response.
     Fault,

@@ -22,7 +22,7 @@ use std::alloc::Global;
 use std::io::Write;
 use store::Store;
 
-/// A report. A request for its resource produces it.
+/// A report: the body of the response to a GET of its resource.
 #[derive(Clone, Copy)]
 pub enum Report {
     /// The allowed signers.

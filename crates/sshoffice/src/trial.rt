@@ -38,7 +38,7 @@ const MESSAGE: &str = "department web\n\
 /// An office in memory.
 pub type MemoryOffice = Store<MemStore>;
 
-/// An initial configuration with the in-memory office's CA and names, or `Damaged` if these are no serials.
+/// An initial configuration with the in-memory office's CA and names, or `Damaged` if the serials are invalid.
 pub fn opening_of(alloc: Global, first: u64, last: u64) -> Result<Opening, StoreFault>
     ensures lawful { IfOk result IsOpening }
     ensures ok { IfOk result (λ o. o ≡ opening_of first last) }

@@ -104,9 +104,9 @@ pub(crate) fn found_in<S: Alter, W: World<Conn = Connection<S>> + AllocGlobal, O
 ///
 /// # Errors
 ///
-/// Why nobody could be served: the database doesn't exist or can't be opened, it isn't that of an office, or nobody
-/// listens at the port. `NoMemory` or `Device` is also returned if all were served and the database couldn't be closed
-/// well.
+/// Why nobody could be served: the database doesn't exist or can't be opened, it isn't that of an office, or there
+/// is no listener at the port. `NoMemory` or `Device` is also returned if all were served and the database couldn't be
+/// closed well.
 pub(crate) fn serve_in<S: Alter, W: World<Conn = Connection<S>> + AllocGlobal, O: Write, E: Write>(
     world: &mut W,
     db: &str,

@@ -56,7 +56,7 @@ fn written(
     (done, taken)
 }
 
-/// The first limit at which writing ends otherwise or the writer took no prefix of the list, and the result there.
+/// The first limit at which writing ends unexpectedly or the bytes taken aren't a prefix of the list, and the result.
 fn first_other(
     alloc: Global,
     parts: &[CaPart],

@@ -49,7 +49,7 @@ pub of_ok : (r : Result Unit RunFault) (done : Result Unit TrialFault) (P : Type
 of_ok (Ok u) done P same shown = subst (λ (d : Result Unit TrialFault). OnOk d P) (sym same) shown
 of_ok (Err e) done P same shown = subst (λ (d : Result Unit TrialFault). OnOk d P) (sym same) tt
 
--- A fault that was printed was one of the batch.
+-- A program that ends with `Fault` ran a batch that ended with `Fault`.
 pub was_fault : (r : Result Unit RunFault) → run_result r ≡ Err Fault → r ≡ Err run.Fault
 was_fault (Ok done) same = absurd cc
 was_fault (Err run.NoMemory) same = absurd cc

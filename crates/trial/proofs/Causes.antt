@@ -33,7 +33,7 @@ of_a_record exchanges.NoMemory = tt
 pub not_run : (e : TrialFault) → IsOfExchanges e → ¬ (e ≡ Fault)
 not_run e h same = subst IsOfExchanges same h
 
--- an office that couldn't be made isn't the fault `Fault` of an exchange
+-- the fault of an office that couldn't be made isn't `Fault`
 pub no_fault : (e : StoreFault) → ¬ (of_store e ≡ Fault)
 no_fault store.NoMemory same = cc
 no_fault other same = cc

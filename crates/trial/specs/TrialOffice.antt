@@ -15,7 +15,7 @@ trial_opening = record {
   last = LAST_SERIAL;
 }
 
--- the message of root that makes the department `web`
+-- the message by which root makes the department `web`
 abbrev pub trial_arrival : Arrival
 trial_arrival = record {
   caller = codes "root";

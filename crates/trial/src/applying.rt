@@ -37,7 +37,7 @@ pub(crate) fn apply_to_trial<R: Read + Drop, W: Write>(
     ensures fault { result ≡ Err TrialFault.Fault → IfSome (R.remaining file) (λ text. AppliesToTrial text
         (W.contents out.old) (W.contents out.new) true) }
 
-    // The file is no exchange file, and nothing is printed.
+    // The file isn't an exchange file: this is its first bad record. Nothing is printed.
     ensures bad { (k : ℕ) → result ≡ Err (TrialFault.BadExchange k)
         → IfSome (R.remaining file) (λ text. IsBadRecord text k) × (out.new ≡ out.old) }
 {

@@ -5,7 +5,7 @@ use office::StoreFault;
 use std::fmt;
 use std::io::ErrorKind;
 
-/// Why exchanges were not all answered. It is printed with the name that `sshoffice` prints.
+/// Why not all exchanges were answered. It is printed with the name that `sshoffice` prints.
 #[derive(Clone, Copy, Debug, PartialEq, Eq)]
 pub enum TrialFault {
     /// The file can't be read.

@@ -1,4 +1,4 @@
-//! Bytes that are no unsigned certificate (body).
+//! Bytes that aren't an unsigned certificate (body).
 
 use cert::{CertFault, read_body};
 use std::alloc::Global;
