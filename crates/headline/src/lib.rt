@@ -68,7 +68,7 @@ pub fn replay<S: Alter, W: Write>(
     ensures unrun { result ≡ Err RunFault.NoMemory → store.new ≡ store.old }
     ensures unprinted { result ≡ Err RunFault.NoMemory → out.new ≡ out.old }
 
-    // If none is a message, the database is unchanged while the connection is open, whatever its tables mean.
+    // If no exchange is a message, the database is unchanged while the connection is open, whatever its tables mean.
     ensures reads { AskNoChange exchanges.now → Between S.Store IsAsBeforeWhereOpen store.old.conn store.new.conn }
 
     // A disk that has been faithful when the call ends was faithful when it began.
@@ -108,7 +108,7 @@ pub fn respond<S: Alter>(
     // After a fault they represent what they represented before.
     ensures fault { On S.Store KeepsTellingOnErr store.old.conn store.new.conn result }
 
-    // A request that is no message leaves the database unchanged while the connection is open, whatever its tables
+    // A request that isn't a message leaves the database unchanged while the connection is open, whatever its tables
     // mean.
     ensures reads { AsksNoChange request.now → Between S.Store IsAsBeforeWhereOpen store.old.conn store.new.conn }
 

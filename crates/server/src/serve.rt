@@ -18,7 +18,7 @@ const DONE: u8 = 0;
 /// The status if none was.
 const FAULT: u8 = 1;
 
-/// Serves `connections` connections of a listener, in order, each at its own time and with the next 32 bytes of `nonces`.
+/// Serves `connections` connections of a listener, in order, each at its own time and with the next 32 nonce bytes.
 ///
 /// The fault of a connection is printed to `err` as a line `sshoffice: connection K NAME`, K from 1, and the next one
 /// is served. The result is 0; if there is no memory to begin with, the line `sshoffice: NoMemory` is printed and the

@@ -38,7 +38,7 @@ abbrev pub run_result : Result (Unit {0}) RunFault → Result (Unit {0}) JobFaul
 run_result (Ok done) = Ok done
 run_result (Err fault) = Err (of_run fault)
 
--- for a text that is no public-key line
+-- for a text that isn't a public-key line
 abbrev pub of_line : LineFault → JobFault
 of_line line.NoMemory = NoMemory
 of_line other = Line other

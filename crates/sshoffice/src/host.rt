@@ -1,7 +1,6 @@
 //! The world of the program: the system's files, clock and sockets, and databases in files.
 //!
-//! Each call goes to the system or to a crate. Nothing is proved about the system's answers, except for a database's
-//! files.
+//! Each call goes to the system or to a crate. Nothing is proved about the system's answers.
 
 ghost use Rattle.std.specs.Prelude.{◌≡◌, ◌≤◌, IsSomeAnd, map, string_bytes};
 ghost use Rattle.sqlite_wal.specs.Files.{image_at};

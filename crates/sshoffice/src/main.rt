@@ -6,9 +6,9 @@
 //! `closed` keeps a fault of the job or reports one of the closing, and `finish` then prints the job's message.
 //! `serve_over` serves an office, and `check_list` checks a list for a certificate.
 //!
-//! `do_words` reads the arguments, opens the files that they name, and closes the database. For a database's files it
-//! is proved what an open finds in them, given what they held, and what a close leaves. Other files, the console and
-//! sockets are the system's, and nothing is proved about them.
+//! `do_words` reads the arguments, opens the files and the database that they name, and closes the database. For a
+//! database's files it is proved what an open finds in them, given what they held, and what a close leaves. Other
+//! files, the console and sockets are the system's, and nothing is proved about them.
 #![tactic(auto)]
 
 mod adding;

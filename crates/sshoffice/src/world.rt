@@ -1,4 +1,4 @@
-//! The environment of a job: files, databases, a listener, the test of the program.
+//! The environment of a job: files, databases, a listener, and the program's test of itself.
 
 ghost use Rattle.std.specs.Prelude.{Bool, List, Result, ℕ, ⊤};
 ghost use Rattle.std.specs.declared.io.ErrorKind.{ErrorKind as Kind};

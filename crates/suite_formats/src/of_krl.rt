@@ -56,7 +56,7 @@ fn written(
     (done, taken)
 }
 
-/// The first limit at which writing ends unexpectedly or the bytes taken aren't a prefix of the list, and the result.
+/// The first limit at which the result or the bytes taken aren't the expected ones, and what they are.
 fn first_other(
     alloc: Global,
     parts: &[CaPart],

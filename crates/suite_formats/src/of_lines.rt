@@ -37,7 +37,7 @@ fn written(
     (done, taken)
 }
 
-/// The first limit at which writing ends unexpectedly or the bytes taken aren't a prefix of the line, and the result.
+/// The first limit at which the result or the bytes taken aren't the expected ones, and what they are.
 fn first_other(
     alloc: Global,
     rows: &[SignerRow],
