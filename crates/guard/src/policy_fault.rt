@@ -1,9 +1,9 @@
-//! Why a policy could not be read.
+//! Why a policy couldn't be read.
 
 ghost use Rattle.std.specs.Prelude.{◌≡◌};
 ghost use Rattle.guard.specs.declared.policy_fault.PolicyFault.TheVariants.{NoMemory};
 
-/// Why a policy could not be read.
+/// Why a policy couldn't be read.
 #[derive(Clone, Copy, Debug, PartialEq, Eq)]
 pub enum PolicyFault {
     /// More than 1048576 bytes.

@@ -105,11 +105,11 @@ part_fits ids p = is_idle ids p || nat_le (length (section_data (ca_section ids 
 abbrev pub fits : List CaPart → List (List ℕ) → Bool
 fits cas ids = list_all (part_fits ids) cas
 
--- whether the key id is one of them
+-- whether the key id is in the list
 abbrev pub is_key_id : List (List ℕ) → List ℕ → Bool
 is_key_id ids key_id = list_any (λ i. bytes_eq i key_id) ids
 
--- the CA part is one of them
+-- the CA part is in the list
 abbrev pub IsCaPartOf : CaPart → List CaPart → Type 0
 IsCaPartOf p [] = ⊥
 IsCaPartOf p (q ∷ qs) = (q ≡ p) ⊎ IsCaPartOf p qs

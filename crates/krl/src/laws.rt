@@ -16,7 +16,7 @@ pub fn runs_are_maximal()
     ensures all { (rs : List Run) (r : Run) → AreRuns rs → IsRunOf (contains rs) r → IsOneOf r rs }
 {}
 
-/// No two lists of runs make the same set.
+/// No two lists of runs represent the same set.
 pub fn runs_are_one()
     ensures { (rs qs : List Run) → AreRuns rs → AreRuns qs → ((n : ℕ) → contains rs n ≡ contains qs n) → rs ≡ qs }
 {}

@@ -250,7 +250,7 @@ pub fn runs_of(alloc: Global, serials: &[u64]) -> Result<Runs, NoMemory>
     })
 }
 
-// The runs of a serial and of those above it.
+// The runs of a serial and of the serials above it.
 fn gathered(alloc: Global, first: u64, rest: &[u64]) -> Result<Vec<Run>, NoMemory>
     requires { IsStrictlyIncreasing (first ∷ rest.now) }
     ensures runs { IfOk result (λ v. AreRuns v.items) }

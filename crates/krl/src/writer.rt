@@ -280,7 +280,7 @@ pub fn write_krl<W: Sink>(
     // A writer that has the room doesn't fail.
     ensures sure { published_length parts.now ids.now ≤ W.room sink.old → IsOk result }
 
-    // What was written has as many bytes as `krl_len` says.
+    // The text has the length that `krl_len` returns.
     ensures len { length (published_text head.now parts.now ids.now) ≡ published_length parts.now ids.now }
 
     // It can be divided in only one way, and as a supported list.
