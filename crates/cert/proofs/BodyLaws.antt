@@ -1,4 +1,4 @@
--- A fault of the bytes is found; what reading gives is what was returned.
+-- A fault of the bytes is found, and what holds for the result of reading holds for the returned value.
 use Rattle.cert.proofs.Words.{Bool, CertFault, CertFields, CriticalOptions, Err, Extensions, Gives, IsBytes}
 use Rattle.cert.proofs.Words.{IsCertFields, IsFault, Leaves, List, None, Ok, Option, Result, Some, [], ap, arith}
 use Rattle.cert.proofs.Words.{body_text, bytes_eq-Decides, cert_type, check, ends_at, eqb, eqb-true, false, front}

@@ -47,7 +47,7 @@ IsFaultOf words (Help text) = AskForText words
 IsFaultOf words (BadWords text) = AreBad words
 IsFaultOf words NoMemory = Unit {0}
 
--- what the fault that an error of clap becomes implies about a command's words
+-- what the fault made from a clap error implies about a command's words
 abbrev pub IsErrorOf : App → List Text → WordsFault → Type 0
 IsErrorOf app words (Help text) = AskForTextOf app words
 IsErrorOf app words (BadWords text) = HaveMistake app words

@@ -24,7 +24,7 @@ pub fn a_refusal_changes_nothing()
     ensures { (s : State) (q : Question) (r : Refusal) → refusal_of s q ≡ Some r → after s q ≡ s }
 {}
 
-/// Each unsigned certificate (body) that a guard keeps was asked for, and might be signed then: a body of the profile
+/// Each unsigned certificate (body) that a guard keeps was asked for, and could be signed then: a body of the profile
 /// for the guard's CA and one of its serials, permitted by the given policy, within its time.
 pub fn an_approved_body_was_permitted()
     ensures { (scope : Scope) (l : List Question) → All (WasAsked scope l) (state scope l).approved }

@@ -58,7 +58,7 @@ serial_parts rs = serial_list (listed rs) ++ ranges rs
 abbrev pub serial_length : List Run → ℕ
 serial_length rs = parts_length (serial_parts rs)
 
--- the parts name the set of the runs, and no other parts with serials that name this set have fewer bytes
+-- the parts name the set of the runs, and no other parts that name this set have fewer bytes
 pub record AreShortest (parts : List Part) (rs : List Run) : Type 0 where
   pub names : (n : ℕ) → named_set parts n ≡ contains rs n
   pub shortest : (others : List Part) → ((n : ℕ) → named_set others n ≡ contains rs n)
