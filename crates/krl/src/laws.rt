@@ -10,7 +10,7 @@ ghost use Rattle.krl.specs.Published.{published_text};
 ghost use Rattle.krl.specs.Contents.{AreContents, AreReadBack, Contents, ForgetsNothing, IsPublished, KeepsEachPair};
 ghost use Rattle.krl.specs.Contents.{Publishes, list_of};
 
-/// The runs of a set are exactly its maximal intervals.
+/// The runs of a set are exactly its maximal intervals of at least one serial.
 pub fn runs_are_maximal()
     ensures each { (rs : List Run) (r : Run) → AreRuns rs → IsOneOf r rs → IsRunOf (contains rs) r }
     ensures all { (rs : List Run) (r : Run) → AreRuns rs → IsRunOf (contains rs) r → IsOneOf r rs }

@@ -58,8 +58,8 @@ impl Runs {
         self.runs.as_slice()
     }
 
-    /// The length in bytes of the parts that a list writes for these serials, with types and lengths. `None` exactly
-    /// if it is over 4294967295.
+    /// The length in bytes of the parts that a list writes for these serials, with types and lengths. `None` if and
+    /// only if it is over 4294967295.
     pub fn serial_len(&self) -> Option<u64>
         ensures { SomeIff result (serial_length self.now ≤ 4294967295) (serial_length self.now) }
     {
