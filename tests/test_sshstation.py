@@ -170,7 +170,7 @@ def put(room, **files):
     (["help"], HELP),
     (["judge", "--help"], HELP_OF_JUDGE),
     (["list", "--help"], HELP_OF_LIST),
-    (["--version"], "sshstation 1.0.0 (rattle-kit-13b)\n"),
+    (["--version"], "sshstation 1.0.0 (rattle-kit-13f)\n"),
 ])
 def test_a_wish_for_a_text_is_answered(sshstation, room, words, wanted):
     assert (0, wanted, "") == Guard(sshstation).run(*words)

@@ -4,7 +4,7 @@
 pub const OFFICE: &str = "Keeps the records of an SSH certificate authority";
 
 /// What `--version` prints after the program's name: the program's version, and the Rattle toolchain that proved it.
-pub const VERSION: &str = "1.0.0 (rattle-kit-13b)";
+pub const VERSION: &str = "1.0.0 (rattle-kit-13f)";
 
 /// The end of the program's help.
 pub const OFFICE_MORE: &str = "Typical order:

@@ -5,7 +5,7 @@ pub const STATION: &str =
     "Decides which SSH certificates and revocation lists a CA's key may sign, and records what it approves";
 
 /// What `--version` prints after the program's name: the program's version, and the Rattle toolchain that proved it.
-pub const VERSION: &str = "1.0.0 (rattle-kit-13b)";
+pub const VERSION: &str = "1.0.0 (rattle-kit-13f)";
 
 /// The end of the program's help.
 pub const STATION_MORE: &str = "Typical order:
