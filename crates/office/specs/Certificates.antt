@@ -12,7 +12,7 @@ use Rattle.message.specs.declared.issue.Issue.{Issue}
 use Rattle.message.specs.declared.renewal.Renewal.{Renewal}
 use Rattle.office.specs.declared.certificate.Certificate.{Certificate}
 
--- the invariant of a stored certificate: its body is that of its fields
+-- the invariant of a stored certificate: its body (the unsigned certificate) is that of its fields
 pub record IsCertificate (c : Certificate) : Type 0 where
   pub department : IsTrue (is_name c.department)
   pub fields : IsCertFields c.fields

@@ -40,7 +40,7 @@ pub(crate) fn published(view: &View, reply: Text, change: Change, moment: u64) -
     }
 }
 
-/// The body with these fields, and the reply with the serial and the body's digest.
+/// The body (the unsigned certificate) with these fields, and the reply with the serial and the body's digest.
 fn made_texts(alloc: Global, serial: u64, fields: &CertFields) -> Result<(Text, Text), NoMemory>
     requires { IsCertFields fields.now }
     ensures { IfOk result (λ made. made ≡ (body_text fields.now, issue_reply serial (body_text fields.now))) }

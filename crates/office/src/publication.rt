@@ -8,7 +8,7 @@ use values::Kind;
 #[derive(Clone, Copy)]
 pub struct Pending {
     pub serial: u64,
-    /// The SHA-256 of the body, as 64 hexadecimal digits in lower case.
+    /// The SHA-256 of the body (the unsigned certificate), as 64 hexadecimal digits in lower case.
     pub digest: [u8; 64],
 }
 

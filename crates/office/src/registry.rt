@@ -74,7 +74,7 @@ pub trait Registry {
         ensures cause { IfErr result (λ e. HasCause e (fails self.old self.new)) }
         ensures only { is_honest self.new → FailsAsARegister means self.old result };
 
-    /// The body for a serial, or `None` if the serial wasn't issued.
+    /// The body (the unsigned certificate) for a serial, or `None` if the serial wasn't issued.
     fn body(&mut self, alloc: Global, serial: u64) -> Result<Option<Text>, StoreFault>
         ensures honest { is_honest self.new → is_honest self.old }
         ensures was_open { is_honest self.new → is_open self.new → is_open self.old }

@@ -27,7 +27,7 @@ impl Certificate {
         }
     }
 
-    // The body with its signature, if there is one.
+    // The body (the unsigned certificate) with its signature, if there is one.
     fn joined(&self, alloc: Global) -> Result<Option<Text>, NoMemory>
         ensures { IfOk result (λ joined. joined ≡ option_map
             (λ signature. certificate_text self.now.body signature.bytes) self.now.signature) }

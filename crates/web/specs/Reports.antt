@@ -19,7 +19,7 @@ use Rattle.message.specs.Texts.{kind_text}
 
 -- ---- pending certificates
 
--- the serial, a space, and the digest of the body
+-- the serial, a space, and the digest of the unsigned certificate
 abbrev pub pending_line : Pending → List ℕ
 pending_line p = decimal p.serial ++ (32 ∷ (p.digest ++ (10 ∷ [])))
 
