@@ -123,7 +123,7 @@ letter_kept : (st : Leftover) (i b : ℕ) → nat_lt 0 st.padding_count ≡ fals
     → eqb (slice_index values b) 255 ≡ false → push_leftover values 61 64 st i b ≡ Ok (with_letter st b)
 letter_kept st i b unpadded plain value = rw (plain, unpadded, value) refl
 
--- only letters, each of which has a value
+-- each byte has a value, and none is padding
 abbrev AreRead : List ℕ → Type 0
 AreRead bs = AllByRecursion (λ b. (eqb b 61 ≡ false) × (eqb (slice_index values b) 255 ≡ false)) bs
 
