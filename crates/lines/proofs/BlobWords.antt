@@ -34,7 +34,7 @@ blob_of_found word blob fits e = elim (cases_Bool (eqb (length word) 68)) [
         subst (λ (x : List ℕ). (word ≡ encode_of standard x) × (length x ≡ 51) × IsBytes x) is.1
         (base64_found word b fits read, eqb-true _ _ is.0, IsBytes-decode_of standard word b fits read)
 
--- the base64 of a blob encodes it
+-- decoding the base64 of a blob gives the blob back
 pub blob_of_again : (blob : List ℕ) → length blob ≡ 51 → IsBytes blob → blob_of (encode_of standard blob) ≡ Some blob
 blob_of_again blob len fits =
     let long : length (encode_of standard blob) ≡ 68 = length-encode_of blob ∙ rw len refl in

@@ -1,4 +1,4 @@
-//! Theorems about every public-key line, about the definitions that the contracts cite.
+//! Theorems about the definitions that the contracts cite, for every public-key line.
 
 ghost use Rattle.std.specs.Prelude.{◌≡◌, ◌≢◌, ◌↔◌, List, ℕ, length, IsTrue, MatchResult};
 ghost use Rattle.base64.specs.Engines.{standard};

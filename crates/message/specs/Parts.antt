@@ -1,4 +1,4 @@
--- Successive readings, as parts of one.
+-- Reading a department or an issue, in successive parts.
 use Rattle.std.specs.Prelude.{ℕ, ◌+◌, List, [], length, ◌&&◌, codes, if◌then◌else◌, Result, Ok, Err}
 use Rattle.text.specs.Results.{◌>>=◌, both, or_fault}
 use Rattle.text.specs.declared.pair.Pair.{Pair}
@@ -24,7 +24,7 @@ namespaces_in kind ps = do
       then Ok namespaces
       else Err 9
 
--- the profile in the lines of a department from 2 on
+-- the profile in the lines of a department from line 2 on
 abbrev pub profile_in : List (List ℕ) → Result Profile ℕ
 profile_in ps =
     or_fault 2 (kind_of (line_of 2 ps)) >>= (λ kind. both (Ok kind)
@@ -47,7 +47,7 @@ department_of name profile = record {
   namespaces = profile.1.1.1;
 }
 
--- the options and the extensions of an issue, in its lines from 7 on
+-- the options and the extensions of an issue, in its lines from line 7 on
 unfoldable pub extras_in : List (List ℕ) → Result (List Pair × List (List ℕ)) ℕ
 extras_in ps = do
   let options = options_from 3 7 [] ps

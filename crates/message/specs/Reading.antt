@@ -59,7 +59,7 @@ passing test x = if test x then Some x else None
 abbrev pub pieces : List ℕ → List (List ℕ)
 pieces bytes = slice_split (λ b. b == 10) bytes
 
--- the nth line, counted from 1, or the empty line, which fits nothing, if it is missing or not terminated
+-- line n, counted from 1; if it is missing or not terminated, the empty line, which fits nothing
 abbrev pub line_of : ℕ → List (List ℕ) → List ℕ
 line_of n ps = if nat_lt n (length ps) then slice_index_or ps (n - 1) [] else []
 
@@ -110,12 +110,12 @@ pair_of text = elim (comment_of text) [
 abbrev pub is_new_option : List Pair → Pair → Bool
 is_new_option before p = is_option p && not (list_any (λ q. bytes_eq q.name p.name) before)
 
--- an option in a line that may follow the earlier ones
+-- the option in a line, if it may follow the earlier ones
 abbrev pub option_after : List Pair → List ℕ → Option Pair
 option_after before line =
     option_and_then (passing (is_new_option before)) (option_and_then pair_of (after (codes "option ") line))
 
--- the options before line n, with those in at most k lines from there on
+-- these options from before line n, followed by those in at most k lines from line n on
 unfoldable pub options_from : ℕ → ℕ → List Pair → List (List ℕ) → List Pair
 options_from zero n before ps = before
 options_from (suc k) n before ps = elim (option_after before (line_of n ps)) [

@@ -68,7 +68,7 @@ is_option p = is_known CriticalOptions p.name && is_option_value p.name p.value
 abbrev pub are_options : List Pair → Bool
 are_options ps = nat_le (length ps) 3 && (list_all is_option ps && are_distinct (map (λ p. p.name) ps))
 
--- a department with a valid profile
+-- a department with a valid name and a valid profile
 abbrev pub is_department : Department → Bool
 is_department d =
     is_name d.name && (are_administrators d.administrators && (are_rules d.rules
@@ -102,7 +102,7 @@ is_signature s = length s.bytes == 64 && list_all (λ b. nat_lt b 256) s.bytes
 abbrev pub is_delivery : Delivery → Bool
 is_delivery d = is_serial d.serial && (is_digest d.digest && is_signature d.signature)
 
--- serials from the first to the last, inclusive
+-- a first and a last serial, in order
 abbrev pub is_range : SerialRange → Bool
 is_range r = is_serial r.lo && (is_serial r.hi && nat_le r.lo r.hi)
 

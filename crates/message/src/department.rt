@@ -108,7 +108,7 @@ fn namespaces_in(alloc: Global, pieces: &[&[u8]], kind: Kind) -> Result<Texts, M
     Ok(namespaces)
 }
 
-/// The profile in the lines from 2 on.
+/// The profile in the lines from line 2 on.
 fn profile_in(alloc: Global, pieces: &[&[u8]]) -> Result<Profile, MessageFault>
     ensures { Gives result (profile_in (map (λ x. x.now) pieces.now)) }
 {

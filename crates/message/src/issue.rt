@@ -57,7 +57,7 @@ fn options_in(alloc: Global, pieces: &[&[u8]]) -> Result<Pairs, NoMemory>
     Ok(options)
 }
 
-/// The options and the extensions on the lines from 7 on.
+/// The options and the extensions on the lines from line 7 on.
 #[tactic(auto, unfolding(crate::specs::Parts::extras_in))]
 fn extras_in(alloc: Global, pieces: &[&[u8]]) -> Result<(Pairs, Texts), MessageFault>
     ensures { Gives result (extras_in (map (λ x. x.now) pieces.now)) }
@@ -71,7 +71,7 @@ fn extras_in(alloc: Global, pieces: &[&[u8]]) -> Result<(Pairs, Texts), MessageF
     Ok((options, extensions))
 }
 
-/// The issue from the values of lines 1 to 4 and of those from 5 on.
+/// The issue from the values of lines 1 to 4 and of the lines from line 5 on.
 fn issue_of(subject: Subject, terms: Terms) -> Issue
     ensures { result ≡ issue_of subject terms }
 {

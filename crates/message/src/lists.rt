@@ -108,7 +108,7 @@ pub fn are_namespaces(texts: &[Text]) -> bool
     texts.len() <= MOST_NAMESPACES && are_distinct_texts(TextKind::Namespace, texts)
 }
 
-/// The kinds of lists in a line. Lists that a department for hosts must leave empty have the department's kind.
+/// The kinds of lists in a line. Lists that must be empty in a department for hosts carry the department's kind.
 #[derive(Clone, Copy)]
 pub(crate) enum ListKind {
     Administrators,

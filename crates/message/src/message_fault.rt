@@ -6,7 +6,7 @@ ghost use Rattle.message.specs.declared.message_fault.MessageFault.TheVariants.{
 /// Why a message could not be read.
 #[derive(Clone, Copy, Debug, PartialEq, Eq)]
 pub enum MessageFault {
-    /// The first line, counted from 1, that its kind doesn't allow in that place after the lines before it.
+    /// The first line, counted from 1, that no message has in that place after the lines before it.
     BadLine(u64),
     /// An allocation was refused.
     NoMemory,

@@ -73,7 +73,7 @@ fn read(alloc: Global, bytes: &[u8]) -> Result<Message, MessageFault>
 ///
 /// # Errors
 ///
-/// `BadLine(n)`: line n, counted from 1, is the first that its kind doesn't allow in that place after the lines before
+/// `BadLine(n)`: line n, counted from 1, is the first that no message has in that place after the lines before
 /// it. A line that is missing, or lacks its line feed, fits nothing, nor does a line after the last.
 pub fn read_message(alloc: Global, bytes: &[u8]) -> Result<Message, MessageFault>
     // The result is that of reading line by line, as defined.

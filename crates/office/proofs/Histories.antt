@@ -1,4 +1,4 @@
--- What each first acceptance preserves holds of the first acceptances and the state after every history.
+-- A property that each first acceptance preserves holds after every history, if it holds of a new office.
 use Rattle.std.proofs.Common.{◌≡◌, ◌≤◌, ℕ, List, [], ◌∷◌, ◌++◌, true, None, Some, Result, Ok, Err}
 use Rattle.std.proofs.Common.{refl, sym, ap, subst, ◌∙◌}
 use Rattle.std.specs.List.{fold}

@@ -72,7 +72,7 @@ module _ (r : Revocations) (s : State) (place next : ℕ) (so_far now : List Pen
       let rest = length-drop place s.certificates in
       omega (arith, fits, behind, same, few, rest)
 
-  -- and the rows found are all
+  -- and the rows found are those of all pending certificates
   pub all_batches : next ≡ place → now ≡ waiting_rows r s.certificates
   all_batches same =
       let cs = s.certificates in

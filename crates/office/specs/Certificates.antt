@@ -12,13 +12,14 @@ use Rattle.message.specs.declared.issue.Issue.{Issue}
 use Rattle.message.specs.declared.renewal.Renewal.{Renewal}
 use Rattle.office.specs.declared.certificate.Certificate.{Certificate}
 
--- the invariant of a stored certificate: its body (the unsigned certificate) is that of its fields
+-- the invariant of a stored certificate: a valid department name, valid fields, and the body (the unsigned
+-- certificate) that encodes these fields
 pub record IsCertificate (c : Certificate) : Type 0 where
   pub department : IsTrue (is_name c.department)
   pub fields : IsCertFields c.fields
   pub body : c.body ≡ body_text c.fields
 
--- the certificate with these fields, which isn't signed yet
+-- the certificate with these fields and their body, not yet signed
 abbrev pub certificate_with : List ℕ → CertFields → Certificate
 certificate_with department fields =
     record { department = department; fields = fields; body = body_text fields; signature = None }

@@ -44,7 +44,7 @@ use Rattle.office.specs.State.{is_key_id_of_revoked}
 abbrev pub certificate_concerned : State → Message → Option Certificate
 certificate_concerned s m = option_and_then (certificate_of s) (named_serial m)
 
--- the department that a message concerns: that of the certificate if it names a serial
+-- the department that a message names, or else that of the certificate whose serial it names
 abbrev pub department_concerned : State → Message → Option Department
 department_concerned s (message.Department d) = department_named s d.name
 department_concerned s (message.Issue i) = department_named s i.department
@@ -55,7 +55,7 @@ department_concerned s (message.RevokeRange r) = None
 department_concerned s (message.RevokeKeyId key_id) = department_named s (department_of key_id)
 department_concerned s (message.Rollover k) = None
 
--- the flag is the state's, for the serial or the serials that the message names
+-- if the message names a serial or a range, the flag is whether the serial, or every serial of the range, is revoked
 abbrev pub SaysRevoked : Bool → State → Message → Type 0
 SaysRevoked flag s (message.Department d) = Unit {0}
 SaysRevoked flag s (message.Issue i) = Unit {0}
@@ -66,7 +66,8 @@ SaysRevoked flag s (message.RevokeRange r) = flag ≡ is_range_revoked s r
 SaysRevoked flag s (message.RevokeKeyId key_id) = Unit {0}
 SaysRevoked flag s (message.Rollover k) = Unit {0}
 
--- the flag is the state's, for the key ID that the message names, or that of the certificate that it names
+-- if the message depends on it, the flag is whether the key ID that it names, or that of the certificate that it
+-- names, is revoked
 abbrev pub SaysKeyIdRevoked : Bool → State → Message → Type 0
 SaysKeyIdRevoked flag s (message.Department d) = Unit {0}
 SaysKeyIdRevoked flag s (message.Issue i) = flag ≡ is_key_id_revoked s i.key_id
@@ -88,7 +89,7 @@ SaysAnyKeyIdRevoked flag s (message.RevokeRange r) = Unit {0}
 SaysAnyKeyIdRevoked flag s (message.RevokeKeyId key_id) = Unit {0}
 SaysAnyKeyIdRevoked flag s (message.Rollover k) = flag ≡ has_any s.revoked_key_ids
 
--- the view shows those rows of the state that the message concerns
+-- the view agrees with the state on everything that a decision on the message depends on
 pub record Agrees (v : View) (s : State) (m : Message) : Type 0 where
   pub opening : v.opening.now ≡ s.opening
   pub cas : v.cas.now ≡ s.cas
@@ -119,7 +120,7 @@ written d s = record (changed d.change s) { version = d.version; date = d.date }
 abbrev pub stepped_by : Decision → State → Stepped
 stepped_by d s = record { state = written d s; reply = d.reply }
 
--- the decision is the reference model's step, unless memory was refused
+-- the decision or refusal is that of the reference model's step, unless memory was refused
 abbrev pub Decided : Result Decision Stop → State → List ℕ → Message → ℕ → List ℕ → Type 0
 Decided (Ok d) s caller m moment nonce =
     (step s caller m moment nonce ≡ Ok (stepped_by d s)) × (d.next ≡ next_serial (written d s))
@@ -154,8 +155,8 @@ published v reply change moment =
 
 -- ---- preconditions of a change
 
--- a certificate is made only under a serial in range, only existing certificates are signed, and only serials that were
--- handed out are revoked; a CA serves from the next serial on
+-- a certificate is made only if a serial is left, only existing certificates are signed, and only serials that were
+-- handed out are revoked; a CA is added only if there are fewer than eight, and serves from the next serial on
 abbrev pub HasRoom : Change → State → Type 0
 HasRoom change.Nothing s = Unit {0}
 HasRoom (change.Department d) s = Unit {0}

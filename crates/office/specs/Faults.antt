@@ -12,7 +12,7 @@ HasCause WrongSchema failed = Unit {0}
 HasCause Damaged failed = Unit {0}
 HasCause NoMemory failed = Unit {0}
 
--- a register that means a history fails only for lack of memory or by a failure of the database
+-- a register that means a history fails only for lack of memory or because the database failed
 abbrev pub IsOfARegister : StoreFault → Type 0
 IsOfARegister Device = Unit {0}
 IsOfARegister NoMemory = Unit {0}

@@ -1,4 +1,4 @@
--- Histories: lists of received requests, in which each message is accepted once.
+-- Histories: lists of received requests, of which at most one for each caller and request key is accepted.
 use Rattle.std.specs.Prelude.{ℕ, List, [], ◌∷◌, ◌++◌, map, fold, find, Bool, ◌&&◌, nat_lt, if◌then◌else◌, Option, Some}
 use Rattle.std.specs.Prelude.{None, Result, Ok, Err}
 use Rattle.std.specs.List.{list_any}
@@ -16,7 +16,7 @@ use Rattle.office.specs.declared.arrival.Outcome.{Outcome}
 use Rattle.office.specs.declared.arrival.Outcome.TheVariants.{Accepted, Repeated, Refused}
 use Rattle.office.specs.Machine.{State, Stepped, opened, after, step}
 
--- an accepted arrival, with its message and its reply
+-- a first acceptance: an arrival that was accepted, with its message and its reply
 pub record First : Type 0 where
   pub arrival : Arrival
   pub message : Message
@@ -43,7 +43,7 @@ refuse_if b r = if b then Err r else Ok tt
 abbrev pub first_of_step : Arrival → Message → Stepped → First
 first_of_step a m stepped = record { arrival = a; message = m; reply = stepped.reply }
 
--- The outcome of an arrival that is no repeat: the refusal with the least number, or a first acceptance. The latest
+-- The outcome of an arrival that isn't a repeat: the refusal with the least number, or a first acceptance. The latest
 -- time is 9999-12-31 23:59:59 UTC.
 abbrev pub judged : State → List Kept → Arrival → Result First Refusal
 judged s kept a = do
@@ -53,7 +53,7 @@ judged s kept a = do
   stepped ← step s a.caller m a.moment a.nonce
   Ok (first_of_step a m stepped)
 
--- the stored reply to the same message
+-- the stored reply, if the arrival is a repeat
 abbrev pub reply_kept : List Kept → Arrival → Option (List ℕ)
 reply_kept kept a = option_map (λ k. k.reply) (find (is_repeat a) kept)
 
@@ -65,7 +65,7 @@ abbrev pub repeated_or : Option (List ℕ) → Outcome → Outcome
 repeated_or (Some reply) other = Repeated reply
 repeated_or None other = other
 
--- the stored reply, or else the outcome that is judged
+-- the stored reply if the arrival is a repeat, and otherwise the judged outcome
 abbrev pub due_on : State → List Kept → Arrival → Outcome
 due_on s kept a = repeated_or (reply_kept kept a) (outcome_of (judged s kept a))
 

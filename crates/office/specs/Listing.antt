@@ -14,22 +14,22 @@ pub record AreRevocations (r : Revocations) (s : State) : Type 0 where
   pub serials : (n : ℕ) → contains r.serials n ≡ s.revoked n
   pub key_ids : r.key_ids.items ≡ s.revoked_key_ids
 
--- the serial or the key ID is one of these
+-- the serial or the key ID is among these revocations
 abbrev pub is_named : Revocations → (serial : ℕ) → (key_id : List ℕ) → Bool
 is_named r serial key_id = contains r.serials serial || list_any (λ k. bytes_eq k key_id) r.key_ids.items
 
--- the certificate's serial or its key ID is one of these
+-- the certificate's serial or its key ID is among these revocations
 abbrev pub is_among : Revocations → Certificate → Bool
 is_among r c = is_named r c.fields.serial c.fields.key_id
 
--- certificates by serial from the place on, but at most 1000
+-- up to 1000 certificates by serial, from this place on
 abbrev pub batch_of : State → ℕ → List Certificate
 batch_of s place = take 1000 (drop place s.certificates)
 
--- the row of a certificate that is neither signed nor among these, and otherwise none
+-- the row of a certificate if it is neither signed nor among these revocations, and otherwise nothing
 abbrev pub waiting_row : Revocations → Certificate → List Pending
 waiting_row r c = if is_none c.signature && not (is_among r c) then pending_row c ∷ [] else []
 
--- the rows of the pending certificates
+-- the rows of those certificates that are neither signed nor among these revocations
 abbrev pub waiting_rows : Revocations → List Certificate → List Pending
 waiting_rows r cs = flat_map (waiting_row r) cs

@@ -78,7 +78,7 @@ with_signature s serial signature =
 abbrev pub with_range : State → SerialRange → State
 with_range s r = record s { revoked = λ n. is_within n (record { lo = r.lo; hi = r.hi }) || s.revoked n }
 
--- the ascending texts with this one inserted in its place, unless it is there
+-- the ascending texts with this one inserted in its place, unless it is already there
 abbrev pub put_text : List ℕ → List (List ℕ) → List (List ℕ)
 put_text t [] = t ∷ []
 put_text t (u ∷ us) = by_order (slice_cmp nat_cmp t u) (t ∷ u ∷ us) (u ∷ us) (u ∷ put_text t us)

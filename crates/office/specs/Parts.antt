@@ -17,7 +17,7 @@ part_with p = record { ca = p.0.key; runs = p.1 }
 abbrev pub zipped : List Ca → List (List Run) → List CaPart
 zipped cas split = map part_with (zip cas split)
 
--- a list of ranges for each CA: the serials that reach its first serial, and that of no later CA
+-- a list of ranges for each CA: those serials from its first serial on that come before every later CA's first serial
 pub record AreSplit (split : List (List Run)) (cas : List Ca) (serials : List Run) : Type 0 where
   pub size : length split ≡ length cas
   pub runs : All AreRuns split

@@ -48,7 +48,7 @@ abbrev pub is_permitted_by : Option Department → Issue → Bool
 is_permitted_by (Some d) i = is_permitted d i
 is_permitted_by None i = false
 
--- the contents of the certificate, with a new validity
+-- the department permits the certificate's principals, options and extensions, for the requested validity
 abbrev pub is_renewal_permitted : Department → Certificate → Renewal → Bool
 is_renewal_permitted d c r =
     meet_rules d c.fields.principals

@@ -96,11 +96,11 @@ abbrev pub parts_from : State → ℕ → List Ca → List CaPart
 parts_from s place [] = []
 parts_from s place (ca ∷ cas) = part_of s place ca ∷ parts_from s (suc place) cas
 
--- the parts by number of the CA
+-- the parts in order of the CAs' numbers
 abbrev pub published_parts : State → List CaPart
 published_parts s = parts_from s 0 s.cas
 
--- the text of the published list
+-- the bytes of the published list
 abbrev pub published_list : State → List ℕ
 published_list s = published_text (head_of s) (published_parts s) s.revoked_key_ids
 

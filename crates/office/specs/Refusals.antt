@@ -43,7 +43,7 @@ same_kind User User = true
 same_kind Host Host = true
 same_kind _ _ = false
 
--- the department exists with the other kind
+-- the department exists, and has the other kind
 abbrev pub has_other_kind : Option Department → Kind → Bool
 has_other_kind (Some d) kind = not (same_kind d.kind kind)
 has_other_kind None kind = false
@@ -78,7 +78,7 @@ issue_refusals s caller i moment =
     ∷ (SerialsExhausted, nat_lt s.opening.last (next_serial s))
     ∷ []
 
--- for a serial that wasn't issued, the conditions before `UnknownSerial` are about the caller alone
+-- for a serial that wasn't issued, the conditions before `UnknownSerial` depend on the caller alone
 abbrev pub renewal_refusals : State → List ℕ → Renewal → ℕ → List (Refusal × Bool)
 renewal_refusals s caller r moment =
     (NotAllowed, not (may_administer s.opening caller (department_of_serial s r.serial)))

@@ -24,7 +24,7 @@ abbrev pub MeansOneMore : {S : Type 0} → (means : S → Opening → List Arriv
     → Type 0
 MeansOneMore means arrival old new = (o : Opening) (l : List Arrival) → means old o l → means new o (l ++ arrival ∷ [])
 
--- a register that meant a history fails only for lack of memory or by a failure of the database
+-- a register that meant a history fails only for lack of memory or because the database failed
 abbrev pub FailsAsARegister : {S X : Type 0} → (means : S → Opening → List Arrival → Type 0) → S → Result X StoreFault
     → Type 0
 FailsAsARegister means old result =

@@ -12,7 +12,7 @@ pub record IsOffice (o : Opening) (l : List Arrival) : Type 0 where
   pub opening : IsOpening o
   pub version : (state o l).version < 9223372036854775807
 
--- the office with a valid opening after a history: the model's state, and a row for each first acceptance
+-- the office after a history, as in `IsOffice`: the model's state, and a stored row for each first acceptance
 pub record Shows (s : State) (kept : List Kept) (o : Opening) (l : List Arrival) : Type 0 where
   pub lawful : IsOpening o
   pub version : s.version < 9223372036854775807

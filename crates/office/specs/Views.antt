@@ -24,7 +24,7 @@ pub record HasSerial (v : View) : Type 0 where
   pub next : v.opening.now.first ≤ v.next
   pub left : v.next ≤ v.opening.now.last
 
--- a serial is left, and the department permits what the issue asks for
+-- a serial is left, and the department permits the issue; both are valid
 pub record IsIssuable (v : View) (d : Department) (i : Issue) : Type 0 where
   pub serial : HasSerial v
   pub department : IsTrue (is_department d)

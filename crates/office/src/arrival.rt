@@ -5,7 +5,7 @@ use values::Refusal;
 
 /// A received request: a message with its caller, its request key, its time and its nonce.
 ///
-/// Caller and key are names (1 to 32 bytes of `a-z 0-9 -`: see `is_name`); whatever creates an arrival ensures it.
+/// Caller and key are names (1 to 32 bytes of `a-z 0-9 -`: see `is_name`); its creator ensures this.
 #[derive(Drop)]
 pub struct Arrival {
     pub caller: Text,

@@ -59,7 +59,7 @@ fn named_key_id(message: &Message) -> Option<&[u8]>
     }
 }
 
-/// What the message concerns. It allocates nothing.
+/// The departments, serials and key IDs that the message names. It allocates nothing.
 pub fn concerned(message: &Message) -> Concern<'_>
     ensures department { option_copied result.department ≡ named_department message.now }
     ensures serial { result.serial ≡ named_serial message.now }

@@ -22,14 +22,14 @@ pub struct Revocations {
 }
 
 impl Revocations {
-    /// Whether the serial or the key ID is one of these.
+    /// Whether the serial or the key ID is among these revocations.
     pub fn names(&self, serial: u64, key_id: &[u8]) -> bool
         ensures { result ≡ is_named self.now serial key_id.now }
     {
         self.serials.has_all(serial, serial) || has_key_id(self.key_ids.as_slice(), key_id)
     }
 
-    /// Whether the certificate's serial or its key ID is one of these.
+    /// Whether the certificate's serial or its key ID is among these revocations.
     pub fn has(&self, certificate: &Certificate) -> bool
         ensures { result ≡ is_among self.now certificate.now }
     {
@@ -37,7 +37,7 @@ impl Revocations {
         self.names(fields.serial, fields.key_id.as_slice())
     }
 
-    // Appends the row of a certificate that is neither signed nor one of these.
+    // Appends the row of the certificate if it is neither signed nor among these revocations.
     fn push_row(&self, rows: &mut Vec<Pending>, certificate: &Certificate) -> Result<(), NoMemory>
         ensures { OnOk result (rows.new.items ≡ rows.old.items ++ waiting_row self.now certificate.now) }
     {

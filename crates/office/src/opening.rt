@@ -24,7 +24,7 @@ pub struct Opening {
 /// Why an initial configuration is invalid, in the order in which the faults are checked.
 #[derive(Clone, Copy, Debug, PartialEq, Eq)]
 pub enum OpeningFault {
-    /// Root or the station has no name of 1 to 32 bytes of `a-z 0-9 -`.
+    /// The name of root or of the station isn't 1 to 32 bytes of `a-z 0-9 -`.
     BadName,
     /// Root and the station have the same name.
     SameName,

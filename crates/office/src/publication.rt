@@ -25,7 +25,7 @@ pub struct Issued {
 pub struct Revoked {
     /// The list's version and date.
     pub head: KrlHead,
-    /// The revoked serials of each CA, by number.
+    /// The revoked serials of each CA, by the CA's number.
     pub parts: Vec<CaPart>,
     /// The revoked key IDs, ascending.
     pub key_ids: Texts,

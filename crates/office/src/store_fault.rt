@@ -10,7 +10,7 @@ pub enum StoreFault {
     AlreadyAnOffice,
     /// The database has no office.
     NotAnOffice,
-    /// The office's tables have the schema of another version.
+    /// The office's tables have a different schema version.
     WrongSchema,
     /// A row isn't of the form that the office writes.
     Damaged,

@@ -60,7 +60,7 @@ parts_runs : (s : State) (from : ℕ) (cas : List Ca) → next_serial s ≤ 2 ^ 
 parts_runs s from [] le = tt
 parts_runs s from (c ∷ cas) le = (runs_in_runs (is_revoked_under s from) s.opening.first (length s.certificates) le, parts_runs s (suc from) cas le)
 
--- ---- what the parts revoke
+-- ---- the serials that the parts revoke
 
 within : (a b c : Bool) → (b ≡ true → a ≡ true) → (a && (b && c)) ≡ (b && c)
 within false true c h = absurd (cc (h refl))

@@ -10,7 +10,7 @@ use Rattle.office.specs.History.{state}
 use Rattle.office_laws.specs.Named.{is_serial_named, is_key_id_named}
 use Rattle.office_laws.specs.Signers.{is_signer}
 
--- the list revokes exactly what messages named
+-- the list revokes exactly the serials and key IDs that accepted messages named
 pub record IsExact (o : Opening) (l : List Arrival) (list : RevocationList) : Type 0 where
   -- under a CA of the office: the named serials that it signs, and every named key ID
   pub own : (place : ℕ) (ca : Ca) → slice_get (state o l).cas place ≡ Some ca → (serial : ℕ) (key_id : List ℕ)

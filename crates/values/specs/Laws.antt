@@ -1,4 +1,4 @@
--- What the tests for profiles decide, in terms of the texts.
+-- The properties that the tests for profiles decide, in terms of the texts.
 use Rattle.std.specs.Prelude.{◌≡◌, ◌≢◌, ◌⊎◌, ℕ, ◌<◌, ◌≤◌, List, [], ◌++◌, length, map, codes, All, IsTrue}
 use Rattle.std.specs.List.{list_all, join_with_byte, slice_index_or}
 use Rattle.values.specs.Names.{has_size, is_name, is_key_id_byte}

@@ -24,7 +24,7 @@ fn is_command(text: &[u8]) -> bool
 }
 
 /// Whether an option with this name may have this value: for force-command 1 to 200 bytes from 0x20 to 0x7e, for
-/// source-address 1 to 8 networks joined by commas, for a flag nothing. A name that is no option's has no value.
+/// source-address 1 to 8 networks joined by commas, for a flag nothing. For any other name, no value is valid.
 pub fn is_option_value(name: &[u8], value: &[u8]) -> bool
     ensures { result ≡ is_option_value name.now value.now }
 {

@@ -3,7 +3,7 @@
 ghost use Rattle.std.specs.Prelude.{◌≡◌};
 ghost use Rattle.values.specs.Refusals.{refusal_name, refusal_number, refusal_row, refusal_status};
 
-/// Why a request is refused, by an HTTP 4xx response and no change. The first of these that applies is returned.
+/// Why a request is refused, with an HTTP 4xx response and no change. The first of these that applies is returned.
 #[derive(Clone, Copy, PartialEq, Eq)]
 pub enum Refusal {
     /// The first 8192 bytes of a request contain no complete head that can be parsed, or a length that is no number.
@@ -28,7 +28,7 @@ pub enum Refusal {
     NotAllowed,
     /// The department doesn't exist.
     NoDepartment,
-    /// The department exists with the other kind.
+    /// The department exists, and has the other kind.
     KindFixed,
     /// The key ID's department isn't the one named.
     BadKeyId,

@@ -71,7 +71,7 @@ list_only (Err e) count means h few = λ o l m. elim h [
   | inr many ↦ absurd (omega (arith, many.1, few o l m))
 ]
 
--- and one that needs no failure of the database
+-- and one that it may return even if the database hasn't failed
 pub list_cause : {T : Type 0} (r : Result T StoreFault) (count : ℕ) (failed : Type 0) → IfErr r (IsOfAList count) → IfErr r (λ e. HasCause e failed)
 list_cause (Ok x) count failed h = tt
 list_cause (Err e) count failed h =

@@ -19,7 +19,7 @@ line_among revocations c = line_as (is_among revocations c) c
 abbrev pub table_among : Revocations → List Certificate → (version : ℕ) → List ℕ
 table_among revocations cs version = flat_map (line_among revocations) cs ++ total_line (length cs) version
 
--- the lines of the certificates, which are at the places from `place` up to `next`, were appended
+-- the lines of the certificates were appended, and `next` is as many places after `place` as there are certificates
 pub record Says (revocations : Revocations) (cs : List Certificate) (place next : ℕ) (old new : List ℕ) : Type 0 where
   pub places : next ≡ place + length cs
   pub lines : new ≡ old ++ flat_map (line_among revocations) cs

@@ -50,7 +50,7 @@ IfServed (Err Store) P = Unit {0}
 IfServed (Err NoMemory) P = Unit {0}
 IfServed (Err Write) P = P
 
--- a call that takes bytes fails only by its reader, or for lack of memory
+-- a call that takes bytes fails only because its reader does, or for lack of memory
 abbrev pub IsOfTaking : ServeFault → Type 0
 IsOfTaking Read = Unit {0}
 IsOfTaking NoMemory = Unit {0}

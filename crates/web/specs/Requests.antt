@@ -9,12 +9,12 @@ use Rattle.http_requests.specs.Asks.{Ask, Asks, refused, get, post}
 use Rattle.web.specs.declared.request.Request.{Request}
 use Rattle.web.specs.declared.request.Request.TheVariants.{Refused, Get, Post}
 
--- Enough bytes to decide: they contain a head, they are as many as a head may have, nothing is left, or no head begins
--- with them.
+-- Enough bytes to decide: they contain a head, they are at least as many as a head may have, nothing is left, or no
+-- head begins with them.
 abbrev pub IsEnough : (left : Option (List ℕ)) → List ℕ → Type 0
 IsEnough left bytes = HoldsHead bytes ⊎ ((8192 ≤ length bytes) ⊎ (IsAtEnd left ⊎ NeverHolds bytes))
 
--- the shortest beginning that decides whether there is a head; if it contains a head, it is exactly the head
+-- the shortest prefix that decides whether there is a head; if it contains a head, it is exactly the head
 pub record IsFront (left : Option (List ℕ)) (bytes : List ℕ) : Type 0 where
   pub size : length bytes ≤ 8192
   pub enough : IsEnough left bytes

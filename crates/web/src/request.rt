@@ -131,7 +131,7 @@ pub(crate) fn answer_request<R: Registry>(
     }
 }
 
-/// As `answer`, with routes that were built before.
+/// Like `answer`, but with routes that were built beforehand.
 pub fn answer_by<R: Registry>(
     routes: &Routes,
     registry: &mut R,

@@ -23,7 +23,7 @@ use wire::{Failed, Sink, Source, write_all};
 /// Serves one request: takes its bytes and no more from the reader, takes a nonce of 32 bytes, has the register answer
 /// with them and the time, and writes the response (RFC 9112).
 ///
-/// The head is taken byte by byte, up to the shortest beginning that is a whole head or can't become one, or
+/// The head is taken byte by byte, up to the shortest prefix that is a whole head or can't become one, or
 /// `MAX_HEAD` bytes, or the end; then exactly the body that it announces, and nothing of it if the head is refused.
 /// The reader, the writer and the nonce source must have had fewer than 18446744073709551615 failures before.
 pub fn serve_one<R: Source, W: Sink, S: Registry, N: Source>(
@@ -48,7 +48,7 @@ pub fn serve_one<R: Source, W: Sink, S: Registry, N: Source>(
         (N.remaining nonces.new) moment (S.is_honest registry.new) (S.means registry.old) (S.means registry.new)
         (Keeps S.means S.is_open registry.new)) × Appends (W.taken writer.old) (W.taken writer.new) x.response) }
 
-    // The same, except that the writer failed after a beginning of the response.
+    // The same, except that the writer failed after a prefix of the response.
     ensures write { result ≡ Err ServeFault.Write → (x : Served (R.remaining reader.old) (R.remaining reader.new)
         (N.remaining nonces.old) (N.remaining nonces.new) moment (S.is_honest registry.new) (S.means registry.old)
         (S.means registry.new) (Keeps S.means S.is_open registry.new))

@@ -17,7 +17,7 @@ pub enum ServeFault {
     Store,
     /// An allocation was refused.
     NoMemory,
-    /// The writer failed after a beginning of the response. The request was carried out; a repeat gets the same reply.
+    /// The writer failed after a prefix of the response. The request was carried out; a repeat gets the same reply.
     Write,
 }
 

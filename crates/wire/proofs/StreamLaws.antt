@@ -7,7 +7,7 @@ use Rattle.std.specs.Io.KnownBytes.{Appends, Consumes}
 use Rattle.std.proofs.KnownBytes.{Appends-trans, Consumes-trans}
 use Rattle.wire.specs.Streams.{AppendsBeginning}
 
--- a piece that was taken, and then a beginning of the next
+-- a piece that was taken, and then a prefix of the next
 pub begins_after : (old mid new : Option (List ℕ)) (a b : List ℕ) → Appends old mid a
     → AppendsBeginning mid new b → AppendsBeginning old new (a ++ b)
 begins_after old mid new a b x y =
@@ -17,7 +17,7 @@ begins_after old mid new a b x y =
       grown = subst P (sym (take-append-add a b y.count)) (Appends-trans old mid new a (take y.count b) x y.grown);
     }
 
--- a beginning of a piece is a beginning of any longer piece that starts with it
+-- a prefix of a piece is a prefix of any longer piece that starts with it
 pub begins_longer : (old new : Option (List ℕ)) (a b : List ℕ) → AppendsBeginning old new a
     → AppendsBeginning old new (a ++ b)
 begins_longer old new a b x =

@@ -36,7 +36,7 @@ impl Pace {
 /// What a reader does if no byte is left.
 #[derive(Clone, Copy, PartialEq, Eq)]
 pub enum Ending {
-    /// It returns that no byte is left.
+    /// It reports the end: it reads no byte.
     Ends,
     /// It fails in each call.
     Fails,

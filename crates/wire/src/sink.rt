@@ -24,7 +24,7 @@ pub trait Sink {
     fn failures(&self) -> u64
         ensures { result ≡ failed self.now };
 
-    /// Takes a beginning of `bytes`, and returns its length: at least one byte if there is one.
+    /// Takes a prefix of `bytes`, and returns its length: at least one byte if there is one.
     ///
     /// # Errors
     ///
@@ -44,7 +44,7 @@ pub trait Sink {
 ///
 /// # Errors
 ///
-/// `Failed`, exactly if the writer failed in this call. The writer has then taken a beginning of the bytes. Writing
+/// `Failed`, exactly if the writer failed in this call. The writer has then taken a prefix of the bytes. Writing
 /// never fails if the writer has room for the bytes.
 pub fn write_all<W: Sink>(sink: &mut W, bytes: &[u8]) -> Result<(), Failed>
     requires { W.failed sink.old < u64.MAX }
