@@ -152,7 +152,7 @@ outcome_ok : (x : Option DecodeError) (d b : List ℕ) → decode_outcome x d �
 outcome_ok None d b e = (refl, cc)
 outcome_ok (Some x) d b e = absurd cc
 
--- What an engine decodes from bytes is bytes.
+-- An engine decodes bytes to bytes.
 pub IsBytes-decode_of : (engine : GeneralPurpose) (s b : List ℕ) → IsBytes s → decode_of engine s ≡ Ok b → IsBytes b
 IsBytes-decode_of engine s b fits e =
     let dec = engine.decode_table in

@@ -41,7 +41,7 @@ pub all_bytes : (xs : List ℕ) → IsBytes xs → list_all (λ b. nat_lt b 256)
 all_bytes [] fits = refl
 all_bytes (x ∷ xs) fits = and_from _ _ (lt-ltb x 256 (fits 0)) (all_bytes xs (λ i. fits (suc i)))
 
--- What passes the test for bytes is bytes.
+-- A list that passes the test for bytes consists of bytes.
 pub IsBytes_from : (xs : List ℕ) → list_all (λ b. nat_lt b 256) xs ≡ true → IsBytes xs
 IsBytes_from [] e i = omega arith
 IsBytes_from (x ∷ xs) e zero = ltb-true x 256 (and_parts _ _ e).0

@@ -53,7 +53,7 @@ module _ {S : Type 0} {taken : S → Option (List ℕ)} {failed room : S → ℕ
     left = λ e. let one = first.left refl in let two = second.left e in omega (arith, length-append a b);
   }
 
-  -- A piece that was not written to its end, and one after it.
+  -- A piece that was not written completely, whatever was to follow it.
   pub writes_stop : (old new : S) (a b : List ℕ)
       → Writes taken failed room old new false a → Writes taken failed room old new false (a ++ b)
   writes_stop old new a b first = record {

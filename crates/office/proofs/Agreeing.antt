@@ -1,4 +1,4 @@
--- A view shows what a message names.
+-- Lemmas for the clauses of `Agrees`, according to the names in the message.
 use Rattle.std.proofs.Common.{◌≡◌, ℕ, ◌≤◌, List, [], ◌∷◌, length, Bool, true, false, ◌&&◌, Option, Some, None}
 use Rattle.std.proofs.Common.{refl, sym, ap, subst, ◌∙◌, arith}
 use Rattle.std.specs.Prelude.{IsTrue, ◌↔◌, ◌==◌, nat_le, not}

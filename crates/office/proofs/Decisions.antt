@@ -85,7 +85,7 @@ pub issued_by_view : (v : View) (s : State) (i : Issue) (d : Department) (nonce 
 issued_by_view v s i d nonce a is =
     λ j. certificate_for i (a.next j) (kind_or_user ((sym is) j)) (newest_key (a.opening j) (a.cas j)) nonce
 
--- the renewal of a certificate
+-- the certificate that a renewal makes from the old one
 abbrev pub renewed_by : State → Renewal → Certificate → List ℕ → Certificate
 renewed_by s r old nonce = renewed_certificate old r (next_serial s) (newest_key s.opening s.cas) nonce
 

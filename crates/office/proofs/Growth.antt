@@ -1,4 +1,4 @@
--- What an accepted message preserves, and by how much it makes the state grow.
+-- An accepted message preserves the opening, raises the version by at most one, and uses only serials in range.
 use Rattle.std.proofs.Common.{◌≡◌, ℕ, zero, suc, ◌+◌, ◌-◌, ◌≤◌, List, [], ◌∷◌, length, true, ◌&&◌, leb, None}
 use Rattle.std.proofs.Common.{refl, ap, ◌∙◌, arith, length-append}
 use Rattle.std.proofs.lemmas.Bool.{and_parts, leb-true}

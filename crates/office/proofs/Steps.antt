@@ -34,7 +34,7 @@ known_key_is_refused : (s : State) (a : Arrival) (m : Option Message) (late : Bo
 known_key_is_refused s a (Some m) true = refl
 known_key_is_refused s a m late = refl
 
--- what a register shows is an office
+-- an office that a register shows satisfies `IsOffice`
 pub shows_office : (s : State) (kept : List Kept) (o : Opening) (l : List Arrival) → Shows s kept o l → IsOffice o l
 shows_office s kept o l m = record { opening = m.lawful; version = subst (λ (t : State). t.version < 9223372036854775807) m.is_state m.version }
 

@@ -1,4 +1,4 @@
--- The message whose text some bytes are.
+-- The message that has given bytes as its text.
 use Rattle.std.proofs.Common.{◌≡◌, ℕ, List, true, Ok, Err, Some, None, refl}
 use Rattle.std.specs.Str.{bytes_eq}
 use Rattle.std.proofs.lemmas.Slice.Eq.{bytes_eq-Decides}

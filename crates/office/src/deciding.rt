@@ -72,8 +72,8 @@ fn decide_issue(
 /// The office's decision: the refusal with the least number, or the reply and the change to be written.
 ///
 /// It reads the view's rows alone, and its answer is that of the reference model's step from every state with which
-/// the view agrees. The message is one that was read, the view's rows are of the form that an office writes, and its
-/// version is below 9223372036854775807.
+/// the view agrees. The message is valid, the view's rows are of the form that an office writes, and its version is
+/// below 9223372036854775807.
 pub fn decide(
     alloc: Global,
     view: &View,

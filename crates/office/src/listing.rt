@@ -72,7 +72,7 @@ pub fn place_behind(place: u64, certificates: &[Certificate]) -> Result<u64, NoM
     }
 }
 
-/// Whether the key ID is one of them.
+/// Whether the key ID is among these.
 pub fn has_key_id(key_ids: &[Text], key_id: &[u8]) -> bool
     ensures { result ≡ list_any (λ k. bytes_eq k key_id.now) key_ids.now }
 {

@@ -1,4 +1,4 @@
--- The published list revokes exactly what messages named.
+-- The published list revokes exactly the serials and key IDs that accepted messages named.
 use Rattle.std.proofs.Common.{◌≡◌, ◌≢◌, ℕ, zero, suc, ◌+◌, ◌≤◌, ◌^◌, List, [], ◌∷◌, length, map, fold, Bool}
 use Rattle.std.proofs.Common.{true, false, ◌&&◌, ◌||◌, leb, Some, refl, sym, ap, ap₂, subst, ◌∙◌, inl, inr, arith}
 use Rattle.std.specs.Prelude.{slice_get}

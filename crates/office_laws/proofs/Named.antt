@@ -1,4 +1,4 @@
--- Exactly what messages named is revoked.
+-- Exactly the serials and key IDs that accepted messages named are revoked.
 use Rattle.std.proofs.Common.{◌≡◌, ℕ, ◌+◌, ◌-◌, List, [], ◌∷◌, ◌++◌, Bool, true, false, cond, ◌&&◌, ◌||◌, leb}
 use Rattle.std.proofs.Common.{eqb, Ordering, Less, Equal, Greater, Option, Some, None, refl, sym, ap, ◌∙◌, arith}
 use Rattle.std.specs.List.{list_any}

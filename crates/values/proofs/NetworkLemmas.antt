@@ -36,7 +36,7 @@ split-dotted_text a b c d la lb lc ld =
     (decimal_lacks 46 b refl (omega arith)) (decimal_lacks 46 c refl (omega arith))
     (decimal_lacks 46 d refl (omega arith))
 
--- the decimal texts of four octets are octets
+-- the decimal texts of four numbers below 256 pass the test for octets
 pub octets_decimal : (a b c d : ℕ) → a < 256 → b < 256 → c < 256 → d < 256
     → are_octets (decimal a ∷ decimal b ∷ decimal c ∷ decimal d ∷ []) ≡ true
 octets_decimal a b c d la lb lc ld =

@@ -21,7 +21,7 @@ pub shows : {X E : Type 0} (r : Result (Vec ℕ Global) E) (text : X → List �
 shows (Ok v) text found shown means same is = λ o l m. is ∙ ap text (same o l m)
 shows (Err e) text found shown means same is = tt
 
--- what a request asks is no message if its bytes ask for no message
+-- if the bytes of a request ask nothing that can change the stored rows, their ask is no message
 pub is_no_message : (request : List ℕ) (ask : Ask) → Asks request ask → AsksNoChange request → IsNoMessage ask
 is_no_message request ask asks none =
     let N : Ask → Type 0 = IsNoMessage in

@@ -84,7 +84,7 @@ goes_by before now new was_open is_open all rest x given same u = λ o l m.
           (subst (λ (g : List Given). HasAnswered ⊥ all g) (append_assoc given (Fault ∷ []) more) answered));
     }
 
--- the next exchange ended with either
+-- the next exchange ended with an answer or a fault
 pub goes_with : (before now new : Opening → List Arrival → Type 0) (was_open is_open : Type 0) (all rest : List Exchange) (x : Exchange)
     (given : List Given) (one : Given)
     → ((response : List ℕ) → one ≡ Answer response

@@ -17,6 +17,6 @@ pub struct Exchange {
 pub enum Given {
     /// The bytes of a response.
     Answer(Text),
-    /// Nothing: a fault occurred, and nothing changed.
+    /// Nothing: a fault occurred, and the office is unchanged.
     Fault,
 }

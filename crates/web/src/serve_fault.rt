@@ -6,7 +6,7 @@ ghost use Rattle.web.specs.Faults.{fault_of};
 
 use office::StoreFault;
 
-/// Why a request wasn't served. Except for `Write`, nothing was written, and nothing changed.
+/// Why a request wasn't served. Except for `Write`, nothing was written, and the office is unchanged.
 #[derive(Clone, Copy, Debug, PartialEq, Eq)]
 pub enum ServeFault {
     /// The reader failed.
