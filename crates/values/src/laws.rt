@@ -1,5 +1,5 @@
-//! Laws of the profile: what the tests decide, said by how the texts are spelled.
-//! Each is a function without code, whose contract is the law.
+//! Theorems about profiles: what the tests decide, in terms of the texts.
+//! Each is a function without code, whose contract is the theorem.
 
 ghost use Rattle.std.specs.Prelude.{◌≡◌, ◌↔◌, IsTrue};
 ghost use Rattle.values.specs.Laws.{AreDistinct, AreNetworks, IsKeyId, Meets};
@@ -9,13 +9,13 @@ ghost use Rattle.values.specs.Networks.{are_networks};
 
 use text::Text;
 
-/// A principal meets a rule exactly if it is the rule, or the rule is `*` and a suffix, and the principal is that
-/// suffix after one byte or more.
+/// A principal meets a rule exactly if it is the rule, or the rule is `*` and a suffix, and the principal is one or
+/// more bytes followed by that suffix.
 pub fn rules_are_met_by_suffixes(principal: &[u8], rule: &[u8])
     ensures { IsTrue (meets principal.now rule.now) ↔ Meets principal.now rule.now }
 {}
 
-/// A text is a key id exactly if it is a name, `/` and 1 to 64 printable bytes, and that name is its department.
+/// A text is a key ID exactly if it is a name, `/` and 1 to 64 printable bytes, and that name is its department.
 pub fn key_ids_begin_with_departments(text: &[u8], department: &[u8])
     ensures found { IsTrue (is_key_id text.now) → IsKeyId text.now (department_of text.now) }
     ensures only { IsKeyId text.now department.now → IsTrue (is_key_id text.now) }
