@@ -185,7 +185,7 @@ pub fn publish<S: Alter, W: Sink>(
     // While the connection is open, they durably represent what they represent: no crash afterwards loses it.
     ensures crash { StoresWhereOpen (state S.Store store.new.conn) }
 
-    // After any fault except the writer's, nothing is written. The writer's fault is returned exactly if the writer
+    // After any fault except the writer's, nothing is written. The writer's fault is returned exactly when the writer
     // failed.
     ensures unwritten { IfErr result (λ e. e ≢ PublishFault.Write → sink.new ≡ sink.old) }
     ensures failed { W.failed sink.new ≡ (if is_write result then W.failed sink.old + 1 else W.failed sink.old) }

@@ -1,4 +1,4 @@
--- What a request asks for: it is valid, later bytes don't change it, and it is short exactly if bytes are missing.
+-- What a request asks for: it is valid, later bytes don't change it, and it is short exactly when bytes are missing.
 use Rattle.std.proofs.Common.{lit≤, ◌≡◌, ◌↔◌, inl, inr, ℕ, ◌<◌, ◌≤◌, List, [], ◌∷◌, ◌++◌, length, take, Bool, true}
 use Rattle.std.proofs.Common.{false, cond, refl, sym, ap, subst, ◌∙◌, arith, length-append, codes, nat_lt}
 use Rattle.std.specs.Str.{bytes_eq}
@@ -105,7 +105,7 @@ later_of bytes more a (inr (h, rest, is, asked)) good settled =
 
 -- ---- the bytes that are needed
 
--- the ask is the refusal of a short body exactly if fewer than n bytes came
+-- the ask is the refusal of a short body exactly when fewer than n bytes came
 abbrev ShortBelow : ℕ → ℕ → Ask → Type 0
 ShortBelow n come a = (a ≡ refused ShortBody) ↔ (come < n)
 
@@ -121,7 +121,7 @@ taken_short rest caller key n = by (nat_lt (length rest) n) refl
     by true e = (λ _. grind (arith, nat_tests), λ _. refl)
     by false e = (λ same. cc, λ below. absurd (grind (arith, nat_tests)))
 
--- a request is refused for a short body exactly if fewer bytes follow the head than it asks for
+-- a request is refused for a short body exactly when fewer bytes follow the head than it asks for
 pub short_below : (h : RequestHead) (n : ℕ) (rest : List ℕ) (a : Ask)
     → WantsBody h n → HeadAsks h rest a → ShortBelow n (length rest) a
 short_below h n rest a (inl (none, e)) (inl (also, f)) = rw (e, f) (other (length rest) (refused NoRoute) (λ g. cc))

@@ -31,7 +31,7 @@ pub fn later_bytes_change_nothing()
         → a ≢ refused Refusal.ShortBody → Asks (bytes ++ more) a }
 {}
 
-/// A request is refused for a short body exactly if fewer bytes follow its head than the head asks for.
+/// A request is refused for a short body exactly when fewer bytes follow its head than the head asks for.
 pub fn short_bodies_are_below_the_size()
     ensures { (h : RequestHead) (n : ℕ) (rest : List ℕ) (a : Ask) → WantsBody h n → HeadAsks h rest a
         → (a ≡ refused Refusal.ShortBody) ↔ (length rest < n) }

@@ -1,7 +1,7 @@
 //! What the bytes of an HTTP request ask for, and the texts of the responses.
 //!
 //! `asks` finds what the bytes of a request ask for: a resource, that a message be accepted, or, if it isn't answered,
-//! the first refusal that applies. Heads are those of RFC 9112 within fixed limits, and a path is supported exactly if
+//! the first refusal that applies. Heads are those of RFC 9112 within fixed limits. A path is supported exactly when
 //! it is the text of a route. Responses are written into memory that was reserved before, so nothing can fail once
 //! there is an answer.
 #![tactic(auto)]

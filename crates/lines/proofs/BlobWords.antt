@@ -52,7 +52,7 @@ blob_of_none word fits none = elim (cases_Bool (is_base64_word word)) [
   | inr no_word ↦ no_word
 ]
 
--- A word is 68 characters of the alphabet exactly if it is the base64 of 51 bytes.
+-- A word is 68 characters of the alphabet exactly when it is the base64 of 51 bytes.
 pub word_is_blob : (word : List ℕ) → IsBytes word → IsTrue (is_base64_word word)
     ↔ ((blob : List ℕ) × IsBytes blob × (length blob ≡ 51) × (word ≡ encode_of standard blob))
 word_is_blob word fits = (

@@ -1,4 +1,4 @@
--- A text is read as a valid public-key line exactly if it is its text; each fault is a property of the whole text.
+-- A text is read as a valid public-key line exactly when it is its text; each fault is a property of the whole text.
 use Rattle.std.proofs.Common.{◌≡◌, ◌≢◌, ℕ, true, ◌⊎◌, List, ◌++◌, length, take, drop}
 use Rattle.std.proofs.Common.{Option, Some, None, Result, Ok, Err, refl, sym, ap, ap₂, subst, ◌∙◌, arith, inl, inr}
 use Rattle.std.specs.Prelude.{IfOk, IsTrue}

@@ -24,7 +24,7 @@ pub fn key_lines_are_lawful_or_faulty()
         → key_line_at line ≡ Err e }
 {}
 
-/// A word is the base64 of 51 bytes exactly if it is 68 characters of the standard alphabet.
+/// A word is the base64 of 51 bytes exactly when it is 68 characters of the standard alphabet.
 pub fn base64_words_are_blobs()
     ensures { (word : List ℕ) → IsBytes word → IsTrue (is_base64_word word)
         ↔ ((blob : List ℕ) × IsBytes blob × (length blob ≡ 51) × (word ≡ encode_of standard blob)) }

@@ -115,7 +115,7 @@ fn write_rows<W: Sink>(rows: &[SignerRow], sink: &mut W) -> Result<(), Failed>
 ///
 /// # Errors
 ///
-/// `Write`, exactly if the writer failed in this call. The writer then took a prefix of the text.
+/// `Write`, exactly when the writer failed in this call. The writer then took a prefix of the text.
 pub fn write_signers<W: Sink>(rows: &[SignerRow], sink: &mut W) -> Result<(), OutFault>
     requires { W.failed sink.old < u64.MAX }
     ensures ok { OnOk result (Appends (W.taken sink.old) (W.taken sink.new) (signers_text rows.now)) }

@@ -1,4 +1,4 @@
--- Departments: a text is read exactly if it is a department's, and a fault is at the first bad line.
+-- Departments: a text is read exactly when it is a department's, and a fault is at the first bad line.
 use Rattle.message.proofs.Words.{List, Some, User, [], and_from, and_parts, ap, are_administrators, are_extension_names}
 use Rattle.message.proofs.Words.{are_namespaces, are_option_names, are_rules, bytes_eq, bytes_eq-Decides, codes}
 use Rattle.message.proofs.Words.{cond_some, department_lines, inl, inr, is_department, is_longest_life, is_name}
@@ -95,7 +95,7 @@ whole_lines =
     none_fits User = refl
     none_fits Host = refl
 
--- a text is read as a department exactly if it is its text, and a fault is at the first line that fits no department
+-- a text is read as a department exactly when it is its text, and a fault is at the first line that fits no department
 pub department_reads : IsReading 0 department_in (λ d. is_department d ≡ true) department_lines
 department_reads =
     same_values whole_lines

@@ -1,4 +1,4 @@
--- Values after a word: a text is read as a value exactly if it is the value's text.
+-- Values after a word: a text is read as a value exactly when it is the value's text.
 use Rattle.message.proofs.Words.{All-append, All-cons, All-nil, AllByRecursion, Bool, IsBytes, IsBytes-drop, Lacks}
 use Rattle.message.proofs.Words.{List, None, Option, Some, [], after, and_parts, ap, append-nil, arith}
 use Rattle.message.proofs.Words.{bytes_eq-Decides, cond-true, cond_some, drop, drop-append_seam, eqb, eqb-true, false}

@@ -1,4 +1,4 @@
--- Issues: a text is read exactly if it is an issue's, and a fault is at the first bad line.
+-- Issues: a text is read exactly when it is an issue's, and a fault is at the first bad line.
 use Rattle.message.proofs.Words.{Issue, List, Pair, [], and_from, and_parts, ap, are_principals, codes, is_end}
 use Rattle.message.proofs.Words.{is_issue, is_key_id, is_key_line, is_name, issue_lines, leb-true, refl, subst, sym}
 use Rattle.message.proofs.Words.{true, ◌∷◌, ◌≡◌}
@@ -40,7 +40,7 @@ whole_lines =
     (λ x i p. ap (λ (i : Issue). i.key_id) p.1.1.1.1.5))
     (λ x i p. ap (λ (i : Issue). i.department) p.1.1.1.1.1.5)
 
--- a text is read as an issue exactly if it is its text, and a fault is at the first line that fits no issue
+-- a text is read as an issue exactly when it is its text, and a fault is at the first line that fits no issue
 pub issue_reads : IsReading 0 issue_in (λ i. is_issue i ≡ true) issue_lines
 issue_reads = same_values whole_lines to from
   where

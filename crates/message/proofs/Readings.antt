@@ -12,7 +12,7 @@ IsLine l = All (λ b. eqb b 10 ≡ false) l
 abbrev pub AreBytes : List (List ℕ) → Type 0
 AreBytes ps = (n : ℕ) → IsBytes (line_of n ps)
 
--- Reading a line as a value: it is read as a valid value exactly if it is its text, and the empty line isn't read.
+-- Reading a line as a value: it is read as a valid value exactly when it is its text, and the empty line isn't read.
 pub record IsField {X : Type 0} (read : List ℕ → Option X) (text : X → List ℕ) (IsLawful : X → Type 0) : Type 0 where
   pub found : (l : List ℕ) (x : X) → IsBytes l → read l ≡ Some x → IsLawful x × (l ≡ text x)
   pub again : (x : X) → IsLawful x → read (text x) ≡ Some x

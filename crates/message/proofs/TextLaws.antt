@@ -90,7 +90,7 @@ message_found bytes m fits e =
 pub message_again : (m : Message) → is_message m ≡ true → message_at (message_text m) ≡ Ok m
 message_again m is = reads.again (pieces (message_text m)) m is (pieces_of_message m is)
 
--- a message is found exactly if it is valid and the bytes are its text
+-- a message is found exactly when it is valid and the bytes are its text
 pub found_exactly : (bytes : List ℕ) (m : Message) → IsBytes bytes → (message_of bytes ≡ Some m) ↔ BelongsTo bytes m
 found_exactly bytes m fits = (
   λ e. message_found bytes m fits (ok_of (message_at bytes) m e),
@@ -179,7 +179,7 @@ bad_answered bytes n fits bad = by (message_at bytes) refl
           ]
         ]
 
--- a line is reported exactly if it is the first bad one
+-- a line is reported exactly when it is the first bad one
 pub bad_exactly : (bytes : List ℕ) (n : ℕ) → IsBytes bytes → (message_at bytes ≡ Err n) ↔ IsFirstBad bytes n
 bad_exactly bytes n fits = ((λ e. first_bad bytes n fits e), λ bad. bad_answered bytes n fits bad)
 

@@ -32,7 +32,7 @@ renewal_whole =
     (λ x r e. ap (λ (r : Renewal). r.before) e)) (λ x r p. ap (λ (r : Renewal). r.after) p.1))
     (λ x r p. ap (λ (r : Renewal). r.serial) p.1.1)
 
--- a text is read as a renewal exactly if it is its text, and a fault is at the first line that fits no renewal
+-- a text is read as a renewal exactly when it is its text, and a fault is at the first line that fits no renewal
 pub renewal_reads : IsReading 0 renewal_in (λ r. is_renewal r ≡ true) renewal_lines
 renewal_reads =
     same_values renewal_whole (λ r is. and_from _ _ is.0 (and_from _ _ is.1.0 is.1.1.0))
@@ -65,7 +65,7 @@ delivery_whole =
     (λ x d e. ap (λ (d : Delivery). d.signature) e)) (λ x d p. ap (λ (d : Delivery). d.digest) p.1))
     (λ x d p. ap (λ (d : Delivery). d.serial) p.1.1)
 
--- a text is read as a delivery exactly if it is its text, and a fault is at the first line that fits no delivery
+-- a text is read as a delivery exactly when it is its text, and a fault is at the first line that fits no delivery
 pub delivery_reads : IsReading 0 delivery_in (λ d. is_delivery d ≡ true) delivery_lines
 delivery_reads =
     same_values delivery_whole (λ d is. and_from _ _ is.0 (and_from _ _ is.1.0 is.1.1.0))

@@ -9,7 +9,7 @@ ghost use Rattle.message.specs.Texts.{message_text};
 ghost use Rattle.message.specs.Values.{is_message};
 ghost use Rattle.message.specs.declared.kinds.Message.{Message};
 
-/// Reading finds a message exactly if the message is valid and the bytes, numbers below 256, are its text.
+/// Reading finds a message exactly when the message is valid and the bytes, numbers below 256, are its text.
 pub fn reading_finds_the_message_of_a_text()
     ensures { (bytes : List ℕ) (m : Message) → IsBytes bytes → (message_of bytes ≡ Some m) ↔ BelongsTo bytes m }
 {}

@@ -1,6 +1,6 @@
 //! Messages, the bodies of POST requests that an administrator or the signing station sends, line by line.
 //!
-//! A text is read as a message exactly if it is the message's text, and it belongs to at most one. For a text that is
+//! A text is read as a message exactly when it is the message's text, and it belongs to at most one. For a text that is
 //! no message, the answer is the number of the first line that no message has in that place after the lines before it.
 #![tactic(auto)]
 

@@ -9,7 +9,7 @@ use Rattle.office.specs.declared.listing.Revocations.{Revocations}
 use Rattle.office.specs.Listing.{AreRevocations, is_among}
 use Rattle.office.specs.Publication.{is_certificate_revoked}
 
--- a certificate is among the state's revocations exactly if the state revokes it
+-- a certificate is among the state's revocations exactly when the state revokes it
 pub among_is : (r : Revocations) (s : State) (c : Certificate) → AreRevocations r s → is_among r c ≡ is_certificate_revoked s c
 among_is r s c are =
     ap₂ (λ (b : Bool) (ids : List (List _)). b || list_any (λ k. bytes_eq k c.fields.key_id) ids)

@@ -99,7 +99,7 @@ ca_from_now s key = record { key = key; since = next_serial s }
 
 -- ---- the effect of an accepted message
 
--- the state after a message, at this time and with this nonce. The list gets a new version exactly if it changes
+-- the state after a message, at this time and with this nonce. The list gets a new version exactly when it changes
 abbrev pub after : State → Message → ℕ → List ℕ → State
 after s (message.Department d) moment nonce = with_department s d
 after s (message.Issue i) moment nonce = with_certificate s (issued s i nonce)

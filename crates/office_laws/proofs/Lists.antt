@@ -79,7 +79,7 @@ serials_fit o l is =
     let fits = last_of o is in
     omega arith
 
--- a serial belongs to the part of a CA exactly if the CA signs it
+-- a serial belongs to the part of a CA exactly when the CA signs it
 signed_there : (o : Opening) (l : List Arrival) → IsOpening o → (place : ℕ) (ca : Ca) → slice_get (state o l).cas place ≡ Some ca → (n : ℕ) → (state o l).opening.first ≤ n
     → is_last_reached (map (λ c. c.since) (state o l).cas) place n ≡ is_signer ca (state o l) n
 signed_there o l is place ca e n low =

@@ -45,7 +45,7 @@ one_signs n x key (ca ∷ cas) all e = elim (cases_Bool (ltb n ca.since)) [
   | inr is ↦ rw (reached n ca.since is) (others_sign n x ca.key cas all.1 all.0)
 ]
 
--- the first CA, if it had been added by then, signs exactly if all others were added later
+-- the first CA, if it had been added by then, signs exactly when all others were added later
 first_signs : (n : ℕ) (ca : Ca) (cas : List Ca) → AllByRecursion (λ c. c.key ≢ ca.key) cas → are_later n cas ≡ bytes_eq ca.key (fold (key_at n) ca.key cas)
 first_signs n ca cas all = by_test (are_later n cas) refl
   where

@@ -13,7 +13,7 @@ ghost use Rattle.office.specs.Shows.{IsOffice};
 ghost use Rattle.office_laws.specs.Lists.{AreExactList, IsExact};
 
 /// The bytes of the published list parse in exactly one way, if each section's length fits in 32 bits. The list revokes
-/// a certificate exactly if its key ID was named, or its serial was named and the CA is the one that signs it.
+/// a certificate exactly when its key ID was named, or its serial was named and the CA is the one that signs it.
 pub fn the_list_is_exact()
     ensures { (o : Opening) (l : List Arrival) → IsOffice o l → IsTrue (fits (published_parts (state o l))
         (state o l).revoked_key_ids) → AreExactList (published_list (state o l)) o l }

@@ -29,7 +29,7 @@ use Rattle.store.proofs.DepartmentRows.{department_rows}
 abbrev lacks : List ℕ → DepartmentRow → Bool
 lacks name e = not (has_name name e)
 
--- names compare as equal exactly if they are equal
+-- names compare as equal exactly when they are equal
 pub tied : (xs ys : List ℕ) (o : Ordering) → slice_cmp nat_cmp xs ys ≡ o → bytes_eq xs ys ≡ is_eq o
 tied xs ys o e = sym (is_eq-slice_cmp xs ys) ∙ ap is_eq e
 

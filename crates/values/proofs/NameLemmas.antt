@@ -49,7 +49,7 @@ meets_suffix_from principal rule m =
     ∙ ap (λ t. ends_longer t m.suffix) m.spelled
     ∙ ends_longer_from m.front m.suffix m.longer
 
--- a principal meets a rule exactly if it is the rule, or is longer than the rule's suffix and ends with it
+-- a principal meets a rule exactly when it is the rule, or is longer than the rule's suffix and ends with it
 pub meets_found : (principal rule : List ℕ) → meets principal rule ≡ true → Meets principal rule
 meets_found principal rule h = elim (or_cases (bytes_eq principal rule) (meets_suffix principal rule) h) [
   | inl same ↦ inl ((bytes_eq-Decides principal rule).0 same)

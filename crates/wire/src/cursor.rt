@@ -45,7 +45,7 @@ fn split_string(bytes: &[u8]) -> Option<(&[u8], &[u8])>
 /// A reading position in bytes, at the front of those that are left.
 ///
 /// Contracts see a cursor as the bytes that are left. Each call that reads returns the value whose text is at their
-/// front, and moves right past it. It returns `None` exactly if too few bytes are left, and then the cursor is
+/// front, and moves right past it. It returns `None` exactly when too few bytes are left, and then the cursor is
 /// unchanged. Reading allocates nothing.
 #[derive(Drop)]
 pub struct Cursor<'a> {

@@ -44,7 +44,7 @@ pub trait Sink {
 ///
 /// # Errors
 ///
-/// `Failed`, exactly if the writer failed in this call. The writer has then taken a prefix of the bytes. Writing
+/// `Failed`, exactly when the writer failed in this call. The writer has then taken a prefix of the bytes. Writing
 /// never fails if the writer has room for the bytes.
 pub fn write_all<W: Sink>(sink: &mut W, bytes: &[u8]) -> Result<(), Failed>
     requires { W.failed sink.old < u64.MAX }

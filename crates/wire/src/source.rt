@@ -53,7 +53,7 @@ fn read_behind<S: Source>(source: &mut S, buf: &mut [u8], at: usize) -> Result<u
 ///
 /// # Errors
 ///
-/// `Failed`, exactly if the reader failed in this call. It fails before `buf` is full, and the bytes read until then
+/// `Failed`, exactly when the reader failed in this call. It fails before `buf` is full, and the bytes read until then
 /// have been taken from the reader.
 pub fn read_full<S: Source>(source: &mut S, buf: &mut [u8]) -> Result<usize, Failed>
     requires { S.failed source.old < u64.MAX }
