@@ -17,6 +17,10 @@ from stations import new_station
 # The fixtures of programs that are built, the last one by the test itself.
 BUILT = {"program", "sshstation", "krl_tool", "trial", "heads_tool", "bad_lines"}
 
+# A shell that starts the tests in the background has them ignore interrupts, and so would each program that they start.
+if signal.getsignal(signal.SIGINT) == signal.SIG_IGN:
+    signal.signal(signal.SIGINT, signal.default_int_handler)
+
 
 def pytest_addoption(parser):
     group = parser.getgroup("office")
